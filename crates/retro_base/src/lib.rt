@@ -1,0 +1,16 @@
+//! base
+#![tactic(auto)]
+
+mod kind;
+mod memory;
+mod op;
+mod question;
+mod row;
+mod steps;
+
+pub use kind::Kind;
+pub use memory::NoMemory;
+pub use op::Op;
+pub use question::{Answer, Item, Question};
+pub use row::{Change, Entry, MAX_NEXT, MAX_ROWS, Row};
+pub use steps::Steps;
