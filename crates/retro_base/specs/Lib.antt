@@ -1,0 +1,5 @@
+pub mod State
+pub mod Replay
+pub mod Answers
+pub mod Edits
+pub mod Places
