@@ -4,3 +4,6 @@ pub mod Replay
 pub mod Answers
 pub mod Edits
 pub mod Places
+pub mod Timeline
+pub mod Questions
+pub mod Bridges

@@ -9,14 +9,18 @@ use Rattle.retro_base.specs.declared.row.Row.{Row}
 use Rattle.retro_base.specs.State.{State, empty, step}
 
 -- the outcome of rows that stand behind one more row: a failure is one place later
-abbrev pub one_later : Result State ℕ → Result State ℕ
+abbrev pub one_later : {S : Type 0} → Result S ℕ → Result S ℕ
 one_later (Ok state) = Ok state
 one_later (Err index) = Err (suc index)
 
--- the state behind these rows, or the index of the first one that cannot be performed
-unfoldable pub run : List Row → State → Result State ℕ
-run [] state = Ok state
-run (row ∷ rows) state = option_map_or (λ next. one_later (run rows next)) (step row state) (Err 0)
+-- rows taken one after another by a step that may be impossible: the state behind them, or the index of the first impossible one
+unfoldable pub fold_rows : {S : Type 0} → (Row → S → Option S) → List Row → S → Result S ℕ
+fold_rows next_of [] state = Ok state
+fold_rows next_of (row ∷ rows) state = option_map_or (λ next. one_later (fold_rows next_of rows next)) (next_of row state) (Err 0)
+
+-- performing these rows from a state on
+abbrev pub run : List Row → State → Result State ℕ
+run rows state = fold_rows step rows state
 
 -- the replay of the first rows of a timeline, up to a place
 abbrev pub replay : Kind → List Row → ℕ → Result State ℕ

@@ -5,6 +5,7 @@ mod kind;
 mod memory;
 mod op;
 mod question;
+mod retro;
 mod row;
 mod steps;
 
@@ -12,5 +13,6 @@ pub use kind::Kind;
 pub use memory::NoMemory;
 pub use op::Op;
 pub use question::{Answer, Item, Question};
+pub use retro::Retro;
 pub use row::{Change, Entry, MAX_NEXT, MAX_ROWS, Row};
 pub use steps::Steps;
