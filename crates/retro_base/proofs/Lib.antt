@@ -1,1 +1,4 @@
 mod Examples
+pub mod Folds
+pub mod CountedLines
+pub mod Histories

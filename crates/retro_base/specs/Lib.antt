@@ -7,3 +7,4 @@ pub mod Places
 pub mod Timeline
 pub mod Questions
 pub mod Bridges
+pub mod Counting

@@ -1,9 +1,11 @@
 //! base
 #![tactic(auto)]
 
+mod counting;
 mod kind;
 mod memory;
 mod op;
+mod plain_list;
 mod question;
 mod retro;
 mod row;
@@ -12,6 +14,7 @@ mod steps;
 pub use kind::Kind;
 pub use memory::NoMemory;
 pub use op::Op;
+pub use plain_list::PlainList;
 pub use question::{Answer, Item, Question};
 pub use retro::Retro;
 pub use row::{Change, Entry, MAX_NEXT, MAX_ROWS, Row};
