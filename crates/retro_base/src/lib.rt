@@ -3,14 +3,18 @@
 
 mod kind;
 mod memory;
+mod name;
 mod op;
 mod question;
 mod row;
 mod steps;
+mod text;
 
 pub use kind::Kind;
 pub use memory::NoMemory;
+pub use name::Name;
 pub use op::Op;
 pub use question::{Answer, Item, Question};
 pub use row::{Change, Entry, MAX_NEXT, MAX_ROWS, Row};
 pub use steps::Steps;
+pub use text::Text;
