@@ -1,1 +1,2 @@
 pub mod Padding
+mod Examples

@@ -1,2 +1,11 @@
 pub mod Kind
 pub mod Name
+pub mod State
+pub mod Replay
+pub mod Answers
+pub mod Edits
+pub mod Places
+pub mod Timeline
+pub mod Questions
+pub mod Bridges
+pub mod Text

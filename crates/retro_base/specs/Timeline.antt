@@ -1,0 +1,34 @@
+-- What holds of the rows of every timeline, and of the rows that a structure keeps.
+use Rattle.std.specs.Prelude.{◌≡◌, ◌≢◌, ℕ, ◌<◌, ◌≤◌, List, map, length, Contains, ◌==◌}
+use Rattle.std.specs.List.{All, IsDistinct, AllByRecursion}
+use Rattle.std.specs.List.Sorted.{IsNonDecreasing}
+use Rattle.retro_base.specs.declared.kind.Kind.{Kind}
+use Rattle.retro_base.specs.declared.row.Row.{Row}
+use Rattle.retro_base.specs.declared.row.TheConstants.{MAX_ROWS, MAX_NEXT}
+use Rattle.retro_base.specs.Kind.{kind_of}
+use Rattle.retro_base.specs.Replay.{IsValid}
+
+-- the number and the time of a row
+abbrev pub number_of : Row → ℕ
+number_of row = row.number
+
+abbrev pub time_of : Row → ℕ
+time_of row = row.time
+
+-- no row has the number
+abbrev pub IsFresh : ℕ → List Row → Type 0
+IsFresh number rows = AllByRecursion (λ row. row.number ≢ number) rows
+
+-- a history: rows of one kind, with numbers of their own, that replay whole
+pub record IsHistory (kind : Kind) (rows : List Row) : Type 0 where
+  pub few : length rows ≤ MAX_ROWS
+  pub of_kind : AllByRecursion (λ row. kind_of row.op ≡ kind) rows
+  pub distinct : IsDistinct (λ (a b : ℕ). a == b) (map number_of rows)
+  pub valid : IsValid kind rows
+
+-- a timeline: a history whose times never fall, and whose numbers are from 1 to below next
+pub record IsTimeline (kind : Kind) (rows : List Row) (next : ℕ) : Type 0 where
+  pub history : IsHistory kind rows
+  pub in_order : IsNonDecreasing (map time_of rows)
+  pub numbered : AllByRecursion (λ row. (1 ≤ row.number) × (row.number < next)) rows
+  pub next_in_range : (1 ≤ next) × (next ≤ MAX_NEXT)
