@@ -1,3 +1,4 @@
+pub mod Padding
 mod Examples
 pub mod Folds
 pub mod CountedLines

@@ -1,4 +1,5 @@
 pub mod Kind
+pub mod Name
 pub mod State
 pub mod Replay
 pub mod Answers
@@ -8,3 +9,4 @@ pub mod Timeline
 pub mod Questions
 pub mod Bridges
 pub mod Counting
+pub mod Text

@@ -4,18 +4,22 @@
 mod counting;
 mod kind;
 mod memory;
+mod name;
 mod op;
 mod plain_list;
 mod question;
 mod retro;
 mod row;
 mod steps;
+mod text;
 
 pub use kind::Kind;
 pub use memory::NoMemory;
+pub use name::Name;
 pub use op::Op;
 pub use plain_list::PlainList;
 pub use question::{Answer, Item, Question};
 pub use retro::Retro;
 pub use row::{Change, Entry, MAX_NEXT, MAX_ROWS, Row};
 pub use steps::Steps;
+pub use text::Text;
