@@ -1,7 +1,7 @@
 -- A history stays one when a row is put in that leaves it valid.
 use Rattle.std.proofs.Common.{◌≡◌, ◌≢◌, ℕ, zero, suc, ◌+◌, ◌<◌, ◌≤◌, List, [], ◌∷◌, ◌++◌, length, take, drop, refl, sym, ap, ◌∙◌, arith, lit≤}
 use Rattle.std.specs.List.{insert, AllByRecursion}
-use Rattle.std.proofs.lemmas.List.Edits.{length-insert}
+use Rattle.std.proofs.lemmas.List.Edits.{length-insert, insert_end}
 use Rattle.retro_base.specs.declared.kind.Kind.{Kind}
 use Rattle.retro_base.specs.declared.row.Row.{Row}
 use Rattle.retro_base.specs.declared.row.TheConstants.{MAX_ROWS}
@@ -44,3 +44,12 @@ history_seen_with now kind rows place row seen history room within fresh of_kind
     let same_kind : now.kind ≡ kind = ap (λ (h : History). h.kind) (sym seen) in
     history_with kind rows place row history (rw same_rows at room) (rw same_rows at within) (rw same_rows at fresh)
     (of_kind ∙ same_kind) (rw (same_kind, same_rows) at valid)
+
+-- the same at the end of the rows
+pub history_seen_at_end : (now : History) (kind : Kind) (rows : List Row) (place : ℕ) (row : Row)
+    → ◌≡◌ {A = History} (record { kind = kind; rows = rows }) now → IsHistory kind rows
+    → length now.rows < MAX_ROWS → place ≤ length now.rows → IsFresh row.number now.rows
+    → kind_of row.op ≡ now.kind → IsValid now.kind (insert now.rows place row) → place ≡ length rows → IsHistory kind (rows ++ row ∷ [])
+history_seen_at_end now kind rows place row seen history room within fresh of_kind valid end =
+    let at_end : insert rows place row ≡ rows ++ row ∷ [] = rw end (insert_end rows row) in
+    rw at_end at (history_seen_with now kind rows place row seen history room within fresh of_kind valid)

@@ -1,4 +1,5 @@
 -- The kind of structure that an operation belongs to.
+use Rattle.std.specs.Prelude.{Bool, true, false}
 use Rattle.retro_base.specs.declared.kind.Kind.{Kind}
 use Rattle.retro_base.specs.declared.kind.Kind.TheVariants.{Queue, Stack, Deque, Dict, Pq}
 use Rattle.retro_base.specs.declared.op.Op.{Op}
@@ -18,3 +19,12 @@ kind_of (Put k v) = Dict
 kind_of (Del k) = Dict
 kind_of (Ins k) = Pq
 kind_of DelMin = Pq
+
+-- a test whether two kinds are one
+abbrev pub same_kind : Kind → Kind → Bool
+same_kind Queue Queue = true
+same_kind Stack Stack = true
+same_kind Deque Deque = true
+same_kind Dict Dict = true
+same_kind Pq Pq = true
+same_kind kind other = false

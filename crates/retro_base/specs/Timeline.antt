@@ -1,7 +1,6 @@
 -- What holds of the rows of every timeline, and of the rows that a structure keeps.
-use Rattle.std.specs.Prelude.{◌≡◌, ◌≢◌, ℕ, ◌<◌, ◌≤◌, List, [], ◌∷◌, map, length}
+use Rattle.std.specs.Prelude.{◌≡◌, ◌≢◌, ℕ, ◌<◌, ◌≤◌, List, [], ◌∷◌, length}
 use Rattle.std.specs.List.{AllByRecursion}
-use Rattle.std.specs.List.Sorted.{IsNonDecreasing}
 use Rattle.retro_base.specs.declared.kind.Kind.{Kind}
 use Rattle.retro_base.specs.declared.row.Row.{Row}
 use Rattle.retro_base.specs.declared.row.TheConstants.{MAX_ROWS, MAX_NEXT}
@@ -33,13 +32,14 @@ pub record IsHistory (kind : Kind) (rows : List Row) : Type 0 where
   pub own_numbers : HaveOwnNumbers rows
   pub valid : IsValid kind rows
 
--- the time of a row
-abbrev pub time_of : Row → ℕ
-time_of row = row.time
+-- no row is earlier than one before it
+abbrev pub TimesNeverFall : List Row → Type 0
+TimesNeverFall [] = Unit {0}
+TimesNeverFall (row ∷ rows) = AllByRecursion (λ later. row.time ≤ later.time) rows × TimesNeverFall rows
 
 -- a timeline: a history whose times never fall, and whose numbers are from 1 to below next
 pub record IsTimeline (kind : Kind) (rows : List Row) (next : ℕ) : Type 0 where
   pub history : IsHistory kind rows
-  pub in_order : IsNonDecreasing (map time_of rows)
+  pub in_order : TimesNeverFall rows
   pub numbered : AllByRecursion (λ row. (1 ≤ row.number) × (row.number < next)) rows
   pub next_in_range : (1 ≤ next) × (next ≤ MAX_NEXT)

@@ -1,4 +1,4 @@
-ghost use Rattle.std.specs.Prelude.{◌≡◌, ◌+◌, ◌^◌, ◌<◌, ◌≤◌, length};
+ghost use Rattle.std.specs.Prelude.{◌≡◌, ◌+◌, ◌^◌, ◌<◌, ◌≤◌, length, IfSome};
 ghost use Rattle.std.specs.List.{insert};
 ghost use Rattle.std.specs.Result.{result_err};
 ghost use Rattle.retro_base.specs.declared.row.Row.{Row};
@@ -44,7 +44,8 @@ fn count(rows: &[Row], size: u32) -> Result<u32, u32>
 pub(crate) fn first_failure(rows: &[Row], place: usize, op: Op) -> Option<u32>
     requires within { place ≤ length rows.now }
     requires few { length rows.now ≤ MAX_ROWS }
-    ensures { (row : Row) → row.op ≡ op → result ≡ result_err (counted (insert rows.now place row) 0) }
+    ensures first { (row : Row) → row.op ≡ op → result ≡ result_err (counted (insert rows.now place row) 0) }
+    ensures index { IfSome result (λ index. index ≤ length rows.now) }
 {
     let (before, behind) = rows.split_at(place);
     let size = match count(before, 0) {

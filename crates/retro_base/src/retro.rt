@@ -1,4 +1,4 @@
-ghost use Rattle.std.specs.Prelude.{◌≡◌, ℕ, ◌<◌, ◌≤◌, List, length, true, IfOk, OnOk, OnErr};
+ghost use Rattle.std.specs.Prelude.{◌≡◌, ℕ, ◌<◌, ◌≤◌, List, length, true, IfSome, IfOk, OnOk, OnErr};
 ghost use Rattle.std.specs.List.{insert};
 ghost use Rattle.retro_base.specs.declared.kind.Kind.{Kind};
 ghost use Rattle.retro_base.specs.declared.row.Row.{Row};
@@ -37,7 +37,8 @@ pub trait Retro {
     fn failure_after_insert(&self, place: u32, op: Op) -> Option<u32>
         requires within { place ≤ length (rows self.now) }
         requires of_kind { kind_of op ≡ kind self.now }
-        ensures { (row : Row) → row.op ≡ op → result ≡ failure (kind self.now) (insert (rows self.now) place row) };
+        ensures first { (row : Row) → row.op ≡ op → result ≡ failure (kind self.now) (insert (rows self.now) place row) }
+        ensures index { IfSome result (λ index. index ≤ length (rows self.now)) };
 
     /// Puts the row in at the place, and tells how the present has changed. After `NoMemory` all is as
     /// before.
@@ -49,6 +50,7 @@ pub trait Retro {
         requires replays { IsValid (kind self.old) (insert (rows self.old) place row) }
         ensures kind { kind self.new ≡ kind self.old }
         ensures rows { OnOk result (rows self.new ≡ insert (rows self.old) place row) }
+        ensures history { OnOk result (IsHistory (kind self.new) (rows self.new)) }
         ensures change { IfOk result (IsChange (kind self.old) (rows self.old) (add place row)) }
         ensures err { OnErr result (rows self.new ≡ rows self.old) };
 
