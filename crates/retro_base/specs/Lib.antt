@@ -8,4 +8,5 @@ pub mod Places
 pub mod Timeline
 pub mod Questions
 pub mod Bridges
+pub mod Counting
 pub mod Text

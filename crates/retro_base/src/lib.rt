@@ -1,10 +1,12 @@
 //! base
 #![tactic(auto)]
 
+mod counting;
 mod kind;
 mod memory;
 mod name;
 mod op;
+mod plain_list;
 mod question;
 mod retro;
 mod row;
@@ -15,6 +17,7 @@ pub use kind::Kind;
 pub use memory::NoMemory;
 pub use name::Name;
 pub use op::Op;
+pub use plain_list::PlainList;
 pub use question::{Answer, Item, Question};
 pub use retro::Retro;
 pub use row::{Change, Entry, MAX_NEXT, MAX_ROWS, Row};
