@@ -1,6 +1,6 @@
 -- Lines whose commands were worked out by hand, computed from the grammar.
-use Rattle.std.proofs.Common.{◌≡◌, ℕ, List, [], pos, negsuc, refl}
-use Rattle.std.specs.Prelude.{Result, Ok, Err, codes}
+use Rattle.std.proofs.Common.{◌≡◌, [], pos, negsuc, refl}
+use Rattle.std.specs.Prelude.{Ok, Err, codes}
 use Rattle.retro_base.specs.Name.{is_name}
 use Rattle.retro_base.specs.declared.kind.Kind.TheVariants.{Queue}
 use Rattle.retro_base.specs.declared.op.Op.TheVariants.{Enq, Deq}

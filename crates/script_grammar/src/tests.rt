@@ -102,6 +102,9 @@ fn answers(rt: HostRuntime) -> Result<(), Fail> {
     for answer in [Answer::Number { value: -12 }, pair, Answer::Nothing] {
         print_answer(answer, &mut out)?;
     }
-    assert_eq!(rt; out.as_bytes(), b"= -12= -9223372036854775808:7= none".as_slice());
+    assert_eq!(rt;
+        out.as_bytes(),
+        b"= -12= -9223372036854775808:7= none".as_slice()
+    );
     Ok(())
 }
