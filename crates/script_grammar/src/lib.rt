@@ -13,6 +13,8 @@ mod answer;
 mod command;
 mod line;
 mod numbers;
+#[cfg(test)]
+mod tests;
 mod words;
 
 pub use answer::print_answer;

@@ -23,7 +23,7 @@ pub fn read_line(line: &[u8], long: bool) -> Result<Command, LineError>
 fn read_command(mut words: Words) -> Option<Command>
     ensures { result ≡ command_of words.entry }
 {
-    let word = words.next()?;
+    let word = words.next_word()?;
     if word == b"new".as_slice() {
         return read_new(words);
     }
@@ -33,7 +33,7 @@ fn read_command(mut words: Words) -> Option<Command>
 fn read_new(mut words: Words) -> Option<Command>
     ensures { result ≡ new_of words.entry }
 {
-    let name = Name::read(words.next()?)?;
+    let name = Name::read(words.next_word()?)?;
     let kind = read_kind(words)?;
     Some(Command::New { name, kind })
 }
@@ -41,7 +41,7 @@ fn read_new(mut words: Words) -> Option<Command>
 fn read_kind(mut words: Words) -> Option<Kind>
     ensures { result ≡ kind_named words.entry }
 {
-    match words.next()? {
+    match words.next_word()? {
         b"queue" if words.is_empty() => Some(Kind::Queue),
         _ => None,
     }
@@ -50,7 +50,7 @@ fn read_kind(mut words: Words) -> Option<Kind>
 fn read_about(name: Name, mut words: Words) -> Option<Command>
     ensures { result ≡ about name words.entry }
 {
-    match words.next()? {
+    match words.next_word()? {
         b"at" => read_insert(name, words),
         b"ask" => read_ask(name, words),
         _ => None,
@@ -60,7 +60,7 @@ fn read_about(name: Name, mut words: Words) -> Option<Command>
 fn read_insert(name: Name, mut words: Words) -> Option<Command>
     ensures { result ≡ insert_at name words.entry }
 {
-    let time = read_time(words.next()?)?;
+    let time = read_time(words.next_word()?)?;
     let op = read_op(words)?;
     Some(Command::Insert {
         name,
@@ -83,7 +83,7 @@ fn read_ask(name: Name, words: Words) -> Option<Command>
 fn read_op(mut words: Words) -> Option<Op>
     ensures { result ≡ op_of words.entry }
 {
-    match words.next()? {
+    match words.next_word()? {
         b"enq" => Some(Op::Enq {
             value: read_only_value(words)?,
         }),
@@ -95,7 +95,7 @@ fn read_op(mut words: Words) -> Option<Op>
 fn read_question(mut words: Words) -> Option<Question>
     ensures { result ≡ question_of words.entry }
 {
-    match words.next()? {
+    match words.next_word()? {
         b"front" if words.is_empty() => Some(Question::Front),
         b"size" if words.is_empty() => Some(Question::Size),
         _ => None,
@@ -105,6 +105,6 @@ fn read_question(mut words: Words) -> Option<Question>
 fn read_only_value(mut words: Words) -> Option<i64>
     ensures { result ≡ only_value words.entry }
 {
-    let value = read_value(words.next()?)?;
+    let value = read_value(words.next_word()?)?;
     words.is_empty().then_some(value)
 }

@@ -28,7 +28,7 @@ impl<'a> Words<'a> {
     }
 
     /// The next word, if one is left.
-    pub fn next(&mut self) -> Option<&'a [u8]>
+    pub fn next_word(&mut self) -> Option<&'a [u8]>
         ensures { MatchOption result ((self.old ≡ []) × (self.new ≡ [])) (λ word. self.old ≡ word.now ∷ self.new) }
     {
         let line = &self.rest[spaces_in_front(self.rest)..];

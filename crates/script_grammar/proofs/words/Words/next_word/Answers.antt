@@ -1,8 +1,8 @@
 use Rattle.std.proofs.Common.{◌≡◌, [], sym, ◌∙◌}
 use Rattle.script_grammar.specs.Words.{words}
 use Rattle.script_grammar.proofs.Cutting.{IsCutOff, cut_off_none, cut_off_some}
-use Rattle.script_grammar.proofs.words.Words.next.Goals as goal
-use Rattle.script_grammar.proofs.words.Words.next.Goals.{then-is_empty, else-is_empty}
+use Rattle.script_grammar.proofs.words.Words.next_word.Goals as goal
+use Rattle.script_grammar.proofs.words.Words.next_word.Goals.{then-is_empty, else-is_empty}
 
 pub returns : goal.returns
 returns c =
