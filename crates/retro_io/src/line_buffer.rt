@@ -1,4 +1,4 @@
-ghost use Rattle.std.specs.Prelude.{◌≡◌, ◌+◌, ◌-◌, ◌≤◌, ◌<◌, [], ◌∷◌, ◌++◌, true, false, length, take, drop, Result, IfOk, OnErr, MatchResult, MatchOption};
+ghost use Rattle.std.specs.Prelude.{◌≡◌, ◌+◌, ◌-◌, ◌≢◌, ◌≤◌, ◌<◌, ℕ, [], ◌∷◌, ◌++◌, true, false, length, take, drop, slice_index, Result, IfOk, OnErr, MatchResult, MatchOption};
 ghost use Rattle.std.specs.List.{slice_range};
 ghost use Rattle.retro_io.specs.Faults.{Rose, last_count};
 ghost use Rattle.retro_io.specs.Lines.{has_line_feed, longest, line_feed, without_return};
@@ -34,8 +34,9 @@ impl Model for LineBuffer {
     ghost Value = { Buffered };
 
     ghost view = { λ b. record {
-        held = slice_range b.bytes.items b.start b.end;
-        shown = slice_range b.bytes.items b.line_start b.line_end } };
+      held = slice_range b.bytes.items b.start b.end;
+      shown = slice_range b.bytes.items b.line_start b.line_end;
+    } };
 
     ghost invariant = { λ b. (b.start ≤ b.end) × (b.end ≤ 65536) × (vec_len b.bytes ≡ 65536)
         × (b.line_start ≤ b.line_end) × (b.line_end ≤ 65536) };
@@ -76,12 +77,12 @@ impl LineBuffer {
         ensures { MatchOption result
             (has_line_feed self.now.held ≡ false)
             (λ at. (from ≤ at) × (at < length self.now.held) × (has_line_feed (take at self.now.held) ≡ false)
-                × (self.now.held ≡ take at self.now.held ++ line_feed ∷ drop (at + 1) self.now.held)) }
+            × (self.now.held ≡ take at self.now.held ++ line_feed ∷ drop (at + 1) self.now.held)) }
     {
-        let from = self.start + from;
-        let held = &self.bytes[from..self.end];
-        let at = held.iter().position(|byte| *byte == b'\n')?;
-        Some(from - self.start + at)
+        match first_line_feed(&self.bytes[self.start + from..self.end]) {
+            Some(at) => Some(from + at),
+            None => None,
+        }
     }
 
     /// Gives the line of the first `piece` bytes held, and drops the first `given`.
@@ -118,7 +119,8 @@ impl LineBuffer {
     /// Keeps what is shown of a long line, and drops the other bytes held.
     pub fn keep_front(&mut self)
         requires { longest ≤ length self.old.held }
-        ensures { self.new.held ≡ take longest self.old.held }
+        ensures held { self.new.held ≡ take longest self.old.held }
+        ensures length { length self.new.held ≡ longest }
     {
         self.end = self.start + LONGEST;
     }
@@ -140,25 +142,38 @@ impl LineBuffer {
         ensures kept_count { S.faults source.old ≤ S.faults source.new }
         ensures failed { OnErr result (Rose (S.faults source.old) (S.faults source.new)) }
     {
-        self.pack();
+        move_to_front(&mut self.bytes, self.start, self.end);
+        self.end -= self.start;
+        self.start = 0;
+        self.line_start = 0;
+        self.line_end = 0;
         let room = (CAPACITY - self.end) as u64;
         let upto = self.end + room.min(most) as usize;
         let count = read_into(source, &mut self.bytes, self.end, upto)?;
         self.end += count;
         Ok(count)
     }
+}
 
-    /// Moves the bytes held to the front of the buffer.
-    fn pack(&mut self)
-        ensures { self.new.held ≡ self.old.held }
-    {
-        if self.start > 0 {
-            self.bytes.copy_within(self.start..self.end, 0);
-            self.end -= self.start;
-            self.start = 0;
-            self.line_start = 0;
-            self.line_end = 0;
-        }
+/// Where the first line feed stands.
+fn first_line_feed(bytes: &[u8]) -> Option<usize>
+    ensures { MatchOption result
+        ((k : ℕ) → k < length bytes.now → slice_index bytes.now k ≢ line_feed)
+        (λ at. (at < length bytes.now) × (slice_index bytes.now at ≡ line_feed)
+        × ((k : ℕ) → k < at → slice_index bytes.now k ≢ line_feed)) }
+{
+    bytes.iter().position(|byte| *byte == b'\n')
+}
+
+/// Moves the bytes from `start` to `end` to the front.
+fn move_to_front(bytes: &mut [u8], start: usize, end: usize)
+    requires order { start ≤ end }
+    requires within { end ≤ length bytes.old }
+    ensures len { length bytes.new ≡ length bytes.old }
+    ensures moved { take (end - start) bytes.new ≡ slice_range bytes.old start end }
+{
+    if start > 0 {
+        bytes.copy_within(start..end, 0);
     }
 }
 

@@ -2,8 +2,8 @@ ghost use Rattle.std.specs.Prelude.{◌≡◌, ℕ, ◌+◌, ◌-◌, ◌^◌, �
 ghost use Rattle.retro_io.specs.Faults.{Rose, count_after};
 ghost use Rattle.retro_io.specs.Lines.{has_line_feed, longest};
 ghost use Rattle.retro_io.specs.Marks.{GivesNextOf, gives_line};
-ghost use Rattle.retro_io.specs.Reads.{Took, MakesOf, IsUnbrokenBeforeLast};
-ghost use Rattle.retro_io.specs.Source.{GivesCount, bytes_left};
+ghost use Rattle.retro_io.specs.Reads.{GivesFirst, MakesOf, Took};
+ghost use Rattle.retro_io.specs.Source.{Gives, GivesCount, bytes_left};
 
 use crate::line_buffer::{LONGEST, LineBuffer};
 use crate::{Failed, Mark, ReadError, Source};
@@ -161,8 +161,16 @@ impl<'a, S: Source> LineReader<'a, S> {
     /// Gives what is held at the end of the input, if there is anything.
     fn give_last(&mut self) -> Mark
         requires failed { self.old.failed ≡ false }
+        requires unbroken { has_line_feed (held self.old) ≡ false }
         requires at_end { S.ended (source_of self.old) ≡ true }
         requires none_left { bytes_left (S.left (source_of self.old)) ≡ [] }
+        ensures reference { reference_of self.new ≡ reference_of self.old }
+        ensures source { source_of self.new ≡ source_of self.old }
+        ensures limit { limit_of self.new ≡ limit_of self.old }
+        ensures failed { has_failed self.new ≡ false }
+        ensures ended { has_ended self.new ≡ true }
+        ensures taken { taken self.new ≡ taken self.old }
+        ensures gives { GivesFirst result (line_of self.new) true (held self.old) (held self.new) }
     {
         let held = self.buffer.len();
         self.ended = true;
@@ -183,7 +191,19 @@ impl<'a, S: Source> LineReader<'a, S> {
         ensures failed { has_failed self.new ≡ is_err result }
         ensures ended { has_ended self.new ≡ false }
         ensures count { IfOk result (λ count. taken self.new ≡ taken self.old + count) }
+        ensures taken { taken self.old ≤ taken self.new }
+        ensures source_taken { S.taken (source_of self.new)
+            ≡ count_after (S.taken (source_of self.old)) (taken self.new - taken self.old) }
+        ensures source_faults { S.faults (source_of self.old) ≤ S.faults (source_of self.new) }
         ensures kept { take (length (held self.old)) (held self.new) ≡ held self.old }
+        ensures length { length (held self.new) ≡ length (held self.old) + (taken self.new - taken self.old) }
+        ensures gives { Gives (S.left (source_of self.old)) (drop (length (held self.old)) (held self.new)) (S.left (source_of self.new)) }
+        ensures at_end { IfOk result (λ count. count ≡ 0 →
+            (bytes_left (S.left (source_of self.new)) ≡ []) × (S.ended (source_of self.new) ≡ true)) }
+        ensures fault { IsErrOf result ReadError.ReadFault →
+            (taken self.new ≡ taken self.old) × Rose (S.faults (source_of self.old)) (S.faults (source_of self.new)) }
+        ensures too_long { IsErrOf result ReadError.TooLong ↔ (taken self.new ≡ limit_of self.new + 1) }
+        ensures last { IsErrOf result ReadError.TooLong → taken self.old ≡ limit_of self.old }
     {
         let most = (self.limit - self.taken).max(1);
         match self.buffer.fill_from(self.source, most) {

@@ -51,10 +51,10 @@ pub fn put_all<K: Sink>(sink: &mut K, bytes: &[u8]) -> Result<(), WriteFault>
     ensures kept_count { K.faults sink.old ≤ K.faults sink.new }
     ensures failed { OnErr result (Rose (K.faults sink.old) (K.faults sink.new)) }
 {
-    let mut rest = bytes;
-    while !rest.is_empty() {
-        match sink.write(rest) {
-            Ok(count) => rest = &rest[count..],
+    let mut appended = 0;
+    while appended < bytes.len() {
+        match sink.write(&bytes[appended..]) {
+            Ok(count) => appended += count,
             Err(Failed) => return Err(WriteFault),
         }
     }
