@@ -7,6 +7,7 @@ mod mark;
 mod sink;
 mod source;
 
+pub use line_buffer::LineBuffer;
 pub use line_reader::LineReader;
 pub use mark::{Mark, ReadError};
 pub use sink::{Sink, WriteFault, put_all};

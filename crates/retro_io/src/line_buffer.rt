@@ -6,11 +6,12 @@ ghost use Rattle.retro_io.specs.Marks.{Shows};
 ghost use Rattle.retro_io.specs.Source.{Gives, bytes_left, taken_after};
 
 use crate::{Failed, Mark, Source};
-use std::alloc::{AllocError, Global};
+use retro_base::NoMemory;
+use std::alloc::Global;
 use std::marker::Model;
 
 /// The most bytes of a line that is not long.
-pub const LONGEST: usize = 4096;
+pub(crate) const LONGEST: usize = 4096;
 
 /// How many bytes the buffer has: room for what is kept of a line, and for a large read.
 const CAPACITY: usize = 65536;
@@ -44,7 +45,7 @@ impl Model for LineBuffer {
 
 impl LineBuffer {
     /// An empty buffer, with all the memory that it will need.
-    pub fn new(alloc: Global) -> Result<LineBuffer, AllocError>
+    pub fn new(alloc: Global) -> Result<LineBuffer, NoMemory>
         ensures { IfOk result (λ buffer. buffer.held ≡ []) }
     {
         Ok(LineBuffer {
@@ -57,21 +58,21 @@ impl LineBuffer {
     }
 
     /// How many bytes are held.
-    pub fn len(&self) -> usize
+    pub(crate) fn len(&self) -> usize
         ensures { result ≡ length self.now.held }
     {
         self.end - self.start
     }
 
     /// What is shown of the line that was given last.
-    pub fn line(&self) -> &[u8]
+    pub(crate) fn line(&self) -> &[u8]
         ensures { result.now ≡ self.now.shown }
     {
         &self.bytes[self.line_start..self.line_end]
     }
 
     /// Where the first line feed stands among the bytes held. The first `from` of them have none.
-    pub fn line_feed_from(&self, from: usize) -> Option<usize>
+    pub(crate) fn line_feed_from(&self, from: usize) -> Option<usize>
         requires within { from ≤ length self.now.held }
         requires clear { has_line_feed (take from self.now.held) ≡ false }
         ensures { MatchOption result
@@ -86,7 +87,7 @@ impl LineBuffer {
     }
 
     /// Gives the line of the first `piece` bytes held, and drops the first `given`.
-    pub fn give(&mut self, piece: usize, given: usize) -> Mark
+    pub(crate) fn give(&mut self, piece: usize, given: usize) -> Mark
         requires piece { piece ≤ given }
         requires given { given ≤ length self.old.held }
         ensures shown { Shows result self.new.shown (without_return (take piece self.old.held)) }
@@ -105,7 +106,7 @@ impl LineBuffer {
     }
 
     /// Gives a long line of which the first bytes are held, and drops the first `given` bytes held.
-    pub fn give_long(&mut self, given: usize)
+    pub(crate) fn give_long(&mut self, given: usize)
         requires long { longest ≤ given }
         requires given { given ≤ length self.old.held }
         ensures shown { self.new.shown ≡ take longest self.old.held }
@@ -117,7 +118,7 @@ impl LineBuffer {
     }
 
     /// Keeps what is shown of a long line, and drops the other bytes held.
-    pub fn keep_front(&mut self)
+    pub(crate) fn keep_front(&mut self)
         requires { longest ≤ length self.old.held }
         ensures held { self.new.held ≡ take longest self.old.held }
         ensures length { length self.new.held ≡ longest }
@@ -126,7 +127,11 @@ impl LineBuffer {
     }
 
     /// Reads at most `most` bytes behind those held.
-    pub fn fill_from<S: Source>(&mut self, source: &mut S, most: u64) -> Result<usize, Failed>
+    pub(crate) fn fill_from<S: Source>(
+        &mut self,
+        source: &mut S,
+        most: u64,
+    ) -> Result<usize, Failed>
         requires some { 0 < most }
         requires room { length self.old.held < 65536 }
         ensures kept { take (length self.old.held) self.new.held ≡ self.old.held }

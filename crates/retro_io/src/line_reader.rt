@@ -43,14 +43,45 @@ impl<'a, S: Source> LineReader<'a, S> {
         ensures failed { IfOk result (λ r. has_failed r ≡ false) }
     {
         let buffer = LineBuffer::new(alloc)?;
-        Ok(LineReader {
+        Ok(LineReader::with_buffer(buffer, source, limit))
+    }
+
+    /// The same with a buffer that is there already, and so without want of memory.
+    pub fn with_buffer(buffer: LineBuffer, source: &'a mut S, limit: u64) -> LineReader<'a, S>
+        requires limit { limit < 2 ^ 62 }
+        requires empty { buffer.held ≡ [] }
+        ensures reference { reference_of result ≡ source.entry.ghost_name }
+        ensures source { source_of result ≡ source.entry.now }
+        ensures held { held result ≡ [] }
+        ensures taken { taken result ≡ 0 }
+        ensures limit { limit_of result ≡ limit }
+        ensures ended { has_ended result ≡ false }
+        ensures failed { has_failed result ≡ false }
+    {
+        LineReader {
             source,
             buffer,
             taken: 0,
             limit,
             ended: false,
             failed: false,
-        })
+        }
+    }
+
+    /// Gives the source back. Bytes that the reader holds are lost.
+    pub fn into_inner(self) -> &'a mut S
+        ensures reference { result.ghost_name ≡ reference_of self.entry }
+        ensures source { result.now ≡ source_of self.entry }
+    {
+        let LineReader {
+            source,
+            buffer: _buffer,
+            taken: _taken,
+            limit: _limit,
+            ended: _ended,
+            failed: _failed,
+        } = self;
+        source
     }
 
     /// What the reader shows of the line that it gave last: of a long one its first 4,096 bytes.
