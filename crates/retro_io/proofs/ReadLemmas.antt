@@ -1,7 +1,7 @@
 -- Lemmas on what the reader took from its source.
 use Rattle.std.proofs.Common.{◌≡◌, ℕ, zero, suc, ◌+◌, ◌-◌, ◌≤◌, ◌<◌, ◌⊎◌, Bool, true, false, List, [], ◌∷◌, ◌++◌, Option, None, Some, Result, Ok, Err, length, take, drop, sym, ap, ◌∙◌, refl, subst, inl, inr, arith}
 use Rattle.std.proofs.lemmas.Bool.{false≢true}
-use Rattle.std.proofs.lemmas.List.{append_assoc, append-nil, nil_from_length, length-append, length-drop, take-append-drop, take-append-le, take_at, drop_at, drop-append-le}
+use Rattle.std.proofs.lemmas.List.{append_assoc, append-nil, nil_from_length, length-append, length-take, length-drop, take-append-drop, take-append-le, take_at, drop_at, drop-append-le}
 use Rattle.retro_io.specs.declared.mark.Mark.{Mark}
 use Rattle.retro_io.specs.declared.mark.Mark.TheVariants.{Whole, Long, End}
 use Rattle.retro_io.specs.declared.mark.ReadError.{ReadError}
@@ -10,7 +10,7 @@ use Rattle.std.specs.Prelude.{IfOk, IsTrue}
 use Rattle.retro_io.specs.Faults.{count_after}
 use Rattle.retro_io.specs.LineReader.{held_and_left}
 use Rattle.retro_io.specs.Lines.{lines, longest, line_feed, has_line_feed, without_return, StartsWith}
-use Rattle.retro_io.specs.Marks.{Shows, GivesNext, GivesNextOf, gives_line}
+use Rattle.retro_io.specs.Marks.{Shows, GivesNext, GivesNextOf, Measures, gives_line}
 use Rattle.retro_io.specs.Reads.{Took, GivesPiece, GivesFirst, IsUnbrokenBeforeLast, MakesOf}
 use Rattle.retro_io.specs.Source.{Gives, GivesCount, bytes_left}
 use Rattle.retro_io.proofs.LineLemmas.{unbroken-append, unbroken-front, unbroken-back, unbroken-take, unbroken-drop, length-without_return, take-without_return, lines-cut, lines-last}
@@ -216,3 +216,17 @@ progress_of_call (Ok Long) shown ended held after a b taken_before taken_after t
     piece_progress Long shown ended held after t.got taken_before taken_after t.holds t.counts rises fits
 progress_of_call (Ok End) shown ended held after a b taken_before taken_after t rises fits = λ no. absurd (false≢true no)
 progress_of_call (Err error) shown ended held after a b taken_before taken_after t rises fits = tt
+
+-- what is shown of a line has the length that its mark says
+pub measures_shown : (mark : Mark) (shown line : List ℕ) → Shows mark shown line → Measures mark shown
+measures_shown Whole shown line shows = omega (arith, ap length shows.0, shows.1)
+measures_shown Long shown line shows = omega (arith, ap length shows.0, length-take longest line, shows.1)
+measures_shown End shown line shows = tt
+
+-- .. and so it has after a call that read
+pub measures_of_call : (r : Result Mark ReadError) (shown : List ℕ) (ended : Bool) (held after : List ℕ) (before left : Option (List ℕ)) (count : ℕ)
+    → Took before left count (MakesOf r shown ended held after) → IfOk r (λ mark. Measures mark shown)
+measures_of_call (Ok Whole) shown ended held after before left count took = measures_shown Whole shown _ took.holds.shows
+measures_of_call (Ok Long) shown ended held after before left count took = measures_shown Long shown _ took.holds.shows
+measures_of_call (Ok End) shown ended held after before left count took = tt
+measures_of_call (Err error) shown ended held after before left count took = tt

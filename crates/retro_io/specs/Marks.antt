@@ -30,3 +30,9 @@ abbrev pub GivesNextOf : Mark → List ℕ → Bool → Option (List ℕ) → Op
 GivesNextOf mark shown ended None after = after ≡ None
 GivesNextOf mark shown ended (Some before) None = ⊥
 GivesNextOf mark shown ended (Some before) (Some after) = GivesNext mark shown ended before after
+
+-- how much is shown of a line under this answer
+abbrev pub Measures : Mark → List ℕ → Type 0
+Measures Whole shown = length shown ≤ longest
+Measures Long shown = length shown ≡ longest
+Measures End shown = Unit {0}

@@ -1,7 +1,7 @@
 ghost use Rattle.std.specs.Prelude.{◌≡◌, ℕ, ◌+◌, ◌-◌, ◌^◌, ◌≤◌, ◌<◌, ◌↔◌, [], ◌∷◌, ◌++◌, true, false, length, take, drop, Result, IfOk, IfSome, OnErr, OnOk, IsErrOf, IsTrue, MatchResult, MatchOption, is_err};
 ghost use Rattle.retro_io.specs.Faults.{Rose, count_after};
 ghost use Rattle.retro_io.specs.Lines.{has_line_feed, longest};
-ghost use Rattle.retro_io.specs.Marks.{GivesNextOf, gives_line};
+ghost use Rattle.retro_io.specs.Marks.{GivesNextOf, Measures, gives_line};
 ghost use Rattle.retro_io.specs.Reads.{GivesFirst, MakesOf, Took};
 ghost use Rattle.retro_io.specs.Source.{Gives, GivesCount, bytes_left};
 
@@ -107,6 +107,7 @@ impl<'a, S: Source> LineReader<'a, S> {
         ensures source_faults { S.faults (source_of self.old) ≤ S.faults (source_of self.new) }
         // The lines given are those of the bytes.
         ensures lines { IfOk result (λ mark. GivesNextOf mark (line_of self.new) (has_ended self.new) (rest_of self.old) (rest_of self.new)) }
+        ensures shown { IfOk result (λ mark. Measures mark (line_of self.new)) }
         ensures progress { IfOk result (λ mark. IsTrue (gives_line mark) → given self.old < given self.new) }
         ensures at_end { IfOk result (λ mark. mark ≡ Mark.End →
             (held self.new ≡ []) × (has_ended self.new ≡ true) × (S.ended (source_of self.new) ≡ true)) }
