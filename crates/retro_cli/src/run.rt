@@ -42,3 +42,36 @@ fn answer_line<K: Sink>(
     put_all(sink, reply.as_bytes())?;
     Ok(outcome.is_refusal())
 }
+
+/// Answers the lines that a reader gives, up to the end of the input. The answer to each is written
+/// before the next one is read.
+fn answer_lines<S: Source, K: Sink>(
+    alloc: Global,
+    reader: &mut LineReader<'_, S>,
+    sink: &mut K,
+) -> Result<bool, Stop>
+    requires { has_failed reader.old ≡ false }
+    ensures reference { reference_of reader.new ≡ reference_of reader.old }
+    ensures limit { limit_of reader.new ≡ limit_of reader.old }
+    ensures taken { S.taken (source_of reader.new) ≡ count_after (S.taken (source_of reader.old)) (taken reader.new - taken reader.old) }
+    ensures taken_more { taken reader.old ≤ taken reader.new }
+    ensures within { taken reader.new ≤ limit_of reader.new + 1 }
+    ensures ended { OnOk result (S.ended (source_of reader.new) ≡ true) }
+    ensures answered { IfOk result (AnswersRest (rest_of reader.old) (K.written sink.old) (K.written sink.new)) }
+    ensures sink_count { K.faults sink.old ≤ K.faults sink.new }
+    ensures read_fault { IsErrOf result Stop.ReadFault → Rose (S.faults (source_of reader.old)) (S.faults (source_of reader.new)) }
+    ensures write_fault { IsErrOf result Stop.WriteFault → Rose (K.faults sink.old) (K.faults sink.new) }
+    ensures too_long { IsErrOf result Stop.TooLong ↔ (taken reader.new ≡ limit_of reader.new + 1) }
+{
+    let mut bench = Bench::new(alloc);
+    let mut reply = Text::new(alloc);
+    let mut refused = false;
+    loop {
+        let long = match reader.next()? {
+            Mark::Whole => false,
+            Mark::Long => true,
+            Mark::End => return Ok(refused),
+        };
+        refused |= answer_line(reader.line(), long, &mut bench, &mut reply, sink)?;
+    }
+}
