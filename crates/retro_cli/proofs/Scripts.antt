@@ -79,7 +79,7 @@ goes_on_line bytes before bench refused left so_far line after rest written answ
   answers = append_assoc so_far _ _ ∙ ap (λ xs. so_far ++ xs) (sym (answers_to-cons bench line (lines after)))
       ∙ ap (λ ls. so_far ++ answers_to bench ls) (sym first) ∙ answers;
   refusals = or_assoc refused _ _ ∙ ap (λ b. refused || b) (sym (refuses_one-cons bench line (lines after)))
-      ∙ ap (λ ls. refused || refuses_one bench ls) (sym first) ∙ refusals
+      ∙ ap (λ ls. refused || refuses_one bench ls) (sym first) ∙ refusals;
 }
 
 -- at the end all is answered

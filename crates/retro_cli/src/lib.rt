@@ -3,11 +3,12 @@
 
 mod bench;
 mod outcome;
-mod run;
+mod script;
 mod status;
 mod stop;
 mod timeline;
 mod words;
 
+pub use script::{MAX_BYTES, run};
 pub use status::Status;
 pub use words::Words;

@@ -4,6 +4,7 @@ ghost use Rattle.retro_io.specs.Sink.{Appends};
 ghost use Rattle.retro_io.specs.LineReader.{held, taken, limit_of, has_failed, reference_of, rest_of, source_of};
 ghost use Rattle.script_grammar.specs.declared.command.LineError.TheVariants as errors;
 ghost use Rattle.script_grammar.specs.Command.{command};
+ghost use Rattle.retro_cli.specs.declared.script.TheConstants.{MAX_BYTES};
 ghost use Rattle.retro_cli.specs.Outcome.{ended, outcome_text, is_refusal};
 ghost use Rattle.retro_cli.specs.Reaction.{obeys};
 ghost use Rattle.retro_cli.specs.Run.{IsRun, HasAnswered, AnswersScript, AnswersRest};
@@ -12,7 +13,7 @@ use crate::bench::Bench;
 use crate::stop::Stop;
 use crate::{Status, Words};
 use retro_base::Text;
-use retro_io::{LineReader, Mark, Sink, Source, put_all};
+use retro_io::{LineBuffer, LineReader, Mark, Sink, Source, put_all};
 use script_grammar::read_line;
 use std::alloc::Global;
 
@@ -74,4 +75,55 @@ fn answer_lines<S: Source, K: Sink>(
         };
         refused |= answer_line(reader.line(), long, &mut bench, &mut reply, sink)?;
     }
+}
+
+/// Reads a script, answers its lines and sees to it that the answers arrive.
+fn run_script<S: Source, K: Sink>(alloc: Global, source: &mut S, sink: &mut K) -> Result<bool, Stop>
+    ensures ended { OnOk result ((S.ended source.new ≡ true) × (K.flushed sink.new ≡ true)) }
+    ensures answered { IfOk result (AnswersRest (S.left source.old) (K.written sink.old) (K.written sink.new)) }
+    ensures read_fault { IsErrOf result Stop.ReadFault → Rose (S.faults source.old) (S.faults source.new) }
+    ensures write_fault { IsErrOf result Stop.WriteFault → Rose (K.faults sink.old) (K.faults sink.new) }
+    ensures too_long { S.taken source.new < last_count → (IsErrOf result Stop.TooLong ↔ (MAX_BYTES < S.taken source.new - S.taken source.old)) }
+{
+    let buffer = LineBuffer::new(alloc)?;
+    let mut reader = LineReader::with_buffer(buffer, source, MAX_BYTES);
+    let answered = answer_lines(alloc, &mut reader, sink);
+    let _source = reader.into_inner();
+    let refused = answered?;
+    sink.flush()?;
+    Ok(refused)
+}
+
+/// Runs the program: with the one word `run` it reads a script from the source and writes the answer to
+/// each line to the sink, before it reads the next one. With other words it reads and writes nothing.
+pub fn run<S: Source, K: Sink>(alloc: Global, words: &Words, source: &mut S, sink: &mut K) -> Status
+    // The input was read to its end, the answers have arrived, and they are those of the script.
+    ensures ended { HasAnswered result → (S.ended source.new ≡ true) × (K.flushed sink.new ≡ true) }
+    ensures answered { HasAnswered result → AnswersScript (S.left source.old) (K.written sink.old) (K.written sink.new) result }
+    // When each other status comes.
+    ensures words { (result ≡ Status.Words) ↔ ¬ IsRun words.now }
+    ensures untouched { result ≡ Status.Words → (source.new ≡ source.old) × (sink.new ≡ sink.old) }
+    ensures read_fault { result ≡ Status.ReadFault → Rose (S.faults source.old) (S.faults source.new) }
+    ensures write_fault { result ≡ Status.WriteFault → Rose (K.faults sink.old) (K.faults sink.new) }
+    ensures too_long { S.taken source.new < last_count →
+        ((result ≡ Status.TooLong) ↔ (MAX_BYTES < S.taken source.new - S.taken source.old)) }
+{
+    if !is_run(words) {
+        return Status::Words;
+    }
+    match run_script(alloc, source, sink) {
+        Ok(false) => Status::Done,
+        Ok(true) => Status::Refused,
+        Err(Stop::ReadFault) => Status::ReadFault,
+        Err(Stop::WriteFault) => Status::WriteFault,
+        Err(Stop::NoMemory) => Status::NoMemory,
+        Err(Stop::TooLong) => Status::TooLong,
+    }
+}
+
+/// Whether the words are those that run a script.
+fn is_run(words: &Words) -> bool
+    ensures { IsTrue result ↔ IsRun words.now }
+{
+    words.len() == 1 && words.word(0) == b"run".as_slice()
 }

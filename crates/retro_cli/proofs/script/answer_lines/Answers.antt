@@ -2,8 +2,8 @@ use Rattle.std.proofs.Common.{◌≡◌, refl, sym, ap, ◌∙◌, arith, rules,
 use Rattle.retro_io.specs.declared.mark.Mark.TheVariants.{Whole, Long, End}
 use Rattle.retro_io.specs.LineReader.{line_of, has_ended}
 use Rattle.retro_cli.proofs.Scripts.{GivenAs, answers_rest, goes_on_next, count_after-twice}
-use Rattle.retro_cli.proofs.run.answer_lines.Goals as goal
-use Rattle.retro_cli.proofs.run.answer_lines.Goals.{in-Whole, in-Long}
+use Rattle.retro_cli.proofs.script.answer_lines.Goals as goal
+use Rattle.retro_cli.proofs.script.answer_lines.Goals.{in-Whole, in-Long}
 
 pub returns-in-End-clause-answered : goal.returns-in-End-clause-answered
 returns-in-End-clause-answered g c =
@@ -12,7 +12,7 @@ returns-in-End-clause-answered g c =
 pub loop-reply-preserved : goal.loop-reply-preserved
 loop-reply-preserved g c =
     let as_given : GivenAs c.in_ok-next.field-0 c.match-branch-2.long =
-        elim c.match-branch-2.branch [ in-Whole w ↦ rw w.in-Whole.is w.long-is | in-Long w ↦ rw w.in-Long.is w.long-is ] in
+    elim c.match-branch-2.branch [ in-Whole w ↦ rw w.in-Whole.is w.long-is | in-Long w ↦ rw w.in-Long.is w.long-is ] in
     let answered = rw c.line.ensures at c.in_ok-refused.ensures.answered in
     record {
       reference = c.in_ok-next.ensures.reference ∙ c.loop-reply.invariant.reference;

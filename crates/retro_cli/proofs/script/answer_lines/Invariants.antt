@@ -3,7 +3,7 @@ use Rattle.std.proofs.Common.{◌≡◌, ℕ, ◌≤◌, ◌+◌, ◌-◌, List,
 use Rattle.retro_io.specs.Faults.{count_after}
 use Rattle.retro_io.specs.LineReader.{given, taken, limit_of, has_failed, reference_of, rest_of, source_of}
 use Rattle.retro_cli.proofs.Scripts.{GoesOn}
-use Rattle.retro_cli.proofs.run.answer_lines.Given as goal
+use Rattle.retro_cli.proofs.script.answer_lines.Given as goal
 
 abbrev pub invariant-loop-reply : goal.invariant-loop-reply
 invariant-loop-reply g l = record {
