@@ -17,7 +17,7 @@ use Rattle.retro_cli.specs.Outcome.{ended, outcome_text, is_refusal}
 use Rattle.retro_cli.specs.Reaction.{Reaction, obeys, reads, reacts}
 use Rattle.retro_io.specs.Lines.{lines, longest}
 use Rattle.retro_cli.specs.Output.{outcomes, answers_to, refuses_one, output, has_refusal}
-use Rattle.retro_cli.specs.Run.{AnswersRest}
+use Rattle.retro_cli.specs.Run.{AppendsOutput, TellsRefusal}
 
 pub answers_to-cons : (bench : List Timeline) (line : List ℕ) (more : List (List ℕ))
     → answers_to bench (line ∷ more) ≡ ended (outcome_text (reacts bench line).outcome) ++ answers_to (reacts bench line).bench more
@@ -51,44 +51,55 @@ none_is_not_some e = cc
 some_same : {xs ys : List ℕ} (o : Option (List ℕ)) → o ≡ Some xs → o ≡ Some ys → xs ≡ ys
 some_same o e f = cc
 
--- The answers so far, followed by those to the lines that are left, are the answers to all; and so with refusals.
-pub record GoesOn (bytes before : List ℕ) (bench : List Timeline) (refused : Bool) (rest written : Option (List ℕ)) : Type 0 where
+appends_nothing : (written : Option (List ℕ)) → Appends written [] written
+appends_nothing None = refl
+appends_nothing (Some w) = ap (λ xs. Some xs) (sym (append-nil w))
+
+appends_more : (first written written' : Option (List ℕ)) (so_far text : List ℕ) → Appends first so_far written → Appends written text written'
+    → Appends first (so_far ++ text) written'
+appends_more None written written' so_far text before after = rw before at after
+appends_more (Some w) written written' so_far text before after = (rw before at after) ∙ ap (λ xs. Some xs) (append_assoc w so_far text)
+
+-- What was appended so far, followed by the answers to the lines that are left, is the output of the script; and so with refusals.
+pub record GoesOn (bytes : List ℕ) (first : Option (List ℕ)) (bench : List Timeline) (refused : Bool) (rest written : Option (List ℕ)) : Type 0 where
   pub left : List ℕ
   pub so_far : List ℕ
   pub rest_is : rest ≡ Some left
-  pub written_is : written ≡ Some so_far
-  pub answers : so_far ++ answers_to bench (lines left) ≡ before ++ output bytes
+  pub appended : Appends first so_far written
+  pub answers : so_far ++ answers_to bench (lines left) ≡ output bytes
   pub refusals : (refused || refuses_one bench (lines left)) ≡ has_refusal bytes
 
 -- at the start nothing is answered
-pub goes_on_first : (bytes before : List ℕ) (rest written : Option (List ℕ)) → rest ≡ Some bytes → written ≡ Some before
-    → GoesOn bytes before [] false rest written
-goes_on_first bytes before rest written e f = record { left = bytes; so_far = before; rest_is = e; written_is = f; answers = refl; refusals = refl }
+pub goes_on_first : (bytes : List ℕ) (rest written : Option (List ℕ)) → rest ≡ Some bytes → GoesOn bytes written [] false rest written
+goes_on_first bytes rest written e =
+    record { left = bytes; so_far = []; rest_is = e; appended = appends_nothing written; answers = refl; refusals = refl }
 
 -- after one more line, whose answer was appended
-goes_on_line : (bytes before : List ℕ) (bench : List Timeline) (refused : Bool) (left so_far line after : List ℕ) (rest written : Option (List ℕ))
-    → so_far ++ answers_to bench (lines left) ≡ before ++ output bytes → (refused || refuses_one bench (lines left)) ≡ has_refusal bytes
-    → lines left ≡ line ∷ lines after → rest ≡ Some after
-    → written ≡ Some (so_far ++ ended (outcome_text (reacts bench line).outcome))
-    → GoesOn bytes before (reacts bench line).bench (refused || is_refusal (reacts bench line).outcome) rest written
-goes_on_line bytes before bench refused left so_far line after rest written answers refusals first e f = record {
-  left = after;
-  so_far = so_far ++ ended (outcome_text (reacts bench line).outcome);
-  rest_is = e;
-  written_is = f;
-  answers = append_assoc so_far _ _ ∙ ap (λ xs. so_far ++ xs) (sym (answers_to-cons bench line (lines after)))
-      ∙ ap (λ ls. so_far ++ answers_to bench ls) (sym first) ∙ answers;
-  refusals = or_assoc refused _ _ ∙ ap (λ b. refused || b) (sym (refuses_one-cons bench line (lines after)))
-      ∙ ap (λ ls. refused || refuses_one bench ls) (sym first) ∙ refusals;
-}
+goes_on_line : (bytes : List ℕ) (first : Option (List ℕ)) (bench : List Timeline) (refused : Bool) (now after line : List ℕ) (written written' : Option (List ℕ))
+    → GoesOn bytes first bench refused (Some now) written → lines now ≡ line ∷ lines after
+    → Appends written (ended (outcome_text (reacts bench line).outcome)) written'
+    → GoesOn bytes first (reacts bench line).bench (refused || is_refusal (reacts bench line).outcome) (Some after) written'
+goes_on_line bytes first bench refused now after line written written' on cut appended =
+    let same : now ≡ on.left = some_same (Some now) refl on.rest_is in
+    let cut_left : lines on.left ≡ line ∷ lines after = rw same at cut in
+    record {
+      left = after;
+      so_far = on.so_far ++ ended (outcome_text (reacts bench line).outcome);
+      rest_is = refl;
+      appended = appends_more first written written' on.so_far _ on.appended appended;
+      answers = append_assoc on.so_far _ _ ∙ ap (λ xs. on.so_far ++ xs) (sym (answers_to-cons bench line (lines after)))
+          ∙ ap (λ ls. on.so_far ++ answers_to bench ls) (sym cut_left) ∙ on.answers;
+      refusals = or_assoc refused _ _ ∙ ap (λ b. refused || b) (sym (refuses_one-cons bench line (lines after)))
+          ∙ ap (λ ls. refused || refuses_one bench ls) (sym cut_left) ∙ on.refusals;
+    }
 
 -- at the end all is answered
-pub goes_on_last : (bytes before : List ℕ) (bench : List Timeline) (refused : Bool) (rest written : Option (List ℕ)) → GoesOn bytes before bench refused rest written
-    → rest ≡ Some [] → (written ≡ Some (before ++ output bytes)) × (refused ≡ has_refusal bytes)
-goes_on_last bytes before bench refused rest written on e =
+goes_on_last : (bytes : List ℕ) (first : Option (List ℕ)) (bench : List Timeline) (refused : Bool) (rest written : Option (List ℕ))
+    → GoesOn bytes first bench refused rest written → rest ≡ Some [] → Appends first (output bytes) written × (refused ≡ has_refusal bytes)
+goes_on_last bytes first bench refused rest written on e =
     let none_left : on.left ≡ [] = some_same rest on.rest_is e in
-    let answered : on.so_far ≡ before ++ output bytes = sym (append-nil on.so_far) ∙ rw (none_left, answers_to-nil) at on.answers in
-    (on.written_is ∙ ap (λ xs. Some xs) answered, sym (or-false refused) ∙ rw (none_left, refuses_one-nil) at on.refusals)
+    let answered : on.so_far ≡ output bytes = sym (append-nil on.so_far) ∙ rw (none_left, answers_to-nil) at on.answers in
+    (rw answered at on.appended, sym (or-false refused) ∙ rw (none_left, refuses_one-nil) at on.refusals)
 
 -- a line is answered as a long one exactly where it is given as one
 abbrev pub GivenAs : Mark → Bool → Type 0
@@ -106,51 +117,44 @@ reads_short line short = rw (le-ltb _ _ short) refl
 reads_long : (line : List ℕ) → longest < length line → reads line ≡ Err errors.Long
 reads_long line long = rw (lt-ltb _ _ long) refl
 
-appended_some : (written written' : Option (List ℕ)) (so_far text : List ℕ) → written ≡ Some so_far → Appends written text written' → written' ≡ Some (so_far ++ text)
-appended_some None written' so_far text e h = absurd (cc)
-appended_some (Some w) written' so_far text e h = let same : w ≡ so_far = cc in h ∙ ap (λ xs. Some (xs ++ text)) same
-
-goes_on_reading : (bytes before : List ℕ) (bench : List Timeline) (refused : Bool) (now after line : List ℕ) (reading : Result Command LineError)
+goes_on_reading : (bytes : List ℕ) (first : Option (List ℕ)) (bench : List Timeline) (refused : Bool) (now after line : List ℕ) (reading : Result Command LineError)
     (written written' : Option (List ℕ)) → reads line ≡ reading → lines now ≡ line ∷ lines after
-    → GoesOn bytes before bench refused (Some now) written → Appends written (ended (outcome_text (obeys bench reading).outcome)) written'
-    → GoesOn bytes before (obeys bench reading).bench (refused || is_refusal (obeys bench reading).outcome) (Some after) written'
-goes_on_reading bytes before bench refused now after line reading written written' same first on appended =
-    let left_is : now ≡ on.left = some_same (Some now) refl on.rest_is in
-    rw (← same)
-    (goes_on_line bytes before bench refused on.left on.so_far line after (Some after) written' on.answers on.refusals
-    (rw left_is at first) refl (appended_some written written' on.so_far _ on.written_is (rw (← same) at appended)))
+    → GoesOn bytes first bench refused (Some now) written → Appends written (ended (outcome_text (obeys bench reading).outcome)) written'
+    → GoesOn bytes first (obeys bench reading).bench (refused || is_refusal (obeys bench reading).outcome) (Some after) written'
+goes_on_reading bytes first bench refused now after line reading written written' same cut on appended =
+    rw (← same) (goes_on_line bytes first bench refused now after line written written' on cut (rw (← same) at appended))
 
-pub goes_on_next : (mark : Mark) (long : Bool) (shown : List ℕ) (has_ended : Bool) (bytes before : List ℕ) (bench : List Timeline) (refused : Bool)
+pub goes_on_next : (mark : Mark) (long : Bool) (shown : List ℕ) (has_ended : Bool) (bytes : List ℕ) (first : Option (List ℕ)) (bench : List Timeline) (refused : Bool)
     (rest rest' written written' : Option (List ℕ)) → GivenAs mark long → GivesNextOf mark shown has_ended rest rest'
-    → GoesOn bytes before bench refused rest written
+    → GoesOn bytes first bench refused rest written
     → Appends written (ended (outcome_text (reaction_to bench long shown).outcome)) written'
-    → GoesOn bytes before (reaction_to bench long shown).bench (refused || is_refusal (reaction_to bench long shown).outcome) rest' written'
-goes_on_next Whole long shown has_ended bytes before bench refused None rest' written written' as_given gives on appended =
+    → GoesOn bytes first (reaction_to bench long shown).bench (refused || is_refusal (reaction_to bench long shown).outcome) rest' written'
+goes_on_next Whole long shown has_ended bytes first bench refused None rest' written written' as_given gives on appended =
     absurd (none_is_not_some on.rest_is)
-goes_on_next Whole long shown has_ended bytes before bench refused (Some now) None written written' as_given gives on appended = absurd gives
-goes_on_next Whole long shown has_ended bytes before bench refused (Some now) (Some after) written written' as_given gives on appended =
-    rw as_given (goes_on_reading bytes before bench refused now after shown (command shown) written written' (reads_short shown gives.0) gives.1 on (rw as_given at appended))
-goes_on_next Long long shown has_ended bytes before bench refused None rest' written written' as_given gives on appended =
+goes_on_next Whole long shown has_ended bytes first bench refused (Some now) None written written' as_given gives on appended = absurd gives
+goes_on_next Whole long shown has_ended bytes first bench refused (Some now) (Some after) written written' as_given gives on appended =
+    rw as_given
+    (goes_on_reading bytes first bench refused now after shown (command shown) written written' (reads_short shown gives.0) gives.1 on (rw as_given at appended))
+goes_on_next Long long shown has_ended bytes first bench refused None rest' written written' as_given gives on appended =
     absurd (none_is_not_some on.rest_is)
-goes_on_next Long long shown has_ended bytes before bench refused (Some now) None written written' as_given gives on appended = absurd gives
-goes_on_next Long long shown has_ended bytes before bench refused (Some now) (Some after) written written' as_given gives on appended =
-    rw as_given (goes_on_reading bytes before bench refused now after gives.0 (Err errors.Long) written written' (reads_long gives.0 gives.2) gives.3 on (rw as_given at appended))
-goes_on_next End long shown has_ended bytes before bench refused rest rest' written written' as_given gives on appended = absurd as_given
+goes_on_next Long long shown has_ended bytes first bench refused (Some now) None written written' as_given gives on appended = absurd gives
+goes_on_next Long long shown has_ended bytes first bench refused (Some now) (Some after) written written' as_given gives on appended =
+    rw as_given
+    (goes_on_reading bytes first bench refused now after gives.0 (Err errors.Long) written written' (reads_long gives.0 gives.2) gives.3 on (rw as_given at appended))
+goes_on_next End long shown has_ended bytes first bench refused rest rest' written written' as_given gives on appended = absurd as_given
 
 nothing_left : (shown : List ℕ) (has_ended : Bool) (rest rest' : Option (List ℕ)) (left : List ℕ) → GivesNextOf End shown has_ended rest rest' → rest ≡ Some left → rest ≡ Some []
 nothing_left shown has_ended None rest' left gives e = absurd (none_is_not_some e)
 nothing_left shown has_ended (Some now) None left gives e = absurd gives
 nothing_left shown has_ended (Some now) (Some after) left gives e = ap (λ xs. Some xs) gives.0
 
-pub answers_rest : (first_rest first_written : Option (List ℕ)) (bench : List Timeline) (refused : Bool) (rest rest' written : Option (List ℕ))
-    (shown : List ℕ) (has_ended : Bool)
-    → ((bytes before : List ℕ) → first_rest ≡ Some bytes → first_written ≡ Some before → GoesOn bytes before bench refused rest written)
-    → GivesNextOf End shown has_ended rest rest' → AnswersRest first_rest first_written written refused
-answers_rest None first_written bench refused rest rest' written shown has_ended on gives = tt
-answers_rest (Some bytes) None bench refused rest rest' written shown has_ended on gives = tt
-answers_rest (Some bytes) (Some before) bench refused rest rest' written shown has_ended on gives =
-    let here = on bytes before refl refl in
-    goes_on_last bytes before bench refused rest written here (nothing_left shown has_ended rest rest' here.left gives here.rest_is)
+pub appends_output : (first_rest first : Option (List ℕ)) (bench : List Timeline) (refused : Bool) (rest rest' written : Option (List ℕ)) (shown : List ℕ)
+    (has_ended : Bool) → ((bytes : List ℕ) → first_rest ≡ Some bytes → GoesOn bytes first bench refused rest written)
+    → GivesNextOf End shown has_ended rest rest' → AppendsOutput first_rest first written × TellsRefusal first_rest refused
+appends_output None first bench refused rest rest' written shown has_ended on gives = (tt, tt)
+appends_output (Some bytes) first bench refused rest rest' written shown has_ended on gives =
+    let here = on bytes refl in
+    goes_on_last bytes first bench refused rest written here (nothing_left shown has_ended rest rest' here.left gives here.rest_is)
 
 -- a count that stands still at its last value, after two rises
 pub count_after-twice : (count a b c : ℕ) → a ≤ b → b ≤ c → count_after (count_after count (b - a)) (c - b) ≡ count_after count (c - a)

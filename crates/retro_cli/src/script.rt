@@ -1,4 +1,4 @@
-ghost use Rattle.std.specs.Prelude.{◌≡◌, ◌+◌, ◌-◌, ◌<◌, ◌↔◌, ◌≤◌, ◌^◌, [], true, false, Err, IsTrue, IfOk, OnOk, IsErrOf, if◌then◌else◌, length};
+ghost use Rattle.std.specs.Prelude.{◌≡◌, ◌+◌, ◌-◌, ◌<◌, ◌↔◌, ◌≤◌, ◌^◌, [], true, false, Err, IsTrue, IfOk, IfSome, OnOk, IsErrOf, if◌then◌else◌, length};
 ghost use Rattle.retro_io.specs.Faults.{Rose, count_after, last_count};
 ghost use Rattle.retro_io.specs.Sink.{Appends};
 ghost use Rattle.retro_io.specs.LineReader.{held, taken, limit_of, has_failed, reference_of, rest_of, source_of};
@@ -6,8 +6,9 @@ ghost use Rattle.script_grammar.specs.declared.command.LineError.TheVariants as 
 ghost use Rattle.script_grammar.specs.Command.{command};
 ghost use Rattle.retro_cli.specs.declared.script.TheConstants.{MAX_BYTES};
 ghost use Rattle.retro_cli.specs.Outcome.{ended, outcome_text, is_refusal};
+ghost use Rattle.retro_cli.specs.Output.{has_refusal};
 ghost use Rattle.retro_cli.specs.Reaction.{obeys};
-ghost use Rattle.retro_cli.specs.Run.{IsRun, HasAnswered, AnswersScript, AnswersRest};
+ghost use Rattle.retro_cli.specs.Run.{is_run, HasAnswered, AppendsOutput, TellsRefusal, status_of};
 
 use crate::bench::Bench;
 use crate::stop::Stop;
@@ -58,7 +59,9 @@ fn answer_lines<S: Source, K: Sink>(
     ensures taken_more { taken reader.old ≤ taken reader.new }
     ensures within { taken reader.new ≤ limit_of reader.new + 1 }
     ensures ended { OnOk result (S.ended (source_of reader.new) ≡ true) }
-    ensures answered { IfOk result (AnswersRest (rest_of reader.old) (K.written sink.old) (K.written sink.new)) }
+    ensures answered { OnOk result (AppendsOutput (rest_of reader.old) (K.written sink.old) (K.written sink.new)) }
+    ensures refusal { IfOk result (TellsRefusal (rest_of reader.old)) }
+    ensures source_count { S.faults (source_of reader.old) ≤ S.faults (source_of reader.new) }
     ensures sink_count { K.faults sink.old ≤ K.faults sink.new }
     ensures read_fault { IsErrOf result Stop.ReadFault → Rose (S.faults (source_of reader.old)) (S.faults (source_of reader.new)) }
     ensures write_fault { IsErrOf result Stop.WriteFault → Rose (K.faults sink.old) (K.faults sink.new) }
@@ -80,7 +83,10 @@ fn answer_lines<S: Source, K: Sink>(
 /// Reads a script, answers its lines and sees to it that the answers arrive.
 fn run_script<S: Source, K: Sink>(alloc: Global, source: &mut S, sink: &mut K) -> Result<bool, Stop>
     ensures ended { OnOk result ((S.ended source.new ≡ true) × (K.flushed sink.new ≡ true)) }
-    ensures answered { IfOk result (AnswersRest (S.left source.old) (K.written sink.old) (K.written sink.new)) }
+    ensures answered { OnOk result (AppendsOutput (S.left source.old) (K.written sink.old) (K.written sink.new)) }
+    ensures refusal { IfOk result (TellsRefusal (S.left source.old)) }
+    ensures source_count { S.faults source.old ≤ S.faults source.new }
+    ensures sink_count { K.faults sink.old ≤ K.faults sink.new }
     ensures read_fault { IsErrOf result Stop.ReadFault → Rose (S.faults source.old) (S.faults source.new) }
     ensures write_fault { IsErrOf result Stop.WriteFault → Rose (K.faults sink.old) (K.faults sink.new) }
     ensures too_long { S.taken source.new < last_count → (IsErrOf result Stop.TooLong ↔ (MAX_BYTES < S.taken source.new - S.taken source.old)) }
@@ -90,7 +96,7 @@ fn run_script<S: Source, K: Sink>(alloc: Global, source: &mut S, sink: &mut K) -
     let answered = answer_lines(alloc, &mut reader, sink);
     let _source = reader.into_inner();
     let refused = answered?;
-    sink.flush()?;
+    sink.flush().map_err(|_| Stop::WriteFault)?;
     Ok(refused)
 }
 
@@ -99,14 +105,18 @@ fn run_script<S: Source, K: Sink>(alloc: Global, source: &mut S, sink: &mut K) -
 pub fn run<S: Source, K: Sink>(alloc: Global, words: &Words, source: &mut S, sink: &mut K) -> Status
     // The input was read to its end, the answers have arrived, and they are those of the script.
     ensures ended { HasAnswered result → (S.ended source.new ≡ true) × (K.flushed sink.new ≡ true) }
-    ensures answered { HasAnswered result → AnswersScript (S.left source.old) (K.written sink.old) (K.written sink.new) result }
+    ensures answered { HasAnswered result → AppendsOutput (S.left source.old) (K.written sink.old) (K.written sink.new) }
+    ensures refusal { HasAnswered result → IfSome (S.left source.old) (λ bytes. result ≡ status_of (has_refusal bytes)) }
     // When each other status comes.
-    ensures words { (result ≡ Status.Words) ↔ ¬ IsRun words.now }
+    ensures words { (result ≡ Status.Words) ↔ (is_run words.now ≡ false) }
     ensures untouched { result ≡ Status.Words → (source.new ≡ source.old) × (sink.new ≡ sink.old) }
     ensures read_fault { result ≡ Status.ReadFault → Rose (S.faults source.old) (S.faults source.new) }
     ensures write_fault { result ≡ Status.WriteFault → Rose (K.faults sink.old) (K.faults sink.new) }
     ensures too_long { S.taken source.new < last_count →
         ((result ≡ Status.TooLong) ↔ (MAX_BYTES < S.taken source.new - S.taken source.old)) }
+    // The counts of faults never fall.
+    ensures source_count { S.faults source.old ≤ S.faults source.new }
+    ensures sink_count { K.faults sink.old ≤ K.faults sink.new }
 {
     if !is_run(words) {
         return Status::Words;
@@ -123,7 +133,7 @@ pub fn run<S: Source, K: Sink>(alloc: Global, words: &Words, source: &mut S, sin
 
 /// Whether the words are those that run a script.
 fn is_run(words: &Words) -> bool
-    ensures { IsTrue result ↔ IsRun words.now }
+    ensures { result ≡ is_run words.now }
 {
     words.len() == 1 && words.word(0) == b"run".as_slice()
 }

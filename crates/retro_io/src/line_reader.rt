@@ -1,4 +1,4 @@
-ghost use Rattle.std.specs.Prelude.{◌≡◌, ℕ, ◌+◌, ◌-◌, ◌^◌, ◌≤◌, ◌<◌, ◌↔◌, [], ◌∷◌, ◌++◌, true, false, length, take, drop, Result, IfOk, IfSome, OnErr, OnOk, IsErrOf, IsTrue, MatchResult, MatchOption, is_err};
+ghost use Rattle.std.specs.Prelude.{◌≡◌, ℕ, ◌+◌, ◌-◌, ◌^◌, ◌≤◌, ◌<◌, ◌↔◌, [], ◌∷◌, ◌++◌, true, false, length, take, drop, Result, Ok, IfOk, IfSome, OnErr, OnOk, IsErrOf, IsTrue, MatchResult, MatchOption, is_err};
 ghost use Rattle.retro_io.specs.Faults.{Rose, count_after};
 ghost use Rattle.retro_io.specs.Lines.{has_line_feed, longest};
 ghost use Rattle.retro_io.specs.Marks.{GivesNextOf, Measures, gives_line};
@@ -100,6 +100,9 @@ impl<'a, S: Source> LineReader<'a, S> {
         ensures failed { has_failed self.new ≡ is_err result }
         ensures taken { taken self.old ≤ taken self.new }
         ensures within { taken self.new ≤ limit_of self.new + 1 }
+        // It reads only where no whole line is held and no read of its own has answered the end.
+        ensures line_held { has_line_feed (held self.old) ≡ true → source_of self.new ≡ source_of self.old }
+        ensures after_end { has_ended self.old ≡ true → (source_of self.new ≡ source_of self.old) × (result ≡ Ok Mark.End) }
         // What became of the source.
         ensures source_taken { S.taken (source_of self.new)
             ≡ count_after (S.taken (source_of self.old)) (taken self.new - taken self.old) }

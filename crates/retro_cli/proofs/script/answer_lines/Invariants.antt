@@ -14,8 +14,8 @@ invariant-loop-reply g l = record {
   taken : g.S.Source.taken (source_of l.reader) ≡ count_after (g.S.Source.taken (source_of l.fn.reader)) (taken l.reader - taken l.fn.reader);
   source_count : g.S.Source.faults (source_of l.fn.reader) ≤ g.S.Source.faults (source_of l.reader);
   sink_count : g.K.Sink.faults l.fn.sink ≤ g.K.Sink.faults l.sink;
-  answers : (bytes before : List ℕ) → rest_of l.fn.reader ≡ Some bytes → g.K.Sink.written l.fn.sink ≡ Some before
-      → GoesOn bytes before l.bench l.refused (rest_of l.reader) (g.K.Sink.written l.sink);
+  answers : (bytes : List ℕ) → rest_of l.fn.reader ≡ Some bytes
+      → GoesOn bytes (g.K.Sink.written l.fn.sink) l.bench l.refused (rest_of l.reader) (g.K.Sink.written l.sink);
 }
 
 abbrev pub decreases-loop-reply : goal.decreases-loop-reply
