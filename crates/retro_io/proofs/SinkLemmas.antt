@@ -4,10 +4,6 @@ use Rattle.std.proofs.lemmas.List.{append_assoc, append-nil}
 use Rattle.retro_io.specs.Sink.{Appends}
 use Rattle.retro_io.proofs.LineLemmas.{take_sum}
 
-pub Appends-nil : (written : Option (List ℕ)) → Appends written [] written
-Appends-nil None = refl
-Appends-nil (Some bytes) = ap Some (sym (append-nil bytes))
-
 pub Appends-append : (a b c : Option (List ℕ)) (xs ys : List ℕ) → Appends a xs b → Appends b ys c → Appends a (xs ++ ys) c
 Appends-append None b c xs ys p q = subst (λ o. Appends o ys c) p q
 Appends-append (Some w) b c xs ys p q = subst (λ o. Appends o ys c) p q ∙ ap Some (append_assoc w xs ys)
