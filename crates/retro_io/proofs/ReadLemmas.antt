@@ -1,5 +1,5 @@
 -- Lemmas on what the reader took from its source.
-use Rattle.std.proofs.Common.{◌≡◌, ℕ, zero, suc, ◌+◌, ◌-◌, ◌≤◌, ◌<◌, ◌⊎◌, Bool, true, false, List, [], ◌∷◌, ◌++◌, Option, None, Some, Result, Ok, Err, length, take, drop, sym, ap, ◌∙◌, refl, subst, inl, inr, arith}
+use Rattle.std.proofs.Common.{◌≡◌, ℕ, ◌+◌, ◌-◌, ◌≤◌, ◌<◌, Bool, true, false, List, [], ◌∷◌, ◌++◌, Option, None, Some, Result, Ok, Err, length, take, drop, sym, ap, ◌∙◌, refl, subst, inl, inr, arith}
 use Rattle.std.proofs.lemmas.Bool.{false≢true}
 use Rattle.std.proofs.lemmas.List.{append_assoc, append-nil, nil_from_length, length-append, length-take, length-drop, take-append-drop, take-append-le, take_at, drop_at, drop-append-le}
 use Rattle.retro_io.specs.declared.mark.Mark.{Mark}
@@ -13,7 +13,7 @@ use Rattle.retro_io.specs.Lines.{lines, longest, line_feed, has_line_feed, witho
 use Rattle.retro_io.specs.Marks.{Shows, GivesNext, GivesNextOf, Measures, gives_line}
 use Rattle.retro_io.specs.Reads.{Took, GivesPiece, GivesFirst, IsUnbrokenBeforeLast, MakesOf}
 use Rattle.retro_io.specs.Source.{Gives, GivesCount, bytes_left}
-use Rattle.retro_io.proofs.LineLemmas.{unbroken-append, unbroken-front, unbroken-back, unbroken-take, unbroken-drop, length-without_return, take-without_return, lines-cut, lines-last}
+use Rattle.retro_io.proofs.LineLemmas.{unbroken-append, unbroken-back, length-without_return, take-without_return, lines-cut, lines-last}
 
 pub Gives-nil : (left : Option (List ℕ)) → Gives left [] left
 Gives-nil None = refl
@@ -24,15 +24,6 @@ Gives-append None b c xs ys p q = subst (λ o. Gives o ys c) p q
 Gives-append (Some bytes) None c xs ys p q = absurd p
 Gives-append (Some bytes) (Some mid) None xs ys p q = absurd q
 Gives-append (Some bytes) (Some mid) (Some rest) xs ys p q = p ∙ ap (λ l. xs ++ l) q ∙ sym (append_assoc xs ys rest)
-
-pub GivesCount-from : (a b : Option (List ℕ)) (xs : List ℕ) (count : ℕ) → Gives a xs b → length xs ≡ count → GivesCount a count b
-GivesCount-from None b xs count p h = p
-GivesCount-from (Some bytes) None xs count p h = absurd p
-GivesCount-from (Some bytes) (Some rest) xs count p h =
-    (omega (arith, ap length p, length-append xs rest), ap Some (sym (ap (drop count) p ∙ drop_at xs rest count h)))
-
-pub Took-nil : (a : Option (List ℕ)) (P : List ℕ → Type 0) (count : ℕ) → count ≡ 0 → P [] → Took a a count P
-Took-nil a P count none p = record { got = []; gives = Gives-nil a; counts = sym none; holds = p }
 
 -- first some bytes, and then more
 pub Took-then : (a b c : Option (List ℕ)) (P R : List ℕ → Type 0) (first count : ℕ) (ys : List ℕ)
@@ -49,9 +40,6 @@ pub Took-both : (a b c : Option (List ℕ)) (P Q R : List ℕ → Type 0) (first
     → ((xs ys : List ℕ) → P xs → Q ys → R (xs ++ ys)) → Took a c count R
 Took-both a b c P Q R first second count t u sum f =
     Took-then a b c P R first count u.got t u.gives (sum ∙ ap (λ n. first + n) (sym u.counts)) (λ xs p. f xs u.got p u.holds)
-
-pub Took-weaker : (a b : Option (List ℕ)) (P R : List ℕ → Type 0) (count : ℕ) → Took a b count P → ((xs : List ℕ) → P xs → R xs) → Took a b count R
-Took-weaker a b P R count t f = record { got = t.got; gives = t.gives; counts = t.counts; holds = f t.got t.holds }
 
 -- a piece that is given of the bytes is one of the same bytes in other words
 pub GivesFirst-of : (mark : Mark) (shown : List ℕ) (ended : Bool) (xs ys after : List ℕ) → xs ≡ ys

@@ -1,8 +1,8 @@
 -- What the reader's answer says of the line that it gives.
-use Rattle.std.specs.Prelude.{◌≡◌, ℕ, Bool, true, false, ◌≤◌, ◌<◌, ◌⊎◌, List, [], ◌∷◌, ◌++◌, length, take, Option, None, Some}
+use Rattle.std.specs.Prelude.{◌≡◌, ℕ, Bool, true, false, ◌≤◌, ◌<◌, List, [], ◌∷◌, length, take, Option, None, Some}
 use Rattle.retro_io.specs.declared.mark.Mark.{Mark}
 use Rattle.retro_io.specs.declared.mark.Mark.TheVariants.{Whole, Long, End}
-use Rattle.retro_io.specs.Lines.{lines, longest, line_feed, has_line_feed, without_return, StartsWith}
+use Rattle.retro_io.specs.Lines.{lines, longest, StartsWith}
 
 -- the answer gives a line
 abbrev pub gives_line : Mark → Bool

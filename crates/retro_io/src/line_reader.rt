@@ -114,6 +114,9 @@ impl<'a, S: Source> LineReader<'a, S> {
         ensures progress { IfOk result (λ mark. IsTrue (gives_line mark) → given self.old < given self.new) }
         ensures at_end { IfOk result (λ mark. mark ≡ Mark.End →
             (held self.new ≡ []) × (has_ended self.new ≡ true) × (S.ended (source_of self.new) ≡ true)) }
+        // It reads only where no whole line is held and no read of its own has answered the end.
+        ensures kept_line { has_line_feed (held self.old) ≡ true → source_of self.new ≡ source_of self.old }
+        ensures kept_end { has_ended self.old ≡ true → (source_of self.new ≡ source_of self.old) × (result ≡ Ok Mark.End) }
         // An error comes only where no whole line was held.
         ensures unbroken { OnErr result (has_line_feed (held self.old) ≡ false) }
         ensures fault { IsErrOf result ReadError.ReadFault → Rose (S.faults (source_of self.old)) (S.faults (source_of self.new)) }

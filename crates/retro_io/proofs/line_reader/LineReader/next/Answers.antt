@@ -1,5 +1,5 @@
 -- The line given is the first of the lines of the bytes held and of those taken in the call.
-use Rattle.std.proofs.Common.{◌≡◌, ◌≤◌, ◌<◌, ◌+◌, ◌-◌, [], ◌∷◌, ◌++◌, take, sym, ap, ◌∙◌, inl, subst, arith}
+use Rattle.std.proofs.Common.{[], ◌∷◌, ◌++◌, take, sym, ap, ◌∙◌, inl}
 use Rattle.std.proofs.lemmas.List.{append-nil}
 use Rattle.retro_io.specs.Lines.{line_feed}
 use Rattle.retro_io.specs.Reads.{GivesFirst, GivesPiece}
