@@ -10,7 +10,8 @@ use crate::{Failed, Mark, ReadError, Source};
 use retro_base::NoMemory;
 use std::alloc::Global;
 
-/// Reads the lines of a source, up to a limit of bytes.
+/// Reads the lines of a source, up to a limit of bytes. A contract learns what became of the source where `into_inner`
+/// gives it back, and not where a reader is dropped.
 #[derive(Drop)]
 pub struct LineReader<'a, S: Source> {
     source: &'a mut S,
@@ -137,8 +138,8 @@ impl<'a, S: Source> LineReader<'a, S> {
 
     /// Reads until a line feed comes, or the end, or an error.
     fn read_line(&mut self) -> Result<Mark, ReadError>
-        requires failed { self.old.failed ≡ false }
-        requires ended { self.old.ended ≡ false }
+        requires failed { has_failed self.old ≡ false }
+        requires ended { has_ended self.old ≡ false }
         requires unbroken { has_line_feed (held self.old) ≡ false }
         ensures reference { reference_of self.new ≡ reference_of self.old }
         ensures limit { limit_of self.new ≡ limit_of self.old }
@@ -166,8 +167,8 @@ impl<'a, S: Source> LineReader<'a, S> {
 
     /// Reads on, past a line that is long already, until a line feed comes, or the end, or an error.
     fn read_long(&mut self) -> Result<Mark, ReadError>
-        requires failed { self.old.failed ≡ false }
-        requires ended { self.old.ended ≡ false }
+        requires failed { has_failed self.old ≡ false }
+        requires ended { has_ended self.old ≡ false }
         requires unbroken { has_line_feed (held self.old) ≡ false }
         requires long { longest + 1 < length (held self.old) }
         ensures reference { reference_of self.new ≡ reference_of self.old }
@@ -198,7 +199,7 @@ impl<'a, S: Source> LineReader<'a, S> {
 
     /// Gives what is held at the end of the input, if there is anything.
     fn give_last(&mut self) -> Mark
-        requires failed { self.old.failed ≡ false }
+        requires failed { has_failed self.old ≡ false }
         requires unbroken { has_line_feed (held self.old) ≡ false }
         requires at_end { S.ended (source_of self.old) ≡ true }
         requires none_left { bytes_left (S.left (source_of self.old)) ≡ [] }
@@ -219,10 +220,11 @@ impl<'a, S: Source> LineReader<'a, S> {
         }
     }
 
-    /// Reads behind the bytes held: up to the limit, or the one byte that shows that there are more.
+    /// Reads behind the bytes held: up to the limit, or the one byte that shows that there are more. The buffer offers far
+    /// more than 16 bytes behind those that it keeps of a line.
     fn fill(&mut self) -> Result<usize, ReadError>
-        requires failed { self.old.failed ≡ false }
-        requires ended { self.old.ended ≡ false }
+        requires failed { has_failed self.old ≡ false }
+        requires ended { has_ended self.old ≡ false }
         requires room { length (held self.old) < 65536 }
         ensures reference { reference_of self.new ≡ reference_of self.old }
         ensures limit { limit_of self.new ≡ limit_of self.old }
