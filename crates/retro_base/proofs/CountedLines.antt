@@ -1,15 +1,15 @@
 -- Of the kinds whose state is a line of items, the number of items decides which row fails first.
-use Rattle.std.proofs.Common.{◌≡◌, ℕ, ℤ, zero, suc, ◌+◌, ◌-◌, ◌≤◌, List, [], ◌∷◌, ◌++◌, length, take, drop, sym, IsSome, refl, ap, arith, length-append, length-take, Option, Some, None, Ok, ◌∙◌}
+use Rattle.std.proofs.Common.{◌≡◌, ℕ, ℤ, zero, suc, ◌+◌, ◌≤◌, List, [], ◌∷◌, ◌++◌, length, take, drop, sym, IsSome, refl, ap, arith, length-append, length-take, Some, None, Ok, ◌∙◌}
 use Rattle.std.specs.Option.{option_map}
 use Rattle.std.specs.Result.{result_err}
 use Rattle.std.specs.List.{AllByRecursion}
-use Rattle.retro_base.specs.declared.kind.Kind.TheVariants.{Queue, Stack, Deque, Dict, Pq}
+use Rattle.retro_base.specs.declared.kind.Kind.TheVariants.{Queue}
 use Rattle.retro_base.specs.declared.op.Op.{Op}
 use Rattle.retro_base.specs.declared.op.Op.TheVariants.{Enq, Deq, Push, Pop, PushL, PushR, PopL, PopR, Put, Del, Ins, DelMin}
 use Rattle.retro_base.specs.declared.row.Row.{Row}
 use Rattle.retro_base.specs.Kind.{kind_of}
-use Rattle.retro_base.specs.State.{State, items, pairs, entries, perform, step, without_first, without_last}
-use Rattle.retro_base.specs.Replay.{fold_rows, run, failure}
+use Rattle.retro_base.specs.State.{State, items, perform, step, without_first, without_last}
+use Rattle.retro_base.specs.Replay.{run, failure}
 use Rattle.retro_base.specs.Counting.{size_behind, one_fewer, counted}
 use Rattle.retro_base.proofs.Folds.{BothOrNeither, Agree, folds_agree, same_failure, not_both, ok_same, one_later-ok, fold_rows-nil, fold_rows-some, fold_rows-none}
 
@@ -81,14 +81,13 @@ size_behind-le (Del k) size next e = shrunk size next e
 size_behind-le (Ins k) size next e = grown size next e
 size_behind-le DelMin size next e = shrunk size next e
 
-
 -- so many rows add at most so many items
 pub counted-le : (rows : List Row) (size final : ℕ) → counted rows size ≡ Ok final → final ≤ size + length rows
 counted-le [] size final e = let same : size ≡ final = ok_same _ (fold_rows-nil (λ row n. size_behind row.op n) size) e in omega arith
 counted-le (row ∷ rows) size final e =
     elim (size_behind row.op size) as (λ o. size_behind row.op size ≡ o → final ≤ size + suc (length rows)) [
-      None ↦ λ stops. absurd (not_both _ (fold_rows-none (λ r n. size_behind r.op n) row rows size stops) e)
-    | Some next ↦ λ goes.
-        let rest = counted-le rows next final (one_later-ok _ final (sym (fold_rows-some (λ r n. size_behind r.op n) row rows size next goes) ∙ e)) in
-        omega (arith, rest, size_behind-le row.op size next goes)
+      | None ↦ λ stops. absurd (not_both _ (fold_rows-none (λ r n. size_behind r.op n) row rows size stops) e)
+      | Some next ↦ λ goes.
+          let rest = counted-le rows next final (one_later-ok _ final (sym (fold_rows-some (λ r n. size_behind r.op n) row rows size next goes) ∙ e)) in
+          omega (arith, rest, size_behind-le row.op size next goes)
     ] refl

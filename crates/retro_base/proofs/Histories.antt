@@ -1,5 +1,5 @@
 -- A history stays one when a row is put in that leaves it valid.
-use Rattle.std.proofs.Common.{◌≡◌, ◌≢◌, ℕ, zero, suc, ◌+◌, ◌<◌, ◌≤◌, List, [], ◌∷◌, ◌++◌, length, take, drop, refl, sym, ap, ◌∙◌, arith, lit≤}
+use Rattle.std.proofs.Common.{◌≡◌, ◌≢◌, ℕ, zero, suc, ◌<◌, ◌≤◌, List, [], ◌∷◌, ◌++◌, length, refl, sym, ap, ◌∙◌, arith, lit≤}
 use Rattle.std.specs.List.{insert, AllByRecursion}
 use Rattle.std.proofs.lemmas.List.Edits.{length-insert, insert_end}
 use Rattle.retro_base.specs.declared.kind.Kind.{Kind}
@@ -31,7 +31,7 @@ history_with kind rows place row history room within fresh of_kind valid = recor
   few = omega (arith, length-insert rows place row within);
   of_kind = all_with (λ r. kind_of r.op ≡ kind) rows place row history.of_kind of_kind;
   own_numbers = own_numbers_with rows place row history.own_numbers fresh;
-  valid = valid
+  valid = valid;
 }
 
 -- the same, where the requirements are on a value that is seen as this kind and these rows

@@ -1,5 +1,5 @@
 -- Of every kind but the dictionary, the number of items alone decides whether a row can be performed.
-use Rattle.std.specs.Prelude.{ℕ, zero, suc, Bool, true, false, List}
+use Rattle.std.specs.Prelude.{ℕ, zero, suc, List}
 use Rattle.std.specs.Prelude.{Option, Some, None, Result}
 use Rattle.retro_base.specs.declared.op.Op.{Op}
 use Rattle.retro_base.specs.declared.op.Op.TheVariants.{Enq, Deq, Push, Pop, PushL, PushR, PopL, PopR, Put, Del, Ins, DelMin}

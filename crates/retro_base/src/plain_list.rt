@@ -181,13 +181,7 @@ impl Retro for PlainList {
         if place == self.rows.len() {
             append(&mut self.rows, &mut self.present, row)?;
         } else {
-            put_in(
-                self.alloc,
-                &mut self.rows,
-                &mut self.present,
-                place,
-                row,
-            )?;
+            put_in(self.alloc, &mut self.rows, &mut self.present, place, row)?;
         }
         Ok(Change::Plain)
     }

@@ -1,7 +1,7 @@
 -- Lemmas on what the reader took from its source.
 use Rattle.std.proofs.Common.{◌≡◌, ℕ, ◌+◌, ◌-◌, ◌≤◌, ◌<◌, Bool, true, false, List, [], ◌∷◌, ◌++◌, Option, None, Some, Result, Ok, Err, length, take, drop, sym, ap, ◌∙◌, refl, subst, inl, inr, arith}
 use Rattle.std.proofs.lemmas.Bool.{false≢true}
-use Rattle.std.proofs.lemmas.List.{append_assoc, append-nil, nil_from_length, length-append, length-take, length-drop, take-append-drop, take-append-le, take_at, drop_at, drop-append-le}
+use Rattle.std.proofs.lemmas.List.{append_assoc, append-nil, nil_from_length, length-append, length-take, length-drop, take-append-drop}
 use Rattle.retro_io.specs.declared.mark.Mark.{Mark}
 use Rattle.retro_io.specs.declared.mark.Mark.TheVariants.{Whole, Long, End}
 use Rattle.retro_io.specs.declared.mark.ReadError.{ReadError}
@@ -11,8 +11,8 @@ use Rattle.retro_io.specs.Faults.{count_after}
 use Rattle.retro_io.specs.LineReader.{held_and_left}
 use Rattle.retro_io.specs.Lines.{lines, longest, line_feed, has_line_feed, without_return, StartsWith}
 use Rattle.retro_io.specs.Marks.{Shows, GivesNext, GivesNextOf, Measures, gives_line}
-use Rattle.retro_io.specs.Reads.{Took, GivesPiece, GivesFirst, IsUnbrokenBeforeLast, MakesOf}
-use Rattle.retro_io.specs.Source.{Gives, GivesCount, bytes_left}
+use Rattle.retro_io.specs.Reads.{Took, GivesPiece, GivesFirst, MakesOf}
+use Rattle.retro_io.specs.Source.{Gives, bytes_left}
 use Rattle.retro_io.proofs.LineLemmas.{unbroken-append, unbroken-back, length-without_return, take-without_return, lines-cut, lines-last}
 
 pub Gives-nil : (left : Option (List ℕ)) → Gives left [] left

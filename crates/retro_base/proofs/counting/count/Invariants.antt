@@ -1,4 +1,4 @@
-use Rattle.std.proofs.Common.{◌≡◌, ◌+◌, ◌≤◌}
+use Rattle.std.proofs.Common.{◌+◌, ◌≤◌}
 use Rattle.retro_base.specs.Counting.{size_behind, counted}
 use Rattle.retro_base.proofs.Folds.{ComesTo}
 use Rattle.retro_base.proofs.counting.count.Given as goal

@@ -1,4 +1,4 @@
-use Rattle.std.proofs.Common.{◌≡◌, ◌+◌, ◌<◌, ◌≤◌, sym, ◌∙◌, ap, arith, length, take, drop, length-take, length-drop, Some, None, Ok, Err}
+use Rattle.std.proofs.Common.{◌≡◌, ◌+◌, ◌≤◌, sym, ◌∙◌, ap, arith, length, take, drop, length-take, Some, None, Ok, Err}
 use Rattle.std.specs.Result.{result_err}
 use Rattle.retro_base.specs.Counting.{size_behind, counted}
 use Rattle.retro_base.proofs.Folds.{later, between_err, between_stops, between_goes, err_within}

@@ -1,8 +1,7 @@
-use Rattle.std.proofs.Common.{◌≡◌, refl, ap, sym, ◌∙◌, arith, rules}
+use Rattle.std.proofs.Common.{ap, arith, rules}
 use Rattle.std.proofs.lemmas.Int.{ints}
 use Rattle.retro_base.specs.declared.question.Answer.TheVariants.{Number}
-use Rattle.retro_base.specs.State.{items}
-use Rattle.retro_base.specs.Answers.{answer_of, number_of}
+use Rattle.retro_base.specs.Answers.{answer_of}
 use Rattle.retro_base.proofs.plain_list.answer.Goals as goal
 
 pub returns-in-Size : goal.returns-in-Size

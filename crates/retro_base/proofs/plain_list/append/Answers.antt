@@ -1,6 +1,4 @@
-use Rattle.std.proofs.Common.{◌≡◌, refl, ap, sym, ◌∙◌, [], ◌∷◌, ◌++◌, arith, Ok}
-use Rattle.retro_base.specs.State.{items, step}
-use Rattle.retro_base.specs.Replay.{run}
+use Rattle.retro_base.specs.State.{step}
 use Rattle.retro_base.proofs.Folds.{last_possible, fold_rows-last}
 use Rattle.retro_base.proofs.plain_list.append.Goals as goal
 

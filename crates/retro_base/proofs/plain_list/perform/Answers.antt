@@ -1,7 +1,6 @@
-use Rattle.std.proofs.Common.{ap, sym, ◌∙◌, Some, rules, List, ℤ}
+use Rattle.std.proofs.Common.{rules}
 use Rattle.std.proofs.lemmas.Int.{to_z-of_z}
-use Rattle.std.specs.Option.{option_map}
-use Rattle.retro_base.specs.State.{items, perform, without_first}
+use Rattle.retro_base.specs.State.{perform}
 use Rattle.retro_base.proofs.CountedLines.{first_out}
 use Rattle.retro_base.proofs.plain_list.perform.Goals as goal
 

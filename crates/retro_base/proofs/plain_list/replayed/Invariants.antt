@@ -1,4 +1,4 @@
-use Rattle.std.proofs.Common.{◌≡◌, []}
+use Rattle.std.proofs.Common.{[]}
 use Rattle.retro_base.specs.State.{items, step}
 use Rattle.retro_base.specs.Replay.{run}
 use Rattle.retro_base.proofs.Folds.{ComesTo}

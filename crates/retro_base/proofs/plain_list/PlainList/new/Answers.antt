@@ -1,6 +1,5 @@
-use Rattle.std.proofs.Common.{refl}
 use Rattle.retro_base.specs.declared.kind.Kind.TheVariants.{Queue}
-use Rattle.retro_base.specs.State.{items, step}
+use Rattle.retro_base.specs.State.{step}
 use Rattle.retro_base.proofs.Folds.{fold_rows-nil}
 use Rattle.retro_base.proofs.Histories.{empty_history}
 use Rattle.retro_base.proofs.plain_list.PlainList.new.Goals as goal

@@ -1,4 +1,4 @@
-use Rattle.std.proofs.Common.{◌≡◌, sym, ◌∙◌, ap, arith}
+use Rattle.std.proofs.Common.{◌≡◌, sym, ◌∙◌}
 use Rattle.std.specs.List.{insert}
 use Rattle.retro_base.specs.declared.kind.Kind.TheVariants.{Queue}
 use Rattle.retro_base.specs.Kind.{kind_of}

@@ -2,7 +2,7 @@
 use Rattle.std.proofs.Common.{[], ◌∷◌, ◌++◌, take, sym, ap, ◌∙◌, inl}
 use Rattle.std.proofs.lemmas.List.{append-nil}
 use Rattle.retro_io.specs.Lines.{line_feed}
-use Rattle.retro_io.specs.Reads.{GivesFirst, GivesPiece}
+use Rattle.retro_io.specs.Reads.{GivesPiece}
 use Rattle.retro_io.proofs.ReadLemmas.{Gives-nil, GivesFirst-of, GivesFirst-piece, GivesNextOf-from, lines_of_call, progress_of_call, measures_shown, measures_of_call}
 use Rattle.retro_io.proofs.line_reader.LineReader.next.Goals as goal
 
