@@ -1,11 +1,11 @@
 ghost use Rattle.std.specs.Prelude.{◌<◌, ◌^◌};
 
 use crate::{
-    LineReader, Mark, MemorySink, MemorySource, ReadError, Sink, Source, StdSink, StdSource,
-    WholeSource, WriteFault, put_all,
+    Failed, LineReader, Mark, MemorySink, MemorySource, ReadError, Sink, Source, StdSink,
+    StdSource, WholeSource, WriteFault, put_all,
 };
 use std::alloc::Global;
-use std::io::Cursor;
+use std::io::{self, ErrorKind, Read, Write, pipe};
 use std::test::Fail;
 
 /// What a reader answers until the end or an error: a `W` or an `L` before each line, and a `|` behind it; then an `E`, or an
@@ -145,14 +145,49 @@ fn all_is_written_or_a_front(rt: HostRuntime) -> Result<(), Fail> {
 
 #[test]
 fn std_streams_pass_bytes_on(rt: HostRuntime) -> Result<(), Fail> {
-    let mut source = StdSource::new(Cursor::new(b"ab\ncd"));
+    let (reader, writer) = pipe(&rt)?;
+    let mut sink = StdSink::new(writer);
+    assert_eq!(rt; put_all(&mut sink, b"ab\ncd"), Ok(()));
+    assert_eq!(rt; sink.flush(), Ok(()));
+    drop(sink);
+    let mut source = StdSource::new(reader);
     assert_eq!(rt;
         answers(rt.alloc(), &mut source, 1 << 30)?.as_slice(),
         b"Wab|Wcd|E".as_slice()
     );
-    let mut bytes = Vec::new(rt.alloc());
-    let mut sink = StdSink::new(&mut bytes);
-    assert_eq!(rt; put_all(&mut sink, b"abc"), Ok(()));
-    assert_eq!(rt; sink.flush(), Ok(()));
+    Ok(())
+}
+
+/// A stream whose reads fail and whose writes take nothing.
+#[derive(Drop)]
+struct Broken;
+
+impl Read for Broken {
+    fn read(&mut self, _buffer: &mut [u8]) -> io::Result<usize> {
+        Err(ErrorKind::BrokenPipe.into())
+    }
+}
+
+impl Write for Broken {
+    fn write(&mut self, _piece: &[u8]) -> io::Result<usize> {
+        Ok(0)
+    }
+
+    fn flush(&mut self) -> io::Result<()> {
+        Err(ErrorKind::BrokenPipe.into())
+    }
+}
+
+#[test]
+fn broken_streams_fail(rt: HostRuntime) -> Result<(), Fail> {
+    let mut source = StdSource::new(Broken);
+    assert_eq!(rt;
+        answers(rt.alloc(), &mut source, 1 << 30)?.as_slice(),
+        b"F".as_slice()
+    );
+    let mut sink = StdSink::new(Broken);
+    assert_eq!(rt; put_all(&mut sink, b""), Ok(()));
+    assert_eq!(rt; put_all(&mut sink, b"a"), Err(WriteFault));
+    assert_eq!(rt; sink.flush(), Err(Failed));
     Ok(())
 }
