@@ -97,9 +97,7 @@ fn read_delete(name: Name, mut words: Words) -> Option<Command>
     ensures { result ≡ delete_of name words.entry }
 {
     let number = read_row_number(words.next_word()?)?;
-    words
-        .is_empty()
-        .then_some(Command::Delete { name, number })
+    words.is_empty().then_some(Command::Delete { name, number })
 }
 
 fn read_insert(name: Name, word: &[u8], mut words: Words) -> Option<Command>

@@ -26,18 +26,13 @@ fn op_with(word: &[u8], operands: Operands) -> Option<Op>
 fn bare_op(word: &[u8]) -> Option<Op>
     ensures { result ≡ bare_op word.now }
 {
-    if word == b"deq".as_slice() {
-        Some(Op::Deq)
-    } else if word == b"pop".as_slice() {
-        Some(Op::Pop)
-    } else if word == b"popl".as_slice() {
-        Some(Op::PopL)
-    } else if word == b"popr".as_slice() {
-        Some(Op::PopR)
-    } else if word == b"delmin".as_slice() {
-        Some(Op::DelMin)
-    } else {
-        None
+    match word {
+        b"deq" => Some(Op::Deq),
+        b"pop" => Some(Op::Pop),
+        b"popl" => Some(Op::PopL),
+        b"popr" => Some(Op::PopR),
+        _ if word == b"delmin".as_slice() => Some(Op::DelMin),
+        _ => None,
     }
 }
 
