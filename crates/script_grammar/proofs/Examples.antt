@@ -2,9 +2,9 @@
 use Rattle.std.proofs.Common.{◌≡◌, [], pos, negsuc, refl}
 use Rattle.std.specs.Prelude.{Ok, Err, codes}
 use Rattle.retro_base.specs.Name.{is_name}
-use Rattle.retro_base.specs.declared.kind.Kind.TheVariants.{Queue, Stack, Deque, Dict}
-use Rattle.retro_base.specs.declared.op.Op.TheVariants.{Enq, Deq, Pop, PushL, Put, Ins, DelMin}
-use Rattle.retro_base.specs.declared.question.Question.TheVariants.{Front, Size, Min, Nth, Succ, Sum}
+use Rattle.retro_base.specs.declared.kind.Kind.TheVariants.{Queue, Dict}
+use Rattle.retro_base.specs.declared.op.Op.TheVariants.{Enq, Deq, Put, DelMin}
+use Rattle.retro_base.specs.declared.question.Question.TheVariants.{Size, Min, Nth, Succ, Sum}
 use Rattle.script_grammar.specs.declared.command.Command.TheVariants.{Nothing, New, Insert, Delete, Ask}
 use Rattle.script_grammar.specs.declared.command.Spot.TheVariants.{At, Before, After}
 use Rattle.script_grammar.specs.declared.command.Moment.TheVariants.{Now, Then}

@@ -5,9 +5,9 @@ use Rattle.std.specs.Option.{ok_or}
 use Rattle.std.specs.Str.{bytes_eq}
 use Rattle.retro_base.specs.Name.{name_of}
 use Rattle.retro_base.specs.declared.kind.Kind.{Kind}
-use Rattle.retro_base.specs.declared.kind.Kind.TheVariants.{Queue, Stack, Deque, Dict, Pq}
+use Rattle.retro_base.specs.declared.kind.Kind.TheVariants.{Pq}
 use Rattle.script_grammar.specs.declared.command.Command.{Command}
-use Rattle.script_grammar.specs.declared.command.Command.TheVariants.{Nothing, New, Insert, Delete, Ask}
+use Rattle.script_grammar.specs.declared.command.Command.TheVariants.{New, Insert, Delete, Ask}
 use Rattle.script_grammar.specs.declared.command.LineError.{LineError}
 use Rattle.script_grammar.specs.declared.command.LineError.TheVariants.{Syntax}
 use Rattle.script_grammar.specs.declared.command.Moment.TheVariants.{Now, Then}
