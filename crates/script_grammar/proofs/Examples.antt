@@ -2,34 +2,66 @@
 use Rattle.std.proofs.Common.{◌≡◌, [], pos, negsuc, refl}
 use Rattle.std.specs.Prelude.{Ok, Err, codes}
 use Rattle.retro_base.specs.Name.{is_name}
-use Rattle.retro_base.specs.declared.kind.Kind.TheVariants.{Queue}
-use Rattle.retro_base.specs.declared.op.Op.TheVariants.{Enq, Deq}
-use Rattle.retro_base.specs.declared.question.Question.TheVariants.{Front, Size}
-use Rattle.script_grammar.specs.declared.command.Command.TheVariants.{New, Insert, Ask}
-use Rattle.script_grammar.specs.declared.command.Spot.TheVariants.{At}
-use Rattle.script_grammar.specs.declared.command.Moment.TheVariants.{Now}
-use Rattle.script_grammar.specs.declared.command.Query.TheVariants.{One}
+use Rattle.retro_base.specs.declared.kind.Kind.TheVariants.{Queue, Dict}
+use Rattle.retro_base.specs.declared.op.Op.TheVariants.{Enq, Deq, Put, DelMin}
+use Rattle.retro_base.specs.declared.question.Question.TheVariants.{Size, Min, Nth, Succ, Sum}
+use Rattle.script_grammar.specs.declared.command.Command.TheVariants.{Nothing, New, Insert, Delete, Ask}
+use Rattle.script_grammar.specs.declared.command.Spot.TheVariants.{At, Before, After}
+use Rattle.script_grammar.specs.declared.command.Moment.TheVariants.{Now, Then}
+use Rattle.script_grammar.specs.declared.command.Query.TheVariants.{One, All}
 use Rattle.script_grammar.specs.declared.command.LineError.TheVariants.{Syntax}
 use Rattle.script_grammar.specs.Words.{words}
-use Rattle.script_grammar.specs.Numbers.{time_of, value_of}
+use Rattle.script_grammar.specs.Numbers.{index_of, row_number_of, time_of, value_of}
 use Rattle.script_grammar.specs.Command.{command}
 
 new_queue : command (codes "new q queue") ≡ Ok (New (codes "q") Queue)
 unfolding command words is_name
 new_queue = refl
 
-enqueue : command (codes "q at 10 enq 5") ≡ Ok (Insert (codes "q") (At 10) (Enq (pos 5)))
-unfolding command words is_name time_of value_of
-enqueue = refl
-
-ask_front : command (codes "q ask front") ≡ Ok (Ask (codes "q") Now (One Front))
+new_dict : command (codes "new d dict") ≡ Ok (New (codes "d") Dict)
 unfolding command words is_name
-ask_front = refl
+new_dict = refl
 
--- spaces at both ends and in rows, a leading zero and a negative zero
-spaces_and_zeros : command (codes "  q  at 007   enq -0 ") ≡ Ok (Insert (codes "q") (At 7) (Enq (pos 0)))
+new_pq : command (codes "new p pq") ≡ Err Syntax
+unfolding command words is_name
+new_pq = refl
+
+-- spaces in rows, a leading zero and a negative zero
+put_in_at : command (codes "d  at 03 put -0 7") ≡ Ok (Insert (codes "d") (At 3) (Put (pos 0) (pos 7)))
 unfolding command words is_name time_of value_of
-spaces_and_zeros = refl
+put_in_at = refl
+
+put_in_before : command (codes "q before #16777215 deq") ≡ Ok (Insert (codes "q") (Before 16777215) Deq)
+unfolding command words is_name row_number_of
+put_in_before = refl
+
+put_in_after : command (codes "p after #007 delmin") ≡ Ok (Insert (codes "p") (After 7) DelMin)
+unfolding command words is_name row_number_of
+put_in_after = refl
+
+take_out : command (codes "s delete #1") ≡ Ok (Delete (codes "s") 1)
+unfolding command words is_name row_number_of
+take_out = refl
+
+ask_now : command (codes "q ask nth 18446744073709551615") ≡ Ok (Ask (codes "q") Now (One (Nth 18446744073709551615)))
+unfolding command words is_name index_of
+ask_now = refl
+
+ask_all : command (codes "q ask all") ≡ Ok (Ask (codes "q") Now All)
+unfolding command words is_name
+ask_all = refl
+
+ask_at : command (codes "p ask at 5 min") ≡ Ok (Ask (codes "p") (Then (At 5)) (One Min))
+unfolding command words is_name time_of
+ask_at = refl
+
+ask_before : command (codes "d ask before #2 sum 1 0") ≡ Ok (Ask (codes "d") (Then (Before 2)) (One (Sum (pos 1) (pos 0))))
+unfolding command words is_name row_number_of value_of
+ask_before = refl
+
+ask_after : command (codes "d ask after #2 succ -1") ≡ Ok (Ask (codes "d") (Then (After 2)) (One (Succ (negsuc 0))))
+unfolding command words is_name row_number_of value_of
+ask_after = refl
 
 -- the last time and the least value
 last_of_range : command (codes "q at 18446744073709551615 enq -9223372036854775808") ≡ Ok (Insert (codes "q") (At 18446744073709551615) (Enq (negsuc 9223372036854775807)))
@@ -37,12 +69,28 @@ unfolding command words is_name time_of value_of
 last_of_range = refl
 
 time_past_range : command (codes "q at 18446744073709551616 deq") ≡ Err Syntax
-unfolding command words is_name time_of value_of
+unfolding command words is_name time_of
 time_past_range = refl
 
 value_past_range : command (codes "q at 1 enq 9223372036854775808") ≡ Err Syntax
 unfolding command words is_name time_of value_of
 value_past_range = refl
+
+index_past_range : command (codes "q ask nth 18446744073709551616") ≡ Err Syntax
+unfolding command words is_name index_of
+index_past_range = refl
+
+row_number_past_range : command (codes "q delete #16777216") ≡ Err Syntax
+unfolding command words is_name row_number_of
+row_number_past_range = refl
+
+row_number_zero : command (codes "q delete #0") ≡ Err Syntax
+unfolding command words is_name row_number_of
+row_number_zero = refl
+
+space_behind_hash : command (codes "q delete # 1") ≡ Err Syntax
+unfolding command words is_name row_number_of
+space_behind_hash = refl
 
 plus_sign : command (codes "q at 1 enq +5") ≡ Err Syntax
 unfolding command words is_name time_of value_of
@@ -50,7 +98,7 @@ plus_sign = refl
 
 -- a form is read by place
 named_at : command (codes "at at 1 deq") ≡ Ok (Insert (codes "at") (At 1) Deq)
-unfolding command words is_name time_of value_of
+unfolding command words is_name time_of
 named_at = refl
 
 named_ask : command (codes "ask ask size") ≡ Ok (Ask (codes "ask") Now (One Size))
@@ -66,9 +114,17 @@ unfolding command words is_name
 tab_in_word = refl
 
 word_too_many : command (codes "q ask size 1") ≡ Err Syntax
-unfolding command words is_name
+unfolding command words is_name value_of
 word_too_many = refl
 
-empty_line : command [] ≡ Err Syntax
+empty_line : command [] ≡ Ok Nothing
 unfolding command words
 empty_line = refl
+
+only_spaces : command (codes "  ") ≡ Ok Nothing
+unfolding command words
+only_spaces = refl
+
+comment : command (codes "  ;note") ≡ Ok Nothing
+unfolding command words
+comment = refl

@@ -1,86 +1,107 @@
 -- The grammar of the script: what each line asks for. A form is read by place, so that a timeline may be called `at`.
-use Rattle.std.specs.Prelude.{ℕ, ℤ, List, [], ◌∷◌, codes, Option, Some, None, option_map, option_and_then, Result, if◌then◌else◌}
+use Rattle.std.specs.Prelude.{◌≢◌, ℕ, ◌==◌, Bool, false, ◌||◌, List, [], ◌∷◌, codes, Option, Some, None, option_map, option_and_then, Result, if◌then◌else◌}
 use Rattle.std.specs.Option.{ok_or}
 use Rattle.std.specs.Str.{bytes_eq}
 use Rattle.retro_base.specs.Name.{name_of}
 use Rattle.retro_base.specs.declared.kind.Kind.{Kind}
-use Rattle.retro_base.specs.declared.kind.Kind.TheVariants.{Queue}
-use Rattle.retro_base.specs.declared.op.Op.{Op}
-use Rattle.retro_base.specs.declared.op.Op.TheVariants.{Enq, Deq}
-use Rattle.retro_base.specs.declared.question.Question.{Question}
-use Rattle.retro_base.specs.declared.question.Question.TheVariants.{Front, Size}
+use Rattle.retro_base.specs.declared.kind.Kind.TheVariants.{Queue, Stack, Deque, Dict, Pq}
 use Rattle.script_grammar.specs.declared.command.Command.{Command}
-use Rattle.script_grammar.specs.declared.command.Command.TheVariants.{New, Insert, Ask}
-use Rattle.script_grammar.specs.declared.command.Spot.TheVariants.{At}
-use Rattle.script_grammar.specs.declared.command.Moment.TheVariants.{Now}
-use Rattle.script_grammar.specs.declared.command.Query.TheVariants.{One}
+use Rattle.script_grammar.specs.declared.command.Command.TheVariants.{Nothing, New, Insert, Delete, Ask}
+use Rattle.script_grammar.specs.declared.command.Spot.{Spot}
+use Rattle.script_grammar.specs.declared.command.Spot.TheVariants.{At, Before, After}
+use Rattle.script_grammar.specs.declared.command.Moment.TheVariants.{Now, Then}
 use Rattle.script_grammar.specs.declared.command.LineError.{LineError}
 use Rattle.script_grammar.specs.declared.command.LineError.TheVariants.{Syntax}
 use Rattle.script_grammar.specs.Words.{words}
-use Rattle.script_grammar.specs.Numbers.{time_of, value_of}
-
--- something that no word may follow
-abbrev pub alone : {A : Type 0} → A → List (List ℕ) → Option A
-alone what [] = Some what
-alone what (word ∷ rest) = None
-
--- the value that the one word left spells
-abbrev pub only_value : List (List ℕ) → Option ℤ
-only_value (word ∷ []) = value_of word
-only_value rest = None
+use Rattle.script_grammar.specs.Numbers.{row_number_of, time_of}
+use Rattle.script_grammar.specs.Operands.{alone}
+use Rattle.script_grammar.specs.Operations.{op_of}
+use Rattle.script_grammar.specs.Queries.{query_of}
 
 -- KIND
+abbrev pub kind_of_word : List ℕ → Option Kind
+kind_of_word word =
+    if bytes_eq word (codes "queue") then Some Queue
+    else (if bytes_eq word (codes "stack") then Some Stack
+    else (if bytes_eq word (codes "deque") then Some Deque
+    else (if bytes_eq word (codes "dict") then Some Dict
+    else None)))
+
+-- KIND, as the last word
 abbrev pub kind_named : List (List ℕ) → Option Kind
 kind_named [] = None
-kind_named (word ∷ rest) =
-    if bytes_eq word (codes "queue") then alone Queue rest
-    else None
-
--- OP
-abbrev pub op_of : List (List ℕ) → Option Op
-op_of [] = None
-op_of (word ∷ rest) =
-    if bytes_eq word (codes "enq") then option_map (λ value. Enq value) (only_value rest)
-    else (if bytes_eq word (codes "deq") then alone Deq rest
-    else None)
-
--- Q
-abbrev pub question_of : List (List ℕ) → Option Question
-question_of [] = None
-question_of (word ∷ rest) =
-    if bytes_eq word (codes "front") then alone Front rest
-    else (if bytes_eq word (codes "size") then alone Size rest
-    else None)
+kind_named (word ∷ rest) = option_and_then (λ kind. alone kind rest) (kind_of_word word)
 
 -- `new NAME KIND`, behind its first word
 abbrev pub new_of : List (List ℕ) → Option Command
 new_of [] = None
 new_of (word ∷ rest) = option_and_then (λ name. option_map (New name) (kind_named rest)) (name_of word)
 
--- `NAME at T OP`, behind its second word
-abbrev pub insert_at : List ℕ → List (List ℕ) → Option Command
-insert_at name [] = None
-insert_at name (word ∷ rest) = option_and_then (λ time. option_map (Insert name (At time)) (op_of rest)) (time_of word)
+-- the words that begin a spot
+abbrev pub begins_spot : List ℕ → Bool
+begins_spot word = bytes_eq word (codes "at") || bytes_eq word (codes "before") || bytes_eq word (codes "after")
 
--- `NAME ask Q`, behind its second word
-abbrev pub ask_now : List ℕ → List (List ℕ) → Option Command
-ask_now name rest = option_map (λ question. Ask name Now (One question)) (question_of rest)
+-- `at T`, `before #N` or `after #N`
+abbrev pub spot_of : List ℕ → List ℕ → Option Spot
+spot_of word place =
+    if bytes_eq word (codes "at") then option_map At (time_of place)
+    else (if bytes_eq word (codes "before") then option_map Before (row_number_of place)
+    else (if bytes_eq word (codes "after") then option_map After (row_number_of place)
+    else None))
+
+-- `NAME at T OP`, `NAME before #N OP` and `NAME after #N OP`, behind their second word
+abbrev pub insert_of : List ℕ → List ℕ → List (List ℕ) → Option Command
+insert_of name word [] = None
+insert_of name word (place ∷ rest) = option_and_then (λ spot. option_map (Insert name spot) (op_of rest)) (spot_of word place)
+
+-- `NAME delete #N`, behind its second word
+abbrev pub delete_of : List ℕ → List (List ℕ) → Option Command
+delete_of name [] = None
+delete_of name (word ∷ rest) = option_and_then (λ number. alone (Delete name number) rest) (row_number_of word)
+
+-- Q, at a moment
+abbrev pub ask_at : List ℕ → Spot → List (List ℕ) → Option Command
+ask_at name spot [] = None
+ask_at name spot (word ∷ rest) = option_map (Ask name (Then spot)) (query_of word rest)
+
+-- `NAME ask at T Q`, `NAME ask before #N Q` and `NAME ask after #N Q`, behind their third word
+abbrev pub ask_then : List ℕ → List ℕ → List (List ℕ) → Option Command
+ask_then name word [] = None
+ask_then name word (place ∷ rest) = option_and_then (λ spot. ask_at name spot rest) (spot_of word place)
+
+-- `NAME ask Q`, or `NAME ask` at a moment, behind the second word
+abbrev pub ask_of : List ℕ → List (List ℕ) → Option Command
+ask_of name [] = None
+ask_of name (word ∷ rest) =
+    if begins_spot word then ask_then name word rest
+    else option_map (Ask name Now) (query_of word rest)
 
 -- the forms that begin with a name, behind it
 abbrev pub about : List ℕ → List (List ℕ) → Option Command
 about name [] = None
 about name (word ∷ rest) =
-    if bytes_eq word (codes "at") then insert_at name rest
-    else (if bytes_eq word (codes "ask") then ask_now name rest
-    else None)
+    if bytes_eq word (codes "ask") then ask_of name rest
+    else (if bytes_eq word (codes "delete") then delete_of name rest
+    else insert_of name word rest)
+
+-- a word that begins with `;`, byte 59: whatever follows it on its line is passed over
+abbrev pub begins_comment : List ℕ → Bool
+begins_comment [] = false
+begins_comment (byte ∷ bytes) = byte == 59
 
 -- the command that the words spell
 abbrev pub command_of : List (List ℕ) → Option Command
-command_of [] = None
+command_of [] = Some Nothing
 command_of (word ∷ rest) =
-    if bytes_eq word (codes "new") then new_of rest
-    else option_and_then (λ name. about name rest) (name_of word)
+    if begins_comment word then Some Nothing
+    else (if bytes_eq word (codes "new") then new_of rest
+    else option_and_then (λ name. about name rest) (name_of word))
 
 -- the command of a line that is not long, or `Syntax` where the line is in no form
 unfoldable pub command : List ℕ → Result Command LineError
 command line = ok_or (command_of (words line)) Syntax
+
+-- a timeline that is started is no priority queue
+abbrev pub StartsNoPq : Command → Type 0
+StartsNoPq (New name kind) = kind ≢ Pq
+StartsNoPq other = Unit {0}

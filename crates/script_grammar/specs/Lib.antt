@@ -2,5 +2,8 @@ pub use Rattle.retro_base.specs.Name
 pub use Rattle.retro_base.specs.Text
 pub mod Words
 pub mod Numbers
+pub mod Operands
+pub mod Operations
+pub mod Queries
 pub mod Command
 pub mod AnswerText

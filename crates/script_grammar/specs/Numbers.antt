@@ -1,5 +1,5 @@
 -- The numbers of the script, as words spell them.
-use Rattle.std.specs.Prelude.{ℕ, ◌+◌, ◌-◌, ◌*◌, ◌^◌, ◌==◌, nat_le, ℤ, pos, neg_ℤ, List, [], ◌∷◌, Option, Some, None, option_map, option_and_then, if◌then◌else◌}
+use Rattle.std.specs.Prelude.{ℕ, ◌+◌, ◌-◌, ◌*◌, ◌^◌, ◌==◌, ◌&&◌, nat_le, ℤ, pos, neg_ℤ, List, [], ◌∷◌, Option, Some, None, option_map, option_and_then, if◌then◌else◌}
 use Rattle.retro_base.specs.Name.{is_digit}
 
 -- the number whose digits are those of a number and then these
@@ -16,9 +16,22 @@ natural_of (byte ∷ bytes) = natural_after 0 (byte ∷ bytes)
 abbrev pub up_to : ℕ → ℕ → Option ℕ
 up_to most n = if nat_le n most then Some n else None
 
+-- a number from a least to a greatest one
+abbrev pub between : ℕ → ℕ → ℕ → Option ℕ
+between least most n = if nat_le least n && nat_le n most then Some n else None
+
 -- a moment: a natural below 2 ^ 64
 unfoldable pub time_of : List ℕ → Option ℕ
 time_of word = option_and_then (up_to (2 ^ 64 - 1)) (natural_of word)
+
+-- the index of an item: a natural below 2 ^ 64
+unfoldable pub index_of : List ℕ → Option ℕ
+index_of word = option_and_then (up_to (2 ^ 64 - 1)) (natural_of word)
+
+-- the number of a row: `#`, byte 35, and a natural from 1 to 2 ^ 24 - 1
+unfoldable pub row_number_of : List ℕ → Option ℕ
+row_number_of [] = None
+row_number_of (byte ∷ bytes) = if byte == 35 then option_and_then (between 1 (2 ^ 24 - 1)) (natural_of bytes) else None
 
 -- a value: an optional `-` and digits, from -2 ^ 63 up to 2 ^ 63 - 1
 unfoldable pub value_of : List ℕ → Option ℤ

@@ -4,6 +4,8 @@ use thiserror::Error;
 /// What a line of a script asks for.
 #[derive(Clone, Copy, Debug, PartialEq, Eq)]
 pub enum Command {
+    /// Asks for nothing, and is answered by nothing: the line has no words, or is a comment.
+    Nothing,
     /// Starts a timeline without rows.
     New {
         name: Name,
@@ -15,6 +17,11 @@ pub enum Command {
         spot: Spot,
         op: Op,
     },
+    /// Takes the row with this number out of a timeline.
+    Delete {
+        name: Name,
+        number: u32,
+    },
     /// Asks a timeline for something.
     Ask {
         name: Name,
@@ -23,11 +30,15 @@ pub enum Command {
     },
 }
 
-/// Where a row goes.
+/// A place in a timeline, between its rows.
 #[derive(Clone, Copy, Debug, PartialEq, Eq)]
 pub enum Spot {
     /// Behind the rows up to this time.
     At { time: u64 },
+    /// In front of the row with this number.
+    Before { number: u32 },
+    /// Behind the row with this number.
+    After { number: u32 },
 }
 
 /// When a question is asked.
@@ -35,6 +46,8 @@ pub enum Spot {
 pub enum Moment {
     /// Behind all rows.
     Now,
+    /// At a place in the history.
+    Then { spot: Spot },
 }
 
 /// What is asked.
@@ -42,6 +55,8 @@ pub enum Moment {
 pub enum Query {
     /// One question of the content.
     One { question: Question },
+    /// The whole content.
+    All,
 }
 
 /// Why a line has no command.

@@ -10,9 +10,14 @@
 #![tactic(auto)]
 
 mod answer;
+mod ask;
 mod command;
 mod line;
 mod numbers;
+mod operands;
+mod operation;
+mod query;
+mod spot;
 #[cfg(test)]
 mod tests;
 mod words;

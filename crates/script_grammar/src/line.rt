@@ -1,18 +1,21 @@
-ghost use Rattle.std.specs.Prelude.{◌≡◌, ◌≤◌, length, IsTrue, Err, if◌then◌else◌};
-ghost use Rattle.script_grammar.specs.Command.{about, ask_now, command, command_of, insert_at, kind_named, new_of, only_value, op_of, question_of};
+ghost use Rattle.std.specs.Prelude.{◌≡◌, ◌≤◌, ◌∷◌, length, IsTrue, IfOk, Err, if◌then◌else◌};
+ghost use Rattle.script_grammar.specs.Command.{about, begins_comment, command, command_of, delete_of, insert_of, kind_named, kind_of_word, new_of, StartsNoPq};
 
-use crate::numbers::{read_time, read_value};
+use crate::ask::read_ask;
+use crate::numbers::read_row_number;
+use crate::operation::read_op;
+use crate::spot::read_spot;
 use crate::words::Words;
-use crate::{Command, LineError, Moment, Query, Spot};
-use retro_base::{Kind, Name, Op, Question};
+use crate::{Command, LineError};
+use retro_base::{Kind, Name};
 
-/// The command of a line, of which at most 4,096 bytes are given: `long` says that it has more. An
-/// empty line has none.
+/// The command of a line, of which at most 4,096 bytes are given: `long` says that it has more.
 #[tactic(auto, unfolding(crate::specs::Command::command))]
 pub fn read_line(line: &[u8], long: bool) -> Result<Command, LineError>
     requires within { length line.now ≤ 4096 }
     requires full { IsTrue long → length line.now ≡ 4096 }
-    ensures { result ≡ (if long then Err LineError.Long else command line.now) }
+    ensures exact { result ≡ (if long then Err LineError.Long else command line.now) }
+    ensures kind { IfOk result StartsNoPq }
 {
     if long {
         return Err(LineError::Long);
@@ -23,11 +26,31 @@ pub fn read_line(line: &[u8], long: bool) -> Result<Command, LineError>
 fn read_command(mut words: Words) -> Option<Command>
     ensures { result ≡ command_of words.entry }
 {
-    let word = words.next_word()?;
+    match words.next_word() {
+        None => Some(Command::Nothing),
+        Some(word) => read_form(word, words),
+    }
+}
+
+fn read_form(word: &[u8], words: Words) -> Option<Command>
+    ensures { result ≡ command_of (word.now ∷ words.entry) }
+{
+    if begins_comment(word) {
+        return Some(Command::Nothing);
+    }
     if word == b"new".as_slice() {
         return read_new(words);
     }
     read_about(Name::read(word)?, words)
+}
+
+fn begins_comment(word: &[u8]) -> bool
+    ensures { result ≡ begins_comment word.now }
+{
+    match word {
+        [first, ..] => *first == b';',
+        [] => false,
+    }
 }
 
 fn read_new(mut words: Words) -> Option<Command>
@@ -41,8 +64,18 @@ fn read_new(mut words: Words) -> Option<Command>
 fn read_kind(mut words: Words) -> Option<Kind>
     ensures { result ≡ kind_named words.entry }
 {
-    match words.next_word()? {
-        b"queue" if words.is_empty() => Some(Kind::Queue),
+    let kind = kind_of_word(words.next_word()?)?;
+    words.is_empty().then_some(kind)
+}
+
+fn kind_of_word(word: &[u8]) -> Option<Kind>
+    ensures { result ≡ kind_of_word word.now }
+{
+    match word {
+        b"queue" => Some(Kind::Queue),
+        b"stack" => Some(Kind::Stack),
+        b"deque" => Some(Kind::Deque),
+        b"dict" => Some(Kind::Dict),
         _ => None,
     }
 }
@@ -50,61 +83,27 @@ fn read_kind(mut words: Words) -> Option<Kind>
 fn read_about(name: Name, mut words: Words) -> Option<Command>
     ensures { result ≡ about name words.entry }
 {
-    match words.next_word()? {
-        b"at" => read_insert(name, words),
-        b"ask" => read_ask(name, words),
-        _ => None,
+    let word = words.next_word()?;
+    if word == b"ask".as_slice() {
+        read_ask(name, words)
+    } else if word == b"delete".as_slice() {
+        read_delete(name, words)
+    } else {
+        read_insert(name, word, words)
     }
 }
 
-fn read_insert(name: Name, mut words: Words) -> Option<Command>
-    ensures { result ≡ insert_at name words.entry }
+fn read_delete(name: Name, mut words: Words) -> Option<Command>
+    ensures { result ≡ delete_of name words.entry }
 {
-    let time = read_time(words.next_word()?)?;
+    let number = read_row_number(words.next_word()?)?;
+    words.is_empty().then_some(Command::Delete { name, number })
+}
+
+fn read_insert(name: Name, word: &[u8], mut words: Words) -> Option<Command>
+    ensures { result ≡ insert_of name word.now words.entry }
+{
+    let spot = read_spot(word, words.next_word()?)?;
     let op = read_op(words)?;
-    Some(Command::Insert {
-        name,
-        spot: Spot::At { time },
-        op,
-    })
-}
-
-fn read_ask(name: Name, words: Words) -> Option<Command>
-    ensures { result ≡ ask_now name words.entry }
-{
-    let question = read_question(words)?;
-    Some(Command::Ask {
-        name,
-        moment: Moment::Now,
-        query: Query::One { question },
-    })
-}
-
-fn read_op(mut words: Words) -> Option<Op>
-    ensures { result ≡ op_of words.entry }
-{
-    match words.next_word()? {
-        b"enq" => Some(Op::Enq {
-            value: read_only_value(words)?,
-        }),
-        b"deq" if words.is_empty() => Some(Op::Deq),
-        _ => None,
-    }
-}
-
-fn read_question(mut words: Words) -> Option<Question>
-    ensures { result ≡ question_of words.entry }
-{
-    match words.next_word()? {
-        b"front" if words.is_empty() => Some(Question::Front),
-        b"size" if words.is_empty() => Some(Question::Size),
-        _ => None,
-    }
-}
-
-fn read_only_value(mut words: Words) -> Option<i64>
-    ensures { result ≡ only_value words.entry }
-{
-    let value = read_value(words.next_word()?)?;
-    words.is_empty().then_some(value)
+    Some(Command::Insert { name, spot, op })
 }

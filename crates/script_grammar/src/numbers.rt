@@ -1,5 +1,7 @@
 ghost use Rattle.std.specs.Prelude.{◌≡◌, ◌+◌, ◌-◌, ◌*◌, ◌^◌, ◌≤◌, option_and_then};
-ghost use Rattle.script_grammar.specs.Numbers.{natural_of, time_of, up_to, value_of};
+ghost use Rattle.script_grammar.specs.Numbers.{between, index_of, natural_of, row_number_of, time_of, up_to, value_of};
+
+use retro_base::MAX_NEXT;
 
 /// The moment that a word spells.
 #[tactic(auto, unfolding(crate::specs::Numbers::time_of))]
@@ -7,6 +9,25 @@ pub fn read_time(word: &[u8]) -> Option<u64>
     ensures { result ≡ time_of word.now }
 {
     read_natural(word)
+}
+
+/// The index that a word spells.
+#[tactic(auto, unfolding(crate::specs::Numbers::index_of))]
+pub fn read_index(word: &[u8]) -> Option<u64>
+    ensures { result ≡ index_of word.now }
+{
+    read_natural(word)
+}
+
+/// The number of a row that a word spells.
+#[tactic(auto, unfolding(crate::specs::Numbers::row_number_of))]
+pub fn read_row_number(word: &[u8]) -> Option<u32>
+    ensures { result ≡ row_number_of word.now }
+{
+    match word {
+        [b'#', digits @ ..] => row_number(read_natural(digits)?),
+        _ => None,
+    }
 }
 
 /// The value that a word spells.
@@ -17,6 +38,17 @@ pub fn read_value(word: &[u8]) -> Option<i64>
     match word {
         [b'-', digits @ ..] => 0i64.checked_sub_unsigned(read_natural(digits)?),
         digits => i64::try_from(read_natural(digits)?).ok(),
+    }
+}
+
+/// The number of a row, if a row can have it.
+fn row_number(number: u64) -> Option<u32>
+    ensures { result ≡ between 1 (2 ^ 24 - 1) number }
+{
+    if 1 <= number && number < u64::from(MAX_NEXT) {
+        u32::try_from(number).ok()
+    } else {
+        None
     }
 }
 

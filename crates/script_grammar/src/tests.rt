@@ -8,48 +8,126 @@ fn read(rt: &impl Abort, line: &[u8]) -> Result<Command, LineError> {
     read_line(line, false)
 }
 
-fn insert(name: Name, time: u64, op: Op) -> Command {
-    let spot = Spot::At { time };
-    Command::Insert { name, spot, op }
-}
-
-fn ask(name: Name, question: Question) -> Command {
+fn ask(name: Name, moment: Moment, question: Question) -> Command {
+    let query = Query::One { question };
     Command::Ask {
         name,
-        moment: Moment::Now,
-        query: Query::One { question },
+        moment,
+        query,
     }
 }
 
 #[test]
-fn forms(rt: HostRuntime) -> Result<(), Fail> {
+fn commands(rt: HostRuntime) -> Result<(), Fail> {
     let q = Name::read(b"q").ok_or("q")?;
     let at = Name::read(b"at").ok_or("at")?;
     let long = Name::read(b"Abcdefghijklmnopqrstuvwxyz-_0123").ok_or("32 bytes")?;
-    let kind = Kind::Queue;
-    let lines: [(&[u8], Command); 11] = [
-        (b"new q queue", Command::New { name: q, kind }),
-        (b"new at queue", Command::New { name: at, kind }),
+    let lines: [(&[u8], Command); 18] = [
+        (b"", Command::Nothing),
+        (b"   ", Command::Nothing),
+        (b";note", Command::Nothing),
+        (b"  ;\t\xff new q queue", Command::Nothing),
         (
-            b" new  Abcdefghijklmnopqrstuvwxyz-_0123 queue  ",
-            Command::New { name: long, kind },
-        ),
-        (b"q ask front", ask(q, Question::Front)),
-        (b"at ask size", ask(at, Question::Size)),
-        (b"at at 1 deq", insert(at, 1, Op::Deq)),
-        (b"q at 0 enq -0", insert(q, 0, Op::Enq { value: 0 })),
-        (b"q at 007 enq 0042", insert(q, 7, Op::Enq { value: 42 })),
-        (
-            b"q at 18446744073709551615 deq",
-            insert(q, 18446744073709551615, Op::Deq),
+            b"new q queue",
+            Command::New {
+                name: q,
+                kind: Kind::Queue,
+            },
         ),
         (
-            b"q at 1 enq -9223372036854775808",
-            insert(q, 1, Op::Enq { value: i64::MIN }),
+            b"new at stack",
+            Command::New {
+                name: at,
+                kind: Kind::Stack,
+            },
         ),
         (
-            b"q at 1 enq 9223372036854775807",
-            insert(q, 1, Op::Enq { value: i64::MAX }),
+            b" new  Abcdefghijklmnopqrstuvwxyz-_0123 deque  ",
+            Command::New {
+                name: long,
+                kind: Kind::Deque,
+            },
+        ),
+        (
+            b"new q dict",
+            Command::New {
+                name: q,
+                kind: Kind::Dict,
+            },
+        ),
+        (
+            b" q  at 03 pushl -0",
+            Command::Insert {
+                name: q,
+                spot: Spot::At { time: 3 },
+                op: Op::PushL { value: 0 },
+            },
+        ),
+        (
+            b"at at 18446744073709551615 deq",
+            Command::Insert {
+                name: at,
+                spot: Spot::At {
+                    time: 18446744073709551615,
+                },
+                op: Op::Deq,
+            },
+        ),
+        (
+            b"q before #1 pop",
+            Command::Insert {
+                name: q,
+                spot: Spot::Before { number: 1 },
+                op: Op::Pop,
+            },
+        ),
+        (
+            b"q after #16777215 popl",
+            Command::Insert {
+                name: q,
+                spot: Spot::After { number: 16777215 },
+                op: Op::PopL,
+            },
+        ),
+        (b"q delete #007", Command::Delete { name: q, number: 7 }),
+        (
+            b"q ask all",
+            Command::Ask {
+                name: q,
+                moment: Moment::Now,
+                query: Query::All,
+            },
+        ),
+        (
+            b"q ask after #2 all",
+            Command::Ask {
+                name: q,
+                moment: Moment::Then {
+                    spot: Spot::After { number: 2 },
+                },
+                query: Query::All,
+            },
+        ),
+        (b"at ask size", ask(at, Moment::Now, Question::Size)),
+        (
+            b"q ask at 5 front",
+            ask(
+                q,
+                Moment::Then {
+                    spot: Spot::At { time: 5 },
+                },
+                Question::Front,
+            ),
+        ),
+        (
+            b"q ask before #3 top",
+            ask(
+                q,
+                Moment::Then {
+                    spot: Spot::Before { number: 3 },
+                },
+                Question::Top,
+            ),
         ),
     ];
     for (line, command) in lines {
@@ -59,14 +137,78 @@ fn forms(rt: HostRuntime) -> Result<(), Fail> {
 }
 
 #[test]
-fn no_forms(rt: HostRuntime) {
-    let lines: [&[u8]; 24] = [
-        b"",
-        b"   ",
-        b"; note",
+fn operations(rt: HostRuntime) -> Result<(), Fail> {
+    let name = Name::read(b"q").ok_or("q")?;
+    let spot = Spot::At { time: 1 };
+    let lines: [(&[u8], Op); 13] = [
+        (b"q at 1 enq 5", Op::Enq { value: 5 }),
+        (
+            b"q at 1 enq -9223372036854775808",
+            Op::Enq { value: i64::MIN },
+        ),
+        (
+            b"q at 1 push 9223372036854775807",
+            Op::Push { value: i64::MAX },
+        ),
+        (b"q at 1 pop", Op::Pop),
+        (b"q at 1 pushl 0042", Op::PushL { value: 42 }),
+        (b"q at 1 pushr -7", Op::PushR { value: -7 }),
+        (b"q at 1 popl", Op::PopL),
+        (b"q at 1 popr", Op::PopR),
+        (b"q at 1 put 1 10", Op::Put { key: 1, value: 10 }),
+        (b"q at 1 del 1", Op::Del { key: 1 }),
+        (b"q at 1 ins 2", Op::Ins { key: 2 }),
+        (b"q at 1 delmin", Op::DelMin),
+        (b"q at 1 deq", Op::Deq),
+    ];
+    for (line, op) in lines {
+        assert_eq!(rt;
+            read(&rt, line),
+            Ok(Command::Insert { name, spot, op }),
+            "{line:?}"
+        );
+    }
+    Ok(())
+}
+
+#[test]
+fn questions(rt: HostRuntime) -> Result<(), Fail> {
+    let name = Name::read(b"q").ok_or("q")?;
+    let lines: [(&[u8], Question); 13] = [
+        (b"q ask size", Question::Size),
+        (b"q ask front", Question::Front),
+        (b"q ask back", Question::Back),
+        (b"q ask top", Question::Top),
+        (b"q ask left", Question::Left),
+        (b"q ask right", Question::Right),
+        (b"q ask min", Question::Min),
+        (
+            b"q ask nth 18446744073709551615",
+            Question::Nth { index: u64::MAX },
+        ),
+        (b"q ask get -1", Question::Get { key: -1 }),
+        (b"q ask succ 0", Question::Succ { key: 0 }),
+        (b"q ask pred 0", Question::Pred { key: 0 }),
+        (b"q ask count 1 0", Question::Count { low: 1, high: 0 }),
+        (b"q ask sum -2 2", Question::Sum { low: -2, high: 2 }),
+    ];
+    for (line, question) in lines {
+        assert_eq!(rt;
+            read(&rt, line),
+            Ok(ask(name, Moment::Now, question)),
+            "{line:?}"
+        );
+    }
+    Ok(())
+}
+
+#[test]
+fn no_commands(rt: HostRuntime) {
+    let lines: [&[u8]; 56] = [
         b"new",
         b"new q",
-        b"new q stack",
+        b"new q pq",
+        b"new q heap",
         b"new q queue queue",
         b"new new queue",
         b"new mute queue",
@@ -75,16 +217,50 @@ fn no_forms(rt: HostRuntime) {
         b"new Abcdefghijklmnopqrstuvwxyz-_01234 queue",
         b"NEW q queue",
         b"q",
+        b"q frob",
+        b"q undo",
+        b"q redo",
+        b"save q",
+        b"timeline q queue next 1",
+        b"end",
+        b"#1 10 enq 5",
+        b"q ;note",
         b"q ask",
         b"q ask size 1",
+        b"q ask size\r",
         b"q\task size",
+        b"q ask all 1",
+        b"q ask at 1",
+        b"q ask at size",
+        b"q ask at 1 size 1",
+        b"q ask now size",
+        b"q ask before 1 size",
+        b"q ask nth",
+        b"q ask nth -1",
+        b"q ask nth 1 2",
+        b"q ask nth 18446744073709551616",
+        b"q ask get",
+        b"q ask get 1 2",
+        b"q ask sum 1",
+        b"q ask sum 1 2 3",
         b"q at 18446744073709551616 deq",
         b"q at -1 deq",
+        b"q at deq",
+        b"q at 1",
+        b"q at 1 deq 5",
         b"q at 1 enq",
         b"q at 1 enq +5",
         b"q at 1 enq -",
         b"q at 1 enq -9223372036854775809",
         b"q at 1 enq 9223372036854775808",
+        b"q at 1 put 1",
+        b"q before #0 deq",
+        b"q after #16777216 deq",
+        b"q after # 1 deq",
+        b"q after 1 deq",
+        b"q delete",
+        b"q delete 1",
+        b"q delete #1 #2",
     ];
     for line in lines {
         assert_eq!(rt; read(&rt, line), Err(LineError::Syntax), "{line:?}");
