@@ -10,3 +10,4 @@ pub mod Questions
 pub mod Bridges
 pub mod Counting
 pub mod Text
+pub mod LineLength

@@ -1,5 +1,6 @@
 -- The lines of a list of bytes.
 use Rattle.std.specs.Prelude.{◌≡◌, ℕ, Bool, true, false, ◌==◌, nat_lt, ◌⊎◌, List, [], ◌∷◌, ◌++◌, length, map, if◌then◌else◌}
+pub use Rattle.retro_base.specs.LineLength.{longest, is_long}
 
 -- the byte that ends a line
 abbrev pub line_feed : ℕ
@@ -8,10 +9,6 @@ line_feed = 10
 -- the byte that may stand at the very end of a line, and is then no part of it
 abbrev pub carriage_return : ℕ
 carriage_return = 13
-
--- the most bytes of a line that is not long
-abbrev pub longest : ℕ
-longest = 4096
 
 -- a byte before the first piece
 abbrev pub onto_first : ℕ → List (List ℕ) → List (List ℕ)
@@ -32,10 +29,6 @@ without_return (b ∷ c ∷ bs) = b ∷ without_return (c ∷ bs)
 -- the lines of the bytes
 abbrev pub lines : List ℕ → List (List ℕ)
 lines bytes = map without_return (pieces bytes)
-
--- a line has more bytes than a line may have
-abbrev pub is_long : List ℕ → Bool
-is_long line = nat_lt longest (length line)
 
 -- one of the bytes ends a line
 abbrev pub has_line_feed : List ℕ → Bool

@@ -1,0 +1,33 @@
+-- The bench: the timelines that a script has made, in the order in which it made them.
+use Rattle.std.specs.Prelude.{ℕ, Bool, List, []}
+use Rattle.std.specs.List.{list_any}
+use Rattle.std.specs.Str.{bytes_eq}
+use Rattle.retro_base.specs.declared.kind.Kind.{Kind}
+use Rattle.retro_base.specs.declared.row.Row.{Row}
+
+-- a timeline: its name, its kind, its rows, and the number that the next row draws
+pub record Timeline : Type 0 where
+  pub name : List ℕ
+  pub kind : Kind
+  pub rows : List Row
+  pub next : ℕ
+
+-- the bench
+pub record Bench : Type 0 where
+  pub timelines : List Timeline
+
+-- a bench without a timeline
+abbrev pub empty_bench : Bench
+empty_bench = record { timelines = [] }
+
+-- a timeline without rows
+abbrev pub fresh : List ℕ → Kind → Timeline
+fresh name kind = record { name = name; kind = kind; rows = []; next = 1 }
+
+-- a timeline has the name
+abbrev pub is_named : List ℕ → Timeline → Bool
+is_named name timeline = bytes_eq timeline.name name
+
+-- one of the timelines has the name
+abbrev pub has_timeline : List ℕ → List Timeline → Bool
+has_timeline name timelines = list_any (is_named name) timelines
