@@ -241,3 +241,22 @@ module _ {S : Type 0} (next_of : Row → S → Option S) (rows : List Row) (row 
         | None ↦ λ stops. let wrong : Some (length rows) ≡ None = sym (ap result_err (between_stops next_of rows [] row s t e stops)) ∙ valid in absurd (cc)
         | Some u ↦ λ goes. refl
       ] refl
+
+-- Rows in two parts, where all can be performed.
+module _ {S : Type 0} (next_of : Row → S → Option S) (a b : List Row) (s : S) where
+  pub front_possible : result_err (fold_rows next_of (a ++ b) s) ≡ None → result_err (fold_rows next_of a s) ≡ None
+  front_possible valid =
+      elim (fold_rows next_of a s) as (λ r. fold_rows next_of a s ≡ r → result_err r ≡ None) [
+        | Ok t ↦ λ e. refl
+        | Err i ↦ λ e. let wrong : Some i ≡ None = sym (ap result_err (fold_rows-append_err next_of a b s i e)) ∙ valid in absurd (cc)
+      ] refl
+
+  later_possible : (n : ℕ) (r : Result S ℕ) → result_err (later n r) ≡ None → result_err r ≡ None
+  later_possible n (Ok t) e = refl
+  later_possible n (Err i) e = absurd (cc)
+
+  pub behind_possible : (t : S) → fold_rows next_of a s ≡ Ok t → result_err (fold_rows next_of (a ++ b) s) ≡ None → result_err (fold_rows next_of b t) ≡ None
+  behind_possible t e valid = later_possible (length a) _ (sym (ap result_err (fold_rows-append next_of a b s t e)) ∙ valid)
+
+  pub both_parts : (t u : S) → fold_rows next_of a s ≡ Ok t → fold_rows next_of b t ≡ Ok u → fold_rows next_of (a ++ b) s ≡ Ok u
+  both_parts t u e f = fold_rows-append next_of a b s t e ∙ ap (later (length a)) f

@@ -9,5 +9,6 @@ pub mod Timeline
 pub mod Questions
 pub mod Bridges
 pub mod Counting
+pub mod Content
 pub mod Text
 pub mod LineLength

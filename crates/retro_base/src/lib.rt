@@ -14,11 +14,15 @@
 //! - Texts: `Name`, `Text`. Costs: `Steps`. Memory: `NoMemory`.
 #![tactic(auto)]
 
+mod content;
 mod counting;
 mod kind;
+mod line;
+mod listing;
 mod memory;
 mod name;
 mod op;
+mod pairs;
 mod plain_list;
 mod question;
 mod retro;
@@ -27,6 +31,7 @@ mod steps;
 mod text;
 
 pub use kind::Kind;
+pub use listing::Listing;
 pub use memory::NoMemory;
 pub use name::Name;
 pub use op::Op;
