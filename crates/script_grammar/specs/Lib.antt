@@ -7,3 +7,4 @@ pub mod Operations
 pub mod Queries
 pub mod Command
 pub mod AnswerText
+pub mod ListingText

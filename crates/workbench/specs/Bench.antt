@@ -13,12 +13,8 @@ pub record Timeline : Type 0 where
   pub next : ℕ
 
 -- the bench
-pub record Bench : Type 0 where
-  pub timelines : List Timeline
-
--- a bench without a timeline
-abbrev pub empty_bench : Bench
-empty_bench = record { timelines = [] }
+abbrev pub Bench : Type 0
+Bench = List Timeline
 
 -- a timeline without rows
 abbrev pub fresh : List ℕ → Kind → Timeline
@@ -29,5 +25,5 @@ abbrev pub is_named : List ℕ → Timeline → Bool
 is_named name timeline = bytes_eq timeline.name name
 
 -- one of the timelines has the name
-abbrev pub has_timeline : List ℕ → List Timeline → Bool
-has_timeline name timelines = list_any (is_named name) timelines
+abbrev pub has_timeline : List ℕ → Bench → Bool
+has_timeline name bench = list_any (is_named name) bench

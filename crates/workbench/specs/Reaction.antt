@@ -16,42 +16,42 @@ use Rattle.workbench.specs.Bench.{Timeline, Bench, fresh, is_named, has_timeline
 use Rattle.workbench.specs.Outcome.{reply_text, is_refusal}
 use Rattle.workbench.specs.Turns.{Turn, stays, puts, deletes, tells}
 
--- what is made of a line: the timelines afterwards, and the outcome
+-- what the bench makes of a line: itself afterwards, and the outcome
 pub record Effect : Type 0 where
-  pub timelines : List Timeline
+  pub bench : Bench
   pub outcome : Outcome
 
--- an outcome that leaves every timeline as it was
-abbrev pub leaves : List Timeline → Outcome → Effect
-leaves timelines outcome = record { timelines = timelines; outcome = outcome }
+-- an outcome that leaves the bench as it was
+abbrev pub leaves : Bench → Outcome → Effect
+leaves bench outcome = record { bench = bench; outcome = outcome }
 
 -- `new NAME KIND`: the name has to be free, and there has to be room for one more timeline
-abbrev pub starts : List Timeline → List ℕ → Kind → Effect
-starts timelines name kind =
-    if has_timeline name timelines then leaves timelines (Refused refusals.NameTaken)
-    else (if nat_le MAX_TIMELINES (length timelines) then leaves timelines (Refused refusals.Timelines)
-    else record { timelines = timelines ++ fresh name kind ∷ []; outcome = Accepted })
+abbrev pub starts : Bench → List ℕ → Kind → Effect
+starts bench name kind =
+    if has_timeline name bench then leaves bench (Refused refusals.NameTaken)
+    else (if nat_le MAX_TIMELINES (length bench) then leaves bench (Refused refusals.Timelines)
+    else record { bench = bench ++ fresh name kind ∷ []; outcome = Accepted })
 
--- the effect on timelines behind one that it leaves as it was
+-- the effect on a bench that has one more timeline in front
 abbrev pub behind : Timeline → Effect → Effect
-behind timeline effect = record { timelines = timeline ∷ effect.timelines; outcome = effect.outcome }
+behind timeline effect = record { bench = timeline ∷ effect.bench; outcome = effect.outcome }
 
 -- the timeline of this name takes its turn, and the others stay
-abbrev pub on_named : List ℕ → (Timeline → Turn) → List Timeline → Effect
+abbrev pub on_named : List ℕ → (Timeline → Turn) → Bench → Effect
 on_named name turn [] = leaves [] (Refused (refusals.NoTimeline name))
 on_named name turn (timeline ∷ others) =
-    if is_named name timeline then record { timelines = (turn timeline).timeline ∷ others; outcome = (turn timeline).outcome }
+    if is_named name timeline then record { bench = (turn timeline).timeline ∷ others; outcome = (turn timeline).outcome }
     else behind timeline (on_named name turn others)
 
 -- what is made of a command, or of a line that has none
-abbrev pub obeys : List Timeline → Result Command LineError → Effect
-obeys timelines (Err errors.Long) = leaves timelines (Refused refusals.Long)
-obeys timelines (Err errors.Syntax) = leaves timelines (Refused refusals.Syntax)
-obeys timelines (Ok Nothing) = leaves timelines Silent
-obeys timelines (Ok (New name kind)) = starts timelines name kind
-obeys timelines (Ok (Insert name spot op)) = on_named name (λ timeline. puts timeline spot op) timelines
-obeys timelines (Ok (Delete name number)) = on_named name (λ timeline. deletes timeline number) timelines
-obeys timelines (Ok (Ask name moment query)) = on_named name (λ timeline. stays timeline (tells timeline moment query)) timelines
+abbrev pub obeys : Bench → Result Command LineError → Effect
+obeys bench (Err errors.Long) = leaves bench (Refused refusals.Long)
+obeys bench (Err errors.Syntax) = leaves bench (Refused refusals.Syntax)
+obeys bench (Ok Nothing) = leaves bench Silent
+obeys bench (Ok (New name kind)) = starts bench name kind
+obeys bench (Ok (Insert name spot op)) = on_named name (λ timeline. puts timeline spot op) bench
+obeys bench (Ok (Delete name number)) = on_named name (λ timeline. deletes timeline number) bench
+obeys bench (Ok (Ask name moment query)) = on_named name (λ timeline. stays timeline (tells timeline moment query)) bench
 
 -- the reaction to a line: the bench afterwards, the lines that answer it, and whether they are a refusal
 pub record Reaction : Type 0 where
@@ -59,11 +59,13 @@ pub record Reaction : Type 0 where
   pub answer : List ℕ
   pub refused : Bool
 
+-- the reaction with this effect
+abbrev pub reaction_of : Effect → Reaction
+reaction_of effect = record { bench = effect.bench; answer = reply_text effect.outcome; refused = is_refusal effect.outcome }
+
 -- the reaction to the command of a line
 abbrev pub reaction_to : Bench → Result Command LineError → Reaction
-reaction_to bench line =
-    let effect = obeys bench.timelines line in
-    record { bench = record { timelines = effect.timelines }; answer = reply_text effect.outcome; refused = is_refusal effect.outcome }
+reaction_to bench line = reaction_of (obeys bench line)
 
 -- the reaction to a line
 abbrev pub reacts : Bench → List ℕ → Reaction

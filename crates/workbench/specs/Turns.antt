@@ -22,12 +22,8 @@ use Rattle.workbench.specs.declared.outcome.Outcome.{Outcome}
 use Rattle.workbench.specs.declared.outcome.Outcome.TheVariants.{Accepted, Put, Told, Listed, Refused}
 use Rattle.workbench.specs.declared.outcome.Refusal.{Refusal}
 use Rattle.workbench.specs.declared.outcome.Refusal.TheVariants as refusals
+use Rattle.workbench.specs.declared.seat.Seat.{Seat}
 use Rattle.workbench.specs.Bench.{Timeline}
-
--- where a row goes: its place and its time
-pub record Seat : Type 0 where
-  pub place : ℕ
-  pub time : ℕ
 
 -- the seat in front of the row with this number, which has that row's time
 abbrev pub seat_before : ℕ → List Row → Option Seat

@@ -1,106 +1,126 @@
-ghost use Rattle.std.specs.Prelude.{◌≡◌, [], Ok, IfOk, OnErr};
-ghost use Rattle.retro_cli.specs.declared.outcome.Outcome.TheVariants.{Refused};
+ghost use Rattle.std.specs.Prelude.{◌≡◌, ◌≢◌, ◌≤◌, ◌++◌, ◌∷◌, [], length, position, Err, IsTrue, IfOk, OnOk, OnErr, if◌then◌else◌};
+ghost use Rattle.retro_base.specs.declared.kind.Kind.TheVariants.{Pq};
+ghost use Rattle.script_grammar.specs.declared.command.LineError.TheVariants as errors;
+ghost use Rattle.script_grammar.specs.Command.{command, StartsNoPq};
+ghost use Rattle.workbench.specs.Bench.{has_timeline, is_named};
+ghost use Rattle.workbench.specs.Reaction.{obeys, on_named, reaction_to, starts};
+ghost use Rattle.workbench.specs.Turns.{deletes, puts, stays, tells};
 
 use crate::outcome::{Outcome, Refusal};
 use crate::timeline::Timeline;
-use retro_base::{Kind, Name, NoMemory, Op, Question};
-use script_grammar::{Command, LineError, Moment, Query, Spot};
+use retro_base::{Kind, Name, NoMemory, Op, Text};
+use script_grammar::{Command, LineError, Moment, Query, Spot, read_line};
 use std::alloc::Global;
 use std::marker::Model;
 
-/// The timelines that a script has made. There is room for one.
+/// The most timelines of a bench.
+pub const MAX_TIMELINES: usize = 8;
+
+/// The timelines that a script has made, in the order in which it made them.
 #[derive(Drop)]
-pub(crate) struct Bench {
+pub struct Bench {
     alloc: Global,
-    timeline: Option<Timeline>,
+    timelines: Vec<Timeline>,
 }
 
 impl Model for Bench {
-    ghost use Rattle.std.specs.Prelude.{List};
-    ghost use Rattle.std.specs.Option.{option_to_list};
-    ghost use Rattle.retro_cli.specs.Bench.{Timeline};
+    ghost use Rattle.workbench.specs.Bench as specs;
 
-    ghost Value = { List Timeline };
+    ghost Value = { specs.Bench };
 
-    ghost view = { λ b. option_to_list b.timeline };
+    ghost view = { λ bench. bench.timelines.items };
 }
 
 impl Bench {
-    ghost use Rattle.retro_cli.specs.Reaction.{answers, starts, puts_into, asks, obeys};
-
     /// A bench without a timeline.
     pub fn new(alloc: Global) -> Bench
         ensures { result ≡ [] }
     {
         Bench {
             alloc,
-            timeline: None,
+            timelines: Vec::new(alloc),
         }
     }
 
+    /// Does what a line asks for, of which at most 4,096 bytes are given: `long` says that it has more.
+    /// Appends the lines that answer it, and gives whether it is refused.
+    pub fn line(&mut self, line: &[u8], long: bool, reply: &mut Text) -> Result<bool, NoMemory>
+        requires within { length line.now ≤ 4096 }
+        requires full { IsTrue long → length line.now ≡ 4096 }
+        ensures { IfOk result (λ refused. let reaction = reaction_to self.old (if long then Err errors.Long else command line.now) in
+            (self.new ≡ reaction.bench) × (refused ≡ reaction.refused) × (reply.new ≡ reply.old ++ reaction.answer)) }
+    {
+        let outcome = self.obey(read_line(line, long))?;
+        outcome.print(reply)?;
+        Ok(outcome.is_refusal())
+    }
+
     /// Does what a line asks for. After a refusal and after `NoMemory` all is as before.
-    pub fn obey(&mut self, line: Result<Command, LineError>) -> Result<Outcome, NoMemory>
+    fn obey(&mut self, line: Result<Command, LineError>) -> Result<Outcome, NoMemory>
+        requires { IfOk line StartsNoPq }
         ensures ok { IfOk result (λ outcome. obeys self.old line ≡ record { bench = self.new; outcome = outcome }) }
         ensures err { OnErr result (self.new ≡ self.old) }
     {
         match line {
-            Err(LineError::Long) => Ok(refused(Refusal::Long)),
-            Err(LineError::Syntax) => Ok(refused(Refusal::Syntax)),
-            Ok(command) => self.perform(&command),
+            Err(LineError::Long) => Ok(Outcome::refused(Refusal::Long)),
+            Err(LineError::Syntax) => Ok(Outcome::refused(Refusal::Syntax)),
+            Ok(Command::Nothing) => Ok(Outcome::Silent),
+            Ok(Command::New { name, kind }) => self.start(name, kind),
+            Ok(Command::Insert { name, spot, op }) => self.put(name, spot, op),
+            Ok(Command::Delete { name, number }) => self.delete(name, number),
+            Ok(Command::Ask { name, moment, query }) => self.ask(name, moment, query),
         }
     }
 
-    fn perform(&mut self, command: &Command) -> Result<Outcome, NoMemory>
-        ensures ok { IfOk result (λ outcome. obeys self.old (Ok command.now) ≡ record { bench = self.new; outcome = outcome }) }
+    fn start(&mut self, name: Name, kind: Kind) -> Result<Outcome, NoMemory>
+        requires { kind ≢ Pq }
+        ensures ok { IfOk result (λ outcome. starts self.old name kind ≡ record { bench = self.new; outcome = outcome }) }
         ensures err { OnErr result (self.new ≡ self.old) }
     {
-        match command {
-            Command::New { name, kind } => Ok(self.start(*name, *kind)),
-            Command::Insert {
-                name,
-                spot: Spot::At { time },
-                op,
-            } => self.put(*name, *time, *op),
-            Command::Ask {
-                name,
-                moment: Moment::Now,
-                query: Query::One { question },
-            } => Ok(self.ask(*name, *question)),
+        if self.timelines.iter().any(|timeline| timeline.name() == name) {
+            return Ok(Outcome::refused(Refusal::NameTaken));
         }
+        if self.timelines.len() >= MAX_TIMELINES {
+            return Ok(Outcome::refused(Refusal::Timelines));
+        }
+        self.timelines.push(Timeline::new(self.alloc, name, kind))?;
+        Ok(Outcome::Accepted)
     }
 
-    fn start(&mut self, name: Name, kind: Kind) -> Outcome
-        ensures { starts self.old name kind ≡ record { bench = self.new; outcome = result } }
-    {
-        if self.timeline.is_some() || kind != Kind::Queue {
-            return refused(Refusal::Syntax);
-        }
-        self.timeline = Some(Timeline::new(self.alloc, name, kind));
-        Outcome::Started
-    }
-
-    fn put(&mut self, name: Name, time: u64, op: Op) -> Result<Outcome, NoMemory>
-        ensures ok { IfOk result (λ outcome. puts_into self.old name time op ≡ record { bench = self.new; outcome = outcome }) }
+    fn put(&mut self, name: Name, spot: Spot, op: Op) -> Result<Outcome, NoMemory>
+        ensures ok { IfOk result (λ outcome. on_named name (λ timeline. puts timeline spot op) self.old ≡ record { bench = self.new; outcome = outcome }) }
         ensures err { OnErr result (self.new ≡ self.old) }
     {
-        match &mut self.timeline {
-            Some(timeline) if timeline.name() == name => timeline.put(time, op),
-            _ => Ok(refused(Refusal::NoTimeline { name })),
+        match self.index_of(name) {
+            Some(index) => self.timelines[index].put(spot, op),
+            None => Ok(Outcome::refused(Refusal::NoTimeline { name })),
         }
     }
 
-    fn ask(&self, name: Name, question: Question) -> Outcome
-        ensures { answers self.now result ≡ asks self.now name question }
+    fn delete(&mut self, name: Name, number: u32) -> Result<Outcome, NoMemory>
+        ensures ok { IfOk result (λ outcome. on_named name (λ timeline. deletes timeline number) self.old ≡ record { bench = self.new; outcome = outcome }) }
+        ensures err { OnErr result (self.new ≡ self.old) }
     {
-        match &self.timeline {
-            Some(timeline) if timeline.name() == name => timeline.ask_now(question),
-            _ => refused(Refusal::NoTimeline { name }),
+        match self.index_of(name) {
+            Some(index) => self.timelines[index].delete(number),
+            None => Ok(Outcome::refused(Refusal::NoTimeline { name })),
         }
     }
-}
 
-fn refused(refusal: Refusal) -> Outcome
-    ensures { result ≡ Refused refusal }
-{
-    Outcome::Refused { refusal }
+    fn ask(&mut self, name: Name, moment: Moment, query: Query) -> Result<Outcome, NoMemory>
+        ensures ok { IfOk result (λ outcome. on_named name (λ timeline. stays timeline (tells timeline moment query)) self.old ≡ record { bench = self.new; outcome = outcome }) }
+        ensures err { OnErr result (self.new ≡ self.old) }
+    {
+        match self.index_of(name) {
+            Some(index) => self.timelines[index].ask(moment, query),
+            None => Ok(Outcome::refused(Refusal::NoTimeline { name })),
+        }
+    }
+
+    /// The index of the timeline that has the name.
+    fn index_of(&self, name: Name) -> Option<usize>
+        ensures { result ≡ position (is_named name) self.now }
+    {
+        self.timelines.iter().position(|timeline| timeline.name() == name)
+    }
 }

@@ -1,19 +1,24 @@
 ghost use Rattle.std.specs.Prelude.{◌≡◌, ◌++◌, decimal, OnOk};
-ghost use Rattle.retro_cli.specs.Outcome.{ended, outcome_text, refusal_text, is_refusal};
+ghost use Rattle.workbench.specs.Outcome.{is_refusal, refusal_text, reply_text};
+ghost use Rattle.workbench.specs.declared.outcome.Outcome.TheVariants as outcomes;
 
 use itoa::Buffer;
-use retro_base::{Answer, Name, NoMemory, Text};
-use script_grammar::print_answer;
+use retro_base::{Answer, Listing, Name, NoMemory, Text};
+use script_grammar::{print_answer, print_listing};
 
 /// What a line is answered.
-#[derive(Clone, Copy, Debug, PartialEq, Eq)]
+#[derive(Debug, Drop)]
 pub(crate) enum Outcome {
-    /// A timeline was started.
-    Started,
+    /// Nothing is answered.
+    Silent,
+    /// It is done.
+    Accepted,
     /// A row was put in, and drew this number.
     Put { number: u32 },
     /// A question was answered.
     Told { answer: Answer },
+    /// The whole content was asked for.
+    Listed { listing: Listing },
     /// The line was refused, and changed nothing.
     Refused { refusal: Refusal },
 }
@@ -27,8 +32,14 @@ pub(crate) enum Refusal {
     Syntax,
     /// No timeline has the name.
     NoTimeline { name: Name },
+    /// A timeline has the name already.
+    NameTaken,
+    /// There are as many timelines as there may be.
+    Timelines,
     /// The operation or the question is not of the timeline's kind.
     Kind,
+    /// No row of the timeline has the number.
+    NoRow { number: u32 },
     /// The timeline has as many rows as a timeline may have.
     Full,
     /// The timeline has no number left for another row.
@@ -38,24 +49,33 @@ pub(crate) enum Refusal {
 }
 
 impl Outcome {
+    /// The outcome of a line that is refused.
+    pub(crate) fn refused(refusal: Refusal) -> Outcome
+        ensures { result ≡ outcomes.Refused refusal }
+    {
+        Outcome::Refused { refusal }
+    }
+
     /// Whether the line was refused.
-    pub fn is_refusal(&self) -> bool
+    pub(crate) fn is_refusal(&self) -> bool
         ensures { result ≡ is_refusal self.now }
     {
         matches!(self, Outcome::Refused { .. })
     }
 
-    /// Appends the text, with the line feed that ends it.
-    pub fn print(&self, out: &mut Text) -> Result<(), NoMemory>
-        ensures { OnOk result (out.new ≡ out.old ++ ended (outcome_text self.now)) }
+    /// Appends the lines that answer.
+    pub(crate) fn print(&self, out: &mut Text) -> Result<(), NoMemory>
+        ensures { OnOk result (out.new ≡ out.old ++ reply_text self.now) }
     {
         match self {
-            Outcome::Started => out.push_all(b"ok")?,
+            Outcome::Silent => return Ok(()),
+            Outcome::Accepted => out.push_all(b"ok")?,
             Outcome::Put { number } => {
                 out.push_all(b"ok #")?;
                 print_number(u64::from(*number), out)?;
             }
             Outcome::Told { answer } => print_answer(*answer, out)?,
+            Outcome::Listed { listing } => print_listing(listing, out)?,
             Outcome::Refused { refusal } => refusal.print(out)?,
         }
         out.push_all(b"\n")
@@ -74,7 +94,13 @@ impl Refusal {
                 out.push_all(b"refused no timeline ")?;
                 out.push_all(name.bytes())?;
             }
+            Refusal::NameTaken => out.push_all(b"refused name taken")?,
+            Refusal::Timelines => out.push_all(b"refused timelines 8")?,
             Refusal::Kind => out.push_all(b"refused kind")?,
+            Refusal::NoRow { number } => {
+                out.push_all(b"refused no row #")?;
+                print_number(u64::from(*number), out)?;
+            }
             Refusal::Full => out.push_all(b"refused full")?,
             Refusal::Numbers => out.push_all(b"refused numbers")?,
             Refusal::At { number, time } => {

@@ -1,11 +1,14 @@
-ghost use Rattle.std.specs.Prelude.{◌≡◌, ◌+◌, ◌<◌, ◌≤◌, [], length, slice_get, IfOk, OnErr};
-ghost use Rattle.std.specs.List.{insert};
-ghost use Rattle.retro_base.specs.declared.kind.Kind.TheVariants.{Queue};
+ghost use Rattle.std.specs.Prelude.{◌≡◌, ◌≢◌, ◌+◌, ◌<◌, ◌≤◌, length, slice_get, Some, IfOk, IfSome, OnErr};
+ghost use Rattle.std.specs.List.{insert, remove};
+ghost use Rattle.retro_base.specs.declared.kind.Kind.TheVariants.{Pq};
 ghost use Rattle.retro_base.specs.declared.row.TheConstants.{MAX_ROWS};
-ghost use Rattle.retro_base.specs.Places.{place_of_time};
+ghost use Rattle.retro_base.specs.Kind.{kind_of};
+ghost use Rattle.workbench.proofs.Order.{Fits};
 
 use crate::outcome::{Outcome, Refusal};
+use crate::seat::{Seat, place_of_row, row_named, seat_of};
 use retro_base::{Kind, MAX_NEXT, MAX_ROWS, Name, NoMemory, Op, PlainList, Question, Retro, Row};
+use script_grammar::{Moment, Query, Spot};
 use std::alloc::Global;
 use std::marker::Model;
 
@@ -22,7 +25,7 @@ pub(crate) struct Timeline {
 impl Model for Timeline {
     ghost use Rattle.std.specs.Prelude.{◌≡◌};
     ghost use Rattle.retro_base.specs.Timeline.{IsTimeline};
-    ghost use Rattle.retro_cli.specs.Bench.{Timeline};
+    ghost use Rattle.workbench.specs.Bench.{Timeline};
 
     ghost Value = { Timeline };
 
@@ -32,12 +35,12 @@ impl Model for Timeline {
 }
 
 impl Timeline {
-    ghost use Rattle.retro_cli.specs.Bench.{fresh};
-    ghost use Rattle.retro_cli.specs.Reaction.{puts, refusal_before, tells};
+    ghost use Rattle.workbench.specs.Bench.{fresh};
+    ghost use Rattle.workbench.specs.Turns.{deletes, puts, seats, stays, tells};
 
     /// A timeline without rows.
-    pub fn new(alloc: Global, name: Name, kind: Kind) -> Timeline
-        requires { kind ≡ Queue }
+    pub(crate) fn new(alloc: Global, name: Name, kind: Kind) -> Timeline
+        requires { kind ≢ Pq }
         ensures { result ≡ fresh name kind }
     {
         Timeline {
@@ -49,84 +52,110 @@ impl Timeline {
     }
 
     /// The name.
-    pub fn name(&self) -> Name
+    pub(crate) fn name(&self) -> Name
         ensures { result ≡ self.now.name }
     {
         self.name
     }
 
-    /// Puts a row in behind all rows up to its time, where the edited rows replay whole. After a
-    /// refusal and after `NoMemory` all is as before.
-    pub fn put(&mut self, time: u64, op: Op) -> Result<Outcome, NoMemory>
-        ensures ok { IfOk result (λ outcome. puts self.old time op ≡ record { timeline = self.new; outcome = outcome }) }
+    /// Puts a row in at a spot, where the edited rows replay whole. After a refusal and after `NoMemory`
+    /// all is as before.
+    pub(crate) fn put(&mut self, spot: Spot, op: Op) -> Result<Outcome, NoMemory>
+        ensures ok { IfOk result (λ outcome. puts self.old spot op ≡ record { timeline = self.new; outcome = outcome }) }
         ensures err { OnErr result (self.new ≡ self.old) }
     {
-        if let Some(refusal) = self.refusal(op) {
-            return Ok(Outcome::Refused { refusal });
+        if op.kind() != self.structure.kind() {
+            return Ok(Outcome::refused(Refusal::Kind));
         }
-        let place = place_of(self.rows.as_slice(), time);
+        match seat_of(self.rows.as_slice(), spot) {
+            Some(seat) => self.put_at(seat, op),
+            None => Ok(no_row(row_named(spot))),
+        }
+    }
+
+    /// Puts a row in at a seat, where there is room and the edited rows replay whole.
+    fn put_at(&mut self, seat: Seat, op: Op) -> Result<Outcome, NoMemory>
+        requires of_kind { kind_of op ≡ self.old.kind }
+        requires within { seat.place ≤ length self.old.rows }
+        requires fits { Fits self.old.rows seat.place seat.time }
+        ensures ok { IfOk result (λ outcome. seats self.old op seat ≡ record { timeline = self.new; outcome = outcome }) }
+        ensures err { OnErr result (self.new ≡ self.old) }
+    {
+        if self.structure.len() >= MAX_ROWS {
+            return Ok(Outcome::refused(Refusal::Full));
+        }
+        if self.next >= MAX_NEXT {
+            return Ok(Outcome::refused(Refusal::Numbers));
+        }
         let row = Row {
             number: self.next,
-            time,
+            time: seat.time,
             op,
         };
-        match self.structure.failure_after_insert(place, op) {
-            Some(index) => {
-                let failing = row_behind_insert(self.rows.as_slice(), place, row, index);
-                Ok(Outcome::Refused {
-                    refusal: Refusal::At {
-                        number: failing.number,
-                        time: failing.time,
-                    },
-                })
-            }
+        match self.structure.failure_after_insert(seat.place, op) {
+            Some(index) => Ok(fails_at(row_behind_insert(self.rows.as_slice(), seat.place, row, index))),
             None => {
                 self.rows.reserve(1)?;
-                self.structure.insert(place, row)?;
-                self.rows.insert(place as usize, row).unwrap();
+                self.structure.insert(seat.place, row)?;
+                self.rows.insert(seat.place as usize, row).unwrap();
                 self.next += 1;
                 Ok(Outcome::Put { number: row.number })
             }
         }
     }
 
-    /// Why no row with this operation can be put in anywhere, if so.
-    fn refusal(&self, op: Op) -> Option<Refusal>
-        ensures { result ≡ refusal_before self.now op }
+    /// Takes the row with this number out, where the edited rows replay whole. After a refusal and after
+    /// `NoMemory` all is as before.
+    pub(crate) fn delete(&mut self, number: u32) -> Result<Outcome, NoMemory>
+        ensures ok { IfOk result (λ outcome. deletes self.old number ≡ record { timeline = self.new; outcome = outcome }) }
+        ensures err { OnErr result (self.new ≡ self.old) }
     {
-        if op.kind() != self.structure.kind() {
-            Some(Refusal::Kind)
-        } else if self.structure.len() >= MAX_ROWS {
-            Some(Refusal::Full)
-        } else if self.next >= MAX_NEXT {
-            Some(Refusal::Numbers)
-        } else {
-            None
+        let Some(place) = place_of_row(self.rows.as_slice(), number) else {
+            return Ok(no_row(number));
+        };
+        match self.structure.failure_after_remove(place) {
+            Some(index) => Ok(fails_at(row_behind_remove(self.rows.as_slice(), place, index))),
+            None => {
+                self.structure.remove(place)?;
+                self.rows.remove(place as usize);
+                Ok(Outcome::Accepted)
+            }
         }
     }
 
-    /// The answer to a question about the present.
-    pub fn ask_now(&self, question: Question) -> Outcome
-        ensures { result ≡ tells self.now question }
+    /// What is told at a moment. The timeline stays, whatever the answer.
+    pub(crate) fn ask(&mut self, moment: Moment, query: Query) -> Result<Outcome, NoMemory>
+        ensures stays { self.new ≡ self.old }
+        ensures ok { IfOk result (λ outcome. outcome ≡ tells self.old moment query) }
     {
-        if question.suits(self.structure.kind()) {
-            Outcome::Told {
-                answer: self.structure.ask_now(question),
-            }
-        } else {
-            Outcome::Refused {
-                refusal: Refusal::Kind,
-            }
+        match query {
+            Query::One { question } if !question.suits(self.structure.kind()) => Ok(Outcome::refused(Refusal::Kind)),
+            Query::One { question } => match moment {
+                Moment::Now => Ok(Outcome::Told {
+                    answer: self.structure.ask_now(question),
+                }),
+                Moment::Then { spot } => self.ask_then(spot, question),
+            },
+            Query::All => self.list(moment),
         }
     }
 }
 
-/// The place behind all rows up to this time.
-fn place_of(rows: &[Row], time: u64) -> u32
-    requires { length rows.now ≤ MAX_ROWS }
-    ensures { result ≡ place_of_time time rows.now }
+/// The outcome of a line that names a row that is not there.
+fn no_row(number: u32) -> Outcome
+    ensures { result ≡ Outcome.Refused (Refusal.NoRow number) }
 {
-    rows.iter().filter(|row| row.time <= time).count() as u32
+    Outcome::refused(Refusal::NoRow { number })
+}
+
+/// The outcome of an edit behind which this row is the first that could not be performed.
+fn fails_at(failing: Row) -> Outcome
+    ensures { result ≡ Outcome.Refused (Refusal.At failing.number failing.time) }
+{
+    Outcome::refused(Refusal::At {
+        number: failing.number,
+        time: failing.time,
+    })
 }
 
 /// The row at this index, were a row put in at the place.
@@ -141,5 +170,18 @@ fn row_behind_insert(rows: &[Row], place: u32, row: Row, index: u32) -> Row
         row
     } else {
         rows[index as usize - 1]
+    }
+}
+
+/// The row at this index, were the row at the place taken out.
+fn row_behind_remove(rows: &[Row], place: u32, index: u32) -> Row
+    requires place { place < length rows.now }
+    requires index { index + 1 < length rows.now }
+    ensures { slice_get (remove rows.now place) index ≡ Some result }
+{
+    if index < place {
+        rows[index as usize]
+    } else {
+        rows[index as usize + 1]
     }
 }

@@ -1,0 +1,18 @@
+//! The workbench: the timelines that a script has made, and what becomes of each of its lines.
+//!
+//! A line is one event: it is read, tested in a fixed order, and done whole or refused whole. A timeline
+//! keeps its rows with their times and numbers, beside the structure that performs them; the structure
+//! judges each edit before anything is changed.
+//!
+//! - `Bench::line` does what a line asks for and appends the lines that answer it. Its contract is
+//!   `specs/Reaction.antt`.
+#![tactic(auto)]
+
+mod bench;
+mod outcome;
+mod seat;
+#[cfg(test)]
+mod tests;
+mod timeline;
+
+pub use bench::{Bench, MAX_TIMELINES};

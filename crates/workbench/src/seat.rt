@@ -1,0 +1,78 @@
+ghost use Rattle.std.specs.Prelude.{◌≡◌, ◌≤◌, ◌<◌, length, IfSome};
+ghost use Rattle.retro_base.specs.declared.row.TheConstants.{MAX_ROWS};
+ghost use Rattle.retro_base.specs.Places.{place_of_row, place_of_time};
+ghost use Rattle.workbench.specs.Turns.{row_named, seat_before, seat_of};
+
+use retro_base::Row;
+use script_grammar::Spot;
+
+/// Where a row stands: behind so many rows, and at this time.
+#[derive(Clone, Copy, Debug, PartialEq, Eq)]
+pub(crate) struct Seat {
+    pub(crate) place: u32,
+    pub(crate) time: u64,
+}
+
+/// The seat of a spot, where it has one.
+pub(crate) fn seat_of(rows: &[Row], spot: Spot) -> Option<Seat>
+    requires { length rows.now ≤ MAX_ROWS }
+    ensures seat { result ≡ seat_of spot rows.now }
+    ensures within { IfSome result (λ seat. seat.place ≤ length rows.now) }
+{
+    match spot {
+        Spot::At { time } => Some(Seat {
+            place: place_of_time(rows, time),
+            time,
+        }),
+        Spot::Before { number } => seat_before(rows, number),
+        Spot::After { number } => {
+            let seat = seat_before(rows, number)?;
+            Some(Seat {
+                place: seat.place + 1,
+                time: seat.time,
+            })
+        }
+    }
+}
+
+/// The number of the row that a spot names; 0 where it names none.
+pub(crate) fn row_named(spot: Spot) -> u32
+    ensures { result ≡ row_named spot }
+{
+    match spot {
+        Spot::At { .. } => 0,
+        Spot::Before { number } | Spot::After { number } => number,
+    }
+}
+
+/// The place of the row with this number.
+pub(crate) fn place_of_row(rows: &[Row], number: u32) -> Option<u32>
+    requires { length rows.now ≤ MAX_ROWS }
+    ensures place { result ≡ place_of_row number rows.now }
+    ensures within { IfSome result (λ place. place < length rows.now) }
+{
+    let place = rows.iter().position(|row| row.number == number)?;
+    Some(place as u32)
+}
+
+/// The place behind all rows up to this time.
+fn place_of_time(rows: &[Row], time: u64) -> u32
+    requires { length rows.now ≤ MAX_ROWS }
+    ensures place { result ≡ place_of_time time rows.now }
+    ensures within { result ≤ length rows.now }
+{
+    rows.iter().filter(|row| row.time <= time).count() as u32
+}
+
+/// The seat in front of the row with this number, at that row's time.
+fn seat_before(rows: &[Row], number: u32) -> Option<Seat>
+    requires { length rows.now ≤ MAX_ROWS }
+    ensures seat { result ≡ seat_before number rows.now }
+    ensures within { IfSome result (λ seat. seat.place < length rows.now) }
+{
+    let place = place_of_row(rows, number)?;
+    Some(Seat {
+        place,
+        time: rows[place as usize].time,
+    })
+}
