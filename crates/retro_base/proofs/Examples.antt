@@ -1,10 +1,9 @@
 -- The definitions, computed on small histories whose answers were worked out by hand.
-use Rattle.std.proofs.Common.{◌≡◌, ℕ, ℤ, pos, negsuc, List, [], ◌∷◌, refl, Option, Some, None}
-use Rattle.std.specs.List.{insert}
+use Rattle.std.proofs.Common.{◌≡◌, ℕ, ℤ, pos, negsuc, List, [], ◌∷◌, refl, Some, None}
 use Rattle.retro_base.specs.declared.kind.Kind.TheVariants.{Queue, Stack, Deque, Dict, Pq}
 use Rattle.retro_base.specs.declared.op.Op.{Op}
 use Rattle.retro_base.specs.declared.op.Op.TheVariants.{Enq, Deq, Push, Pop, PushL, PushR, PopR, Put, Del, Ins, DelMin}
-use Rattle.retro_base.specs.declared.question.Question.TheVariants.{Size, Front, Nth, Get, Succ, Pred, Count, Sum, Min}
+use Rattle.retro_base.specs.declared.question.Question.TheVariants.{Front, Nth, Succ, Pred, Count, Sum, Min}
 use Rattle.retro_base.specs.declared.question.Answer.TheVariants.{Number, Nothing}
 use Rattle.retro_base.specs.declared.question.Answer.TheVariants as answers
 use Rattle.retro_base.specs.declared.row.Entry.{Entry}

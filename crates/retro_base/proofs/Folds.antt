@@ -47,7 +47,7 @@ one_later-err (Err j) i e = (j, refl, err_same _ e refl)
 module _ {S : Type 0} (next_of : Row → S → Option S) where
   -- the first row comes first
   pub fold_rows-cons : (row : Row) (rows : List Row) (s : S)
-    → fold_rows next_of (row ∷ rows) s ≡ option_map_or (λ next. one_later (fold_rows next_of rows next)) (next_of row s) (Err 0)
+      → fold_rows next_of (row ∷ rows) s ≡ option_map_or (λ next. one_later (fold_rows next_of rows next)) (next_of row s) (Err 0)
   unfolding fold_rows
   fold_rows-cons row rows s = refl
 
@@ -56,7 +56,7 @@ module _ {S : Type 0} (next_of : Row → S → Option S) where
   fold_rows-nil s = refl
 
   pub fold_rows-some : (row : Row) (rows : List Row) (s next : S) → next_of row s ≡ Some next
-    → fold_rows next_of (row ∷ rows) s ≡ one_later (fold_rows next_of rows next)
+      → fold_rows next_of (row ∷ rows) s ≡ one_later (fold_rows next_of rows next)
   unfolding fold_rows
   fold_rows-some row rows s next e = rw e refl
 
@@ -66,43 +66,43 @@ module _ {S : Type 0} (next_of : Row → S → Option S) where
 
   -- one more turn of a loop that has come to place i
   pub fold_rows-drop : (rows : List Row) (i : ℕ) (row : Row) (s : S) → i < length rows → row ≡ get_or rows i row
-    → fold_rows next_of (drop i rows) s ≡ option_map_or (λ next. one_later (fold_rows next_of (drop (i + 1) rows) next)) (next_of row s) (Err 0)
+      → fold_rows next_of (drop i rows) s ≡ option_map_or (λ next. one_later (fold_rows next_of (drop (i + 1) rows) next)) (next_of row s) (Err 0)
   fold_rows-drop rows i row s within at = rw (drop-cons rows i row, ← at, fold_rows-cons, add-one) refl
 
   pub fold_rows-drop_some : (rows : List Row) (i : ℕ) (row : Row) (s t : S) → i < length rows → row ≡ get_or rows i row
-    → next_of row s ≡ Some t → fold_rows next_of (drop i rows) s ≡ one_later (fold_rows next_of (drop (i + 1) rows) t)
+      → next_of row s ≡ Some t → fold_rows next_of (drop i rows) s ≡ one_later (fold_rows next_of (drop (i + 1) rows) t)
   fold_rows-drop_some rows i row s t within at goes = fold_rows-drop rows i row s within at ∙ rw goes refl
 
   pub fold_rows-drop_none : (rows : List Row) (i : ℕ) (row : Row) (s : S) → i < length rows → row ≡ get_or rows i row
-    → next_of row s ≡ None → fold_rows next_of (drop i rows) s ≡ Err 0
+      → next_of row s ≡ None → fold_rows next_of (drop i rows) s ≡ Err 0
   fold_rows-drop_none rows i row s within at stops = fold_rows-drop rows i row s within at ∙ rw stops refl
 
   -- rows in two parts: the second goes on where the first ends
   append_some : (row : Row) (rows b : List Row) (s u t : S) → next_of row s ≡ Some u
-    → (fold_rows next_of rows u ≡ Ok t → fold_rows next_of (rows ++ b) u ≡ later (length rows) (fold_rows next_of b t))
-    → fold_rows next_of (row ∷ rows) s ≡ Ok t
-    → fold_rows next_of (row ∷ (rows ++ b)) s ≡ later (suc (length rows)) (fold_rows next_of b t)
+      → (fold_rows next_of rows u ≡ Ok t → fold_rows next_of (rows ++ b) u ≡ later (length rows) (fold_rows next_of b t))
+      → fold_rows next_of (row ∷ rows) s ≡ Ok t
+      → fold_rows next_of (row ∷ (rows ++ b)) s ≡ later (suc (length rows)) (fold_rows next_of b t)
   append_some row rows b s u t goes rest e =
       fold_rows-some row (rows ++ b) s u goes
       ∙ ap one_later (rest (one_later-ok _ t (sym (fold_rows-some row rows s u goes) ∙ e)))
       ∙ one_later-later (length rows) (fold_rows next_of b t)
 
   append_by : (row : Row) (rows b : List Row) (s t : S) (o : Option S) → next_of row s ≡ o
-    → ((u : S) → fold_rows next_of rows u ≡ Ok t → fold_rows next_of (rows ++ b) u ≡ later (length rows) (fold_rows next_of b t))
-    → fold_rows next_of (row ∷ rows) s ≡ Ok t
-    → fold_rows next_of (row ∷ (rows ++ b)) s ≡ later (suc (length rows)) (fold_rows next_of b t)
+      → ((u : S) → fold_rows next_of rows u ≡ Ok t → fold_rows next_of (rows ++ b) u ≡ later (length rows) (fold_rows next_of b t))
+      → fold_rows next_of (row ∷ rows) s ≡ Ok t
+      → fold_rows next_of (row ∷ (rows ++ b)) s ≡ later (suc (length rows)) (fold_rows next_of b t)
   append_by row rows b s t None stops rest e = absurd (not_both _ (fold_rows-none row rows s stops) e)
   append_by row rows b s t (Some u) goes rest e = append_some row rows b s u t goes (rest u) e
 
   pub fold_rows-append : (a b : List Row) (s t : S) → fold_rows next_of a s ≡ Ok t
-    → fold_rows next_of (a ++ b) s ≡ later (length a) (fold_rows next_of b t)
+      → fold_rows next_of (a ++ b) s ≡ later (length a) (fold_rows next_of b t)
   fold_rows-append [] b s t e = rw (later-zero, ok_same _ (fold_rows-nil s) e) refl
   fold_rows-append (row ∷ rows) b s t e =
       append_by row rows b s t (next_of row s) refl (λ u h. fold_rows-append rows b u t h) e
 
   append_err_by : (row : Row) (rows b : List Row) (s : S) (i : ℕ) (o : Option S) → next_of row s ≡ o
-    → ((u : S) (j : ℕ) → fold_rows next_of rows u ≡ Err j → fold_rows next_of (rows ++ b) u ≡ Err j)
-    → fold_rows next_of (row ∷ rows) s ≡ Err i → fold_rows next_of (row ∷ (rows ++ b)) s ≡ Err i
+      → ((u : S) (j : ℕ) → fold_rows next_of rows u ≡ Err j → fold_rows next_of (rows ++ b) u ≡ Err j)
+      → fold_rows next_of (row ∷ rows) s ≡ Err i → fold_rows next_of (row ∷ (rows ++ b)) s ≡ Err i
   append_err_by row rows b s i None stops rest e = fold_rows-none row (rows ++ b) s stops ∙ sym (fold_rows-none row rows s stops) ∙ e
   append_err_by row rows b s i (Some u) goes rest e =
       let fails = one_later-err _ i (sym (fold_rows-some row rows s u goes) ∙ e) in
@@ -110,18 +110,18 @@ module _ {S : Type 0} (next_of : Row → S → Option S) where
 
   -- where the first part fails, so do both together
   pub fold_rows-append_err : (a b : List Row) (s : S) (i : ℕ) → fold_rows next_of a s ≡ Err i
-    → fold_rows next_of (a ++ b) s ≡ Err i
+      → fold_rows next_of (a ++ b) s ≡ Err i
   fold_rows-append_err [] b s i e = absurd (not_both _ e (fold_rows-nil s))
   fold_rows-append_err (row ∷ rows) b s i e =
       append_err_by row rows b s i (next_of row s) refl (λ u j h. fold_rows-append_err rows b u j h) e
 
   -- rows that can all be performed can be performed up to any place
   pub fold_rows-front : (a b : List Row) (s t : S) → fold_rows next_of (a ++ b) s ≡ Ok t
-    → (u : S) × (fold_rows next_of a s ≡ Ok u)
+      → (u : S) × (fold_rows next_of a s ≡ Ok u)
   fold_rows-front a b s t e =
       elim (fold_rows next_of a s) as (λ r. fold_rows next_of a s ≡ r → (u : S) × (fold_rows next_of a s ≡ Ok u)) [
-        Ok u ↦ λ h. (u, h)
-      | Err i ↦ λ h. absurd (not_both _ (fold_rows-append_err a b s i h) e)
+        | Ok u ↦ λ h. (u, h)
+        | Err i ↦ λ h. absurd (not_both _ (fold_rows-append_err a b s i h) e)
       ] refl
 
 -- two steps keep pace: both are impossible, or both go on to related states
@@ -151,8 +151,8 @@ same_failure R (Err i) (Ok t) h = absurd h
 module _ {S T : Type 0} (R : S → T → Type 0) (P : Row → Type 0) (f : Row → S → Option S) (g : Row → T → Option T)
     (pace : (row : Row) (s : S) (t : T) → P row → R s t → BothOrNeither R (f row s) (g row t)) where
   agree_by : (row : Row) (rows : List Row) (s : S) (t : T) (o : Option S) (p : Option T) → f row s ≡ o → g row t ≡ p
-    → BothOrNeither R o p → ((u : S) (v : T) → R u v → Agree R (fold_rows f rows u) (fold_rows g rows v))
-    → Agree R (fold_rows f (row ∷ rows) s) (fold_rows g (row ∷ rows) t)
+      → BothOrNeither R o p → ((u : S) (v : T) → R u v → Agree R (fold_rows f rows u) (fold_rows g rows v))
+      → Agree R (fold_rows f (row ∷ rows) s) (fold_rows g (row ∷ rows) t)
   agree_by row rows s t None None e h both rest = rw (fold_rows-none f row rows s e, fold_rows-none g row rows t h) refl
   agree_by row rows s t (Some u) (Some v) e h both rest =
       rw (fold_rows-some f row rows s u e, fold_rows-some g row rows t v h) (agree_later R _ _ (rest u v both))
@@ -178,12 +178,12 @@ module _ {S : Type 0} {next_of : Row → S → Option S} {rows : List Row} where
   comes_to_start s = record { is = rw later-zero refl }
 
   pub comes_to_next : {r : Result S ℕ} {i : ℕ} {s t : S} (d : Row) → ComesTo next_of rows r i s → i < length rows
-    → next_of (get_or rows i d) s ≡ Some t → ComesTo next_of rows r (i + 1) t
+      → next_of (get_or rows i d) s ≡ Some t → ComesTo next_of rows r (i + 1) t
   comes_to_next {r} {i} {s} {t} d here within goes =
       record { is = here.is ∙ ap (later i) (fold_rows-drop_some next_of rows i _ s t within (get_or_default rows i d _ within) goes) ∙ later-suc i _ }
 
   pub comes_to_failure : {r : Result S ℕ} {i : ℕ} {s : S} (d : Row) → ComesTo next_of rows r i s → i < length rows
-    → next_of (get_or rows i d) s ≡ None → r ≡ Err i
+      → next_of (get_or rows i d) s ≡ None → r ≡ Err i
   comes_to_failure {r} {i} {s} d here within stops =
       here.is ∙ ap (later i) (fold_rows-drop_none next_of rows i _ s within (get_or_default rows i d _ within) stops) ∙ ap (λ j. Err j) (omega arith)
 
@@ -192,12 +192,12 @@ module _ {S : Type 0} {next_of : Row → S → Option S} {rows : List Row} where
 
   -- where all rows can be performed, so can the next one
   pub comes_to_possible : {r : Result S ℕ} {i : ℕ} {s : S} (d : Row) → ComesTo next_of rows r i s → i < length rows
-    → result_err r ≡ None → IsSome (next_of (get_or rows i d) s)
+      → result_err r ≡ None → IsSome (next_of (get_or rows i d) s)
   comes_to_possible {r} {i} {s} d here within valid =
       elim (next_of (get_or rows i d) s) as (λ o. next_of (get_or rows i d) s ≡ o → IsSome o) [
-        None ↦ λ stops. let fails = comes_to_failure d here within stops in
+        | None ↦ λ stops. let fails = comes_to_failure d here within stops in
             let wrong : Some i ≡ None = ap result_err (sym fails) ∙ valid in absurd (cc)
-      | Some t ↦ λ goes. refl
+        | Some t ↦ λ goes. refl
       ] refl
 
 -- A row put in between: the outcome is that of the rows before it, of the row, or of the rows behind it.
@@ -206,13 +206,13 @@ module _ {S : Type 0} (next_of : Row → S → Option S) (before behind : List R
   between_err i e = fold_rows-append_err next_of before (row ∷ behind) s i e
 
   pub between_stops : (t : S) → fold_rows next_of before s ≡ Ok t → next_of row t ≡ None
-    → fold_rows next_of (before ++ row ∷ behind) s ≡ Err (length before)
+      → fold_rows next_of (before ++ row ∷ behind) s ≡ Err (length before)
   between_stops t e stops =
       fold_rows-append next_of before (row ∷ behind) s t e
       ∙ ap (later (length before)) (fold_rows-none next_of row behind t stops) ∙ ap (λ j. Err j) (omega arith)
 
   pub between_goes : (t u : S) → fold_rows next_of before s ≡ Ok t → next_of row t ≡ Some u
-    → fold_rows next_of (before ++ row ∷ behind) s ≡ later (length before + 1) (fold_rows next_of behind u)
+      → fold_rows next_of (before ++ row ∷ behind) s ≡ later (length before + 1) (fold_rows next_of behind u)
   between_goes t u e goes =
       fold_rows-append next_of before (row ∷ behind) s t e
       ∙ ap (later (length before)) (fold_rows-some next_of row behind t u goes) ∙ later-suc (length before) _
@@ -225,9 +225,9 @@ pub err_within : {S : Type 0} (next_of : Row → S → Option S) (rows : List Ro
 err_within next_of [] s i e = absurd (not_both _ e (fold_rows-nil next_of s))
 err_within next_of (row ∷ rows) s i e =
     elim (next_of row s) as (λ o. next_of row s ≡ o → i < suc (length rows)) [
-      None ↦ λ stops. let at_once = err_same _ e (fold_rows-none next_of row rows s stops) in omega (arith, at_once)
-    | Some u ↦ λ goes. err_within_by (fold_rows next_of rows u) (length rows) i (λ j h. err_within next_of rows u j h)
-        (sym (fold_rows-some next_of row rows s u goes) ∙ e)
+      | None ↦ λ stops. let at_once = err_same _ e (fold_rows-none next_of row rows s stops) in omega (arith, at_once)
+      | Some u ↦ λ goes. err_within_by (fold_rows next_of rows u) (length rows) i (λ j h. err_within next_of rows u j h)
+          (sym (fold_rows-some next_of row rows s u goes) ∙ e)
     ] refl
 
 -- One more row at the end.
@@ -238,6 +238,25 @@ module _ {S : Type 0} (next_of : Row → S → Option S) (rows : List Row) (row 
   pub last_possible : fold_rows next_of rows s ≡ Ok t → result_err (fold_rows next_of (rows ++ row ∷ []) s) ≡ None → IsSome (next_of row t)
   last_possible e valid =
       elim (next_of row t) as (λ o. next_of row t ≡ o → IsSome o) [
-        None ↦ λ stops. let wrong : Some (length rows) ≡ None = sym (ap result_err (between_stops next_of rows [] row s t e stops)) ∙ valid in absurd (cc)
-      | Some u ↦ λ goes. refl
+        | None ↦ λ stops. let wrong : Some (length rows) ≡ None = sym (ap result_err (between_stops next_of rows [] row s t e stops)) ∙ valid in absurd (cc)
+        | Some u ↦ λ goes. refl
       ] refl
+
+-- Rows in two parts, where all can be performed.
+module _ {S : Type 0} (next_of : Row → S → Option S) (a b : List Row) (s : S) where
+  pub front_possible : result_err (fold_rows next_of (a ++ b) s) ≡ None → result_err (fold_rows next_of a s) ≡ None
+  front_possible valid =
+      elim (fold_rows next_of a s) as (λ r. fold_rows next_of a s ≡ r → result_err r ≡ None) [
+        | Ok t ↦ λ e. refl
+        | Err i ↦ λ e. let wrong : Some i ≡ None = sym (ap result_err (fold_rows-append_err next_of a b s i e)) ∙ valid in absurd (cc)
+      ] refl
+
+  later_possible : (n : ℕ) (r : Result S ℕ) → result_err (later n r) ≡ None → result_err r ≡ None
+  later_possible n (Ok t) e = refl
+  later_possible n (Err i) e = absurd (cc)
+
+  pub behind_possible : (t : S) → fold_rows next_of a s ≡ Ok t → result_err (fold_rows next_of (a ++ b) s) ≡ None → result_err (fold_rows next_of b t) ≡ None
+  behind_possible t e valid = later_possible (length a) _ (sym (ap result_err (fold_rows-append next_of a b s t e)) ∙ valid)
+
+  pub both_parts : (t u : S) → fold_rows next_of a s ≡ Ok t → fold_rows next_of b t ≡ Ok u → fold_rows next_of (a ++ b) s ≡ Ok u
+  both_parts t u e f = fold_rows-append next_of a b s t e ∙ ap (later (length a)) f

@@ -1,13 +1,20 @@
--- A history stays one when a row is put in that leaves it valid.
-use Rattle.std.proofs.Common.{◌≡◌, ◌≢◌, ℕ, zero, suc, ◌+◌, ◌<◌, ◌≤◌, List, [], ◌∷◌, ◌++◌, length, take, drop, refl, sym, ap, ◌∙◌, arith, lit≤}
-use Rattle.std.specs.List.{insert, AllByRecursion}
+-- A history stays one when a row is put in or taken out that leaves it valid.
+use Rattle.std.proofs.Common.{◌≡◌, ◌≢◌, ℕ, zero, suc, ◌<◌, ◌≤◌, List, [], ◌∷◌, ◌++◌, length, take, drop, refl, sym, ap, ◌∙◌, arith, lit≤}
+use Rattle.std.specs.List.{insert, remove, AllByRecursion}
+use Rattle.std.proofs.lemmas.List.{take-append-drop}
 use Rattle.std.proofs.lemmas.List.Edits.{length-insert, insert_end}
 use Rattle.retro_base.specs.declared.kind.Kind.{Kind}
+use Rattle.retro_base.specs.declared.kind.Kind.TheVariants.{Queue, Stack, Deque, Dict, Pq}
+use Rattle.retro_base.specs.declared.row.Change.TheVariants.{Plain}
 use Rattle.retro_base.specs.declared.row.Row.{Row}
 use Rattle.retro_base.specs.declared.row.TheConstants.{MAX_ROWS}
 use Rattle.retro_base.specs.Kind.{kind_of}
 use Rattle.retro_base.specs.Replay.{fold_rows, IsValid}
+use Rattle.retro_base.specs.State.{step, empty}
+use Rattle.retro_base.specs.Edits.{Edit}
+use Rattle.retro_base.specs.Bridges.{IsChange}
 use Rattle.retro_base.specs.Timeline.{History, IsFresh, HaveOwnNumbers, IsHistory}
+use Rattle.retro_base.proofs.Folds.{front_possible}
 
 -- what holds of all elements and of one more holds of all after it is put in
 pub all_with : {X : Type 0} (P : X → Type 0) (xs : List X) (place : ℕ) (x : X) → AllByRecursion P xs → P x → AllByRecursion P (insert xs place x)
@@ -31,7 +38,7 @@ history_with kind rows place row history room within fresh of_kind valid = recor
   few = omega (arith, length-insert rows place row within);
   of_kind = all_with (λ r. kind_of r.op ≡ kind) rows place row history.of_kind of_kind;
   own_numbers = own_numbers_with rows place row history.own_numbers fresh;
-  valid = valid
+  valid = valid;
 }
 
 -- the same, where the requirements are on a value that is seen as this kind and these rows
@@ -53,3 +60,57 @@ pub history_seen_at_end : (now : History) (kind : Kind) (rows : List Row) (place
 history_seen_at_end now kind rows place row seen history room within fresh of_kind valid end =
     let at_end : insert rows place row ≡ rows ++ row ∷ [] = rw end (insert_end rows row) in
     rw at_end at (history_seen_with now kind rows place row seen history room within fresh of_kind valid)
+
+-- what holds of all elements holds of all that are left, and of those before a place
+pub all_without : {X : Type 0} (P : X → Type 0) (xs : List X) (place : ℕ) → AllByRecursion P xs → AllByRecursion P (remove xs place)
+all_without P [] zero all = tt
+all_without P [] (suc place) all = tt
+all_without P (x ∷ xs) zero all = all.1
+all_without P (x ∷ xs) (suc place) all = (all.0, all_without P xs place all.1)
+
+pub all_before : {X : Type 0} (P : X → Type 0) (xs : List X) (place : ℕ) → AllByRecursion P xs → AllByRecursion P (take place xs)
+all_before P [] zero all = tt
+all_before P [] (suc place) all = tt
+all_before P (x ∷ xs) zero all = tt
+all_before P (x ∷ xs) (suc place) all = (all.0, all_before P xs place all.1)
+
+own_numbers_without : (rows : List Row) (place : ℕ) → HaveOwnNumbers rows → HaveOwnNumbers (remove rows place)
+own_numbers_without [] zero own = tt
+own_numbers_without [] (suc place) own = tt
+own_numbers_without (row ∷ rows) zero own = own.1
+own_numbers_without (row ∷ rows) (suc place) own = (all_without (λ r. r.number ≢ row.number) rows place own.0, own_numbers_without rows place own.1)
+
+length_without : {X : Type 0} (xs : List X) (place : ℕ) → length (remove xs place) ≤ length xs
+length_without [] zero = omega arith
+length_without [] (suc place) = omega arith
+length_without (x ∷ xs) zero = omega arith
+length_without (x ∷ xs) (suc place) = omega (arith, length_without xs place)
+
+-- a history stays one when a row is taken out that leaves it valid
+pub history_without : (kind : Kind) (rows : List Row) (place : ℕ) → IsHistory kind rows → IsValid kind (remove rows place) → IsHistory kind (remove rows place)
+history_without kind rows place history valid = record {
+  few = omega (arith, length_without rows place, history.few);
+  of_kind = all_without (λ r. kind_of r.op ≡ kind) rows place history.of_kind;
+  own_numbers = own_numbers_without rows place history.own_numbers;
+  valid = valid;
+}
+
+pub history_seen_without : (now : History) (kind : Kind) (rows : List Row) (place : ℕ)
+    → ◌≡◌ {A = History} (record { kind = kind; rows = rows }) now → IsHistory kind rows
+    → IsValid now.kind (remove now.rows place) → IsHistory kind (remove rows place)
+history_seen_without now kind rows place seen history valid =
+    let same_rows : now.rows ≡ rows = ap (λ (h : History). h.rows) (sym seen) in
+    let same_kind : now.kind ≡ kind = ap (λ (h : History). h.kind) (sym seen) in
+    history_without kind rows place history (rw (same_kind, same_rows) at valid)
+
+-- of the kinds other than the priority queue a change tells nothing
+pub plain_change : (kind : Kind) (rows : List Row) (edit : Edit) → kind ≢ Pq → IsChange kind rows edit Plain
+plain_change Queue rows edit served = refl
+plain_change Stack rows edit served = refl
+plain_change Deque rows edit served = refl
+plain_change Dict rows edit served = refl
+plain_change Pq rows edit served = absurd (served refl)
+
+-- rows that replay whole do so up to any place
+pub valid_before : (kind : Kind) (rows : List Row) (place : ℕ) → IsValid kind rows → IsValid kind (take place rows)
+valid_before kind rows place valid = front_possible step (take place rows) (drop place rows) (empty kind) (rw (take-append-drop place rows) valid)

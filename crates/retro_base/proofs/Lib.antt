@@ -1,5 +1,11 @@
 pub mod Padding
 mod Examples
 pub mod Folds
+pub mod CountedSizes
 pub mod CountedLines
+pub mod LineSteps
+pub mod PairSteps
+pub mod SortedPairs
+pub mod CountedKeys
+pub mod Counted
 pub mod Histories

@@ -1,5 +1,5 @@
 -- What is answered to a question about a state, and the whole content of a state.
-use Rattle.std.specs.Prelude.{ℕ, ◌-◌, ℤ, pos, ◌+ℤ◌, ◌&&◌, List, [], ◌∷◌, map, reverse, length, slice_get, int_le}
+use Rattle.std.specs.Prelude.{◌-◌, ℤ, pos, ◌+ℤ◌, ◌&&◌, List, map, reverse, length, slice_get, int_le}
 use Rattle.std.specs.Prelude.{Option, Some, None}
 use Rattle.std.specs.Option.{option_map}
 use Rattle.std.specs.Ordering.{int_eq}
@@ -8,7 +8,7 @@ use Rattle.std.specs.Map.{lookup}
 use Rattle.retro_base.specs.declared.question.Question.{Question}
 use Rattle.retro_base.specs.declared.question.Question.TheVariants.{Size, Front, Back, Top, Left, Right, Min, Nth, Get, Succ, Pred, Count, Sum}
 use Rattle.retro_base.specs.declared.question.Answer.{Answer}
-use Rattle.retro_base.specs.declared.question.Answer.TheVariants.{Number, Nothing} 
+use Rattle.retro_base.specs.declared.question.Answer.TheVariants.{Number, Nothing}
 use Rattle.retro_base.specs.declared.question.Answer.TheVariants as answers
 use Rattle.retro_base.specs.declared.question.Item.{Item}
 use Rattle.retro_base.specs.declared.question.Item.TheVariants as contents

@@ -1,6 +1,6 @@
 -- Edits of a timeline: a row is put in at a place, or the row at a place is taken out.
-use Rattle.std.specs.Prelude.{◌≡◌, ℕ, List, slice_get}
-use Rattle.std.specs.Prelude.{Option, Some, None}
+use Rattle.std.specs.Prelude.{ℕ, List, slice_get}
+use Rattle.std.specs.Prelude.{Option}
 use Rattle.std.specs.Option.{option_and_then}
 use Rattle.std.specs.List.{insert, remove}
 use Rattle.retro_base.specs.declared.kind.Kind.{Kind}

@@ -9,4 +9,5 @@ pub mod Timeline
 pub mod Questions
 pub mod Bridges
 pub mod Counting
+pub mod Content
 pub mod Text

@@ -1,7 +1,6 @@
 -- Where a moment lies in a timeline: a place is a number of rows that stand before it.
 use Rattle.std.specs.Prelude.{ℕ, List, nat_le, ◌==◌}
 use Rattle.std.specs.Prelude.{Option}
-use Rattle.std.specs.List.{position_from}
 use Rattle.std.specs.Prelude.{count_by, position}
 use Rattle.retro_base.specs.declared.row.Row.{Row}
 

@@ -1,7 +1,7 @@
 -- Every answer is that of performing the rows in order, from the first one on: the replay of
 -- Demaine, Iacono and Langerman, "Retroactive Data Structures", section 2.
-use Rattle.std.specs.Prelude.{◌≡◌, ℕ, suc, List, [], ◌∷◌, take, length}
-use Rattle.std.specs.Prelude.{Option, Some, None, Result, Ok, Err}
+use Rattle.std.specs.Prelude.{◌≡◌, ℕ, suc, List, [], ◌∷◌, take}
+use Rattle.std.specs.Prelude.{Option, None, Result, Ok, Err}
 use Rattle.std.specs.Option.{option_map_or}
 use Rattle.std.specs.Result.{result_err, result_unwrap_or}
 use Rattle.retro_base.specs.declared.kind.Kind.{Kind}

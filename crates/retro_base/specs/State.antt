@@ -1,5 +1,5 @@
 -- What a structure holds, and what one operation does to it. The operations are those of the textbooks.
-use Rattle.std.specs.Prelude.{ℕ, ℤ, Bool, ◌&&◌, ◌||◌, List, [], ◌∷◌, ◌++◌, int_lt, nat_lt, take, ◌-◌, length, is_some, if◌then◌else◌}
+use Rattle.std.specs.Prelude.{ℕ, ℤ, Bool, ◌&&◌, ◌||◌, List, [], ◌∷◌, ◌++◌, int_lt, nat_lt, take, length, is_some, if◌then◌else◌}
 use Rattle.std.specs.Option.{option_map}
 use Rattle.std.specs.Ordering.{int_cmp, int_eq}
 use Rattle.std.specs.Prelude.{Option, Some, None}

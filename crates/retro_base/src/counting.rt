@@ -1,11 +1,39 @@
-ghost use Rattle.std.specs.Prelude.{◌≡◌, ◌+◌, ◌^◌, ◌<◌, ◌≤◌, length, IfSome};
-ghost use Rattle.std.specs.List.{insert};
+ghost use Rattle.std.specs.Prelude.{◌≡◌, ◌+◌, ◌^◌, ◌<◌, ◌≤◌, length, slice_get, Some, IfSome};
+ghost use Rattle.std.specs.List.{insert, remove};
 ghost use Rattle.std.specs.Result.{result_err};
 ghost use Rattle.retro_base.specs.declared.row.Row.{Row};
 ghost use Rattle.retro_base.specs.declared.row.TheConstants.{MAX_ROWS};
-ghost use Rattle.retro_base.specs.Counting.{size_behind, counted};
+ghost use Rattle.retro_base.specs.Counting.{size_behind, pair_behind, tally_of, tallied, counted};
 
 use crate::{Op, Row};
+
+/// What is counted along the rows, to find the first one that cannot be performed.
+#[derive(Clone, Copy, Debug)]
+pub(crate) enum Tally {
+    /// The items of a queue, a stack or a deque.
+    Items,
+    /// The pair of this key of a dictionary: 1 where it is there, and else 0.
+    Key { key: i64 },
+}
+
+/// What decides on an edit of a row with this operation.
+fn tally_of(op: Op) -> Tally
+    ensures { result ≡ tally_of op }
+{
+    match op {
+        Op::Put { key, .. } | Op::Del { key } => Tally::Key { key },
+        Op::Enq { .. }
+        | Op::Deq
+        | Op::Push { .. }
+        | Op::Pop
+        | Op::PushL { .. }
+        | Op::PushR { .. }
+        | Op::PopL
+        | Op::PopR
+        | Op::Ins { .. }
+        | Op::DelMin => Tally::Items,
+    }
+}
 
 /// How many items there are behind an operation, where there is one to take.
 fn size_after(op: Op, size: u32) -> Option<u32>
@@ -25,14 +53,36 @@ fn size_after(op: Op, size: u32) -> Option<u32>
     }
 }
 
-/// How many items there are behind these rows, or the index of the first one that finds nothing.
-fn count(rows: &[Row], size: u32) -> Result<u32, u32>
+/// How many pairs of the key there are behind an operation, where there is one to take.
+fn pair_after(key: i64, op: Op, size: u32) -> Option<u32>
+    ensures { result ≡ pair_behind key op size }
+{
+    match op {
+        Op::Put { key: other, .. } if key == other => Some(1),
+        Op::Del { key: other } if key == other => size.checked_sub(1),
+        _ => Some(size),
+    }
+}
+
+/// How many are counted behind an operation, where there is one to take.
+fn after(tally: Tally, op: Op, size: u32) -> Option<u32>
+    requires { size + 1 < 2 ^ 32 }
+    ensures { result ≡ tallied tally op size }
+{
+    match tally {
+        Tally::Items => size_after(op, size),
+        Tally::Key { key } => pair_after(key, op, size),
+    }
+}
+
+/// How many are counted behind these rows, or the index of the first one that finds nothing.
+fn count(tally: Tally, rows: &[Row], size: u32) -> Result<u32, u32>
     requires { size + length rows.now < 2 ^ 32 }
-    ensures { result ≡ counted rows.now size }
+    ensures { result ≡ counted tally rows.now size }
 {
     let mut size = size;
     for (index, row) in rows.iter().enumerate() {
-        size = match size_after(row.op, size) {
+        size = match after(tally, row.op, size) {
             Some(next) => next,
             None => return Err(index as u32),
         };
@@ -41,22 +91,46 @@ fn count(rows: &[Row], size: u32) -> Result<u32, u32>
 }
 
 /// The index of the first row that finds nothing to take, were a row with this operation put in.
-pub(crate) fn first_failure(rows: &[Row], place: usize, op: Op) -> Option<u32>
+pub(crate) fn first_failure_with(rows: &[Row], place: usize, op: Op) -> Option<u32>
     requires within { place ≤ length rows.now }
     requires few { length rows.now ≤ MAX_ROWS }
-    ensures first { (row : Row) → row.op ≡ op → result ≡ result_err (counted (insert rows.now place row) 0) }
+    ensures first { (row : Row)
+        → row.op ≡ op → result ≡ result_err (counted (tally_of op) (insert rows.now place row) 0) }
     ensures index { IfSome result (λ index. index ≤ length rows.now) }
 {
+    let tally = tally_of(op);
     let (before, behind) = rows.split_at(place);
-    let size = match count(before, 0) {
+    let size = match count(tally, before, 0) {
         Ok(size) => size,
         Err(index) => return Some(index),
     };
-    let Some(next) = size_after(op, size) else {
+    let Some(next) = after(tally, op, size) else {
         return Some(place as u32);
     };
-    match count(behind, next) {
+    match count(tally, behind, next) {
         Ok(_) => None,
         Err(index) => Some(place as u32 + 1 + index),
+    }
+}
+
+/// The index of the first row that finds nothing to take, were the row at the place taken out.
+pub(crate) fn first_failure_without(rows: &[Row], place: usize) -> Option<u32>
+    requires within { place < length rows.now }
+    requires few { length rows.now ≤ MAX_ROWS }
+    ensures first { (row : Row)
+        → slice_get rows.now place ≡ Some row
+        → result ≡ result_err (counted (tally_of row.op) (remove rows.now place) 0) }
+    ensures index { IfSome result (λ index. index + 1 < length rows.now) }
+{
+    let tally = tally_of(rows[place].op);
+    let (before, _) = rows.split_at(place);
+    let (_, behind) = rows.split_at(place + 1);
+    let size = match count(tally, before, 0) {
+        Ok(size) => size,
+        Err(index) => return Some(index),
+    };
+    match count(tally, behind, size) {
+        Ok(_) => None,
+        Err(index) => Some(place as u32 + index),
     }
 }

@@ -1,11 +1,15 @@
 //! base
 #![tactic(auto)]
 
+mod content;
 mod counting;
 mod kind;
+mod line;
+mod listing;
 mod memory;
 mod name;
 mod op;
+mod pairs;
 mod plain_list;
 mod question;
 mod retro;
@@ -14,6 +18,7 @@ mod steps;
 mod text;
 
 pub use kind::Kind;
+pub use listing::Listing;
 pub use memory::NoMemory;
 pub use name::Name;
 pub use op::Op;

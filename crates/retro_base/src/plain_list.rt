@@ -1,59 +1,57 @@
-ghost use Rattle.std.specs.Prelude.{◌≡◌, ◌+◌, ◌^◌, ◌<◌, ◌≤◌, [], ◌∷◌, ◌++◌, true, length, slice_get, IfOk, OnOk, OnErr, IsSome};
-ghost use Rattle.std.specs.List.{insert, AllByRecursion};
-ghost use Rattle.retro_base.specs.declared.kind.Kind.TheVariants.{Queue};
-ghost use Rattle.retro_base.specs.Kind.{kind_of};
-ghost use Rattle.retro_base.specs.State.{items, step};
+ghost use Rattle.std.specs.Prelude.{◌≡◌, ◌≢◌, ◌<◌, ◌≤◌, [], ◌∷◌, ◌++◌, length, slice_get, Some, Ok, IfOk, OnOk, OnErr};
+ghost use Rattle.std.specs.List.{insert, remove};
+ghost use Rattle.retro_base.specs.declared.kind.Kind.TheVariants.{Pq};
+ghost use Rattle.retro_base.specs.Content.{state_of};
+ghost use Rattle.retro_base.specs.State.{empty};
 ghost use Rattle.retro_base.specs.Replay.{run, IsValid};
-ghost use Rattle.retro_base.specs.Answers.{number_of, answer_of};
-ghost use Rattle.retro_base.specs.Questions.{suits};
 
-use crate::counting::first_failure;
-use crate::{Answer, Change, Kind, NoMemory, Op, Question, Retro, Row};
+use crate::content::Content;
+use crate::counting::{first_failure_with, first_failure_without};
+use crate::{Answer, Change, Kind, Listing, NoMemory, Op, Question, Retro, Row};
 use std::alloc::Global;
-use std::collections::VecDeque;
 use std::marker::Model;
 
-/// Performs one more row of a queue.
-fn perform(queue: &mut VecDeque<i64>, row: Row) -> Result<(), NoMemory>
-    requires of_kind { kind_of row.op ≡ Queue }
-    requires possible { IsSome (step row (items queue.old.items)) }
-    ensures ok { OnOk result (step row (items queue.old.items) ≡ Some (items queue.new.items)) }
-    ensures err { OnErr result (queue.new.items ≡ queue.old.items) }
+/// What a structure of the kind holds behind these rows.
+fn replayed(alloc: Global, kind: Kind, rows: &[Row]) -> Result<Content, NoMemory>
+    requires served { kind ≢ Pq }
+    requires valid { IsValid kind rows.now }
+    ensures { IfOk result (λ content. run rows.now (empty kind) ≡ Ok (state_of content)) }
 {
-    match row.op {
-        Op::Enq { value } => queue.push_back(value)?,
-        Op::Deq => {
-            queue.pop_front();
-        }
-        _ => unreachable!(),
-    }
-    Ok(())
+    let mut content = Content::new(alloc, kind);
+    content.perform_all(rows)?;
+    Ok(content)
 }
 
-/// What a queue holds behind these rows.
-fn replayed(alloc: Global, rows: &[Row]) -> Result<VecDeque<i64>, NoMemory>
-    requires of_kind { AllByRecursion (λ row. kind_of row.op ≡ Queue) rows.now }
-    requires valid { IsValid Queue rows.now }
-    ensures { IfOk result (λ queue. run rows.now (items []) ≡ Ok (items queue.items)) }
+/// What a structure of the kind holds behind these rows, were the row at the place taken out.
+fn replayed_without(
+    alloc: Global,
+    kind: Kind,
+    rows: &[Row],
+    place: usize,
+) -> Result<Content, NoMemory>
+    requires served { kind ≢ Pq }
+    requires within { place < length rows.now }
+    requires valid { IsValid kind (remove rows.now place) }
+    ensures { IfOk result (λ content. run (remove rows.now place) (empty kind) ≡ Ok (state_of content)) }
 {
-    let mut queue = VecDeque::new(alloc);
-    for row in rows {
-        perform(&mut queue, *row)?;
-    }
-    Ok(queue)
+    let mut content = Content::new(alloc, kind);
+    let (before, _) = rows.split_at(place);
+    let (_, behind) = rows.split_at(place + 1);
+    content.perform_all(before)?;
+    content.perform_all(behind)?;
+    Ok(content)
 }
 
 /// Performs one more row at the end. After `NoMemory` all is as before.
-fn append(rows: &mut Vec<Row>, present: &mut VecDeque<i64>, row: Row) -> Result<(), NoMemory>
-    requires of_kind { kind_of row.op ≡ Queue }
-    requires kept { run rows.old.items (items []) ≡ Ok (items present.old.items) }
-    requires valid { IsValid Queue (rows.old.items ++ row ∷ []) }
+fn append(kind: Kind, rows: &mut Vec<Row>, present: &mut Content, row: Row) -> Result<(), NoMemory>
+    requires kept { run rows.old.items (empty kind) ≡ Ok (state_of present.old) }
+    requires valid { IsValid kind (rows.old.items ++ row ∷ []) }
     ensures rows { OnOk result (rows.new.items ≡ rows.old.items ++ row ∷ []) }
-    ensures kept { OnOk result (run (rows.old.items ++ row ∷ []) (items []) ≡ Ok (items present.new.items)) }
-    ensures err { OnErr result ((rows.new.items ≡ rows.old.items) × (present.new.items ≡ present.old.items)) }
+    ensures kept { OnOk result (run (rows.old.items ++ row ∷ []) (empty kind) ≡ Ok (state_of present.new)) }
+    ensures err { OnErr result ((rows.new.items ≡ rows.old.items) × (state_of present.new ≡ state_of present.old)) }
 {
     rows.reserve(1)?;
-    perform(present, row)?;
+    present.perform(row)?;
     rows.push_reserved(row);
     Ok(())
 }
@@ -61,20 +59,21 @@ fn append(rows: &mut Vec<Row>, present: &mut VecDeque<i64>, row: Row) -> Result<
 /// Puts a row in at a place and performs all rows again. After `NoMemory` all is as before.
 fn put_in(
     alloc: Global,
+    kind: Kind,
     rows: &mut Vec<Row>,
-    present: &mut VecDeque<i64>,
+    present: &mut Content,
     place: usize,
     row: Row,
 ) -> Result<(), NoMemory>
+    requires served { kind ≢ Pq }
     requires within { place ≤ length rows.old.items }
-    requires of_kind { AllByRecursion (λ r. kind_of r.op ≡ Queue) (insert rows.old.items place row) }
-    requires valid { IsValid Queue (insert rows.old.items place row) }
+    requires valid { IsValid kind (insert rows.old.items place row) }
     ensures rows { OnOk result (rows.new.items ≡ insert rows.old.items place row) }
-    ensures kept { OnOk result (run (insert rows.old.items place row) (items []) ≡ Ok (items present.new.items)) }
-    ensures err { OnErr result ((rows.new.items ≡ rows.old.items) × (present.new.items ≡ present.old.items)) }
+    ensures kept { OnOk result (run (insert rows.old.items place row) (empty kind) ≡ Ok (state_of present.new)) }
+    ensures err { OnErr result ((rows.new.items ≡ rows.old.items) × (present.new ≡ present.old)) }
 {
     rows.insert(place, row)?;
-    match replayed(alloc, rows.as_slice()) {
+    match replayed(alloc, kind, rows.as_slice()) {
         Ok(state) => {
             *present = state;
             Ok(())
@@ -86,67 +85,55 @@ fn put_in(
     }
 }
 
-/// The answer that is the item at this index, where there is one.
-fn item_at(queue: &VecDeque<i64>, index: usize) -> Answer
-    ensures { result ≡ number_of (slice_get queue.now.items index) }
+/// Takes the row at a place out, having performed all others again. After `NoMemory` all is as before.
+fn take_out(
+    alloc: Global,
+    kind: Kind,
+    rows: &mut Vec<Row>,
+    present: &mut Content,
+    place: usize,
+) -> Result<Row, NoMemory>
+    requires served { kind ≢ Pq }
+    requires within { place < length rows.old.items }
+    requires valid { IsValid kind (remove rows.old.items place) }
+    ensures row { IfOk result (λ row. slice_get rows.old.items place ≡ Some row) }
+    ensures rows { OnOk result (rows.new.items ≡ remove rows.old.items place) }
+    ensures kept { OnOk result (run (remove rows.old.items place) (empty kind) ≡ Ok (state_of present.new)) }
+    ensures err { OnErr result ((rows.new.items ≡ rows.old.items) × (present.new ≡ present.old)) }
 {
-    match queue.get(index) {
-        Some(value) => Answer::Number {
-            value: i128::from(*value),
-        },
-        None => Answer::Nothing,
-    }
-}
-
-/// The answer of a queue that holds these items.
-fn answer(queue: &VecDeque<i64>, question: Question) -> Answer
-    requires { suits question Queue ≡ true }
-    ensures { result ≡ answer_of (items queue.now.items) question }
-{
-    match question {
-        Question::Size => Answer::Number {
-            value: queue.len() as i128,
-        },
-        Question::Front => item_at(queue, 0),
-        Question::Back => item_at(queue, queue.len().saturating_sub(1)),
-        Question::Nth { index } => item_at(queue, index as usize),
-        _ => unreachable!(),
-    }
+    *present = replayed_without(alloc, kind, rows.as_slice(), place)?;
+    Ok(rows.remove(place))
 }
 
 /// A list of rows with the present state beside it: the plain program whose contract is the
-/// definition, and with which every faster structure is compared. It serves queues.
+/// definition, and with which every faster structure is compared. It serves every kind but the
+/// priority queue.
 ///
-/// A question about the present looks at the kept state. An edit at the end performs one row, and an
-/// edit of the past performs all rows again.
+/// A question about the present looks at the kept state, and a row that is put in at the end is
+/// performed on it. An edit of the past, and a question about it, perform the rows again.
 #[derive(Drop)]
 pub struct PlainList {
     alloc: Global,
     kind: Kind,
     rows: Vec<Row>,
-    present: VecDeque<i64>,
+    present: Content,
 }
 
 impl Model for PlainList {
-    ghost use Rattle.std.specs.Prelude.{◌≡◌, []};
-    ghost use Rattle.std.specs.Prelude.{Ok};
-    ghost use Rattle.retro_base.specs.declared.kind.Kind.TheVariants.{Queue};
-    ghost use Rattle.retro_base.specs.State.{items};
-    ghost use Rattle.retro_base.specs.Replay.{run};
-    ghost use Rattle.retro_base.specs.Timeline.{History, IsHistory};
+    ghost use Rattle.retro_base.specs.Content.{state_of, IsKept};
+    ghost use Rattle.retro_base.specs.Timeline.{History};
 
     ghost Value = { History };
 
     ghost view = { λ p. record { kind = p.kind; rows = p.rows.items } };
 
-    ghost invariant = { λ p. (p.kind ≡ Queue) × IsHistory Queue p.rows.items
-        × (run p.rows.items (items []) ≡ Ok (items p.present.items)) };
+    ghost invariant = { λ p. IsKept p.kind p.rows.items (state_of p.present) };
 }
 
 impl PlainList {
     /// An empty structure of the kind.
     pub fn new(alloc: Global, kind: Kind) -> PlainList
-        requires { kind ≡ Queue }
+        requires { kind ≢ Pq }
         ensures kind { result.kind ≡ kind }
         ensures rows { result.rows ≡ [] }
     {
@@ -154,7 +141,7 @@ impl PlainList {
             alloc,
             kind,
             rows: Vec::new(alloc),
-            present: VecDeque::new(alloc),
+            present: Content::new(alloc, kind),
         }
     }
 }
@@ -173,16 +160,21 @@ impl Retro for PlainList {
     }
 
     fn failure_after_insert(&self, place: u32, op: Op) -> Option<u32> {
-        first_failure(self.rows.as_slice(), place as usize, op)
+        first_failure_with(self.rows.as_slice(), place as usize, op)
+    }
+
+    fn failure_after_remove(&self, place: u32) -> Option<u32> {
+        first_failure_without(self.rows.as_slice(), place as usize)
     }
 
     fn insert(&mut self, place: u32, row: Row) -> Result<Change, NoMemory> {
         let place = place as usize;
         if place == self.rows.len() {
-            append(&mut self.rows, &mut self.present, row)?;
+            append(self.kind, &mut self.rows, &mut self.present, row)?;
         } else {
             put_in(
                 self.alloc,
+                self.kind,
                 &mut self.rows,
                 &mut self.present,
                 place,
@@ -192,7 +184,38 @@ impl Retro for PlainList {
         Ok(Change::Plain)
     }
 
+    fn remove(&mut self, place: u32) -> Result<(Row, Change), NoMemory> {
+        let row = take_out(
+            self.alloc,
+            self.kind,
+            &mut self.rows,
+            &mut self.present,
+            place as usize,
+        )?;
+        Ok((row, Change::Plain))
+    }
+
     fn ask_now(&self, question: Question) -> Answer {
-        answer(&self.present, question)
+        self.present.answer(question)
+    }
+
+    fn ask(&mut self, place: u32, question: Question) -> Result<Answer, NoMemory> {
+        let place = place as usize;
+        if place == self.rows.len() {
+            return Ok(self.present.answer(question));
+        }
+        let (before, _) = self.rows.as_slice().split_at(place);
+        let state = replayed(self.alloc, self.kind, before)?;
+        Ok(state.answer(question))
+    }
+
+    fn all(&mut self, place: u32) -> Result<Listing, NoMemory> {
+        let place = place as usize;
+        if place == self.rows.len() {
+            return self.present.listing(self.alloc);
+        }
+        let (before, _) = self.rows.as_slice().split_at(place);
+        let state = replayed(self.alloc, self.kind, before)?;
+        state.listing(self.alloc)
     }
 }
