@@ -20,6 +20,7 @@ use Rattle.retro_cli.specs.declared.outcome.Outcome.TheVariants.{Started, Put, T
 use Rattle.retro_cli.specs.declared.outcome.Refusal.{Refusal}
 use Rattle.retro_cli.specs.declared.outcome.Refusal.TheVariants as refusals
 use Rattle.retro_cli.specs.Bench.{Timeline, fresh, timeline_named, with_timeline}
+use Rattle.retro_io.specs.Lines.{is_long}
 use Rattle.script_grammar.specs.declared.command.Command.{Command}
 use Rattle.script_grammar.specs.declared.command.Command.TheVariants.{New, Insert, Ask}
 use Rattle.script_grammar.specs.declared.command.Spot.TheVariants.{At}
@@ -107,10 +108,6 @@ obeys bench (Err errors.Syntax) = answers bench (Refused refusals.Syntax)
 obeys bench (Ok (New name kind)) = starts bench name kind
 obeys bench (Ok (Insert name (At time) op)) = puts_into bench name time op
 obeys bench (Ok (Ask name Now (One question))) = asks bench name question
-
--- a line has more than 4,096 bytes
-abbrev pub is_long : List ℕ → Bool
-is_long line = nat_lt 4096 (length line)
 
 -- the command of a line
 abbrev pub reads : List ℕ → Result Command LineError

@@ -4,7 +4,7 @@ ghost use Rattle.retro_cli.specs.Stop.{StopsAt};
 ghost use Rattle.retro_cli.specs.declared.stop.Stop.TheVariants as stops;
 
 use retro_base::NoMemory;
-use retro_io::{Failed, ReadError, WriteFault};
+use retro_io::{ReadError, WriteFault};
 
 /// Why a run ends before its input does.
 #[derive(Clone, Copy, Debug, PartialEq, Eq)]
@@ -30,14 +30,6 @@ impl From<WriteFault> for Stop {
     ghost from_gives = { λ _ stop. stop ≡ stops.WriteFault };
 
     fn from(_fault: WriteFault) -> Stop {
-        Stop::WriteFault
-    }
-}
-
-impl From<Failed> for Stop {
-    ghost from_gives = { λ _ stop. stop ≡ stops.WriteFault };
-
-    fn from(_failed: Failed) -> Stop {
         Stop::WriteFault
     }
 }

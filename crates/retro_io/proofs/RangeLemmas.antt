@@ -1,7 +1,7 @@
 -- Lemmas on a stretch of a list, `slice_range xs start end`.
-use Rattle.std.proofs.Common.{◌≡◌, ℕ, ◌+◌, ◌-◌, ◌≤◌, ◌<◌, List, [], ◌∷◌, ◌++◌, length, take, drop, sym, ap, ◌∙◌, refl, arith}
+use Rattle.std.proofs.Common.{◌≡◌, ℕ, ◌+◌, ◌-◌, ◌≤◌, List, ◌++◌, length, take, drop, sym, ap, ◌∙◌, arith}
 use Rattle.std.specs.List.{slice_range}
-use Rattle.std.proofs.lemmas.List.{take-take, drop-take, drop-drop, take_at, take-append-drop, length-take-le, length-drop, length-append}
+use Rattle.std.proofs.lemmas.List.{take-take, drop-take, drop-drop, take_at, length-take-le, length-drop}
 
 pub length-range : (xs : List ℕ) (start end : ℕ) → start ≤ end → end ≤ length xs → length (slice_range xs start end) ≡ end - start
 length-range xs start end h k =

@@ -1,7 +1,7 @@
 -- Lemmas on what the reader took from its source.
-use Rattle.std.proofs.Common.{◌≡◌, ℕ, zero, suc, ◌+◌, ◌-◌, ◌≤◌, ◌<◌, ◌⊎◌, Bool, true, false, List, [], ◌∷◌, ◌++◌, Option, None, Some, Result, Ok, Err, length, take, drop, sym, ap, ◌∙◌, refl, subst, inl, inr, arith}
+use Rattle.std.proofs.Common.{◌≡◌, ℕ, ◌+◌, ◌-◌, ◌≤◌, ◌<◌, Bool, true, false, List, [], ◌∷◌, ◌++◌, Option, None, Some, Result, Ok, Err, length, take, drop, sym, ap, ◌∙◌, refl, subst, inl, inr, arith}
 use Rattle.std.proofs.lemmas.Bool.{false≢true}
-use Rattle.std.proofs.lemmas.List.{append_assoc, append-nil, nil_from_length, length-append, length-drop, take-append-drop, take-append-le, take_at, drop_at, drop-append-le}
+use Rattle.std.proofs.lemmas.List.{append_assoc, append-nil, nil_from_length, length-append, length-take, length-drop, take-append-drop}
 use Rattle.retro_io.specs.declared.mark.Mark.{Mark}
 use Rattle.retro_io.specs.declared.mark.Mark.TheVariants.{Whole, Long, End}
 use Rattle.retro_io.specs.declared.mark.ReadError.{ReadError}
@@ -10,10 +10,10 @@ use Rattle.std.specs.Prelude.{IfOk, IsTrue}
 use Rattle.retro_io.specs.Faults.{count_after}
 use Rattle.retro_io.specs.LineReader.{held_and_left}
 use Rattle.retro_io.specs.Lines.{lines, longest, line_feed, has_line_feed, without_return, StartsWith}
-use Rattle.retro_io.specs.Marks.{Shows, GivesNext, GivesNextOf, gives_line}
-use Rattle.retro_io.specs.Reads.{Took, GivesPiece, GivesFirst, IsUnbrokenBeforeLast, MakesOf}
-use Rattle.retro_io.specs.Source.{Gives, GivesCount, bytes_left}
-use Rattle.retro_io.proofs.LineLemmas.{unbroken-append, unbroken-front, unbroken-back, unbroken-take, unbroken-drop, length-without_return, take-without_return, lines-cut, lines-last}
+use Rattle.retro_io.specs.Marks.{Shows, GivesNext, GivesNextOf, Measures, gives_line}
+use Rattle.retro_io.specs.Reads.{Took, GivesPiece, GivesFirst, MakesOf}
+use Rattle.retro_io.specs.Source.{Gives, bytes_left}
+use Rattle.retro_io.proofs.LineLemmas.{unbroken-append, unbroken-back, length-without_return, take-without_return, lines-cut, lines-last}
 
 pub Gives-nil : (left : Option (List ℕ)) → Gives left [] left
 Gives-nil None = refl
@@ -24,15 +24,6 @@ Gives-append None b c xs ys p q = subst (λ o. Gives o ys c) p q
 Gives-append (Some bytes) None c xs ys p q = absurd p
 Gives-append (Some bytes) (Some mid) None xs ys p q = absurd q
 Gives-append (Some bytes) (Some mid) (Some rest) xs ys p q = p ∙ ap (λ l. xs ++ l) q ∙ sym (append_assoc xs ys rest)
-
-pub GivesCount-from : (a b : Option (List ℕ)) (xs : List ℕ) (count : ℕ) → Gives a xs b → length xs ≡ count → GivesCount a count b
-GivesCount-from None b xs count p h = p
-GivesCount-from (Some bytes) None xs count p h = absurd p
-GivesCount-from (Some bytes) (Some rest) xs count p h =
-    (omega (arith, ap length p, length-append xs rest), ap Some (sym (ap (drop count) p ∙ drop_at xs rest count h)))
-
-pub Took-nil : (a : Option (List ℕ)) (P : List ℕ → Type 0) (count : ℕ) → count ≡ 0 → P [] → Took a a count P
-Took-nil a P count none p = record { got = []; gives = Gives-nil a; counts = sym none; holds = p }
 
 -- first some bytes, and then more
 pub Took-then : (a b c : Option (List ℕ)) (P R : List ℕ → Type 0) (first count : ℕ) (ys : List ℕ)
@@ -49,9 +40,6 @@ pub Took-both : (a b c : Option (List ℕ)) (P Q R : List ℕ → Type 0) (first
     → ((xs ys : List ℕ) → P xs → Q ys → R (xs ++ ys)) → Took a c count R
 Took-both a b c P Q R first second count t u sum f =
     Took-then a b c P R first count u.got t u.gives (sum ∙ ap (λ n. first + n) (sym u.counts)) (λ xs p. f xs u.got p u.holds)
-
-pub Took-weaker : (a b : Option (List ℕ)) (P R : List ℕ → Type 0) (count : ℕ) → Took a b count P → ((xs : List ℕ) → P xs → R xs) → Took a b count R
-Took-weaker a b P R count t f = record { got = t.got; gives = t.gives; counts = t.counts; holds = f t.got t.holds }
 
 -- a piece that is given of the bytes is one of the same bytes in other words
 pub GivesFirst-of : (mark : Mark) (shown : List ℕ) (ended : Bool) (xs ys after : List ℕ) → xs ≡ ys
@@ -216,3 +204,17 @@ progress_of_call (Ok Long) shown ended held after a b taken_before taken_after t
     piece_progress Long shown ended held after t.got taken_before taken_after t.holds t.counts rises fits
 progress_of_call (Ok End) shown ended held after a b taken_before taken_after t rises fits = λ no. absurd (false≢true no)
 progress_of_call (Err error) shown ended held after a b taken_before taken_after t rises fits = tt
+
+-- what is shown of a line has the length that its mark says
+pub measures_shown : (mark : Mark) (shown line : List ℕ) → Shows mark shown line → Measures mark shown
+measures_shown Whole shown line shows = omega (arith, ap length shows.0, shows.1)
+measures_shown Long shown line shows = omega (arith, ap length shows.0, length-take longest line, shows.1)
+measures_shown End shown line shows = tt
+
+-- .. and so it has after a call that read
+pub measures_of_call : (r : Result Mark ReadError) (shown : List ℕ) (ended : Bool) (held after : List ℕ) (before left : Option (List ℕ)) (count : ℕ)
+    → Took before left count (MakesOf r shown ended held after) → IfOk r (λ mark. Measures mark shown)
+measures_of_call (Ok Whole) shown ended held after before left count took = measures_shown Whole shown _ took.holds.shows
+measures_of_call (Ok Long) shown ended held after before left count took = measures_shown Long shown _ took.holds.shows
+measures_of_call (Ok End) shown ended held after before left count took = tt
+measures_of_call (Err error) shown ended held after before left count took = tt

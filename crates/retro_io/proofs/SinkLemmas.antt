@@ -1,12 +1,8 @@
 -- Lemmas on what writes append.
-use Rattle.std.proofs.Common.{◌≡◌, ℕ, ◌+◌, ◌≤◌, List, [], ◌∷◌, ◌++◌, Option, None, Some, length, take, drop, refl, sym, ap, ◌∙◌, subst, arith}
-use Rattle.std.proofs.lemmas.List.{take-append-drop, append_assoc, append-nil}
+use Rattle.std.proofs.Common.{ℕ, ◌+◌, ◌≤◌, List, ◌++◌, Option, None, Some, length, take, drop, sym, ap, ◌∙◌, subst}
+use Rattle.std.proofs.lemmas.List.{append_assoc}
 use Rattle.retro_io.specs.Sink.{Appends}
 use Rattle.retro_io.proofs.LineLemmas.{take_sum}
-
-pub Appends-nil : (written : Option (List ℕ)) → Appends written [] written
-Appends-nil None = refl
-Appends-nil (Some bytes) = ap Some (sym (append-nil bytes))
 
 pub Appends-append : (a b c : Option (List ℕ)) (xs ys : List ℕ) → Appends a xs b → Appends b ys c → Appends a (xs ++ ys) c
 Appends-append None b c xs ys p q = subst (λ o. Appends o ys c) p q

@@ -3,6 +3,7 @@ pub mod LineBuffer
 pub mod LineReader
 pub mod Lines
 pub mod Marks
+pub mod Memory
 pub mod Reads
 pub mod Sink
 pub mod Source

@@ -1,5 +1,5 @@
 -- What contracts see of a line reader.
-use Rattle.std.specs.Prelude.{◌≡◌, ℕ, Bool, ◌-◌, List, ◌++◌, length, Option, None, Some}
+use Rattle.std.specs.Prelude.{ℕ, Bool, ◌-◌, List, ◌++◌, length, Option, None, Some}
 use Rattle.std.specs.Borrow.{GName}
 use Rattle.retro_io.specs.declared.line_reader.LineReader.{LineReader}
 use Rattle.retro_io.specs.declared.source.Source.{Ghosts}

@@ -1,8 +1,8 @@
 -- What the reader's answer says of the line that it gives.
-use Rattle.std.specs.Prelude.{◌≡◌, ℕ, Bool, true, false, ◌≤◌, ◌<◌, ◌⊎◌, List, [], ◌∷◌, ◌++◌, length, take, Option, None, Some}
+use Rattle.std.specs.Prelude.{◌≡◌, ℕ, Bool, true, false, ◌≤◌, ◌<◌, List, [], ◌∷◌, length, take, Option, None, Some}
 use Rattle.retro_io.specs.declared.mark.Mark.{Mark}
 use Rattle.retro_io.specs.declared.mark.Mark.TheVariants.{Whole, Long, End}
-use Rattle.retro_io.specs.Lines.{lines, longest, line_feed, has_line_feed, without_return, StartsWith}
+use Rattle.retro_io.specs.Lines.{lines, longest, StartsWith}
 
 -- the answer gives a line
 abbrev pub gives_line : Mark → Bool
@@ -30,3 +30,9 @@ abbrev pub GivesNextOf : Mark → List ℕ → Bool → Option (List ℕ) → Op
 GivesNextOf mark shown ended None after = after ≡ None
 GivesNextOf mark shown ended (Some before) None = ⊥
 GivesNextOf mark shown ended (Some before) (Some after) = GivesNext mark shown ended before after
+
+-- how much is shown of a line under this answer
+abbrev pub Measures : Mark → List ℕ → Type 0
+Measures Whole shown = length shown ≤ longest
+Measures Long shown = length shown ≡ longest
+Measures End shown = Unit {0}

@@ -1,5 +1,5 @@
 -- What a write does to the meanings of a sink.
-use Rattle.std.specs.Prelude.{◌≡◌, ℕ, ◌<◌, List, [], ◌∷◌, ◌++◌, length, Option, None, Some}
+use Rattle.std.specs.Prelude.{◌≡◌, ℕ, ◌<◌, List, ◌++◌, length, Option, None, Some}
 
 -- these bytes were appended, where the sink tells what was written
 abbrev pub Appends : Option (List ℕ) → List ℕ → Option (List ℕ) → Type 0

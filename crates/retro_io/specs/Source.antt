@@ -1,5 +1,5 @@
 -- What a read does to the meanings of a source.
-use Rattle.std.specs.Prelude.{◌≡◌, ℕ, Bool, false, ◌==◌, ◌≤◌, List, [], ◌∷◌, ◌++◌, length, drop, Option, None, Some, Result, Ok, Err}
+use Rattle.std.specs.Prelude.{◌≡◌, ℕ, Bool, ◌==◌, ◌≤◌, List, [], ◌∷◌, ◌++◌, length, drop, Option, None, Some, Result, Ok, Err}
 use Rattle.retro_io.specs.Faults.{count_after}
 
 -- the bytes left, and none where the source does not tell them
@@ -18,15 +18,15 @@ abbrev pub GivesCount : Option (List ℕ) → ℕ → Option (List ℕ) → Type
 GivesCount None count after = after ≡ None
 GivesCount (Some bytes) count after = (count ≤ length bytes) × (after ≡ Some (drop count bytes))
 
--- a read gave no byte
-abbrev pub gave_none : {E : Type 0} → Result ℕ E → Bool
-gave_none (Ok count) = count == 0
-gave_none (Err failed) = false
+-- whether the source answered its end, after a read that gave so many bytes; a read into an empty buffer says nothing
+abbrev pub ended_at : Bool → ℕ → List ℕ → Bool
+ended_at before count [] = before
+ended_at before count (b ∷ bs) = count == 0
 
--- whether the source answered its end, after a read into this buffer; a read into an empty one says nothing
+-- the same of any read; one that fails does not answer the end
 abbrev pub ended_after : {E : Type 0} → Bool → Result ℕ E → List ℕ → Bool
-ended_after before read [] = before
-ended_after before read (b ∷ bs) = gave_none read
+ended_after before (Ok count) buffer = ended_at before count buffer
+ended_after before (Err failed) buffer = ended_at before 1 buffer
 
 -- how many bytes were taken, after a read
 abbrev pub taken_after : {E : Type 0} → ℕ → Result ℕ E → ℕ

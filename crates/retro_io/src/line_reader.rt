@@ -1,7 +1,7 @@
-ghost use Rattle.std.specs.Prelude.{◌≡◌, ℕ, ◌+◌, ◌-◌, ◌^◌, ◌≤◌, ◌<◌, ◌↔◌, [], ◌∷◌, ◌++◌, true, false, length, take, drop, Result, IfOk, IfSome, OnErr, OnOk, IsErrOf, IsTrue, MatchResult, MatchOption, is_err};
+ghost use Rattle.std.specs.Prelude.{◌≡◌, ℕ, ◌+◌, ◌-◌, ◌^◌, ◌≤◌, ◌<◌, ◌↔◌, [], ◌∷◌, ◌++◌, true, false, length, take, drop, Result, Ok, IfOk, IfSome, OnErr, OnOk, IsErrOf, IsTrue, MatchResult, MatchOption, is_err};
 ghost use Rattle.retro_io.specs.Faults.{Rose, count_after};
 ghost use Rattle.retro_io.specs.Lines.{has_line_feed, longest};
-ghost use Rattle.retro_io.specs.Marks.{GivesNextOf, gives_line};
+ghost use Rattle.retro_io.specs.Marks.{GivesNextOf, Measures, gives_line};
 ghost use Rattle.retro_io.specs.Reads.{GivesFirst, MakesOf, Took};
 ghost use Rattle.retro_io.specs.Source.{Gives, GivesCount, bytes_left};
 
@@ -10,7 +10,8 @@ use crate::{Failed, Mark, ReadError, Source};
 use retro_base::NoMemory;
 use std::alloc::Global;
 
-/// Reads the lines of a source, up to a limit of bytes.
+/// Reads the lines of a source, up to a limit of bytes. A contract learns what became of the source where `into_inner`
+/// gives it back, and not where a reader is dropped.
 #[derive(Drop)]
 pub struct LineReader<'a, S: Source> {
     source: &'a mut S,
@@ -100,6 +101,9 @@ impl<'a, S: Source> LineReader<'a, S> {
         ensures failed { has_failed self.new ≡ is_err result }
         ensures taken { taken self.old ≤ taken self.new }
         ensures within { taken self.new ≤ limit_of self.new + 1 }
+        // It reads only where no whole line is held and no read of its own has answered the end.
+        ensures line_held { has_line_feed (held self.old) ≡ true → source_of self.new ≡ source_of self.old }
+        ensures after_end { has_ended self.old ≡ true → (source_of self.new ≡ source_of self.old) × (result ≡ Ok Mark.End) }
         // What became of the source.
         ensures source_taken { S.taken (source_of self.new)
             ≡ count_after (S.taken (source_of self.old)) (taken self.new - taken self.old) }
@@ -107,9 +111,13 @@ impl<'a, S: Source> LineReader<'a, S> {
         ensures source_faults { S.faults (source_of self.old) ≤ S.faults (source_of self.new) }
         // The lines given are those of the bytes.
         ensures lines { IfOk result (λ mark. GivesNextOf mark (line_of self.new) (has_ended self.new) (rest_of self.old) (rest_of self.new)) }
+        ensures shown { IfOk result (λ mark. Measures mark (line_of self.new)) }
         ensures progress { IfOk result (λ mark. IsTrue (gives_line mark) → given self.old < given self.new) }
         ensures at_end { IfOk result (λ mark. mark ≡ Mark.End →
             (held self.new ≡ []) × (has_ended self.new ≡ true) × (S.ended (source_of self.new) ≡ true)) }
+        // It reads only where no whole line is held and no read of its own has answered the end.
+        ensures kept_line { has_line_feed (held self.old) ≡ true → source_of self.new ≡ source_of self.old }
+        ensures kept_end { has_ended self.old ≡ true → (source_of self.new ≡ source_of self.old) × (result ≡ Ok Mark.End) }
         // An error comes only where no whole line was held.
         ensures unbroken { OnErr result (has_line_feed (held self.old) ≡ false) }
         ensures fault { IsErrOf result ReadError.ReadFault → Rose (S.faults (source_of self.old)) (S.faults (source_of self.new)) }
@@ -130,8 +138,8 @@ impl<'a, S: Source> LineReader<'a, S> {
 
     /// Reads until a line feed comes, or the end, or an error.
     fn read_line(&mut self) -> Result<Mark, ReadError>
-        requires failed { self.old.failed ≡ false }
-        requires ended { self.old.ended ≡ false }
+        requires failed { has_failed self.old ≡ false }
+        requires ended { has_ended self.old ≡ false }
         requires unbroken { has_line_feed (held self.old) ≡ false }
         ensures reference { reference_of self.new ≡ reference_of self.old }
         ensures limit { limit_of self.new ≡ limit_of self.old }
@@ -159,8 +167,8 @@ impl<'a, S: Source> LineReader<'a, S> {
 
     /// Reads on, past a line that is long already, until a line feed comes, or the end, or an error.
     fn read_long(&mut self) -> Result<Mark, ReadError>
-        requires failed { self.old.failed ≡ false }
-        requires ended { self.old.ended ≡ false }
+        requires failed { has_failed self.old ≡ false }
+        requires ended { has_ended self.old ≡ false }
         requires unbroken { has_line_feed (held self.old) ≡ false }
         requires long { longest + 1 < length (held self.old) }
         ensures reference { reference_of self.new ≡ reference_of self.old }
@@ -191,7 +199,7 @@ impl<'a, S: Source> LineReader<'a, S> {
 
     /// Gives what is held at the end of the input, if there is anything.
     fn give_last(&mut self) -> Mark
-        requires failed { self.old.failed ≡ false }
+        requires failed { has_failed self.old ≡ false }
         requires unbroken { has_line_feed (held self.old) ≡ false }
         requires at_end { S.ended (source_of self.old) ≡ true }
         requires none_left { bytes_left (S.left (source_of self.old)) ≡ [] }
@@ -212,10 +220,11 @@ impl<'a, S: Source> LineReader<'a, S> {
         }
     }
 
-    /// Reads behind the bytes held: up to the limit, or the one byte that shows that there are more.
+    /// Reads behind the bytes held: up to the limit, or the one byte that shows that there are more. The buffer offers far
+    /// more than 16 bytes behind those that it keeps of a line.
     fn fill(&mut self) -> Result<usize, ReadError>
-        requires failed { self.old.failed ≡ false }
-        requires ended { self.old.ended ≡ false }
+        requires failed { has_failed self.old ≡ false }
+        requires ended { has_ended self.old ≡ false }
         requires room { length (held self.old) < 65536 }
         ensures reference { reference_of self.new ≡ reference_of self.old }
         ensures limit { limit_of self.new ≡ limit_of self.old }

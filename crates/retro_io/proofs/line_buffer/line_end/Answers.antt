@@ -1,5 +1,4 @@
 -- The last byte decides.
-use Rattle.std.proofs.Common.{◌≡◌, ◌-◌, ◌+◌, ap, sym, ◌∙◌, arith}
 use Rattle.retro_io.proofs.LineLemmas.{range-cut, range-kept, range-empty}
 use Rattle.retro_io.proofs.line_buffer.line_end.Goals as goal
 use Rattle.retro_io.proofs.line_buffer.line_end.Goals.{else-start-end-via-then-start-end+else-bytes-end-eq13, else-start-end-via-else-start-end}

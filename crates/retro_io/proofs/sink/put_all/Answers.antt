@@ -1,5 +1,5 @@
 -- A write appends some of the bytes behind those that were appended.
-use Rattle.std.proofs.Common.{◌≡◌, ◌≤◌, ◌<◌, ◌+◌, ◌-◌, length, drop, take, sym, ap, subst, arith}
+use Rattle.std.proofs.Common.{◌≡◌, ◌<◌, ◌-◌, length, drop, take, ap, subst, arith}
 use Rattle.std.proofs.lemmas.List.{take_rest, length-drop}
 use Rattle.retro_io.specs.Sink.{Appends}
 use Rattle.retro_io.proofs.SinkLemmas.{Appends-more}

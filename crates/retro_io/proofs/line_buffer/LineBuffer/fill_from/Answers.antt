@@ -1,5 +1,5 @@
 -- What the read put into the buffer stands behind the bytes held.
-use Rattle.std.proofs.Common.{◌≡◌, ◌≤◌, ◌+◌, ◌-◌, ◌++◌, length, drop, take, ap, sym, ◌∙◌, subst, arith}
+use Rattle.std.proofs.Common.{◌≡◌, ◌+◌, ◌-◌, ◌++◌, length, drop, take, ap, sym, ◌∙◌, subst, arith}
 use Rattle.std.specs.List.{slice_range}
 use Rattle.retro_io.specs.LineBuffer.{Buffered}
 use Rattle.retro_io.specs.Source.{Gives}

@@ -1,9 +1,9 @@
 -- The bytes searched are those held behind the first ones.
-use Rattle.std.proofs.Common.{◌≡◌, ◌≤◌, ◌<◌, ◌+◌, length, drop, ap, ◌∙◌, arith, length-drop}
+use Rattle.std.proofs.Common.{◌≡◌, ◌<◌, ◌+◌, length, drop, ap, ◌∙◌, arith, length-drop}
 use Rattle.std.specs.List.{slice_range}
 use Rattle.retro_io.specs.LineBuffer.{Buffered}
 use Rattle.retro_io.proofs.LineLemmas.{unbroken_all, unbroken_before, splits_at}
-use Rattle.retro_io.proofs.RangeLemmas.{held_behind, held_length}
+use Rattle.retro_io.proofs.RangeLemmas.{held_behind}
 use Rattle.retro_io.proofs.line_buffer.LineBuffer.line_feed_from.Goals as goal
 use Rattle.retro_io.proofs.line_buffer.LineBuffer.line_feed_from.Goals.{After-first_line_feed}
 

@@ -1,9 +1,9 @@
 -- The line given is the first of the lines of the bytes held and of those taken in the call.
-use Rattle.std.proofs.Common.{◌≡◌, ◌≤◌, ◌<◌, ◌+◌, ◌-◌, [], ◌∷◌, ◌++◌, take, sym, ap, ◌∙◌, inl, subst, arith}
+use Rattle.std.proofs.Common.{[], ◌∷◌, ◌++◌, take, sym, ap, ◌∙◌, inl}
 use Rattle.std.proofs.lemmas.List.{append-nil}
 use Rattle.retro_io.specs.Lines.{line_feed}
-use Rattle.retro_io.specs.Reads.{GivesFirst, GivesPiece}
-use Rattle.retro_io.proofs.ReadLemmas.{Gives-nil, GivesFirst-of, GivesFirst-piece, GivesNextOf-from, lines_of_call, progress_of_call}
+use Rattle.retro_io.specs.Reads.{GivesPiece}
+use Rattle.retro_io.proofs.ReadLemmas.{Gives-nil, GivesFirst-of, GivesFirst-piece, GivesNextOf-from, lines_of_call, progress_of_call, measures_shown, measures_of_call}
 use Rattle.retro_io.proofs.line_reader.LineReader.next.Goals as goal
 
 pub returns-in-Some-clause-lines : goal.returns-in-Some-clause-lines
@@ -36,3 +36,11 @@ returns-in-None-clause-progress g c =
     let last = c.read_line.new.self in
     progress_of_call c.read_line.result last.buffer.shown last.ended c.args.self.now.buffer.held last.buffer.held
     _ _ c.args.self.now.taken last.taken c.read_line.ensures.took c.read_line.ensures.taken c.args.self.now.counted
+
+pub returns-in-Some-clause-shown : goal.returns-in-Some-clause-shown
+returns-in-Some-clause-shown g c = measures_shown _ _ _ c.give.ensures.shown
+
+pub returns-in-None-clause-shown : goal.returns-in-None-clause-shown
+returns-in-None-clause-shown g c =
+    let last = c.read_line.new.self in
+    measures_of_call c.read_line.result last.buffer.shown last.ended c.args.self.now.buffer.held last.buffer.held _ _ _ c.read_line.ensures.took

@@ -1,5 +1,5 @@
 -- The bytes held are those held first and all that came since.
-use Rattle.std.proofs.Common.{◌≡◌, ◌≤◌, ◌<◌, ◌+◌, ◌-◌, ℕ, List, [], ◌∷◌, ◌++◌, true, false, Result, Ok, Err, length, take, drop, sym, ap, ◌∙◌, refl, inl, inr, subst, arith}
+use Rattle.std.proofs.Common.{◌≡◌, ◌-◌, ℕ, ◌∷◌, ◌++◌, Result, Ok, Err, length, take, drop, sym, ap, ◌∙◌, inl, subst, arith}
 use Rattle.std.proofs.lemmas.Result.{err_from_is_err_and}
 use Rattle.retro_io.specs.declared.mark.ReadError.{ReadError}
 use Rattle.retro_io.specs.Faults.{count_after}
