@@ -219,3 +219,6 @@ impl Retro for PlainList {
         state.listing(self.alloc)
     }
 }
+
+#[cfg(test)]
+mod tests;
