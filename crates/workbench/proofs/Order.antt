@@ -22,7 +22,8 @@ all_with P (y ∷ ys) (suc place) x all here = (all.0, all_with P ys place x all
 
 -- what holds of all elements holds of all that stay when one is taken out
 pub all_without : {X : Type 0} (P : X → Type 0) (xs : List X) (place : ℕ) → AllByRecursion P xs → AllByRecursion P (remove xs place)
-all_without P [] place all = tt
+all_without P [] zero all = tt
+all_without P [] (suc place) all = tt
 all_without P (x ∷ xs) zero all = all.1
 all_without P (x ∷ xs) (suc place) all = (all.0, all_without P xs place all.1)
 
@@ -39,7 +40,8 @@ times_with (first ∷ rows) (suc place) row never fits =
     (all_with (λ r. first.time ≤ r.time) rows place row never.0 fits.0, times_with rows place row never.1 fits.1)
 
 pub times_without : (rows : List Row) (place : ℕ) → TimesNeverFall rows → TimesNeverFall (remove rows place)
-times_without [] place never = tt
+times_without [] zero never = tt
+times_without [] (suc place) never = tt
 times_without (row ∷ rows) zero never = never.1
 times_without (row ∷ rows) (suc place) never = (all_without (λ r. row.time ≤ r.time) rows place never.0, times_without rows place never.1)
 
@@ -71,16 +73,21 @@ time_fits time (first ∷ rows) never =
           (omega arith, all_weaker (λ r. time < r.time) (λ r. time ≤ r.time) rows (λ r h. omega arith) behind)
     ] refl
 
+first_time : (first row : Row) → Some first ≡ Some row → first.time ≡ row.time
+first_time first row there = let same : first ≡ row = cc in ap (λ (r : Row). r.time) same
+
 -- the time of a row fits in front of it
 pub fits_before : (rows : List Row) (place : ℕ) (row : Row) → TimesNeverFall rows → slice_get rows place ≡ Some row → Fits rows place row.time
 fits_before [] place row never there = absurd (cc)
-fits_before (first ∷ rows) zero row never there = let same : first ≡ row = cc in rw same at (omega arith, never.0)
+fits_before (first ∷ rows) zero row never there =
+    let same_time : first.time ≡ row.time = first_time first row there in (omega (arith, same_time), rw same_time at never.0)
 fits_before (first ∷ rows) (suc place) row never there =
     (all_at (λ r. first.time ≤ r.time) rows place row never.0 there, fits_before rows place row never.1 there)
 
 -- the time of a row fits behind it
 pub fits_after : (rows : List Row) (place : ℕ) (row : Row) → TimesNeverFall rows → slice_get rows place ≡ Some row → Fits rows (suc place) row.time
 fits_after [] place row never there = absurd (cc)
-fits_after (first ∷ rows) zero row never there = let same : first ≡ row = cc in rw same at (omega arith, never.0)
+fits_after (first ∷ rows) zero row never there =
+    let same_time : first.time ≡ row.time = first_time first row there in (omega (arith, same_time), rw same_time at never.0)
 fits_after (first ∷ rows) (suc place) row never there =
     (all_at (λ r. first.time ≤ r.time) rows place row never.0 there, fits_after rows place row never.1 there)

@@ -2,7 +2,7 @@ ghost use Rattle.std.specs.Prelude.{◌≡◌, ◌≢◌, ◌+◌, ◌<◌, ◌�
 ghost use Rattle.std.specs.List.{insert, remove};
 ghost use Rattle.retro_base.specs.declared.kind.Kind.TheVariants.{Pq};
 ghost use Rattle.retro_base.specs.declared.row.TheConstants.{MAX_ROWS};
-ghost use Rattle.retro_base.specs.Kind.{kind_of};
+ghost use Rattle.retro_base.specs.Kind.{kind_of, same_kind};
 ghost use Rattle.retro_base.specs.Answers.{content};
 ghost use Rattle.retro_base.specs.Questions.{suits};
 ghost use Rattle.retro_base.specs.Replay.{state_at};
@@ -71,13 +71,20 @@ impl Timeline {
         ensures ok { IfOk result (λ outcome. puts self.old spot op ≡ record { timeline = self.new; outcome = outcome }) }
         ensures err { OnErr result (self.new ≡ self.old) }
     {
-        if op.kind() != self.structure.kind() {
+        if !self.takes(op) {
             return Ok(Outcome::refused(Refusal::Kind));
         }
         match seat_of(self.rows.as_slice(), spot) {
             Some(seat) => self.put_at(seat, op),
             None => Ok(no_row(row_named(spot))),
         }
+    }
+
+    /// Whether the operation is of the timeline's kind.
+    fn takes(&self, op: Op) -> bool
+        ensures { result ≡ same_kind (kind_of op) self.now.kind }
+    {
+        op.kind() == self.structure.kind()
     }
 
     /// Puts a row in at a seat, where there is room and the edited rows replay whole.

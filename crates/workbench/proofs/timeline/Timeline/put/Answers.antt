@@ -1,11 +1,16 @@
-use Rattle.std.proofs.Common.{◌≡◌, sym, refl, ap, ◌∙◌, true, false}
+use Rattle.std.proofs.Common.{◌≡◌, Some, None, true, false, sym, ◌∙◌}
+use Rattle.retro_base.specs.Kind.{kind_of, same_kind}
+use Rattle.workbench.specs.Turns.{seat_of}
+use Rattle.workbench.proofs.Turns.{puts_other_kind, puts_there, puts_nowhere, seat_fits}
 use Rattle.workbench.proofs.timeline.Timeline.put.Goals as goal
 
-pub returns-then-ne-clause-ok : goal.returns-then-ne-clause-ok
-returns-then-ne-clause-ok c = ?
+pub returns-then-not-takes-clause-ok : goal.returns-then-not-takes-clause-ok
+returns-then-not-takes-clause-ok c = ?
 
 pub put_at-requires-clause-fits : goal.put_at-requires-clause-fits
-put_at-requires-clause-fits c = ?
+put_at-requires-clause-fits c = 
+    let there : seat_of c.args.spot c.self.inside.rows.items ≡ Some c.in-Some.seat = rw c.as_slice.ensures.value at (sym c.seat_of.ensures.seat ∙ c.in-Some.is) in
+    rw (← c.self.view_is) (seat_fits c.args.spot c.self.inside.rows.items c.in-Some.seat c.self.invariant.1.in_order there)
 
 pub returns-in-Some-clause-ok : goal.returns-in-Some-clause-ok
 returns-in-Some-clause-ok c = ?
