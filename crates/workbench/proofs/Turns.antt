@@ -1,5 +1,5 @@
 -- What a timeline makes of an edit and of a question, case by case.
-use Rattle.std.proofs.Common.{◌≡◌, ℕ, zero, suc, ◌+◌, ◌<◌, ◌≤◌, true, false, List, [], ◌∷◌, length, slice_get, take, refl, sym, ◌∙◌, ap, arith, Option, Some, None}
+use Rattle.std.proofs.Common.{◌≡◌, ℕ, zero, suc, ◌+◌, ◌<◌, ◌≤◌, true, false, List, [], ◌∷◌, length, slice_get, take, refl, sym, ◌∙◌, ap, subst, arith, Option, Some, None}
 use Rattle.std.specs.Prelude.{option_map, option_and_then}
 use Rattle.std.specs.List.{insert, remove}
 use Rattle.retro_base.specs.declared.kind.Kind.{Kind}
@@ -96,14 +96,14 @@ record InFrontOf (rows : List Row) (seat : Seat) : Type 0 where
   there : slice_get rows seat.place ≡ Some row
   same_time : row.time ≡ seat.time
 
-seat_at : ℕ → Row → Seat
+abbrev seat_at : ℕ → Row → Seat
 seat_at place row = record { place = place; time = row.time }
 
 found_in_front : (rows : List Row) (place : ℕ) (found : Option Row) (seat : Seat) → slice_get rows place ≡ found
     → option_map (seat_at place) found ≡ Some seat → InFrontOf rows seat
 found_in_front rows place None seat at is = absurd (cc)
 found_in_front rows place (Some row) seat at is =
-    let same : ◌≡◌ {A = Seat} (record { place = place; time = row.time }) seat = cc in
+    let same : seat_at place row ≡ seat = cc in
     record { row = row; there = ap (λ (s : Seat). slice_get rows s.place) (sym same) ∙ at; same_time = ap (λ (s : Seat). s.time) same }
 
 in_front : (rows : List Row) (found : Option ℕ) (seat : Seat) → option_and_then (λ place. option_map (seat_at place) (slice_get rows place)) found ≡ Some seat
@@ -121,13 +121,13 @@ seat_after_fits rows (Some s) seat never front is =
     let same : next_seat s ≡ seat = cc in
     let here = front s refl in
     let fits : Fits rows (next_seat s).place (next_seat s).time = rw here.same_time at (fits_after rows s.place here.row never here.there) in
-    rw same at fits
+    subst (λ (s : Seat). Fits rows s.place s.time) same fits
 
 -- the seat of a spot fits
 pub seat_fits : (spot : Spot) (rows : List Row) (seat : Seat) → TimesNeverFall rows → seat_of spot rows ≡ Some seat → Fits rows seat.place seat.time
 seat_fits (At time) rows seat never is =
     let same : ◌≡◌ {A = Seat} (record { place = place_of_time time rows; time = time }) seat = cc in
-    rw same at (time_fits time rows never)
+    subst (λ (s : Seat). Fits rows s.place s.time) same (time_fits time rows never)
 seat_fits (Before number) rows seat never is = seat_before_fits rows seat never (in_front rows (place_of_row number rows) seat is)
 seat_fits (After number) rows seat never is =
     seat_after_fits rows (seat_before number rows) seat never (λ s e. in_front rows (place_of_row number rows) s e) is

@@ -100,7 +100,7 @@ impl Bench {
         ensures ok { IfOk result (λ outcome. starts self.old name kind ≡ record { bench = self.new; outcome = outcome }) }
         ensures err { OnErr result (self.new ≡ self.old) }
     {
-        if self.timelines.iter().any(|timeline| timeline.name() == name) {
+        if self.has(name) {
             return Ok(Outcome::refused(Refusal::NameTaken));
         }
         if self.timelines.len() >= MAX_TIMELINES {
@@ -138,6 +138,13 @@ impl Bench {
             Some(index) => self.timelines[index].ask(moment, query),
             None => Ok(Outcome::refused(Refusal::NoTimeline { name })),
         }
+    }
+
+    /// Whether a timeline has the name.
+    fn has(&self, name: Name) -> bool
+        ensures { result ≡ has_timeline name self.now }
+    {
+        self.timelines.iter().any(|timeline| timeline.name() == name)
     }
 
     /// The index of the timeline that has the name.
