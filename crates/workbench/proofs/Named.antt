@@ -1,8 +1,7 @@
 -- The timeline that has a name, and what the bench makes of its turn.
-use Rattle.std.proofs.Common.{◌≡◌, ℕ, zero, suc, ◌+◌, ◌<◌, ◌≤◌, true, false, List, [], ◌∷◌, ◌++◌, length, get_or, set, position, refl, sym, ◌∙◌, ap, arith, Some, None, Result, Ok, Err, IfOk}
+use Rattle.std.proofs.Common.{◌≡◌, ℕ, zero, suc, ◌+◌, ◌<◌, nat_le, true, false, List, [], ◌∷◌, ◌++◌, length, get_or, set, position, refl, sym, ◌∙◌, ap, arith, Some, None, Result, Ok, Err, IfOk}
 use Rattle.std.specs.List.{position_from}
 use Rattle.std.proofs.lemmas.List.Quantifiers.{position-Some}
-use Rattle.std.proofs.lemmas.Bool.{le-leb, lt-leb}
 use Rattle.std.proofs.lemmas.Iterator.Adapters.{position_from-zero}
 use Rattle.retro_base.specs.declared.kind.Kind.{Kind}
 use Rattle.workbench.specs.declared.bench.TheConstants.{MAX_TIMELINES}
@@ -16,13 +15,13 @@ use Rattle.workbench.specs.Turns.{Turn, stays}
 some_is_not_none : {X : Type 0} {x : X} → Some x ≡ None → ⊥
 some_is_not_none e = cc
 
-pub starts_full : (bench : List Timeline) (name : List ℕ) (kind : Kind) → has_timeline name bench ≡ false → MAX_TIMELINES ≤ length bench
+pub starts_full : (bench : List Timeline) (name : List ℕ) (kind : Kind) → has_timeline name bench ≡ false → nat_le MAX_TIMELINES (length bench) ≡ true
     → starts bench name kind ≡ leaves bench (Refused refusals.Timelines)
-starts_full bench name kind free full = rw (free, le-leb _ _ full) refl
+starts_full bench name kind free full = rw (free, full) refl
 
-pub starts_anew : (bench : List Timeline) (name : List ℕ) (kind : Kind) → has_timeline name bench ≡ false → length bench < MAX_TIMELINES
+pub starts_anew : (bench : List Timeline) (name : List ℕ) (kind : Kind) → has_timeline name bench ≡ false → nat_le MAX_TIMELINES (length bench) ≡ false
     → starts bench name kind ≡ record { bench = bench ++ fresh name kind ∷ []; outcome = Accepted }
-starts_anew bench name kind free room = rw (free, lt-leb _ _ room) refl
+starts_anew bench name kind free room = rw (free, room) refl
 
 -- the timeline at the index takes its turn, where it is the first one of the name
 on_named_at : (name : List ℕ) (turn : Timeline → Turn) (bench : List Timeline) (index : ℕ) (d : Timeline) → index < length bench

@@ -1,7 +1,8 @@
-ghost use Rattle.std.specs.Prelude.{◌≡◌, ◌≢◌, ◌≤◌, ◌++◌, ◌∷◌, [], length, position, Ok, Err, IsTrue, IfOk, OnOk, OnErr, if◌then◌else◌};
+ghost use Rattle.std.specs.Prelude.{◌≡◌, ◌≢◌, ◌≤◌, ◌++◌, ◌∷◌, [], length, nat_le, position, Ok, Err, IsTrue, IfOk, OnOk, OnErr, if◌then◌else◌};
 ghost use Rattle.retro_base.specs.declared.kind.Kind.TheVariants.{Pq};
 ghost use Rattle.script_grammar.specs.declared.command.LineError.TheVariants as errors;
 ghost use Rattle.script_grammar.specs.Command.{command, StartsNoPq};
+ghost use Rattle.workbench.specs.declared.bench.TheConstants.{MAX_TIMELINES};
 ghost use Rattle.workbench.specs.Bench.{has_timeline, is_named};
 ghost use Rattle.workbench.specs.Reaction.{obeys, on_named, reaction_to, starts};
 ghost use Rattle.workbench.specs.Turns.{deletes, puts, stays, tells};
@@ -103,7 +104,7 @@ impl Bench {
         if self.has(name) {
             return Ok(Outcome::refused(Refusal::NameTaken));
         }
-        if self.timelines.len() >= MAX_TIMELINES {
+        if self.is_full() {
             return Ok(Outcome::refused(Refusal::Timelines));
         }
         self.timelines.push(Timeline::new(self.alloc, name, kind))?;
@@ -145,6 +146,13 @@ impl Bench {
         ensures { result ≡ has_timeline name self.now }
     {
         self.timelines.iter().any(|timeline| timeline.name() == name)
+    }
+
+    /// Whether there are as many timelines as there may be.
+    fn is_full(&self) -> bool
+        ensures { result ≡ nat_le MAX_TIMELINES (length self.now) }
+    {
+        self.timelines.as_slice().len() >= MAX_TIMELINES
     }
 
     /// The index of the timeline that has the name.
