@@ -14,7 +14,8 @@ ghost use Rattle.workbench.specs.Order.{Fits};
 
 use crate::outcome::{Outcome, Refusal};
 use crate::seat::{Seat, place_of_row, row_named, seat_of};
-use retro_base::{Kind, MAX_NEXT, MAX_ROWS, Name, NoMemory, Op, PlainList, Question, Retro, Row};
+use engine::Engine;
+use retro_base::{Kind, MAX_NEXT, MAX_ROWS, Name, NoMemory, Op, Question, Retro, Row};
 use script_grammar::{Moment, Query, Spot};
 use std::alloc::Global;
 use std::marker::Model;
@@ -25,20 +26,21 @@ use std::marker::Model;
 pub(crate) struct Timeline {
     name: Name,
     rows: Vec<Row>,
-    structure: PlainList,
+    structure: Engine,
     next: u32,
 }
 
 impl Model for Timeline {
     ghost use Rattle.std.specs.Prelude.{◌≡◌};
+    ghost use Rattle.engine.specs.Engine.{kind_inside, rows_inside};
     ghost use Rattle.retro_base.specs.Timeline.{IsTimeline};
     ghost use Rattle.workbench.specs.Bench.{Timeline};
 
     ghost Value = { Timeline };
 
-    ghost view = { λ t. record { name = t.name; kind = t.structure.kind; rows = t.rows.items; next = t.next } };
+    ghost view = { λ t. record { name = t.name; kind = kind_inside t.structure; rows = t.rows.items; next = t.next } };
 
-    ghost invariant = { λ t. (t.structure.rows ≡ t.rows.items) × IsTimeline t.structure.kind t.rows.items t.next };
+    ghost invariant = { λ t. (rows_inside t.structure ≡ t.rows.items) × IsTimeline (kind_inside t.structure) t.rows.items t.next };
 }
 
 impl Timeline {
@@ -53,7 +55,7 @@ impl Timeline {
         Timeline {
             name,
             rows: Vec::new(alloc),
-            structure: PlainList::new(alloc, kind),
+            structure: Engine::new(alloc, kind),
             next: 1,
         }
     }

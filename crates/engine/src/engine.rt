@@ -1,0 +1,129 @@
+ghost use Rattle.std.specs.Prelude.{◌≡◌, ◌≢◌, []};
+ghost use Rattle.retro_base.specs.declared.kind.Kind.TheVariants.{Pq};
+ghost use Rattle.engine.specs.Engine.{kind_inside, rows_inside};
+
+use crate::{DequeList, DictList, QueueList, StackList};
+use retro_base::{Answer, Change, Kind, Listing, NoMemory, Op, PlainList, Question, Retro, Row};
+use std::alloc::Global;
+
+/// The structure of a kind. No call changes the variant.
+#[derive(Drop)]
+pub enum Engine {
+    Queue { inner: QueueList },
+    Stack { inner: StackList },
+    Deque { inner: DequeList },
+    Dict { inner: DictList },
+}
+
+impl Engine {
+    /// An empty structure of the kind, which has no priority queue yet.
+    pub fn new(alloc: Global, kind: Kind) -> Engine
+        requires { kind ≢ Pq }
+        ensures kind { kind_inside result ≡ kind }
+        ensures rows { rows_inside result ≡ [] }
+    {
+        let list = PlainList::new(alloc, kind);
+        match kind {
+            Kind::Queue => Engine::Queue {
+                inner: QueueList { list },
+            },
+            Kind::Stack => Engine::Stack {
+                inner: StackList { list },
+            },
+            Kind::Deque => Engine::Deque {
+                inner: DequeList { list },
+            },
+            Kind::Dict => Engine::Dict {
+                inner: DictList { list },
+            },
+            Kind::Pq => unreachable!(),
+        }
+    }
+}
+
+impl Retro for Engine {
+    ghost kind = { kind_inside };
+
+    ghost rows = { rows_inside };
+
+    fn kind(&self) -> Kind {
+        match self {
+            Engine::Queue { inner } => inner.list.kind(),
+            Engine::Stack { inner } => inner.list.kind(),
+            Engine::Deque { inner } => inner.list.kind(),
+            Engine::Dict { inner } => inner.list.kind(),
+        }
+    }
+
+    fn len(&self) -> u32 {
+        match self {
+            Engine::Queue { inner } => inner.list.len(),
+            Engine::Stack { inner } => inner.list.len(),
+            Engine::Deque { inner } => inner.list.len(),
+            Engine::Dict { inner } => inner.list.len(),
+        }
+    }
+
+    fn failure_after_insert(&self, place: u32, op: Op) -> Option<u32> {
+        match self {
+            Engine::Queue { inner } => inner.list.failure_after_insert(place, op),
+            Engine::Stack { inner } => inner.list.failure_after_insert(place, op),
+            Engine::Deque { inner } => inner.list.failure_after_insert(place, op),
+            Engine::Dict { inner } => inner.list.failure_after_insert(place, op),
+        }
+    }
+
+    fn failure_after_remove(&self, place: u32) -> Option<u32> {
+        match self {
+            Engine::Queue { inner } => inner.list.failure_after_remove(place),
+            Engine::Stack { inner } => inner.list.failure_after_remove(place),
+            Engine::Deque { inner } => inner.list.failure_after_remove(place),
+            Engine::Dict { inner } => inner.list.failure_after_remove(place),
+        }
+    }
+
+    fn insert(&mut self, place: u32, row: Row) -> Result<Change, NoMemory> {
+        match self {
+            Engine::Queue { inner } => inner.list.insert(place, row),
+            Engine::Stack { inner } => inner.list.insert(place, row),
+            Engine::Deque { inner } => inner.list.insert(place, row),
+            Engine::Dict { inner } => inner.list.insert(place, row),
+        }
+    }
+
+    fn remove(&mut self, place: u32) -> Result<(Row, Change), NoMemory> {
+        match self {
+            Engine::Queue { inner } => inner.list.remove(place),
+            Engine::Stack { inner } => inner.list.remove(place),
+            Engine::Deque { inner } => inner.list.remove(place),
+            Engine::Dict { inner } => inner.list.remove(place),
+        }
+    }
+
+    fn ask_now(&self, question: Question) -> Answer {
+        match self {
+            Engine::Queue { inner } => inner.list.ask_now(question),
+            Engine::Stack { inner } => inner.list.ask_now(question),
+            Engine::Deque { inner } => inner.list.ask_now(question),
+            Engine::Dict { inner } => inner.list.ask_now(question),
+        }
+    }
+
+    fn ask(&mut self, place: u32, question: Question) -> Result<Answer, NoMemory> {
+        match self {
+            Engine::Queue { inner } => inner.list.ask(place, question),
+            Engine::Stack { inner } => inner.list.ask(place, question),
+            Engine::Deque { inner } => inner.list.ask(place, question),
+            Engine::Dict { inner } => inner.list.ask(place, question),
+        }
+    }
+
+    fn all(&mut self, place: u32) -> Result<Listing, NoMemory> {
+        match self {
+            Engine::Queue { inner } => inner.list.all(place),
+            Engine::Stack { inner } => inner.list.all(place),
+            Engine::Deque { inner } => inner.list.all(place),
+            Engine::Dict { inner } => inner.list.all(place),
+        }
+    }
+}
