@@ -1,0 +1,27 @@
+-- What the laws give of the measure of a list.
+use Rattle.std.proofs.Common.{◌≡◌, ℕ, List, [], ◌∷◌, ◌++◌, length, sym, ap, ◌∙◌, arith}
+use Rattle.monoid_laws.specs.Laws.{MonoidLaws}
+use Rattle.monoid_laws.specs.Stretch.{measure_of}
+
+module _ {A M : Type 0} {items : M → ℕ} {unit : M} {join : M → M → M} (laws : MonoidLaws items unit join) (measured : A → M) where
+  -- two stretches, one after the other
+  pub measure_of-append : (xs ys : List A) → measure_of unit join measured (xs ++ ys) ≡ join (measure_of unit join measured xs) (measure_of unit join measured ys)
+  measure_of-append [] ys = sym (laws.left_unit (measure_of unit join measured ys))
+  measure_of-append (x ∷ xs) ys =
+      ap (join (measured x)) (measure_of-append xs ys)
+      ∙ sym (laws.assoc (measured x) (measure_of unit join measured xs) (measure_of unit join measured ys))
+
+  -- one item
+  pub measure_of-one : (x : A) → measure_of unit join measured (x ∷ []) ≡ measured x
+  measure_of-one x = laws.right_unit (measured x)
+
+  -- two stretches and an item between them
+  pub measure_of-around : (xs ys : List A) (x : A) → measure_of unit join measured (xs ++ x ∷ ys) ≡ join (join (measure_of unit join measured xs) (measured x)) (measure_of unit join measured ys)
+  measure_of-around xs ys x =
+      measure_of-append xs (x ∷ ys)
+      ∙ sym (laws.assoc (measure_of unit join measured xs) (measured x) (measure_of unit join measured ys))
+
+  -- as many items as the list has
+  pub items-measure_of : ((x : A) → items (measured x) ≡ 1) → (xs : List A) → items (measure_of unit join measured xs) ≡ length xs
+  items-measure_of single [] = laws.unit_items
+  items-measure_of single (x ∷ xs) = omega (arith, laws.join_items (measured x) (measure_of unit join measured xs), single x, items-measure_of single xs)

@@ -1,0 +1,54 @@
+ghost use Rattle.std.specs.Prelude.{◌≡◌, ◌+◌, ◌^◌, ◌<◌};
+ghost use Rattle.monoid_laws.specs.CountLaws.{count_laws};
+
+use crate::Monoid;
+use std::marker::Model;
+
+/// The number of the items alone.
+#[derive(Clone, Copy, Debug, PartialEq, Eq)]
+pub struct Count {
+    items: u32,
+}
+
+impl Model for Count {
+    ghost use Rattle.std.specs.Prelude.{ℕ};
+
+    ghost Value = { ℕ };
+
+    ghost view = { λ c. c.items };
+
+    ghost inverse = { λ n. record { items = n } };
+}
+
+impl Count {
+    /// The value of one item.
+    pub fn single() -> Count
+        ensures { result ≡ 1 }
+    {
+        Count { items: 1 }
+    }
+}
+
+impl Monoid for Count {
+    ghost items_of = { λ n. n };
+
+    ghost unit_value = { 0 };
+
+    ghost joined = { λ m n. m + n };
+
+    ghost laws = { count_laws };
+
+    fn unit() -> Count {
+        Count { items: 0 }
+    }
+
+    fn items(&self) -> u32 {
+        self.items
+    }
+
+    fn join(self, other: Count) -> Count {
+        Count {
+            items: self.items + other.items,
+        }
+    }
+}

@@ -1,0 +1,46 @@
+ghost use Rattle.std.specs.Prelude.{◌≡◌, ℕ, ◌+◌, ◌^◌, ◌<◌};
+ghost use Rattle.monoid_laws.specs.Laws.{MonoidLaws};
+
+/// A value that a stretch of items makes, so that neighbouring stretches can be joined.
+pub trait Monoid: Copy {
+    /// How many items the value was made of.
+    ghost items_of: { Self → ℕ };
+
+    /// The value of no items.
+    ghost unit_value: { Self };
+
+    /// The value of one stretch followed by another.
+    ghost joined: { Self → Self → Self };
+
+    /// The value of no items.
+    fn unit() -> Self
+        ensures { result ≡ unit_value };
+
+    /// How many items the value was made of.
+    fn items(&self) -> u32
+        ensures { result ≡ items_of self.now };
+
+    /// The value of the items of `self` followed by those of `other`.
+    fn join(self, other: Self) -> Self
+        requires { items_of self + items_of other < 2 ^ 32 }
+        ensures { result ≡ joined self other };
+
+    /// The unit has no items, a join adds them, and both are a monoid.
+    ghost laws: { MonoidLaws items_of unit_value joined };
+}
+
+/// An item that a monoid measures.
+pub trait Measured: Copy {
+    /// What stretches of items make.
+    type Measure: Monoid;
+
+    /// The value of the item alone.
+    ghost measured: { Self → Self.Measure };
+
+    /// The value of the item alone.
+    fn measure(&self) -> Self::Measure
+        ensures { result ≡ measured self.now };
+
+    /// It is made of one item.
+    ghost single: { (item : Self) → Self.Measure.items_of (measured item) ≡ 1 };
+}

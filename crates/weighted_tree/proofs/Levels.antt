@@ -1,0 +1,86 @@
+-- A balanced tree has at most three levels for each digit of its weight.
+use Rattle.std.proofs.Common.{◌≡◌, ℕ, zero, suc, ◌+◌, ◌*◌, ◌^◌, ◌<◌, ◌≤◌, List, ◌∷◌, length, length-append, refl, sym, ap, ◌∙◌, subst, arith}
+use Rattle.std.proofs.lemmas.Nat.{pow-add}
+use Rattle.weighted_tree.specs.Balance.{weight}
+use Rattle.weighted_tree.specs.Nodes.{IsRoot}
+use Rattle.weighted_tree.specs.declared.tree.Node.{Node}
+use Rattle.weighted_tree.specs.Digits.{digits}
+use Rattle.weighted_tree.specs.Visits.{IsWithinLevels, OneALevel, FourALevel, FewVisits}
+use Rattle.weighted_tree.proofs.DigitsBound.{below-digits, digits-monotone}
+
+triple : ℕ → ℕ
+triple zero = zero
+triple (suc n) = suc (suc (suc (triple n)))
+
+triple-is : (n : ℕ) → triple n ≡ 3 * n
+unfolding triple
+triple-is zero = omega arith
+triple-is (suc n) = omega (arith, triple-is n)
+
+three_levels : (digits whole : ℕ) → whole < 2 ^ digits → IsWithinLevels whole (triple digits)
+unfolding triple
+three_levels zero whole below = omega arith
+three_levels (suc digits) whole below = λ first a second b third c. three_levels digits third (omega (arith, pow-add 2 digits 1))
+
+-- the levels of a tree of this weight
+pub levels-of_digits : (whole : ℕ) → IsWithinLevels whole (3 * digits whole)
+levels-of_digits whole = subst (IsWithinLevels whole) (triple-is (digits whole)) (three_levels (digits whole) whole (below-digits whole))
+
+-- four visits a level are twelve a digit
+pub few-by_levels : (whole length before after : ℕ) → whole ≤ length + 1 → before ≤ after → FourALevel whole before after → FewVisits length before after
+few-by_levels whole length before after light none_lost visits = record {
+  none_lost = none_lost;
+  few = omega (arith, visits (3 * digits whole) (levels-of_digits whole), digits-monotone whole (length + 1) light);
+}
+
+-- a level more: the node is visited on the way down, and rebalancing visits two more on the way up
+pub level_more : (whole side start visited middle end : ℕ) → visited ≡ start + 1 → 2 ≤ whole → 4 * side ≤ 3 * whole → FourALevel side visited middle → end ≤ middle + 2 → FourALevel whole start end
+level_more whole side start visited middle end visit some light below up zero within = absurd (omega arith)
+level_more whole side start visited middle end visit some light below up (suc levels) within = omega (arith, below levels (within side light))
+
+level_here : (whole start end : ℕ) → 2 ≤ whole → end ≤ start + 4 → FourALevel whole start end
+level_here whole start end some up zero within = absurd (omega arith)
+level_here whole start end some up (suc levels) within = omega arith
+
+-- the left side is a level down, and the right one
+module _ {A M : Type 0} (items : List A) (node : Node A M) (start visited middle end : ℕ) (root : IsRoot items node) where
+  pub level_left : visited ≡ start + 1 → FourALevel (weight node.left) visited middle → end ≤ middle + 2 → FourALevel (weight items) start end
+  level_left visit below up =
+      let whole = ap length root.items_are ∙ length-append node.left (node.item ∷ node.right) in
+      level_more (weight items) (weight node.left) start visited middle end visit (omega arith) (omega arith) below up
+
+  pub level_right : visited ≡ start + 1 → FourALevel (weight node.right) visited middle → end ≤ middle + 2 → FourALevel (weight items) start end
+  level_right visit below up =
+      let whole = ap length root.items_are ∙ length-append node.left (node.item ∷ node.right) in
+      level_more (weight items) (weight node.right) start visited middle end visit (omega arith) (omega arith) below up
+
+  -- the node alone
+  pub level_end : visited ≡ start + 1 → end ≤ visited + 3 → FourALevel (weight items) start end
+  level_end visit up = level_here (weight items) start end (let whole = ap length root.items_are ∙ length-append node.left (node.item ∷ node.right) in omega arith) (omega arith)
+
+-- with one visit a level
+module _ {A M : Type 0} (items : List A) (node : Node A M) (start visited : ℕ) (root : IsRoot items node) (visit : visited ≡ start + 1) where
+  sides : weight items ≡ weight node.left + weight node.right
+  sides = omega (arith, ap length root.items_are, length-append node.left (node.item ∷ node.right))
+
+  pub one_left : (end : ℕ) → OneALevel (weight node.left) visited end → OneALevel (weight items) start end
+  one_left end below zero within = absurd (omega (arith, sides))
+  one_left end below (suc levels) within = omega (arith, below levels (within (weight node.left) (omega (arith, sides, root.balanced))))
+
+  pub one_right : (end : ℕ) → OneALevel (weight node.right) visited end → OneALevel (weight items) start end
+  one_right end below zero within = absurd (omega (arith, sides))
+  one_right end below (suc levels) within = omega (arith, below levels (within (weight node.right) (omega (arith, sides, root.balanced))))
+
+  pub both_sides : (middle end : ℕ) → OneALevel (weight node.left) visited middle → OneALevel (weight node.right) middle end → FourALevel (weight items) start end
+  both_sides middle end left right zero within = absurd (omega (arith, sides))
+  both_sides middle end left right (suc levels) within =
+      omega (arith, left levels (within (weight node.left) (omega (arith, sides, root.balanced))), right levels (within (weight node.right) (omega (arith, sides, root.balanced))))
+
+  pub both_sides_back : (middle end : ℕ) → OneALevel (weight node.right) visited middle → OneALevel (weight node.left) middle end → FourALevel (weight items) start end
+  both_sides_back middle end right left zero within = absurd (omega (arith, sides))
+  both_sides_back middle end right left (suc levels) within =
+      omega (arith, left levels (within (weight node.left) (omega (arith, sides, root.balanced))), right levels (within (weight node.right) (omega (arith, sides, root.balanced))))
+
+-- one visit a level is no more than four
+pub few_of_one : (whole before after : ℕ) → OneALevel whole before after → FourALevel whole before after
+few_of_one whole before after visits levels within = omega (arith, visits levels within)

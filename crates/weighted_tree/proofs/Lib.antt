@@ -1,0 +1,11 @@
+pub mod DigitsBound
+pub mod Joins
+pub mod Levels
+pub mod Middles
+pub mod Places
+pub mod PlacesBack
+pub mod SearchBefore
+pub mod SearchBehind
+pub mod SearchFrom
+pub mod SearchUpTo
+pub mod Stretches

@@ -1,0 +1,9 @@
+pub mod Balance
+pub mod Digits
+pub mod Nodes
+pub mod NodesFall
+pub mod Search
+pub mod SearchSteps
+pub mod Sides
+pub mod Visits
+pub use Rattle.monoid_laws.specs.Stretch

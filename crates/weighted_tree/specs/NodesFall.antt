@@ -1,0 +1,14 @@
+-- Each side of a node has fewer items than the node.
+use Rattle.std.specs.Prelude.{◌≤◌, max, ◌∷◌, length}
+use Rattle.std.proofs.Common.{arith, length-append}
+use Rattle.weighted_tree.specs.declared.tree.Link.{Link}
+use Rattle.weighted_tree.specs.declared.tree.Link.TheVariants.{Empty, Full}
+use Rattle.weighted_tree.specs.declared.tree.Tree.TheDeep.{deep-Link}
+use Rattle.monoid_laws.specs.declared.monoid.Measured as Measured
+use Rattle.monoid_laws.specs.declared.monoid.Monoid as Monoid
+use Rattle.weighted_tree.specs.Nodes.{items_of}
+
+-- no side is deeper than the link has items
+pub depth_le-length-items : {A M : Type 0} (measured : Measured.Ghosts A M) (monoid : Monoid.Ghosts M) (link : Link A M) → max (deep-Link A M measured monoid link) 0 ≤ length (items_of link)
+depth_le-length-items measured monoid Empty = omega arith
+depth_le-length-items measured monoid (Full size measure node) = omega (arith, length-append node.value.left (node.value.item ∷ node.value.right))

@@ -1,0 +1,19 @@
+-- A node seen from one of its sides.
+use Rattle.std.specs.Prelude.{List}
+use Rattle.weighted_tree.specs.declared.tree.Node.{Node}
+use Rattle.weighted_tree.specs.declared.node.Side.{Side}
+use Rattle.weighted_tree.specs.declared.node.Side.TheVariants.{Left, Right}
+
+abbrev pub other : Side → Side
+other Left = Right
+other Right = Left
+
+-- the items on a side
+abbrev pub side_of : {A M : Type 0} → Side → Node A M → List A
+side_of Left node = node.left
+side_of Right node = node.right
+
+-- the node with these items on that side
+abbrev pub with_side : {A M : Type 0} → Side → List A → Node A M → Node A M
+with_side Left items node = record node { left = items }
+with_side Right items node = record node { right = items }

@@ -1,0 +1,42 @@
+//! A list that is measured: any stretch of it, after a few joins.
+//!
+//! `Tree<T>` is a list of items, and contracts see nothing else of it. Beside what a list does it tells
+//! what a stretch of its items measures, for any monoid that the items are measured by, and finds the
+//! first or the last place at which a test of that measure turns. Where every step is at the end and no
+//! stretch is asked for, a `Vec` serves better.
+//!
+//! A node holds an item between two subtrees. An empty subtree is no box, so an item takes one
+//! allocation; the link to a subtree keeps its size and its measure, so that a node knows both without a
+//! look at its sides. The tree is weight-balanced (Nievergelt and Reingold 1973): the weight of a subtree
+//! is its size and one, and neither side of a node weighs over 3 times the other. A side that grew too
+//! heavy is rotated, once where its inner child weighs less than 2 times the outer one and else twice;
+//! with 3 and 2 this restores the balance after an insertion and after a removal (Hirai and Yamamoto 2011).
+//! A side weighs at most 3 quarters of the whole, so a tree of n items has at most 3 levels for each
+//! binary digit of n + 1.
+//!
+//! | Call | Nodes visited, d being the digits of one more than the length |
+//! |---|---|
+//! | `new`, `len` | none |
+//! | `get`, `insert`, `remove`, `replace`, `measure`, `first_place`, `last_place` | at most 12 d |
+//! | `copy` | each once |
+//!
+//! Each visit is a step on the counter that the caller hands in, which contracts alone see. `insert` and
+//! `copy` take memory, and leave the tree as it was where there is none; no other call takes any.
+//!
+//! The proofs rest on the laws of the monoid alone. What the layer above may rely on: the clauses of
+//! `Tree`, in the words of lists; `measure_of` and `stretch` for what a stretch measures; `FewVisits` and
+//! `digits` for the cost.
+#![tactic(auto)]
+
+mod balance;
+mod copy;
+mod edit;
+mod node;
+mod read;
+mod search;
+mod tree;
+
+pub use tree::Tree;
+
+#[cfg(test)]
+mod tests;

@@ -1,0 +1,98 @@
+ghost use Rattle.std.specs.Prelude.{◌≡◌, ◌+◌, ◌^◌, ◌<◌, [], length};
+ghost use Rattle.monoid_laws.specs.Stretch.{measure_of};
+ghost use Rattle.weighted_tree.specs.Balance.{weight};
+ghost use Rattle.weighted_tree.specs.Nodes.{node_items};
+ghost use Rattle.weighted_tree.specs.Sides.{other, side_of, with_side};
+
+use crate::Tree;
+use crate::tree::Node;
+use monoid_laws::{Measured, Monoid};
+use std::mem;
+
+/// One of the two sides of a node.
+#[derive(Clone, Copy)]
+pub(crate) enum Side {
+    Left,
+    Right,
+}
+
+impl Side {
+    pub(crate) fn other(self) -> Side
+        ensures { result ≡ other self }
+    {
+        match self {
+            Side::Left => Side::Right,
+            Side::Right => Side::Left,
+        }
+    }
+}
+
+impl<T: Measured> Node<T> {
+    /// A node without sides.
+    pub(crate) fn alone(item: T) -> Node<T>
+        ensures left { result.left ≡ [] }
+        ensures item { result.item ≡ item }
+        ensures right { result.right ≡ [] }
+    {
+        Node {
+            left: Tree::new(),
+            item,
+            right: Tree::new(),
+        }
+    }
+
+    /// How many items there are below the node.
+    pub(crate) fn size(&self) -> u32
+        requires fits { length (node_items self.now) < 2 ^ 32 }
+        ensures { result ≡ length (node_items self.now) }
+    {
+        self.left.len() + 1 + self.right.len()
+    }
+
+    /// The measure of these items.
+    pub(crate) fn measure(&self) -> T::Measure
+        requires fits { length (node_items self.now) < 2 ^ 32 }
+        ensures { result ≡ measure_of T.Measure.unit_value T.Measure.joined T.measured (node_items self.now) }
+    {
+        self.around(self.left.whole(), self.right.whole())
+    }
+
+    /// The measure of the item between what stands before and behind it.
+    pub(crate) fn around(&self, before: T::Measure, behind: T::Measure) -> T::Measure
+        requires fits { T.Measure.items_of before + 1 + T.Measure.items_of behind < 2 ^ 32 }
+        ensures { result ≡ T.Measure.joined (T.Measure.joined before (T.measured self.now.item)) behind }
+    {
+        before.join(self.item.measure()).join(behind)
+    }
+
+    /// The weight of a side.
+    pub(crate) fn weight(&self, side: Side) -> u64
+        ensures { result ≡ weight (side_of side self.now) }
+    {
+        match side {
+            Side::Left => self.left.weight(),
+            Side::Right => self.right.weight(),
+        }
+    }
+
+    /// Takes a side off.
+    pub(crate) fn take(&mut self, side: Side) -> Tree<T>
+        ensures taken { result ≡ side_of side self.old }
+        ensures rest { self.new ≡ with_side side [] self.old }
+    {
+        match side {
+            Side::Left => mem::replace(&mut self.left, Tree::new()),
+            Side::Right => mem::replace(&mut self.right, Tree::new()),
+        }
+    }
+
+    /// Puts a subtree on a side.
+    pub(crate) fn put(&mut self, side: Side, subtree: Tree<T>)
+        ensures { self.new ≡ with_side side subtree self.old }
+    {
+        match side {
+            Side::Left => self.left = subtree,
+            Side::Right => self.right = subtree,
+        }
+    }
+}

@@ -1,0 +1,123 @@
+ghost use Rattle.std.specs.Prelude.{◌≡◌, ◌+◌, ◌<◌, ◌≤◌, take, drop, length, slice_get, Some};
+ghost use Rattle.monoid_laws.specs.Stretch.{measure_of, stretch};
+ghost use Rattle.weighted_tree.specs.Balance.{weight};
+ghost use Rattle.weighted_tree.specs.Visits.{OneALevel, FourALevel, FewVisits};
+
+use crate::Tree;
+use monoid_laws::{Measured, Monoid};
+use retro_base::Steps;
+use std::sync::ledger::Ledger;
+
+impl<T: Measured> Tree<T> {
+    /// The item at a place.
+    pub fn get<L: Ledger>(&self, place: u32, steps: &mut Steps<L>) -> T
+        requires within { place < length self.now }
+        ensures item { slice_get self.now place ≡ Some result }
+        ensures some { steps.old + 1 ≤ steps.new }
+        ensures visits { FewVisits (length self.now) steps.old steps.new }
+    {
+        self.item_at(place, steps)
+    }
+
+    fn item_at<L: Ledger>(&self, place: u32, steps: &mut Steps<L>) -> T
+        requires within { place < length self.now }
+        ensures item { slice_get self.now place ≡ Some result }
+        ensures some { steps.old + 1 ≤ steps.new }
+        ensures visits { FourALevel (weight self.now) steps.old steps.new }
+    {
+        let Some(node) = self.root(steps) else {
+            unreachable!()
+        };
+        let before = node.left.len();
+        if place < before {
+            node.left.item_at(place, steps)
+        } else if place > before {
+            node.right.item_at(place - before - 1, steps)
+        } else {
+            node.item
+        }
+    }
+
+    /// The measure of the items from `from` to before `to`.
+    pub fn measure<L: Ledger>(&self, from: u32, to: u32, steps: &mut Steps<L>) -> T::Measure
+        requires order { from ≤ to }
+        requires within { to ≤ length self.now }
+        ensures value { result ≡ measure_of T.Measure.unit_value T.Measure.joined T.measured (stretch self.now from to) }
+        ensures some { from < to → steps.old + 1 ≤ steps.new }
+        ensures visits { FewVisits (length self.now) steps.old steps.new }
+    {
+        self.between(from, to, steps)
+    }
+
+    fn between<L: Ledger>(&self, from: u32, to: u32, steps: &mut Steps<L>) -> T::Measure
+        requires order { from ≤ to }
+        requires within { to ≤ length self.now }
+        ensures value { result ≡ measure_of T.Measure.unit_value T.Measure.joined T.measured (stretch self.now from to) }
+        ensures none_lost { steps.old ≤ steps.new }
+        ensures some { from < to → steps.old + 1 ≤ steps.new }
+        ensures visits { FourALevel (weight self.now) steps.old steps.new }
+    {
+        if from == to {
+            return T::Measure::unit();
+        }
+        let Some(node) = self.root(steps) else {
+            unreachable!()
+        };
+        let before = node.left.len();
+        if to <= before {
+            return node.left.between(from, to, steps);
+        }
+        if from > before {
+            return node
+                .right
+                .between(from - before - 1, to - before - 1, steps);
+        }
+        let left = node.left.suffix(from, steps);
+        let right = node.right.prefix(to - before - 1, steps);
+        node.around(left, right)
+    }
+
+    /// The measure of the items before `to`.
+    fn prefix<L: Ledger>(&self, to: u32, steps: &mut Steps<L>) -> T::Measure
+        requires within { to ≤ length self.now }
+        ensures value { result ≡ measure_of T.Measure.unit_value T.Measure.joined T.measured (take to self.now) }
+        ensures items { T.Measure.items_of result ≡ to }
+        ensures none_lost { steps.old ≤ steps.new }
+        ensures visits { OneALevel (weight self.now) steps.old steps.new }
+    {
+        if to == self.len() {
+            return self.whole();
+        }
+        let Some(node) = self.root(steps) else {
+            unreachable!()
+        };
+        let before = node.left.len();
+        if to <= before {
+            return node.left.prefix(to, steps);
+        }
+        let right = node.right.prefix(to - before - 1, steps);
+        node.around(node.left.whole(), right)
+    }
+
+    /// The measure of the items from `from` on.
+    fn suffix<L: Ledger>(&self, from: u32, steps: &mut Steps<L>) -> T::Measure
+        requires within { from ≤ length self.now }
+        ensures value { result ≡ measure_of T.Measure.unit_value T.Measure.joined T.measured (drop from self.now) }
+        ensures items { T.Measure.items_of result + from ≡ length self.now }
+        ensures none_lost { steps.old ≤ steps.new }
+        ensures visits { OneALevel (weight self.now) steps.old steps.new }
+    {
+        if from == 0 {
+            return self.whole();
+        }
+        let Some(node) = self.root(steps) else {
+            unreachable!()
+        };
+        let before = node.left.len();
+        if from > before {
+            return node.right.suffix(from - before - 1, steps);
+        }
+        let left = node.left.suffix(from, steps);
+        node.around(left, node.right.whole())
+    }
+}
