@@ -66,7 +66,7 @@ class Timeline:
 
     def take(self):
         added = self.take_any(self.free)
-        if self.kind == "dict" and added[2] < KEYS:
+        if self.kind == "dict" and added[2] < KEYS:  # a key that stays: no `del`, but one more `put`
             self.free.append(added)
             return self.add()
         time = self.draw.randint(added[1], LAST_TIME)
