@@ -10,7 +10,7 @@ held_and_left held None = None
 held_and_left held (Some bytes) = Some (held ++ bytes)
 
 module _ {S : Type 0} {G : Ghosts S} where
-  -- the bytes that the reader took and has not given yet
+  -- the bytes that the reader took and has not given yet; of those after an error nothing is said
   abbrev pub held : LineReader S G → List ℕ
   held r = r.buffer.held
 
