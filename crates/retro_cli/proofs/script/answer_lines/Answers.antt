@@ -1,7 +1,7 @@
 use Rattle.std.proofs.Common.{◌≡◌, refl, sym, ap, ◌∙◌, arith, rules, Some, false}
 use Rattle.retro_io.specs.declared.mark.Mark.TheVariants.{Whole, Long, End}
 use Rattle.retro_io.specs.LineReader.{line_of, has_ended}
-use Rattle.retro_cli.proofs.Scripts.{GivenAs, appends_output, goes_on_first, goes_on_next, count_after-twice}
+use Rattle.retro_cli.proofs.Scripts.{GivenAs, appends_output, goes_on_first, goes_on_next, count_after-twice, gives_count-none, gives_count-twice}
 use Rattle.retro_cli.proofs.script.answer_lines.Goals as goal
 use Rattle.retro_cli.proofs.script.answer_lines.Goals.{in-Whole, in-Long}
 
@@ -20,6 +20,7 @@ loop-reply-init g c = record {
   failed = c.requires;
   more = omega arith;
   taken = omega arith;
+  left = gives_count-none _ _;
   source_count = omega arith;
   sink_count = omega arith;
   answers = λ bytes e. rw c.new-bench.ensures (goes_on_first bytes _ _ e);
@@ -37,6 +38,7 @@ loop-reply-preserved g c =
       more = omega (arith, c.in_ok-next.ensures.taken, c.loop-reply.invariant.more);
       taken = c.in_ok-next.ensures.source_taken
           ∙ rw c.loop-reply.invariant.taken (count_after-twice _ _ _ _ c.loop-reply.invariant.more c.in_ok-next.ensures.taken);
+      left = gives_count-twice _ _ _ _ _ _ c.loop-reply.invariant.more c.in_ok-next.ensures.taken c.loop-reply.invariant.left c.in_ok-next.ensures.source_left;
       source_count = omega (arith, c.in_ok-next.ensures.source_faults, c.loop-reply.invariant.source_count);
       sink_count = omega (arith, c.in_ok-refused.ensures.kept_count, c.loop-reply.invariant.sink_count);
       answers = λ bytes e.

@@ -1,6 +1,7 @@
 -- The answers so far, followed by the answers to what is left, are the answers to all.
 use Rattle.std.proofs.Common.{◌≡◌, ℕ, ◌≤◌, ◌+◌, ◌-◌, List, Some, false}
 use Rattle.retro_io.specs.Faults.{count_after}
+use Rattle.retro_io.specs.Source.{GivesCount}
 use Rattle.retro_io.specs.LineReader.{given, taken, limit_of, has_failed, reference_of, rest_of, source_of}
 use Rattle.retro_cli.proofs.Scripts.{GoesOn}
 use Rattle.retro_cli.proofs.script.answer_lines.Given as goal
@@ -12,6 +13,7 @@ invariant-loop-reply g l = record {
   failed : has_failed l.reader ≡ false;
   more : taken l.fn.reader ≤ taken l.reader;
   taken : g.S.Source.taken (source_of l.reader) ≡ count_after (g.S.Source.taken (source_of l.fn.reader)) (taken l.reader - taken l.fn.reader);
+  left : GivesCount (g.S.Source.left (source_of l.fn.reader)) (taken l.reader - taken l.fn.reader) (g.S.Source.left (source_of l.reader));
   source_count : g.S.Source.faults (source_of l.fn.reader) ≤ g.S.Source.faults (source_of l.reader);
   sink_count : g.K.Sink.faults l.fn.sink ≤ g.K.Sink.faults l.sink;
   answers : (bytes : List ℕ) → rest_of l.fn.reader ≡ Some bytes
