@@ -19,9 +19,8 @@ use Rattle.workbench.specs.Answers.{answers_to, refuses_one}
 use Rattle.workbench.specs.Bench.{Bench}
 use Rattle.workbench.specs.Reaction.{Reaction, reaction_to, reacts}
 use Rattle.retro_io.specs.Lines.{lines, longest}
-use Rattle.retro_cli.specs.declared.script.TheConstants.{MAX_BYTES}
 use Rattle.retro_cli.specs.Output.{output, has_refusal}
-use Rattle.retro_cli.specs.Run.{AppendsOutput, MayBeTooLong, TellsRefusal}
+use Rattle.retro_cli.specs.Run.{AppendsOutput, TellsRefusal}
 
 answers_to-cons : (bench : Bench) (line : List ℕ) (more : List (List ℕ))
     → answers_to bench (line ∷ more) ≡ (reacts bench line).answer ++ answers_to (reacts bench line).bench more
@@ -170,15 +169,12 @@ pub gives_count-twice : (left left' left'' : Option (List ℕ)) (a b c : ℕ) �
 gives_count-twice None left' left'' a b c h k first second = rw first at second
 gives_count-twice (Some bytes) left' left'' a b c h k first second =
     let later = rw first.1 at second in
-    let both : (b - a) + (c - b) ≡ c - a = omega arith in
-    (omega (arith, first.0, later.0, length-drop (b - a) bytes),
-    later.1 ∙ ap (λ xs. Some xs) (drop-drop (c - b) (b - a) bytes ∙ ap (λ n. drop n bytes) both))
+    let both : (b - a) + (c - b) ≡ c - a = omega arith in (
+      omega (arith, first.0, later.0, length-drop (b - a) bytes),
+      later.1 ∙ ap (λ xs. Some xs) (drop-drop (c - b) (b - a) bytes ∙ ap (λ n. drop n bytes) both),
+    )
 
+-- no call takes none
 pub gives_count-none : (left : Option (List ℕ)) (a : ℕ) → GivesCount left (a - a) left
 gives_count-none None a = refl
 gives_count-none (Some bytes) a = rw (sub_self a) (omega arith, refl)
-
--- a source that tells its bytes gave no more than these
-pub may_be_too_long : (left left' : Option (List ℕ)) (count : ℕ) → MAX_BYTES < count → GivesCount left count left' → MayBeTooLong left
-may_be_too_long None left' count more gives = tt
-may_be_too_long (Some bytes) left' count more gives = omega (arith, more, gives.0)

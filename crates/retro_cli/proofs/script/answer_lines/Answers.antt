@@ -1,5 +1,4 @@
-use Rattle.std.proofs.Common.{◌≡◌, refl, sym, ap, ◌∙◌, arith, rules, Some, false}
-use Rattle.retro_io.specs.declared.mark.Mark.TheVariants.{Whole, Long, End}
+use Rattle.std.proofs.Common.{refl, ◌∙◌, arith}
 use Rattle.retro_io.specs.LineReader.{line_of, has_ended}
 use Rattle.retro_cli.proofs.Scripts.{GivenAs, appends_output, goes_on_first, goes_on_next, count_after-twice, gives_count-none, gives_count-twice}
 use Rattle.retro_cli.proofs.script.answer_lines.Goals as goal
@@ -12,6 +11,18 @@ returns-in-End-clause-answered g c =
 pub returns-in-End-clause-refusal : goal.returns-in-End-clause-refusal
 returns-in-End-clause-refusal g c =
     (appends_output _ _ _ _ _ _ _ (line_of c.next.new.self) (has_ended c.next.new.self) c.loop-reply.invariant.answers (rw c.in-End.is at c.in_ok-next.ensures.lines)).1
+
+pub returns-in-End-clause-left : goal.returns-in-End-clause-left
+returns-in-End-clause-left g c =
+    gives_count-twice _ _ _ _ _ _ c.loop-reply.invariant.more c.in_ok-next.ensures.taken c.loop-reply.invariant.left c.in_ok-next.ensures.source_left
+
+pub returns-in_err-next-clause-left : goal.returns-in_err-next-clause-left
+returns-in_err-next-clause-left g c =
+    gives_count-twice _ _ _ _ _ _ c.loop-reply.invariant.more c.next.ensures.taken c.loop-reply.invariant.left c.next.ensures.source_left
+
+pub returns-in_err-refused-clause-left : goal.returns-in_err-refused-clause-left
+returns-in_err-refused-clause-left g c =
+    gives_count-twice _ _ _ _ _ _ c.loop-reply.invariant.more c.in_ok-next.ensures.taken c.loop-reply.invariant.left c.in_ok-next.ensures.source_left
 
 pub loop-reply-init : goal.loop-reply-init
 loop-reply-init g c = record {

@@ -12,8 +12,8 @@ invariant-loop-reply g l = record {
   limit : limit_of l.reader ≡ limit_of l.fn.reader;
   failed : has_failed l.reader ≡ false;
   more : taken l.fn.reader ≤ taken l.reader;
-  taken : g.S.Source.taken (source_of l.reader) ≡ count_after (g.S.Source.taken (source_of l.fn.reader)) (taken l.reader - taken l.fn.reader);
   left : GivesCount (g.S.Source.left (source_of l.fn.reader)) (taken l.reader - taken l.fn.reader) (g.S.Source.left (source_of l.reader));
+  taken : g.S.Source.taken (source_of l.reader) ≡ count_after (g.S.Source.taken (source_of l.fn.reader)) (taken l.reader - taken l.fn.reader);
   source_count : g.S.Source.faults (source_of l.fn.reader) ≤ g.S.Source.faults (source_of l.reader);
   sink_count : g.K.Sink.faults l.fn.sink ≤ g.K.Sink.faults l.sink;
   answers : (bytes : List ℕ) → rest_of l.fn.reader ≡ Some bytes
