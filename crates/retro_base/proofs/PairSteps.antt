@@ -70,15 +70,12 @@ module _ (low high key value : ℤ) (all rest : List (ℤ × ℤ)) (sum answer :
   turn : fold (λ s pair. s +ℤ pair.1) sum (pairs_between low high ((key, value) ∷ rest)) ≡ answer
   turn = ap (λ ps. fold (λ s pair. s +ℤ pair.1) sum (pairs_between low high ps)) (sym first) ∙ before
 
-  pub turn_added : (next : ℤ) → int_le low key ≡ true → int_le key high ≡ true → next ≡ sum +ℤ value
+  pub turn_added : (next : ℤ) → (int_le low key && int_le key high) ≡ true → next ≡ sum +ℤ value
       → fold (λ s pair. s +ℤ pair.1) next (pairs_between low high rest) ≡ answer
-  turn_added next from_low to_high e = rw e (rw (from_low, to_high) at turn)
+  turn_added next inside e = rw e (rw inside at turn)
 
-  pub turn_below : int_le low key ≡ false → fold (λ s pair. s +ℤ pair.1) sum (pairs_between low high rest) ≡ answer
-  turn_below below = rw below at turn
-
-  pub turn_above : int_le low key ≡ true → int_le key high ≡ false → fold (λ s pair. s +ℤ pair.1) sum (pairs_between low high rest) ≡ answer
-  turn_above from_low above = rw (from_low, above) at turn
+  pub turn_passed : (int_le low key && int_le key high) ≡ false → fold (λ s pair. s +ℤ pair.1) sum (pairs_between low high rest) ≡ answer
+  turn_passed outside = rw outside at turn
 
 -- what is listed so far leaves room for one item more, where there is one
 pub room : {A B : Type 0} (f : A → B) (listed : List B) (left all : List A) (x : A) (rest : List A)

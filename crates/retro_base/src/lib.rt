@@ -7,9 +7,9 @@
 //!
 //! The layers above rely on the trait `Retro`: whatever a structure keeps, it answers the replay of its rows.
 //! `PlainList` is the plain program whose contract is the definition; every faster structure is compared with
-//! it. It serves queues.
+//! it. It serves queues, stacks, deques and dictionaries.
 //!
-//! - Rows: `Kind`, `Op`, `Row`, `Entry`, `Change`. Questions: `Question`, `Answer`, `Item`.
+//! - Rows: `Kind`, `Op`, `Row`, `Entry`, `Change`. Questions: `Question`, `Answer`, `Item`, `Listing`.
 //! - Structures: `Retro`, `PlainList`.
 //! - Texts: `Name`, `Text`. Costs: `Steps`. Memory: `NoMemory`.
 #![tactic(auto)]

@@ -1,4 +1,4 @@
-ghost use Rattle.std.specs.Prelude.{◌≡◌, ◌^◌, ◌<◌, length, reverse, map, int_le, Some, IsSome, IfOk, OnOk, OnErr};
+ghost use Rattle.std.specs.Prelude.{◌≡◌, ◌^◌, ◌<◌, length, reverse, map, ◌&&◌, int_le, Some, IsSome, IfOk, OnOk, OnErr};
 ghost use Rattle.std.specs.List.{find};
 ghost use Rattle.std.specs.Option.{option_copied};
 ghost use Rattle.retro_base.specs.declared.question.Item.TheVariants.{Pair};
@@ -52,13 +52,20 @@ fn greatest_up_to(held: &BTreeMap<i64, i64>, key: i64) -> Option<(i64, i64)>
     greatest
 }
 
+/// Whether a key lies from `low` to `high`, both included.
+fn lies_between(key: i64, low: i64, high: i64) -> bool
+    ensures { result ≡ (int_le low key && int_le key high) }
+{
+    low <= key && key <= high
+}
+
 /// How many keys lie from `low` to `high`, both included.
 fn count_between(held: &BTreeMap<i64, i64>, low: i64, high: i64) -> usize
     ensures { result ≡ length (pairs_between low high held.now.entries) }
 {
     let mut count = 0;
     for (key, _) in held.iter() {
-        if low <= *key && *key <= high {
+        if lies_between(*key, low, high) {
             count += 1;
         }
     }
@@ -71,7 +78,7 @@ fn sum_between(held: &BTreeMap<i64, i64>, low: i64, high: i64) -> i128
 {
     let mut sum = 0;
     for (key, value) in held.iter() {
-        if low <= *key && *key <= high {
+        if lies_between(*key, low, high) {
             sum += i128::from(*value);
         }
     }

@@ -109,8 +109,8 @@ fn take_out(
 /// definition, and with which every faster structure is compared. It serves every kind but the
 /// priority queue.
 ///
-/// A question about the present looks at the kept state. An edit at the end performs one row; an edit
-/// of the past and a question about it perform all rows again.
+/// A question about the present looks at the kept state, and a row that is put in at the end is
+/// performed on it. An edit of the past, and a question about it, perform the rows again.
 #[derive(Drop)]
 pub struct PlainList {
     alloc: Global,
@@ -200,14 +200,25 @@ impl Retro for PlainList {
     }
 
     fn ask(&mut self, place: u32, question: Question) -> Result<Answer, NoMemory> {
-        let (before, _) = self.rows.as_slice().split_at(place as usize);
+        let place = place as usize;
+        if place == self.rows.len() {
+            return Ok(self.present.answer(question));
+        }
+        let (before, _) = self.rows.as_slice().split_at(place);
         let state = replayed(self.alloc, self.kind, before)?;
         Ok(state.answer(question))
     }
 
     fn all(&mut self, place: u32) -> Result<Listing, NoMemory> {
-        let (before, _) = self.rows.as_slice().split_at(place as usize);
+        let place = place as usize;
+        if place == self.rows.len() {
+            return self.present.listing(self.alloc);
+        }
+        let (before, _) = self.rows.as_slice().split_at(place);
         let state = replayed(self.alloc, self.kind, before)?;
         state.listing(self.alloc)
     }
 }
+
+#[cfg(test)]
+mod tests;

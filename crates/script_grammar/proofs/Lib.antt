@@ -1,4 +1,5 @@
 pub mod Cutting
 pub mod Digits
+pub mod ItemTexts
 pub mod Served
 mod Examples

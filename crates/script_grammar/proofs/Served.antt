@@ -7,16 +7,12 @@ use Rattle.retro_base.specs.Name.{name_of}
 use Rattle.retro_base.specs.declared.kind.Kind.{Kind}
 use Rattle.retro_base.specs.declared.kind.Kind.TheVariants.{Pq}
 use Rattle.script_grammar.specs.declared.command.Command.{Command}
-use Rattle.script_grammar.specs.declared.command.Command.TheVariants.{New, Insert, Delete, Ask}
+use Rattle.script_grammar.specs.declared.command.Command.TheVariants.{New}
 use Rattle.script_grammar.specs.declared.command.LineError.{LineError}
 use Rattle.script_grammar.specs.declared.command.LineError.TheVariants.{Syntax}
-use Rattle.script_grammar.specs.declared.command.Moment.TheVariants.{Now, Then}
 use Rattle.script_grammar.specs.declared.command.Spot.{Spot}
-use Rattle.script_grammar.specs.Command.{StartsNoPq, about, ask_at, ask_of, ask_then, begins_comment, begins_spot, command_of, delete_of, insert_of, kind_named, kind_of_word, new_of, spot_of}
-use Rattle.script_grammar.specs.Numbers.{row_number_of}
+use Rattle.script_grammar.specs.Command.{StartsNoPq, about, ask_at, ask_of, ask_then, command_of, delete_of, insert_of, kind_named, kind_of_word, new_of}
 use Rattle.script_grammar.specs.Operands.{alone}
-use Rattle.script_grammar.specs.Operations.{op_of}
-use Rattle.script_grammar.specs.Queries.{query_of}
 
 module _ {X : Type 0} (P : X → Type 0) where
   chosen : (b : Bool) (o other : Option X) → IfSome o P → IfSome other P → IfSome (cond b o other) P
@@ -66,36 +62,31 @@ new_starts (word ∷ rest) =
 
 insert_starts : (name word : List ℕ) (rest : List (List ℕ)) → IfSome (insert_of name word rest) StartsNoPq
 insert_starts name word [] = tt
-insert_starts name word (place ∷ rest) = chained StartsNoPq _ (spot_of word place) (λ spot. mapped StartsNoPq (Insert name spot) (op_of rest) (λ op. tt))
+insert_starts name word (place ∷ rest) = search (chained, mapped)
 
 delete_starts : (name : List ℕ) (rest : List (List ℕ)) → IfSome (delete_of name rest) StartsNoPq
 delete_starts name [] = tt
-delete_starts name (word ∷ rest) = chained StartsNoPq _ (row_number_of word) (λ number. last StartsNoPq (Delete name number) rest tt)
+delete_starts name (word ∷ rest) = search (chained, last)
 
 ask_at_starts : (name : List ℕ) (spot : Spot) (rest : List (List ℕ)) → IfSome (ask_at name spot rest) StartsNoPq
 ask_at_starts name spot [] = tt
-ask_at_starts name spot (word ∷ rest) = mapped StartsNoPq (Ask name (Then spot)) (query_of word rest) (λ query. tt)
+ask_at_starts name spot (word ∷ rest) = search mapped
 
 ask_then_starts : (name word : List ℕ) (rest : List (List ℕ)) → IfSome (ask_then name word rest) StartsNoPq
 ask_then_starts name word [] = tt
-ask_then_starts name word (place ∷ rest) = chained StartsNoPq _ (spot_of word place) (λ spot. ask_at_starts name spot rest)
+ask_then_starts name word (place ∷ rest) = search (chained, ask_at_starts)
 
 ask_starts : (name : List ℕ) (rest : List (List ℕ)) → IfSome (ask_of name rest) StartsNoPq
 ask_starts name [] = tt
-ask_starts name (word ∷ rest) =
-    chosen StartsNoPq (begins_spot word) _ _ (ask_then_starts name word rest) (mapped StartsNoPq (Ask name Now) (query_of word rest) (λ query. tt))
+ask_starts name (word ∷ rest) = search (chosen, mapped, ask_then_starts)
 
 about_starts : (name : List ℕ) (rest : List (List ℕ)) → IfSome (about name rest) StartsNoPq
 about_starts name [] = tt
-about_starts name (word ∷ rest) =
-    chosen StartsNoPq (bytes_eq word (codes "ask")) _ _ (ask_starts name rest)
-    (chosen StartsNoPq (bytes_eq word (codes "delete")) _ _ (delete_starts name rest) (insert_starts name word rest))
+about_starts name (word ∷ rest) = search (chosen, ask_starts, delete_starts, insert_starts)
 
 command_starts : (spelled : List (List ℕ)) → IfSome (command_of spelled) StartsNoPq
 command_starts [] = tt
-command_starts (word ∷ rest) =
-    chosen StartsNoPq (begins_comment word) _ _ tt
-    (chosen StartsNoPq (bytes_eq word (codes "new")) _ _ (new_starts rest) (chained StartsNoPq _ (name_of word) (λ name. about_starts name rest)))
+command_starts (word ∷ rest) = search (chosen, chained, new_starts, about_starts)
 
 or_syntax : (o : Option Command) → IfSome o StartsNoPq → IfOk (ok_or o Syntax) StartsNoPq
 or_syntax None holds = tt

@@ -7,4 +7,3 @@ pub mod Operations
 pub mod Queries
 pub mod Command
 pub mod AnswerText
-pub mod ListingText

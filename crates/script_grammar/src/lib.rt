@@ -6,13 +6,14 @@
 //! `specs/` that has one case for each form, so that a further form is one more case in both.
 //!
 //! - `read_line` gives the command of a line, or says why it has none.
-//! - `print_answer` appends the text of an answer.
+//! - `print_answer` and `print_listing` append the text of an answer.
 #![tactic(auto)]
 
 mod answer;
 mod ask;
 mod command;
 mod line;
+mod listing;
 mod numbers;
 mod operands;
 mod operation;
@@ -25,3 +26,4 @@ mod words;
 pub use answer::print_answer;
 pub use command::{Command, LineError, Moment, Query, Spot};
 pub use line::read_line;
+pub use listing::print_listing;

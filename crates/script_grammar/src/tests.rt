@@ -1,5 +1,5 @@
-use crate::{Command, LineError, Moment, Query, Spot, print_answer, read_line};
-use retro_base::{Answer, Kind, Name, Op, Question, Text};
+use crate::{Command, LineError, Moment, Query, Spot, print_answer, print_listing, read_line};
+use retro_base::{Answer, Item, Kind, Listing, Name, Op, Question, Text};
 use std::process::Abort;
 use std::test::Fail;
 
@@ -281,6 +281,22 @@ fn answers(rt: HostRuntime) -> Result<(), Fail> {
     assert_eq!(rt;
         out.as_bytes(),
         b"= -12= -9223372036854775808:7= none".as_slice()
+    );
+    Ok(())
+}
+
+#[test]
+fn listings(rt: HostRuntime) -> Result<(), Fail> {
+    let mut out = Text::new(rt.alloc());
+    let mut listing = Listing::new(rt.alloc());
+    print_listing(&listing, &mut out)?;
+    listing.push(Item::Single { value: 3 })?;
+    listing.push(Item::Pair { key: -1, value: 20 })?;
+    listing.push(Item::Single { value: i64::MIN })?;
+    print_listing(&listing, &mut out)?;
+    assert_eq!(rt;
+        out.as_bytes(),
+        b"= empty= 3 -1:20 -9223372036854775808".as_slice()
     );
     Ok(())
 }

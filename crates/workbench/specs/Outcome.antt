@@ -1,7 +1,6 @@
 -- What a line is answered.
 use Rattle.std.specs.Prelude.{ℕ, Bool, true, false, List, [], ◌∷◌, ◌++◌, codes, decimal}
-use Rattle.script_grammar.specs.AnswerText.{answer_text}
-use Rattle.script_grammar.specs.ListingText.{listing_text}
+use Rattle.script_grammar.specs.AnswerText.{answer_text, listing_text}
 use Rattle.workbench.specs.declared.outcome.Outcome.{Outcome}
 use Rattle.workbench.specs.declared.outcome.Outcome.TheVariants.{Silent, Accepted, Put, Told, Listed, Refused}
 use Rattle.workbench.specs.declared.outcome.Refusal.{Refusal}

@@ -1,4 +1,4 @@
-ghost use Rattle.std.specs.Prelude.{◌≡◌, ◌≢◌, ◌≤◌, ◌++◌, ◌∷◌, [], length, position, Err, IsTrue, IfOk, OnOk, OnErr, if◌then◌else◌};
+ghost use Rattle.std.specs.Prelude.{◌≡◌, ◌≢◌, ◌≤◌, ◌++◌, ◌∷◌, [], length, position, Ok, Err, IsTrue, IfOk, OnOk, OnErr, if◌then◌else◌};
 ghost use Rattle.retro_base.specs.declared.kind.Kind.TheVariants.{Pq};
 ghost use Rattle.script_grammar.specs.declared.command.LineError.TheVariants as errors;
 ghost use Rattle.script_grammar.specs.Command.{command, StartsNoPq};
@@ -15,6 +15,15 @@ use std::marker::Model;
 
 /// The most timelines of a bench.
 pub const MAX_TIMELINES: usize = 8;
+
+/// What a line is answered.
+#[derive(Debug, Drop)]
+pub struct Reply {
+    /// The lines that answer it, each with its line feed.
+    pub text: Text,
+    /// Whether the line was refused.
+    pub refused: bool,
+}
 
 /// The timelines that a script has made, in the order in which it made them.
 #[derive(Drop)]
@@ -43,16 +52,20 @@ impl Bench {
     }
 
     /// Does what a line asks for, of which at most 4,096 bytes are given: `long` says that it has more.
-    /// Appends the lines that answer it, and gives whether it is refused.
-    pub fn line(&mut self, line: &[u8], long: bool, reply: &mut Text) -> Result<bool, NoMemory>
+    /// After `NoMemory` the line may have been done, and its answer is lost.
+    pub fn line(&mut self, line: &[u8], long: bool) -> Result<Reply, NoMemory>
         requires within { length line.now ≤ 4096 }
         requires full { IsTrue long → length line.now ≡ 4096 }
-        ensures { IfOk result (λ refused. let reaction = reaction_to self.old (if long then Err errors.Long else command line.now) in
-            (self.new ≡ reaction.bench) × (refused ≡ reaction.refused) × (reply.new ≡ reply.old ++ reaction.answer)) }
+        ensures { IfOk result (λ reply. let reaction = reaction_to self.old (if long then Err errors.Long else command line.now) in
+            (self.new ≡ reaction.bench) × (reply.text ≡ reaction.answer) × (reply.refused ≡ reaction.refused)) }
     {
         let outcome = self.obey(read_line(line, long))?;
-        outcome.print(reply)?;
-        Ok(outcome.is_refusal())
+        let mut text = Text::new(self.alloc);
+        outcome.print(&mut text)?;
+        Ok(Reply {
+            text,
+            refused: outcome.is_refusal(),
+        })
     }
 
     /// Does what a line asks for. After a refusal and after `NoMemory` all is as before.
@@ -64,11 +77,21 @@ impl Bench {
         match line {
             Err(LineError::Long) => Ok(Outcome::refused(Refusal::Long)),
             Err(LineError::Syntax) => Ok(Outcome::refused(Refusal::Syntax)),
-            Ok(Command::Nothing) => Ok(Outcome::Silent),
-            Ok(Command::New { name, kind }) => self.start(name, kind),
-            Ok(Command::Insert { name, spot, op }) => self.put(name, spot, op),
-            Ok(Command::Delete { name, number }) => self.delete(name, number),
-            Ok(Command::Ask { name, moment, query }) => self.ask(name, moment, query),
+            Ok(command) => self.perform(&command),
+        }
+    }
+
+    fn perform(&mut self, command: &Command) -> Result<Outcome, NoMemory>
+        requires { StartsNoPq command.now }
+        ensures ok { IfOk result (λ outcome. obeys self.old (Ok command.now) ≡ record { bench = self.new; outcome = outcome }) }
+        ensures err { OnErr result (self.new ≡ self.old) }
+    {
+        match command {
+            Command::Nothing => Ok(Outcome::Silent),
+            Command::New { name, kind } => self.start(*name, *kind),
+            Command::Insert { name, spot, op } => self.put(*name, *spot, *op),
+            Command::Delete { name, number } => self.delete(*name, *number),
+            Command::Ask { name, moment, query } => self.ask(*name, *moment, *query),
         }
     }
 
@@ -77,7 +100,7 @@ impl Bench {
         ensures ok { IfOk result (λ outcome. starts self.old name kind ≡ record { bench = self.new; outcome = outcome }) }
         ensures err { OnErr result (self.new ≡ self.old) }
     {
-        if self.timelines.iter().any(|timeline| timeline.name() == name) {
+        if self.has(name) {
             return Ok(Outcome::refused(Refusal::NameTaken));
         }
         if self.timelines.len() >= MAX_TIMELINES {
@@ -115,6 +138,13 @@ impl Bench {
             Some(index) => self.timelines[index].ask(moment, query),
             None => Ok(Outcome::refused(Refusal::NoTimeline { name })),
         }
+    }
+
+    /// Whether a timeline has the name.
+    fn has(&self, name: Name) -> bool
+        ensures { result ≡ has_timeline name self.now }
+    {
+        self.timelines.iter().any(|timeline| timeline.name() == name)
     }
 
     /// The index of the timeline that has the name.

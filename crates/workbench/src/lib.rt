@@ -4,15 +4,12 @@
 //! keeps its rows with their times and numbers, beside the structure that performs them; the structure
 //! judges each edit before anything is changed.
 //!
-//! - `Bench::line` does what a line asks for and appends the lines that answer it. Its contract is
-//!   `specs/Reaction.antt`.
+//! - `Bench::line` does what a line asks for and gives the lines that answer it, by `specs/Reaction.antt`.
 #![tactic(auto)]
 
 mod bench;
 mod outcome;
 mod seat;
-#[cfg(test)]
-mod tests;
 mod timeline;
 
-pub use bench::{Bench, MAX_TIMELINES};
+pub use bench::{Bench, MAX_TIMELINES, Reply};

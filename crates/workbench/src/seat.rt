@@ -51,8 +51,15 @@ pub(crate) fn place_of_row(rows: &[Row], number: u32) -> Option<u32>
     ensures place { result ≡ place_of_row number rows.now }
     ensures within { IfSome result (λ place. place < length rows.now) }
 {
-    let place = rows.iter().position(|row| row.number == number)?;
+    let place = index_of_row(rows, number)?;
     Some(place as u32)
+}
+
+fn index_of_row(rows: &[Row], number: u32) -> Option<usize>
+    ensures place { result ≡ place_of_row number rows.now }
+    ensures within { IfSome result (λ place. place < length rows.now) }
+{
+    rows.iter().position(|row| row.number == number)
 }
 
 /// The place behind all rows up to this time.

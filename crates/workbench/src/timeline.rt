@@ -1,9 +1,16 @@
-ghost use Rattle.std.specs.Prelude.{◌≡◌, ◌≢◌, ◌+◌, ◌<◌, ◌≤◌, length, slice_get, Some, IfOk, IfSome, OnErr};
+ghost use Rattle.std.specs.Prelude.{◌≡◌, ◌≢◌, ◌+◌, ◌<◌, ◌≤◌, true, length, slice_get, Some, IfOk, IfSome, OnErr};
 ghost use Rattle.std.specs.List.{insert, remove};
 ghost use Rattle.retro_base.specs.declared.kind.Kind.TheVariants.{Pq};
 ghost use Rattle.retro_base.specs.declared.row.TheConstants.{MAX_ROWS};
-ghost use Rattle.retro_base.specs.Kind.{kind_of};
-ghost use Rattle.workbench.proofs.Order.{Fits};
+ghost use Rattle.retro_base.specs.Kind.{kind_of, same_kind};
+ghost use Rattle.retro_base.specs.Answers.{content};
+ghost use Rattle.retro_base.specs.Questions.{suits};
+ghost use Rattle.retro_base.specs.Replay.{state_at};
+ghost use Rattle.script_grammar.specs.declared.command.Moment.TheVariants.{Then};
+ghost use Rattle.script_grammar.specs.declared.command.Query.TheVariants.{One, All};
+ghost use Rattle.workbench.specs.declared.outcome.Outcome.TheVariants.{Listed, Refused};
+ghost use Rattle.workbench.specs.declared.outcome.Refusal.TheVariants.{NoRow, At};
+ghost use Rattle.workbench.specs.Order.{Fits};
 
 use crate::outcome::{Outcome, Refusal};
 use crate::seat::{Seat, place_of_row, row_named, seat_of};
@@ -64,13 +71,20 @@ impl Timeline {
         ensures ok { IfOk result (λ outcome. puts self.old spot op ≡ record { timeline = self.new; outcome = outcome }) }
         ensures err { OnErr result (self.new ≡ self.old) }
     {
-        if op.kind() != self.structure.kind() {
+        if !self.takes(op) {
             return Ok(Outcome::refused(Refusal::Kind));
         }
         match seat_of(self.rows.as_slice(), spot) {
             Some(seat) => self.put_at(seat, op),
             None => Ok(no_row(row_named(spot))),
         }
+    }
+
+    /// Whether the operation is of the timeline's kind.
+    fn takes(&self, op: Op) -> bool
+        ensures { result ≡ same_kind (kind_of op) self.now.kind }
+    {
+        op.kind() == self.structure.kind()
     }
 
     /// Puts a row in at a seat, where there is room and the edited rows replay whole.
@@ -129,28 +143,76 @@ impl Timeline {
         ensures ok { IfOk result (λ outcome. outcome ≡ tells self.old moment query) }
     {
         match query {
-            Query::One { question } if !question.suits(self.structure.kind()) => Ok(Outcome::refused(Refusal::Kind)),
-            Query::One { question } => match moment {
-                Moment::Now => Ok(Outcome::Told {
-                    answer: self.structure.ask_now(question),
-                }),
-                Moment::Then { spot } => self.ask_then(spot, question),
-            },
+            Query::One { question } => self.ask_one(moment, question),
             Query::All => self.list(moment),
         }
+    }
+
+    fn ask_one(&mut self, moment: Moment, question: Question) -> Result<Outcome, NoMemory>
+        ensures stays { self.new ≡ self.old }
+        ensures ok { IfOk result (λ outcome. outcome ≡ tells self.old moment (One question)) }
+    {
+        if !question.suits(self.structure.kind()) {
+            return Ok(Outcome::refused(Refusal::Kind));
+        }
+        match moment {
+            Moment::Now => Ok(Outcome::Told {
+                answer: self.structure.ask_now(question),
+            }),
+            Moment::Then { spot } => self.ask_at(spot, question),
+        }
+    }
+
+    fn ask_at(&mut self, spot: Spot, question: Question) -> Result<Outcome, NoMemory>
+        requires { suits question self.old.kind ≡ true }
+        ensures stays { self.new ≡ self.old }
+        ensures ok { IfOk result (λ outcome. outcome ≡ tells self.old (Then spot) (One question)) }
+    {
+        match seat_of(self.rows.as_slice(), spot) {
+            Some(seat) => {
+                let answer = self.structure.ask(seat.place, question)?;
+                Ok(Outcome::Told { answer })
+            }
+            None => Ok(no_row(row_named(spot))),
+        }
+    }
+
+    fn list(&mut self, moment: Moment) -> Result<Outcome, NoMemory>
+        ensures stays { self.new ≡ self.old }
+        ensures ok { IfOk result (λ outcome. outcome ≡ tells self.old moment All) }
+    {
+        match moment {
+            Moment::Now => {
+                let place = self.structure.len();
+                self.list_at(place)
+            }
+            Moment::Then { spot } => match seat_of(self.rows.as_slice(), spot) {
+                Some(seat) => self.list_at(seat.place),
+                None => Ok(no_row(row_named(spot))),
+            },
+        }
+    }
+
+    fn list_at(&mut self, place: u32) -> Result<Outcome, NoMemory>
+        requires { place ≤ length self.old.rows }
+        ensures stays { self.new ≡ self.old }
+        ensures ok { IfOk result (λ outcome. outcome ≡ Listed (content (state_at self.old.kind self.old.rows place))) }
+    {
+        let listing = self.structure.all(place)?;
+        Ok(Outcome::Listed { listing })
     }
 }
 
 /// The outcome of a line that names a row that is not there.
 fn no_row(number: u32) -> Outcome
-    ensures { result ≡ Outcome.Refused (Refusal.NoRow number) }
+    ensures { result ≡ Refused (NoRow number) }
 {
     Outcome::refused(Refusal::NoRow { number })
 }
 
 /// The outcome of an edit behind which this row is the first that could not be performed.
 fn fails_at(failing: Row) -> Outcome
-    ensures { result ≡ Outcome.Refused (Refusal.At failing.number failing.time) }
+    ensures { result ≡ Refused (At failing.number failing.time) }
 {
     Outcome::refused(Refusal::At {
         number: failing.number,

@@ -1,45 +1,24 @@
-use Rattle.std.proofs.Common.{◌≡◌, ◌<◌, refl, sym, ◌∙◌, Some, None}
-use Rattle.std.specs.List.{insert}
-use Rattle.retro_base.specs.declared.row.Row.{Row}
-use Rattle.retro_base.specs.declared.row.TheConstants.{MAX_NEXT}
-use Rattle.retro_base.specs.Replay.{failure}
-use Rattle.retro_base.specs.Places.{place_of_time}
-use Rattle.retro_cli.proofs.Turns.{number_left, puts_refused, seen_fails, seen_stands, next_is_fresh, timeline_with}
-use Rattle.retro_cli.proofs.timeline.Timeline.put.Goals as goal
+use Rattle.std.proofs.Common.{◌≡◌, Some, None, sym, ◌∙◌}
+use Rattle.workbench.specs.Turns.{seat_of}
+use Rattle.workbench.proofs.Turns.{puts_other_kind, puts_there, puts_nowhere, seat_fits}
+use Rattle.workbench.proofs.timeline.Timeline.put.Goals as goal
+
+pub returns-then-not-takes-clause-ok : goal.returns-then-not-takes-clause-ok
+returns-then-not-takes-clause-ok c = 
+    rw c.refused.ensures (puts_other_kind c.args.self.now c.args.spot c.args.op (sym c.takes.ensures ∙ c.if-not-takes.true))
+
+pub put_at-requires-clause-fits : goal.put_at-requires-clause-fits
+put_at-requires-clause-fits c = 
+    let there : seat_of c.args.spot c.self.inside.rows.items ≡ Some c.in-Some.seat = rw c.as_slice.ensures.value at (sym c.seat_of.ensures.seat ∙ c.in-Some.is) in
+    rw (← c.self.view_is) (seat_fits c.args.spot c.self.inside.rows.items c.in-Some.seat c.self.invariant.1.in_order there)
 
 pub returns-in-Some-clause-ok : goal.returns-in-Some-clause-ok
-returns-in-Some-clause-ok c = puts_refused _ _ _ _ (sym c.refusal.ensures ∙ c.in-Some.is)
+returns-in-Some-clause-ok c = 
+    let there : seat_of c.args.spot c.self.inside.rows.items ≡ Some c.in-Some.seat = rw c.as_slice.ensures.value at (sym c.seat_of.ensures.seat ∙ c.in-Some.is) in
+    rw (puts_there c.args.self.now c.args.spot c.args.op c.in-Some.seat (sym c.takes.ensures ∙ c.if-not-takes.false) (rw (← c.self.view_is) there)) c.put_at.ensures.ok
 
-pub insert-requires-clause-fresh : goal.insert-requires-clause-fresh
-insert-requires-clause-fresh c = rw c.self.invariant.0 (next_is_fresh _ _ _ c.self.invariant.1)
-
-pub invariant_of-self-in-None : goal.invariant_of-self-in-None
-invariant_of-self-in-None c =
-    let new : Row = record { number = c.self.inside.next; time = c.args.time; op = c.args.op } in
-    let at_place : c.place_of-place.result ≡ place_of_time c.args.time c.self.inside.rows.items = rw c.as_slice.ensures.value at c.place_of-place.ensures in
-    let kept : c.insert-in-None.new.self.items ≡ insert c.self.inside.rows.items c.place_of-place.result new = rw (c.unwrap.ensures, c.reserve.ensures.items) at c.insert-in-None.ensures.items in
-    let performed : c.insert.new.self.rows ≡ insert c.self.inside.rows.items c.place_of-place.result new = rw c.self.invariant.0 at c.in_ok-insert-in-None.ensures.rows in
-    let below : c.self.inside.next < MAX_NEXT = rw (← c.self.view_is) at (number_left c.args.self.now c.args.op (sym c.refusal.ensures ∙ c.in_default.is)) in (
-      performed ∙ sym kept,
-      rw (c.insert.ensures.kind, kept, at_place)
-          (timeline_with c.self.inside.structure.kind c.self.inside.rows.items c.self.inside.next new c.self.invariant.1 below refl
-          (rw (c.insert.ensures.kind, performed, at_place) at c.in_ok-insert-in-None.ensures.history)),
-    )
-
-pub returns-in-Some-failure_after_insert-clause-ok : goal.returns-in-Some-failure_after_insert-clause-ok
-returns-in-Some-failure_after_insert-clause-ok c =
-    let new : Row = record { number = c.self.inside.next; time = c.args.time; op = c.args.op } in
-    let at_place : c.place_of-place.result ≡ place_of_time c.args.time c.self.inside.rows.items = rw c.as_slice.ensures.value at c.place_of-place.ensures in
-    let fails : failure c.self.inside.structure.kind (insert c.self.inside.rows.items c.place_of-place.result new) ≡ Some c.in-Some-failure_after_insert.index =
-    rw c.self.invariant.0 at (sym (c.failure_after_insert.ensures.first new refl) ∙ c.in-Some-failure_after_insert.is) in
-    seen_fails _ _ _ _ _ _ _ _ c.self.view_is (sym c.refusal.ensures ∙ c.in_default.is) at_place _ _ fails
-    (rw c.as_slice-in-Some-failure_after_insert.ensures.value at c.row_behind_insert-failing.ensures)
-
-pub returns-in_ok-insert-in-None-clause-ok : goal.returns-in_ok-insert-in-None-clause-ok
-returns-in_ok-insert-in-None-clause-ok c =
-    let new : Row = record { number = c.self.inside.next; time = c.args.time; op = c.args.op } in
-    let at_place : c.place_of-place.result ≡ place_of_time c.args.time c.self.inside.rows.items = rw c.as_slice.ensures.value at c.place_of-place.ensures in
-    let stands : failure c.self.inside.structure.kind (insert c.self.inside.rows.items c.place_of-place.result new) ≡ None =
-    rw c.self.invariant.0 at (sym (c.failure_after_insert.ensures.first new refl) ∙ c.in-None.is) in
-    seen_stands _ _ _ _ _ _ _ _ c.self.view_is (sym c.refusal.ensures ∙ c.in_default.is) at_place _ _ stands c.insert.ensures.kind
-    (rw (c.unwrap.ensures, c.reserve.ensures.items) at c.insert-in-None.ensures.items)
+pub returns-in-None-clause-ok : goal.returns-in-None-clause-ok
+returns-in-None-clause-ok c = 
+    let nowhere : seat_of c.args.spot c.self.inside.rows.items ≡ None = rw c.as_slice.ensures.value at (sym c.seat_of.ensures.seat ∙ c.in-None.is) in
+    rw (c.no_row.ensures, c.row_named.ensures)
+        (puts_nowhere c.args.self.now c.args.spot c.args.op (sym c.takes.ensures ∙ c.if-not-takes.false) (rw (← c.self.view_is) nowhere))

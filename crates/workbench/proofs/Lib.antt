@@ -1,0 +1,4 @@
+pub mod Order
+pub mod Timelines
+pub mod Named
+pub mod Turns

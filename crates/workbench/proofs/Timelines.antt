@@ -1,0 +1,36 @@
+-- A timeline stays one behind each edit that is accepted.
+use Rattle.std.proofs.Common.{◌≡◌, ◌≢◌, ℕ, ◌+◌, ◌<◌, ◌≤◌, List, refl, arith}
+use Rattle.std.specs.List.{insert, remove, AllByRecursion}
+use Rattle.retro_base.specs.declared.kind.Kind.{Kind}
+use Rattle.retro_base.specs.declared.row.Row.{Row}
+use Rattle.retro_base.specs.declared.row.TheConstants.{MAX_NEXT}
+use Rattle.retro_base.specs.Timeline.{IsHistory, IsTimeline, IsFresh}
+use Rattle.workbench.specs.Order.{Fits}
+use Rattle.workbench.proofs.Order.{all_weaker, all_with, all_without, times_with, times_without}
+
+-- the number that comes next is fresh
+pub next_is_fresh : (kind : Kind) (rows : List Row) (next : ℕ) → IsTimeline kind rows next → IsFresh next rows
+next_is_fresh kind rows next timeline =
+    all_weaker (λ row. (1 ≤ row.number) × (row.number < next)) (λ row. row.number ≢ next) rows (λ row h same. omega arith) timeline.numbered
+
+-- a row is put in where its time fits, and draws the next number
+pub timeline_with : (kind : Kind) (rows : List Row) (next place : ℕ) (row : Row) → IsTimeline kind rows next → next < MAX_NEXT → row.number ≡ next
+    → Fits rows place row.time → IsHistory kind (insert rows place row) → IsTimeline kind (insert rows place row) (next + 1)
+timeline_with kind rows next place row timeline below drawn fits history = record {
+  history = history;
+  in_order = times_with rows place row timeline.in_order fits;
+  numbered = all_with (λ r. (1 ≤ r.number) × (r.number < next + 1)) rows place row
+      (all_weaker (λ r. (1 ≤ r.number) × (r.number < next)) _ rows (λ r h. (omega arith, omega arith)) timeline.numbered)
+      (omega (arith, timeline.next_in_range.0), omega arith);
+  next_in_range = (omega arith, omega arith);
+}
+
+-- a row is taken out
+pub timeline_without : (kind : Kind) (rows : List Row) (next place : ℕ) → IsTimeline kind rows next → IsHistory kind (remove rows place)
+    → IsTimeline kind (remove rows place) next
+timeline_without kind rows next place timeline history = record {
+  history = history;
+  in_order = times_without rows place timeline.in_order;
+  numbered = all_without (λ r. (1 ≤ r.number) × (r.number < next)) rows place timeline.numbered;
+  next_in_range = timeline.next_in_range;
+}

@@ -1,0 +1,16 @@
+use Rattle.std.proofs.Common.{◌≡◌, false, sym, ◌∙◌}
+use Rattle.workbench.specs.Bench.{has_timeline}
+use Rattle.workbench.proofs.Named.{starts_full, starts_anew}
+use Rattle.workbench.proofs.bench.Bench.start.Goals as goal
+
+pub returns-then-len-ge-MAX_TIMELINES-clause-ok : goal.returns-then-len-ge-MAX_TIMELINES-clause-ok
+returns-then-len-ge-MAX_TIMELINES-clause-ok c = 
+    let free : has_timeline c.args.name c.self.inside.timelines.items ≡ false = rw (← c.self.view_is) at (sym c.has.ensures ∙ c.if-has.false) in
+    rw (← c.self.view_is, c.refused-then-len-ge-MAX_TIMELINES.ensures)
+        (starts_full c.self.inside.timelines.items c.args.name c.args.kind free (rw c.len.ensures at c.if-len-ge-MAX_TIMELINES.true))
+
+pub returns-clause-ok : goal.returns-clause-ok
+returns-clause-ok c = 
+    let free : has_timeline c.args.name c.self.inside.timelines.items ≡ false = rw (← c.self.view_is) at (sym c.has.ensures ∙ c.if-has.false) in
+    rw (← c.self.view_is, c.in_ok-push.ensures.items, c.new.ensures)
+        (starts_anew c.self.inside.timelines.items c.args.name c.args.kind free (rw c.len.ensures at c.if-len-ge-MAX_TIMELINES.false))

@@ -1,0 +1,15 @@
+use Rattle.std.proofs.Common.{◌≡◌, true, false, sym, ◌∙◌, ap}
+use Rattle.retro_base.specs.Questions.{suits}
+use Rattle.workbench.specs.declared.outcome.Outcome.TheVariants.{Told}
+use Rattle.workbench.proofs.Turns.{tells_unsuited, tells_now}
+use Rattle.workbench.proofs.timeline.Timeline.ask_one.Goals as goal
+
+pub returns-then-not-suits-clause-ok : goal.returns-then-not-suits-clause-ok
+returns-then-not-suits-clause-ok c = 
+    let unsuited : suits c.args.question c.self.inside.structure.kind ≡ false = rw c.kind.ensures.kind at (sym c.suits.ensures ∙ c.if-not-suits.true) in
+    rw (← c.self.view_is, c.refused.ensures) (sym (tells_unsuited _ c.args.moment c.args.question unsuited))
+
+pub returns-in-Now-clause-ok : goal.returns-in-Now-clause-ok
+returns-in-Now-clause-ok c = 
+    let suited : suits c.args.question c.self.inside.structure.kind ≡ true = rw c.kind.ensures.kind at (sym c.suits.ensures ∙ c.if-not-suits.false) in
+    rw (← c.self.view_is, c.in-Now.is) (ap (λ a. Told a) (rw c.self.invariant.0 at c.ask_now.ensures) ∙ sym (tells_now _ c.args.question suited))

@@ -1,0 +1,17 @@
+use Rattle.std.proofs.Common.{◌≡◌, ◌<◌, refl, arith, sym, ◌∙◌}
+use Rattle.std.specs.List.{insert}
+use Rattle.retro_base.specs.declared.row.Row.{Row}
+use Rattle.workbench.proofs.Timelines.{timeline_with}
+use Rattle.workbench.proofs.timeline.Timeline.put_at.Goals as goal
+
+pub invariant_of-self-in-None : goal.invariant_of-self-in-None
+invariant_of-self-in-None c =
+    let new : Row = record { number = c.self.inside.next; time = c.args.seat.time; op = c.args.op } in
+    let kept : c.insert-in-None.new.self.items ≡ insert c.self.inside.rows.items c.args.seat.place new = rw (c.unwrap.ensures, c.reserve.ensures.items) at c.insert-in-None.ensures.items in
+    let performed : c.insert.new.self.rows ≡ insert c.self.inside.rows.items c.args.seat.place new = rw c.self.invariant.0 at c.in_ok-insert-in-None.ensures.rows in (
+      performed ∙ sym kept,
+      rw (c.insert.ensures.kind, kept)
+          (timeline_with c.self.inside.structure.kind c.self.inside.rows.items c.self.inside.next c.args.seat.place new c.self.invariant.1 (omega arith) refl
+          (rw (← c.self.view_is) at c.requires.fits)
+          (rw (c.insert.ensures.kind, performed) at c.in_ok-insert-in-None.ensures.history)),
+    )
