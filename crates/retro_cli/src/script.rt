@@ -12,7 +12,6 @@ ghost use Rattle.workbench.specs.Reaction.{reaction_to};
 
 use crate::stop::Stop;
 use crate::{Status, Words};
-use retro_base::Text;
 use retro_io::{LineBuffer, LineReader, Mark, Sink, Source, put_all};
 use std::alloc::Global;
 use workbench::Bench;
@@ -25,7 +24,6 @@ fn answer_line<K: Sink>(
     line: &[u8],
     long: bool,
     bench: &mut Bench,
-    reply: &mut Text,
     sink: &mut K,
 ) -> Result<bool, Stop>
     requires within { length line.now ≤ 4096 }
@@ -37,10 +35,9 @@ fn answer_line<K: Sink>(
     ensures fault { IsErrOf result Stop.WriteFault → Rose (K.faults sink.old) (K.faults sink.new) }
     ensures reads_nothing { (IsErrOf result Stop.ReadFault → ⊥) × (IsErrOf result Stop.TooLong → ⊥) }
 {
-    reply.clear();
-    let refused = bench.line(line, long, reply)?;
-    put_all(sink, reply.as_bytes())?;
-    Ok(refused)
+    let reply = bench.line(line, long)?;
+    put_all(sink, reply.text.as_bytes())?;
+    Ok(reply.refused)
 }
 
 /// Answers the lines that a reader gives, up to the end of the input. The answer to each is written
@@ -67,7 +64,6 @@ fn answer_lines<S: Source, K: Sink>(
     ensures too_long { IsErrOf result Stop.TooLong ↔ (taken reader.new ≡ limit_of reader.new + 1) }
 {
     let mut bench = Bench::new(alloc);
-    let mut reply = Text::new(alloc);
     let mut refused = false;
     loop {
         let long = match reader.next()? {
@@ -75,7 +71,7 @@ fn answer_lines<S: Source, K: Sink>(
             Mark::Long => true,
             Mark::End => return Ok(refused),
         };
-        refused |= answer_line(reader.line(), long, &mut bench, &mut reply, sink)?;
+        refused |= answer_line(reader.line(), long, &mut bench, sink)?;
     }
 }
 
