@@ -1,8 +1,6 @@
-pub use Rattle.retro_base.specs.Kind
+pub use Rattle.workbench.specs.Reaction
+pub use Rattle.workbench.specs.Answers
 pub mod Status
-pub mod Bench
-pub mod Outcome
-pub mod Reaction
 pub mod Output
 pub mod Run
 pub mod Stop

@@ -1,8 +1,9 @@
 -- What is claimed of a run of the program.
-use Rattle.std.specs.Prelude.{◌≡◌, ℕ, Bool, true, false, List, [], ◌∷◌, codes}
+use Rattle.std.specs.Prelude.{◌≡◌, ℕ, Bool, true, false, ◌<◌, List, [], ◌∷◌, length, codes}
 use Rattle.std.specs.Prelude.{Option, Some, None}
 use Rattle.std.specs.Str.{bytes_eq}
 use Rattle.retro_io.specs.Sink.{Appends}
+use Rattle.retro_cli.specs.declared.script.TheConstants.{MAX_BYTES}
 use Rattle.retro_cli.specs.declared.status.Status.{Status}
 use Rattle.retro_cli.specs.declared.status.Status.TheVariants as statuses
 use Rattle.retro_cli.specs.Output.{output, has_refusal}
@@ -33,3 +34,16 @@ AppendsOutput (Some bytes) before after = Appends before (output bytes) after
 abbrev pub TellsRefusal : Option (List ℕ) → Bool → Type 0
 TellsRefusal None refused = Unit {0}
 TellsRefusal (Some bytes) refused = refused ≡ has_refusal bytes
+
+-- an input may be longer than the program reads, where the source tells no bytes or so many
+abbrev pub MayBeTooLong : Option (List ℕ) → Type 0
+MayBeTooLong None = Unit {0}
+MayBeTooLong (Some bytes) = MAX_BYTES < length bytes
+
+-- how a run may end that has words it knows and meets no fault: answered, short of memory, or at an input that may be too long
+abbrev pub EndsWithoutFault : Option (List ℕ) → Status → Type 0
+EndsWithoutFault script statuses.Done = Unit {0}
+EndsWithoutFault script statuses.Refused = Unit {0}
+EndsWithoutFault script statuses.NoMemory = Unit {0}
+EndsWithoutFault script statuses.TooLong = MayBeTooLong script
+EndsWithoutFault script status = ⊥

@@ -1,22 +1,20 @@
 ghost use Rattle.std.specs.Prelude.{◌≡◌, ◌+◌, ◌-◌, ◌<◌, ◌↔◌, ◌≤◌, ◌^◌, [], true, false, Err, IsTrue, IfOk, IfSome, OnOk, IsErrOf, if◌then◌else◌, length};
 ghost use Rattle.retro_io.specs.Faults.{Rose, count_after, last_count};
 ghost use Rattle.retro_io.specs.Sink.{Appends};
+ghost use Rattle.retro_io.specs.Source.{GivesCount};
 ghost use Rattle.retro_io.specs.LineReader.{held, taken, limit_of, has_failed, reference_of, rest_of, source_of};
 ghost use Rattle.script_grammar.specs.declared.command.LineError.TheVariants as errors;
 ghost use Rattle.script_grammar.specs.Command.{command};
 ghost use Rattle.retro_cli.specs.declared.script.TheConstants.{MAX_BYTES};
-ghost use Rattle.retro_cli.specs.Outcome.{ended, outcome_text, is_refusal};
 ghost use Rattle.retro_cli.specs.Output.{has_refusal};
-ghost use Rattle.retro_cli.specs.Reaction.{obeys};
-ghost use Rattle.retro_cli.specs.Run.{is_run, HasAnswered, AppendsOutput, TellsRefusal, status_of};
+ghost use Rattle.retro_cli.specs.Run.{is_run, AppendsOutput, EndsWithoutFault, HasAnswered, MayBeTooLong, TellsRefusal, status_of};
+ghost use Rattle.workbench.specs.Reaction.{reaction_to};
 
-use crate::bench::Bench;
 use crate::stop::Stop;
 use crate::{Status, Words};
-use retro_base::Text;
 use retro_io::{LineBuffer, LineReader, Mark, Sink, Source, put_all};
-use script_grammar::read_line;
 use std::alloc::Global;
+use workbench::Bench;
 
 /// The most bytes of an input.
 pub const MAX_BYTES: u64 = 1 << 30;
@@ -26,23 +24,20 @@ fn answer_line<K: Sink>(
     line: &[u8],
     long: bool,
     bench: &mut Bench,
-    reply: &mut Text,
     sink: &mut K,
 ) -> Result<bool, Stop>
     requires within { length line.now ≤ 4096 }
     requires full { IsTrue long → length line.now ≡ 4096 }
-    ensures answered { IfOk result (λ refused. let reaction = obeys bench.old (if long then Err errors.Long else command line.now) in
-        (bench.new ≡ reaction.bench) × (refused ≡ is_refusal reaction.outcome)
-        × Appends (K.written sink.old) (ended (outcome_text reaction.outcome)) (K.written sink.new)) }
+    ensures answered { IfOk result (λ refused. let reaction = reaction_to bench.old (if long then Err errors.Long else command line.now) in
+        (bench.new ≡ reaction.bench) × (refused ≡ reaction.refused)
+        × Appends (K.written sink.old) reaction.answer (K.written sink.new)) }
     ensures kept_count { K.faults sink.old ≤ K.faults sink.new }
     ensures fault { IsErrOf result Stop.WriteFault → Rose (K.faults sink.old) (K.faults sink.new) }
     ensures reads_nothing { (IsErrOf result Stop.ReadFault → ⊥) × (IsErrOf result Stop.TooLong → ⊥) }
 {
-    let outcome = bench.obey(read_line(line, long))?;
-    reply.clear();
-    outcome.print(reply)?;
-    put_all(sink, reply.as_bytes())?;
-    Ok(outcome.is_refusal())
+    let reply = bench.line(line, long)?;
+    put_all(sink, reply.text.as_bytes())?;
+    Ok(reply.refused)
 }
 
 /// Answers the lines that a reader gives, up to the end of the input. The answer to each is written
@@ -58,6 +53,7 @@ fn answer_lines<S: Source, K: Sink>(
     ensures taken { S.taken (source_of reader.new) ≡ count_after (S.taken (source_of reader.old)) (taken reader.new - taken reader.old) }
     ensures taken_more { taken reader.old ≤ taken reader.new }
     ensures within { taken reader.new ≤ limit_of reader.new + 1 }
+    ensures left { GivesCount (S.left (source_of reader.old)) (taken reader.new - taken reader.old) (S.left (source_of reader.new)) }
     ensures ended { OnOk result (S.ended (source_of reader.new) ≡ true) }
     ensures answered { OnOk result (AppendsOutput (rest_of reader.old) (K.written sink.old) (K.written sink.new)) }
     ensures refusal { IfOk result (TellsRefusal (rest_of reader.old)) }
@@ -68,7 +64,6 @@ fn answer_lines<S: Source, K: Sink>(
     ensures too_long { IsErrOf result Stop.TooLong ↔ (taken reader.new ≡ limit_of reader.new + 1) }
 {
     let mut bench = Bench::new(alloc);
-    let mut reply = Text::new(alloc);
     let mut refused = false;
     loop {
         let long = match reader.next()? {
@@ -76,7 +71,7 @@ fn answer_lines<S: Source, K: Sink>(
             Mark::Long => true,
             Mark::End => return Ok(refused),
         };
-        refused |= answer_line(reader.line(), long, &mut bench, &mut reply, sink)?;
+        refused |= answer_line(reader.line(), long, &mut bench, sink)?;
     }
 }
 
@@ -90,6 +85,7 @@ fn run_script<S: Source, K: Sink>(alloc: Global, source: &mut S, sink: &mut K) -
     ensures read_fault { IsErrOf result Stop.ReadFault → Rose (S.faults source.old) (S.faults source.new) }
     ensures write_fault { IsErrOf result Stop.WriteFault → Rose (K.faults sink.old) (K.faults sink.new) }
     ensures too_long { S.taken source.new < last_count → (IsErrOf result Stop.TooLong ↔ (MAX_BYTES < S.taken source.new - S.taken source.old)) }
+    ensures longer { IsErrOf result Stop.TooLong → MayBeTooLong (S.left source.old) }
 {
     let buffer = LineBuffer::new(alloc)?;
     let mut reader = LineReader::with_buffer(buffer, source, MAX_BYTES);
@@ -114,6 +110,10 @@ pub fn run<S: Source, K: Sink>(alloc: Global, words: &Words, source: &mut S, sin
     ensures write_fault { result ≡ Status.WriteFault → Rose (K.faults sink.old) (K.faults sink.new) }
     ensures too_long { S.taken source.new < last_count →
         ((result ≡ Status.TooLong) ↔ (MAX_BYTES < S.taken source.new - S.taken source.old)) }
+    // Completeness: without a fault there is no other end than an answered script, want of memory, or a script that is too long.
+    ensures complete { is_run words.now ≡ true
+        → (Rose (S.faults source.old) (S.faults source.new) → ⊥) → (Rose (K.faults sink.old) (K.faults sink.new) → ⊥)
+        → EndsWithoutFault (S.left source.old) result }
     // The counts of faults never fall.
     ensures source_count { S.faults source.old ≤ S.faults source.new }
     ensures sink_count { K.faults sink.old ≤ K.faults sink.new }

@@ -37,42 +37,138 @@ fn run_over(
 
 #[test]
 fn scripts_get_their_answers(rt: HostRuntime) -> Result<(), NoMemory> {
-    let scripts: [(&str, &str, Status); 5] = [
+    let scripts: [(&[u8], &[u8], Status); 17] = [
         (
-            "new q queue\nq at 10 enq 5\nq at 20 enq 7\nq ask front\nq at 15 deq\nq ask front\nq at 5 enq 9\nq ask front\n",
-            "ok\nok #1\nok #2\n= 5\nok #3\n= 7\nok #4\n= 5\n",
+            b"new q queue\nq at 10 enq 5\nq at 20 enq 7\nq ask front\nq at 15 deq\nq ask front\n\
+              q at 5 enq 9\nq ask front\n",
+            b"ok\nok #1\nok #2\n= 5\nok #3\n= 7\nok #4\n= 5\n",
+            Status::Done,
+        ),
+        (b"", b"", Status::Done),
+        // The failing row is a later one than the edited one; a refused edit draws no number.
+        (
+            b"new s stack\ns at 10 push 1\ns at 30 pop\ns at 20 pop\ns at 5 pop\ns delete #1\ns at 40 push 3\n",
+            b"ok\nok #1\nok #2\nrefused at #2 30\nrefused at #3 5\nrefused at #2 30\nok #3\n",
+            Status::Refused,
+        ),
+        (
+            b"new s stack\ns at 1 push 1\ns at 2 push 2\ns at 3 push 3\ns ask all\ns ask nth 0\n\
+              s ask nth 2\ns ask nth 3\ns ask at 2 top\n",
+            b"ok\nok #1\nok #2\nok #3\n= 3 2 1\n= 3\n= 1\n= none\n= 2\n",
             Status::Done,
         ),
         (
-            "new q queue\nq at 5 deq\nq at 1 enq 3\nq ask size\nx ask size\nq ask all\nnew r queue\n",
-            "ok\nrefused at #1 5\nok #1\n= 1\nrefused no timeline x\nrefused syntax\nrefused syntax\n",
+            b"new d deque\nd at 1 pushr 1\nd at 2 pushl 2\nd at 3 popr\nd ask all\nd at 0 pushr 9\nd ask all\n",
+            b"ok\nok #1\nok #2\nok #3\n= 2\nok #4\n= 2 9\n",
+            Status::Done,
+        ),
+        // Rows of one time: behind all of them, before one, after one.
+        (
+            b"new q queue\nq at 5 enq 1\nq at 5 enq 2\nq before #1 enq 3\nq ask at 5 all\n\
+              q ask before #1 all\nq ask after #1 size\nq ask at 4 all\n",
+            b"ok\nok #1\nok #2\nok #3\n= 3 1 2\n= 3\n= 2\n= empty\n",
+            Status::Done,
+        ),
+        (
+            b"new d dict\nd at 1 put 1 10\nd at 2 del 1\nd ask get 1\nd delete #1\nd delete #2\nd ask get 1\n",
+            b"ok\nok #1\nok #2\n= none\nrefused at #2 2\nok\n= 10\n",
             Status::Refused,
         ),
-        ("", "", Status::Done),
-        // The failing row is a later one than the edited one; a refused edit draws no number.
+        // A sum beyond 64 bits, and keys at both ends of their range.
         (
-            "new q queue\nq at 10 enq 1\nq at 30 deq\nq at 20 deq\nq at 40 enq 2\nq ask size\n",
-            "ok\nok #1\nok #2\nrefused at #2 30\nok #3\n= 1\n",
+            b"new d dict\nd at 1 put -9223372036854775808 9223372036854775807\n\
+              d at 2 put 9223372036854775807 9223372036854775807\n\
+              d ask sum -9223372036854775808 9223372036854775807\nd ask succ 0\nd ask pred 0\n\
+              d ask count 1 0\nd ask at 1 size\n",
+            b"ok\nok #1\nok #2\n= 18446744073709551614\n\
+              = 9223372036854775807:9223372036854775807\n\
+              = -9223372036854775808:9223372036854775807\n= 0\n= 1\n",
+            Status::Done,
+        ),
+        // At most eight timelines; whether the name is free is asked first.
+        (
+            b"new a queue\nnew b queue\nnew c queue\nnew d queue\nnew e queue\nnew f queue\n\
+              new g queue\nnew h queue\nnew i queue\nnew a queue\n",
+            b"ok\nok\nok\nok\nok\nok\nok\nok\nrefused timelines 8\nrefused name taken\n",
+            Status::Refused,
+        ),
+        (
+            b"new q queue\nq at 5 deq\nq at 1 enq 3\nq ask size\nx ask size\nq ask all\nnew r queue\n",
+            b"ok\nrefused at #1 5\nok #1\n= 1\nrefused no timeline x\n= 3\nok\n",
+            Status::Refused,
+        ),
+        // A comment is answered by nothing, and a number may be spelled with zeros in front.
+        (
+            b";note\nnew d deque\n d  at 03 pushl -0\nd ask left\nd ask front\nd ask nth 18446744073709551616\n",
+            b"ok\nok #1\n= 0\nrefused kind\nrefused syntax\n",
+            Status::Refused,
+        ),
+        // Two timelines have rows and numbers of their own.
+        (
+            b"new q queue\nnew s stack\nq at 10 enq 5\ns at 10 push 1\nq at 20 enq 7\n\
+              s at 30 pop\nq ask front\ns at 20 pop\nq at 15 deq\ns at 5 pop\nq ask front\n\
+              s delete #1\nq at 5 enq 9\ns at 40 push 3\nq ask front\n",
+            b"ok\nok\nok #1\nok #1\nok #2\nok #2\n= 5\nrefused at #2 30\nok #3\nrefused at #3 5\n\
+              = 7\nrefused at #2 30\nok #4\nok #3\n= 5\n",
+            Status::Refused,
+        ),
+        // Each row stands in front of the one before it.
+        (
+            b"new q queue\nq at 1 enq 0\nq before #1 enq 0\nq before #2 enq 0\nq before #3 enq 0\n\
+              q before #4 enq 0\nq before #5 enq 0\nq before #6 enq 0\nq before #7 enq 0\n\
+              q before #8 enq 0\nq before #9 enq 0\nq before #10 enq 0\nq before #11 enq 0\n\
+              q before #12 enq 0\nq before #13 enq 0\nq before #14 enq 0\nq before #15 enq 0\n\
+              q before #16 enq 0\nq before #17 enq 0\nq before #18 enq 0\nq before #19 enq 0\n\
+              q before #20 enq 0\nq before #21 enq 0\nq before #22 enq 0\nq before #23 enq 0\n\
+              q before #24 enq 0\nq before #25 enq 0\nq before #26 enq 0\nq before #27 enq 0\n\
+              q before #28 enq 0\nq before #29 enq 0\nq before #30 enq 0\nq before #31 enq 0\n\
+              q before #32 enq 0\nq before #33 enq 0\nq before #34 enq 0\nq before #35 enq 0\n\
+              q before #36 enq 0\nq before #37 enq 0\nq before #38 enq 0\nq before #39 enq 0\n\
+              q before #40 enq 0\nq before #41 enq 0\nq before #42 enq 0\nq before #43 enq 0\n\
+              q before #44 enq 0\nq before #45 enq 0\nq before #46 enq 0\nq before #47 enq 0\n\
+              q before #48 enq 0\nq before #49 enq 0\nq before #50 enq 0\nq before #51 enq 0\n\
+              q before #52 enq 0\nq before #53 enq 0\nq before #54 enq 0\nq before #55 enq 0\n\
+              q before #56 enq 0\nq before #57 enq 0\nq before #58 enq 0\nq before #59 enq 0\n\
+              q before #60 enq 0\nq ask size\nq ask after #61 size\n",
+            b"ok\nok #1\nok #2\nok #3\nok #4\nok #5\nok #6\nok #7\nok #8\nok #9\nok #10\nok #11\n\
+              ok #12\nok #13\nok #14\nok #15\nok #16\nok #17\nok #18\nok #19\nok #20\nok #21\n\
+              ok #22\nok #23\nok #24\nok #25\nok #26\nok #27\nok #28\nok #29\nok #30\nok #31\n\
+              ok #32\nok #33\nok #34\nok #35\nok #36\nok #37\nok #38\nok #39\nok #40\nok #41\n\
+              ok #42\nok #43\nok #44\nok #45\nok #46\nok #47\nok #48\nok #49\nok #50\nok #51\n\
+              ok #52\nok #53\nok #54\nok #55\nok #56\nok #57\nok #58\nok #59\nok #60\nok #61\n\
+              = 61\n= 1\n",
+            Status::Done,
+        ),
+        (
+            b"new d deque\nd at 1 pushl 1\nd at 2 popr\nd at 3 pushr 2\nd at 4 pushl 3\n\
+              d ask all\nd ask at 2 size\nd ask at 3 right\nd delete #2\nd ask all\n",
+            b"ok\nok #1\nok #2\nok #3\nok #4\n= 3 2\n= 0\n= 2\nok\n= 3 1 2\n",
+            Status::Done,
+        ),
+        (
+            b"new d dict\nd at 1 put 1 10\nd at 5 put 1 20\nd at 3 del 1\nd ask at 2 get 1\n\
+              d ask at 3 get 1\nd ask at 4 count 0 9\nd ask sum 0 9\nd delete #1\n",
+            b"ok\nok #1\nok #2\nok #3\n= 10\n= none\n= 0\n= 20\nrefused at #3 3\n",
+            Status::Refused,
+        ),
+        // Bytes that are no text are passed over in a comment alone.
+        (
+            b"new q queue\n\xff\n;\xff\nq ask size\n",
+            b"ok\nrefused syntax\n= 0\n",
             Status::Refused,
         ),
         // No line feed ends the last line, and a carriage return before one is no part of the line.
-        ("new q queue\r\nq ask front", "ok\n= none\n", Status::Done),
+        (b"new q queue\r\nq ask front", b"ok\n= none\n", Status::Done),
     ];
-    for (script, answers, status) in scripts {
+    for (number, (script, answers, status)) in scripts.into_iter().enumerate() {
         for piece in [1, 7, 65536] {
-            let (ended, sink) = run_over(
-                rt.alloc(),
-                &[b"run"],
-                script.as_bytes(),
-                piece,
-                &NONE_FAILS,
-            )?;
+            let (ended, sink) = run_over(rt.alloc(), &[b"run"], script, piece, &NONE_FAILS)?;
             assert_eq!(rt;
                 sink.written(),
-                answers.as_bytes(),
-                "{script} in pieces of {piece}"
+                answers,
+                "row {number} in pieces of {piece}"
             );
-            assert_eq!(rt; ended, status, "{script} in pieces of {piece}");
+            assert_eq!(rt; ended, status, "row {number} in pieces of {piece}");
         }
     }
     Ok(())
@@ -117,7 +213,12 @@ fn faults_and_other_words_have_their_status(rt: HostRuntime) -> Result<(), NoMem
     assert_eq!(rt; sink.written(), b"ok\n".as_slice());
     assert_eq!(rt; status.code(), 4);
 
-    let command_lines: [&[&[u8]]; 3] = [&[], &[b"run", b"now"], &[b"gen"]];
+    let command_lines: [&[&[u8]]; 4] = [
+        &[],
+        &[b"run", b"now"],
+        &[b"gen", b"pq", b"x", b"7"],
+        &[b"follow", b"9x"],
+    ];
     for command_line in command_lines {
         let (status, sink) = run_over(rt.alloc(), command_line, script, 16, &NONE_FAILS)?;
         assert_eq!(rt; sink.written(), b"".as_slice());

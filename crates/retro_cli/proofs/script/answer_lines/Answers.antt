@@ -1,46 +1,59 @@
-use Rattle.std.proofs.Common.{◌≡◌, refl, sym, ap, ◌∙◌, arith, rules, Some, false}
-use Rattle.retro_io.specs.declared.mark.Mark.TheVariants.{Whole, Long, End}
+use Rattle.std.proofs.Common.{refl, ◌∙◌, arith}
 use Rattle.retro_io.specs.LineReader.{line_of, has_ended}
-use Rattle.retro_cli.proofs.Scripts.{GivenAs, appends_output, goes_on_first, goes_on_next, count_after-twice}
+use Rattle.retro_cli.proofs.Scripts.{GivenAs, appends_output, goes_on_first, goes_on_next, count_after-twice, gives_count-none, gives_count-twice}
 use Rattle.retro_cli.proofs.script.answer_lines.Goals as goal
 use Rattle.retro_cli.proofs.script.answer_lines.Goals.{in-Whole, in-Long}
 
 pub returns-in-End-clause-answered : goal.returns-in-End-clause-answered
 returns-in-End-clause-answered g c =
-    (appends_output _ _ _ _ _ _ _ (line_of c.next.new.self) (has_ended c.next.new.self) c.loop-reply.invariant.answers (rw c.in-End.is at c.in_ok-next.ensures.lines)).0
+    (appends_output _ _ _ _ _ _ _ (line_of c.next.new.self) (has_ended c.next.new.self) c.loop-long.invariant.answers (rw c.in-End.is at c.in_ok-next.ensures.lines)).0
 
 pub returns-in-End-clause-refusal : goal.returns-in-End-clause-refusal
 returns-in-End-clause-refusal g c =
-    (appends_output _ _ _ _ _ _ _ (line_of c.next.new.self) (has_ended c.next.new.self) c.loop-reply.invariant.answers (rw c.in-End.is at c.in_ok-next.ensures.lines)).1
+    (appends_output _ _ _ _ _ _ _ (line_of c.next.new.self) (has_ended c.next.new.self) c.loop-long.invariant.answers (rw c.in-End.is at c.in_ok-next.ensures.lines)).1
 
-pub loop-reply-init : goal.loop-reply-init
-loop-reply-init g c = record {
+pub returns-in-End-clause-left : goal.returns-in-End-clause-left
+returns-in-End-clause-left g c =
+    gives_count-twice _ _ _ _ _ _ c.loop-long.invariant.more c.in_ok-next.ensures.taken c.loop-long.invariant.left c.in_ok-next.ensures.source_left
+
+pub returns-in_err-next-clause-left : goal.returns-in_err-next-clause-left
+returns-in_err-next-clause-left g c =
+    gives_count-twice _ _ _ _ _ _ c.loop-long.invariant.more c.next.ensures.taken c.loop-long.invariant.left c.next.ensures.source_left
+
+pub returns-in_err-refused-clause-left : goal.returns-in_err-refused-clause-left
+returns-in_err-refused-clause-left g c =
+    gives_count-twice _ _ _ _ _ _ c.loop-long.invariant.more c.in_ok-next.ensures.taken c.loop-long.invariant.left c.in_ok-next.ensures.source_left
+
+pub loop-long-init : goal.loop-long-init
+loop-long-init g c = record {
   reference = refl;
   limit = refl;
   failed = c.requires;
   more = omega arith;
   taken = omega arith;
+  left = gives_count-none _ _;
   source_count = omega arith;
   sink_count = omega arith;
   answers = λ bytes e. rw c.new-bench.ensures (goes_on_first bytes _ _ e);
 }
 
-pub loop-reply-preserved : goal.loop-reply-preserved
-loop-reply-preserved g c =
+pub loop-long-preserved : goal.loop-long-preserved
+loop-long-preserved g c =
     let as_given : GivenAs c.in_ok-next.field-0 c.match-branch-2.long =
     elim c.match-branch-2.branch [ in-Whole w ↦ rw w.in-Whole.is w.long-is | in-Long w ↦ rw w.in-Long.is w.long-is ] in
     let answered = rw c.line.ensures at c.in_ok-refused.ensures.answered in
     record {
-      reference = c.in_ok-next.ensures.reference ∙ c.loop-reply.invariant.reference;
-      limit = c.in_ok-next.ensures.limit ∙ c.loop-reply.invariant.limit;
+      reference = c.in_ok-next.ensures.reference ∙ c.loop-long.invariant.reference;
+      limit = c.in_ok-next.ensures.limit ∙ c.loop-long.invariant.limit;
       failed = c.in_ok-next.ensures.failed;
-      more = omega (arith, c.in_ok-next.ensures.taken, c.loop-reply.invariant.more);
+      more = omega (arith, c.in_ok-next.ensures.taken, c.loop-long.invariant.more);
       taken = c.in_ok-next.ensures.source_taken
-          ∙ rw c.loop-reply.invariant.taken (count_after-twice _ _ _ _ c.loop-reply.invariant.more c.in_ok-next.ensures.taken);
-      source_count = omega (arith, c.in_ok-next.ensures.source_faults, c.loop-reply.invariant.source_count);
-      sink_count = omega (arith, c.in_ok-refused.ensures.kept_count, c.loop-reply.invariant.sink_count);
+          ∙ rw c.loop-long.invariant.taken (count_after-twice _ _ _ _ c.loop-long.invariant.more c.in_ok-next.ensures.taken);
+      left = gives_count-twice _ _ _ _ _ _ c.loop-long.invariant.more c.in_ok-next.ensures.taken c.loop-long.invariant.left c.in_ok-next.ensures.source_left;
+      source_count = omega (arith, c.in_ok-next.ensures.source_faults, c.loop-long.invariant.source_count);
+      sink_count = omega (arith, c.in_ok-refused.ensures.kept_count, c.loop-long.invariant.sink_count);
       answers = λ bytes e.
           rw (answered.0, answered.1)
           (goes_on_next c.in_ok-next.field-0 c.match-branch-2.long (line_of c.next.new.self) (has_ended c.next.new.self) bytes _ _ _ _ _ _ _
-          as_given c.in_ok-next.ensures.lines (c.loop-reply.invariant.answers bytes e) answered.2);
+          as_given c.in_ok-next.ensures.lines (c.loop-long.invariant.answers bytes e) answered.2);
     }
