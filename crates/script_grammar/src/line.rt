@@ -71,12 +71,16 @@ fn read_kind(mut words: Words) -> Option<Kind>
 fn kind_of_word(word: &[u8]) -> Option<Kind>
     ensures { result ≡ kind_of_word word.now }
 {
-    match word {
-        b"queue" => Some(Kind::Queue),
-        b"stack" => Some(Kind::Stack),
-        b"deque" => Some(Kind::Deque),
-        b"dict" => Some(Kind::Dict),
-        _ => None,
+    if word == b"queue".as_slice() {
+        Some(Kind::Queue)
+    } else if word == b"stack".as_slice() {
+        Some(Kind::Stack)
+    } else if word == b"deque".as_slice() {
+        Some(Kind::Deque)
+    } else if word == b"dict".as_slice() {
+        Some(Kind::Dict)
+    } else {
+        None
     }
 }
 

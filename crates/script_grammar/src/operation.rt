@@ -26,27 +26,38 @@ fn op_with(word: &[u8], operands: Operands) -> Option<Op>
 fn bare_op(word: &[u8]) -> Option<Op>
     ensures { result ≡ bare_op word.now }
 {
-    match word {
-        b"deq" => Some(Op::Deq),
-        b"pop" => Some(Op::Pop),
-        b"popl" => Some(Op::PopL),
-        b"popr" => Some(Op::PopR),
-        _ if word == b"delmin".as_slice() => Some(Op::DelMin),
-        _ => None,
+    if word == b"deq".as_slice() {
+        Some(Op::Deq)
+    } else if word == b"pop".as_slice() {
+        Some(Op::Pop)
+    } else if word == b"popl".as_slice() {
+        Some(Op::PopL)
+    } else if word == b"popr".as_slice() {
+        Some(Op::PopR)
+    } else if word == b"delmin".as_slice() {
+        Some(Op::DelMin)
+    } else {
+        None
     }
 }
 
 fn unary_op(word: &[u8], value: i64) -> Option<Op>
     ensures { result ≡ unary_op word.now value }
 {
-    match word {
-        b"enq" => Some(Op::Enq { value }),
-        b"push" => Some(Op::Push { value }),
-        b"pushl" => Some(Op::PushL { value }),
-        b"pushr" => Some(Op::PushR { value }),
-        b"del" => Some(Op::Del { key: value }),
-        b"ins" => Some(Op::Ins { key: value }),
-        _ => None,
+    if word == b"enq".as_slice() {
+        Some(Op::Enq { value })
+    } else if word == b"push".as_slice() {
+        Some(Op::Push { value })
+    } else if word == b"pushl".as_slice() {
+        Some(Op::PushL { value })
+    } else if word == b"pushr".as_slice() {
+        Some(Op::PushR { value })
+    } else if word == b"del".as_slice() {
+        Some(Op::Del { key: value })
+    } else if word == b"ins".as_slice() {
+        Some(Op::Ins { key: value })
+    } else {
+        None
     }
 }
 

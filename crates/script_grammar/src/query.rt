@@ -47,35 +47,47 @@ fn question_with(word: &[u8], operands: Operands) -> Option<Question>
 fn bare_question(word: &[u8]) -> Option<Question>
     ensures { result ≡ bare_question word.now }
 {
-    match word {
-        b"size" => Some(Question::Size),
-        b"front" => Some(Question::Front),
-        b"back" => Some(Question::Back),
-        b"top" => Some(Question::Top),
-        b"left" => Some(Question::Left),
-        b"right" => Some(Question::Right),
-        b"min" => Some(Question::Min),
-        _ => None,
+    if word == b"size".as_slice() {
+        Some(Question::Size)
+    } else if word == b"front".as_slice() {
+        Some(Question::Front)
+    } else if word == b"back".as_slice() {
+        Some(Question::Back)
+    } else if word == b"top".as_slice() {
+        Some(Question::Top)
+    } else if word == b"left".as_slice() {
+        Some(Question::Left)
+    } else if word == b"right".as_slice() {
+        Some(Question::Right)
+    } else if word == b"min".as_slice() {
+        Some(Question::Min)
+    } else {
+        None
     }
 }
 
 fn unary_question(word: &[u8], key: i64) -> Option<Question>
     ensures { result ≡ unary_question word.now key }
 {
-    match word {
-        b"get" => Some(Question::Get { key }),
-        b"succ" => Some(Question::Succ { key }),
-        b"pred" => Some(Question::Pred { key }),
-        _ => None,
+    if word == b"get".as_slice() {
+        Some(Question::Get { key })
+    } else if word == b"succ".as_slice() {
+        Some(Question::Succ { key })
+    } else if word == b"pred".as_slice() {
+        Some(Question::Pred { key })
+    } else {
+        None
     }
 }
 
 fn binary_question(word: &[u8], low: i64, high: i64) -> Option<Question>
     ensures { result ≡ binary_question word.now low high }
 {
-    match word {
-        b"count" => Some(Question::Count { low, high }),
-        b"sum" => Some(Question::Sum { low, high }),
-        _ => None,
+    if word == b"count".as_slice() {
+        Some(Question::Count { low, high })
+    } else if word == b"sum".as_slice() {
+        Some(Question::Sum { low, high })
+    } else {
+        None
     }
 }
