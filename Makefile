@@ -3,10 +3,11 @@
 #   make run     builds the program and answers a first script in front of you
 #   make build   leaves the program at build/retro, so that `build/retro run < FILE` works on any script
 #   make test    the gate: every proof, every edit that must fail, every test, every example
+#   make bench   times the program on generated scripts of each kind
 
 SCRIPT ?= examples/late_job.script
 
-.PHONY: run build test
+.PHONY: run build test bench
 
 run: build
 	@echo
@@ -25,3 +26,6 @@ build:
 
 test:
 	@sh .ci/gate
+
+bench: build
+	@python3 bench/measure.py build/retro
