@@ -127,3 +127,6 @@ impl Retro for Engine {
         }
     }
 }
+
+#[cfg(test)]
+mod tests;

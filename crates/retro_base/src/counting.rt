@@ -8,7 +8,7 @@ ghost use Rattle.retro_base.specs.Counting.{size_behind, pair_behind, tally_of, 
 use crate::{Op, Row};
 
 /// What is counted along the rows, to find the first one that cannot be performed.
-#[derive(Clone, Copy, Debug)]
+#[derive(Clone, Copy)]
 pub(crate) enum Tally {
     /// The items of a queue, a stack or a deque.
     Items,
