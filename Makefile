@@ -1,5 +1,27 @@
 # The commands that a person has to know: run, build, test.
-.PHONY: test
+#
+#   make run     builds the program and answers a first script in front of you
+#   make build   leaves the program at build/retro, so that `build/retro run < FILE` works on any script
+#   make test    the gate: every proof, every edit that must fail, every test, every example
+
+SCRIPT ?= examples/late_job.script
+
+.PHONY: run build test
+
+run: build
+	@echo
+	@echo "The script $(SCRIPT):"
+	@sed 's/^/    /' $(SCRIPT)
+	@echo "and its answers:"
+	@build/retro run < $(SCRIPT) | sed 's/^/    /'
+
+# A program is built only once it is proved; what was proved before is kept in out/ of each crate.
+build:
+	@mkdir -p build
+	@echo "Proving and building the program; the first time takes a few minutes (log: build/log) ..."
+	@cd crates/retro && rt run -- run < /dev/null > ../../build/log 2>&1 || { tail -n 20 ../../build/log; exit 1; }
+	@cp crates/retro/out/retro build/retro
+	@echo "The program is build/retro"
 
 test:
-	rt ci
+	@sh .ci/gate

@@ -1,0 +1,12 @@
+pub mod Kind
+pub mod Name
+pub mod State
+pub mod Replay
+pub mod Answers
+pub mod Edits
+pub mod Places
+pub mod Timeline
+pub mod Questions
+pub mod Bridges
+pub mod Counting
+pub mod Text

@@ -1,16 +1,38 @@
-//! base
+//! The words of a history: its kinds, operations, rows and questions, and what performing them means.
+//!
+//! A timeline is a list of rows, each an operation of one kind at a time. Its past can be edited, and every
+//! answer is that of performing the rows, as they now stand, from the first one on: the notion of Demaine,
+//! Iacono and Langerman, "Retroactive Data Structures", ACM Transactions on Algorithms 3(2), 2007. The
+//! definitions in `specs/` say so for all five kinds by one fold over the rows.
+//!
+//! The layers above rely on the trait `Retro`: whatever a structure keeps, it answers the replay of its rows.
+//! `PlainList` is the plain program whose contract is the definition; every faster structure is compared with
+//! it. It serves queues.
+//!
+//! - Rows: `Kind`, `Op`, `Row`, `Entry`, `Change`. Questions: `Question`, `Answer`, `Item`.
+//! - Structures: `Retro`, `PlainList`.
+//! - Texts: `Name`, `Text`. Costs: `Steps`. Memory: `NoMemory`.
 #![tactic(auto)]
 
+mod counting;
 mod kind;
 mod memory;
+mod name;
 mod op;
+mod plain_list;
 mod question;
+mod retro;
 mod row;
 mod steps;
+mod text;
 
 pub use kind::Kind;
 pub use memory::NoMemory;
+pub use name::Name;
 pub use op::Op;
+pub use plain_list::PlainList;
 pub use question::{Answer, Item, Question};
+pub use retro::Retro;
 pub use row::{Change, Entry, MAX_NEXT, MAX_ROWS, Row};
 pub use steps::Steps;
+pub use text::Text;

@@ -1,3 +1,6 @@
+ghost use Rattle.std.specs.Prelude.{◌≡◌};
+ghost use Rattle.retro_base.specs.Kind.{kind_of};
+
 use crate::Kind;
 
 /// An operation of a structure, as a row of a timeline performs it.
@@ -27,4 +30,19 @@ pub enum Op {
     Ins { key: i64 },
     /// Takes the least entry of a priority queue.
     DelMin,
+}
+
+impl Op {
+    /// The kind of structure that can perform the operation.
+    pub fn kind(self) -> Kind
+        ensures { result ≡ kind_of self }
+    {
+        match self {
+            Op::Enq { .. } | Op::Deq => Kind::Queue,
+            Op::Push { .. } | Op::Pop => Kind::Stack,
+            Op::PushL { .. } | Op::PushR { .. } | Op::PopL | Op::PopR => Kind::Deque,
+            Op::Put { .. } | Op::Del { .. } => Kind::Dict,
+            Op::Ins { .. } | Op::DelMin => Kind::Pq,
+        }
+    }
 }

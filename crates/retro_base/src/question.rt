@@ -1,3 +1,8 @@
+ghost use Rattle.std.specs.Prelude.{◌≡◌};
+ghost use Rattle.retro_base.specs.Questions.{suits};
+
+use crate::Kind;
+
 /// What may be asked of the content of a structure.
 #[derive(Clone, Copy, Debug, PartialEq, Eq)]
 pub enum Question {
@@ -28,6 +33,27 @@ pub enum Question {
     Count { low: i64, high: i64 },
     /// The sum of the values of the keys from `low` to `high`, both included.
     Sum { low: i64, high: i64 },
+}
+
+impl Question {
+    /// Whether the question can be asked of a structure of the kind.
+    pub fn suits(self, kind: Kind) -> bool
+        ensures { result ≡ suits self kind }
+    {
+        match self {
+            Question::Size => true,
+            Question::Front | Question::Back => kind == Kind::Queue,
+            Question::Top => kind == Kind::Stack,
+            Question::Left | Question::Right => kind == Kind::Deque,
+            Question::Min => kind == Kind::Pq,
+            Question::Nth { .. } => kind != Kind::Dict,
+            Question::Get { .. }
+            | Question::Succ { .. }
+            | Question::Pred { .. }
+            | Question::Count { .. }
+            | Question::Sum { .. } => kind == Kind::Dict,
+        }
+    }
 }
 
 /// The answer to a `Question`.

@@ -1,0 +1,3 @@
+pub mod Placing
+pub mod Turns
+pub mod Scripts

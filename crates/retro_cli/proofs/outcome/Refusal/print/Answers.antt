@@ -1,0 +1,14 @@
+use Rattle.std.proofs.Common.{sym, ◌∙◌, ap, rules, append_assoc}
+use Rattle.retro_cli.proofs.outcome.Refusal.print.Goals as goal
+
+pub returns-in_ok-push_all-in-Kind : goal.returns-in_ok-push_all-in-Kind
+returns-in_ok-push_all-in-Kind c = rw c.in-Kind.is c.in_ok-push_all-in-Kind.ensures.ok
+
+pub returns-in_ok-push_all-in-Full : goal.returns-in_ok-push_all-in-Full
+returns-in_ok-push_all-in-Full c = rw c.in-Full.is c.in_ok-push_all-in-Full.ensures.ok
+
+pub returns-in_ok-push_all-in-Numbers : goal.returns-in_ok-push_all-in-Numbers
+returns-in_ok-push_all-in-Numbers c = rw c.in-Numbers.is c.in_ok-push_all-in-Numbers.ensures.ok
+
+pub returns-in_ok-push_all-in-NoTimeline-2 : goal.returns-in_ok-push_all-in-NoTimeline-2
+returns-in_ok-push_all-in-NoTimeline-2 c = rw c.in-NoTimeline.is (search (rules, append_assoc))

@@ -1,0 +1,22 @@
+-- The answers so far, followed by the answers to what is left, are the answers to all.
+use Rattle.std.proofs.Common.{◌≡◌, ℕ, ◌≤◌, ◌+◌, ◌-◌, List, Some, false}
+use Rattle.retro_io.specs.Faults.{count_after}
+use Rattle.retro_io.specs.LineReader.{given, taken, limit_of, has_failed, reference_of, rest_of, source_of}
+use Rattle.retro_cli.proofs.Scripts.{GoesOn}
+use Rattle.retro_cli.proofs.script.answer_lines.Given as goal
+
+abbrev pub invariant-loop-reply : goal.invariant-loop-reply
+invariant-loop-reply g l = record {
+  reference : reference_of l.reader ≡ reference_of l.fn.reader;
+  limit : limit_of l.reader ≡ limit_of l.fn.reader;
+  failed : has_failed l.reader ≡ false;
+  more : taken l.fn.reader ≤ taken l.reader;
+  taken : g.S.Source.taken (source_of l.reader) ≡ count_after (g.S.Source.taken (source_of l.fn.reader)) (taken l.reader - taken l.fn.reader);
+  source_count : g.S.Source.faults (source_of l.fn.reader) ≤ g.S.Source.faults (source_of l.reader);
+  sink_count : g.K.Sink.faults l.fn.sink ≤ g.K.Sink.faults l.sink;
+  answers : (bytes : List ℕ) → rest_of l.fn.reader ≡ Some bytes
+      → GoesOn bytes (g.K.Sink.written l.fn.sink) l.bench l.refused (rest_of l.reader) (g.K.Sink.written l.sink);
+}
+
+abbrev pub decreases-loop-reply : goal.decreases-loop-reply
+decreases-loop-reply g l = limit_of l.reader + 1 - given l.reader

@@ -1,0 +1,9 @@
+pub use Rattle.retro_base.specs.Kind
+pub mod Status
+pub mod Bench
+pub mod Outcome
+pub mod Reaction
+pub mod Output
+pub mod Run
+pub mod Stop
+pub mod Words

@@ -1,0 +1,139 @@
+ghost use Rattle.std.specs.Prelude.{◌≡◌, ◌+◌, ◌-◌, ◌<◌, ◌↔◌, ◌≤◌, ◌^◌, [], true, false, Err, IsTrue, IfOk, IfSome, OnOk, IsErrOf, if◌then◌else◌, length};
+ghost use Rattle.retro_io.specs.Faults.{Rose, count_after, last_count};
+ghost use Rattle.retro_io.specs.Sink.{Appends};
+ghost use Rattle.retro_io.specs.LineReader.{held, taken, limit_of, has_failed, reference_of, rest_of, source_of};
+ghost use Rattle.script_grammar.specs.declared.command.LineError.TheVariants as errors;
+ghost use Rattle.script_grammar.specs.Command.{command};
+ghost use Rattle.retro_cli.specs.declared.script.TheConstants.{MAX_BYTES};
+ghost use Rattle.retro_cli.specs.Outcome.{ended, outcome_text, is_refusal};
+ghost use Rattle.retro_cli.specs.Output.{has_refusal};
+ghost use Rattle.retro_cli.specs.Reaction.{obeys};
+ghost use Rattle.retro_cli.specs.Run.{is_run, HasAnswered, AppendsOutput, TellsRefusal, status_of};
+
+use crate::bench::Bench;
+use crate::stop::Stop;
+use crate::{Status, Words};
+use retro_base::Text;
+use retro_io::{LineBuffer, LineReader, Mark, Sink, Source, put_all};
+use script_grammar::read_line;
+use std::alloc::Global;
+
+/// The most bytes of an input.
+pub const MAX_BYTES: u64 = 1 << 30;
+
+/// Does what one line asks for, and writes the answer.
+fn answer_line<K: Sink>(
+    line: &[u8],
+    long: bool,
+    bench: &mut Bench,
+    reply: &mut Text,
+    sink: &mut K,
+) -> Result<bool, Stop>
+    requires within { length line.now ≤ 4096 }
+    requires full { IsTrue long → length line.now ≡ 4096 }
+    ensures answered { IfOk result (λ refused. let reaction = obeys bench.old (if long then Err errors.Long else command line.now) in
+        (bench.new ≡ reaction.bench) × (refused ≡ is_refusal reaction.outcome)
+        × Appends (K.written sink.old) (ended (outcome_text reaction.outcome)) (K.written sink.new)) }
+    ensures kept_count { K.faults sink.old ≤ K.faults sink.new }
+    ensures fault { IsErrOf result Stop.WriteFault → Rose (K.faults sink.old) (K.faults sink.new) }
+    ensures reads_nothing { (IsErrOf result Stop.ReadFault → ⊥) × (IsErrOf result Stop.TooLong → ⊥) }
+{
+    let outcome = bench.obey(read_line(line, long))?;
+    reply.clear();
+    outcome.print(reply)?;
+    put_all(sink, reply.as_bytes())?;
+    Ok(outcome.is_refusal())
+}
+
+/// Answers the lines that a reader gives, up to the end of the input. The answer to each is written
+/// before the next one is read.
+fn answer_lines<S: Source, K: Sink>(
+    alloc: Global,
+    reader: &mut LineReader<'_, S>,
+    sink: &mut K,
+) -> Result<bool, Stop>
+    requires { has_failed reader.old ≡ false }
+    ensures reference { reference_of reader.new ≡ reference_of reader.old }
+    ensures limit { limit_of reader.new ≡ limit_of reader.old }
+    ensures taken { S.taken (source_of reader.new) ≡ count_after (S.taken (source_of reader.old)) (taken reader.new - taken reader.old) }
+    ensures taken_more { taken reader.old ≤ taken reader.new }
+    ensures within { taken reader.new ≤ limit_of reader.new + 1 }
+    ensures ended { OnOk result (S.ended (source_of reader.new) ≡ true) }
+    ensures answered { OnOk result (AppendsOutput (rest_of reader.old) (K.written sink.old) (K.written sink.new)) }
+    ensures refusal { IfOk result (TellsRefusal (rest_of reader.old)) }
+    ensures source_count { S.faults (source_of reader.old) ≤ S.faults (source_of reader.new) }
+    ensures sink_count { K.faults sink.old ≤ K.faults sink.new }
+    ensures read_fault { IsErrOf result Stop.ReadFault → Rose (S.faults (source_of reader.old)) (S.faults (source_of reader.new)) }
+    ensures write_fault { IsErrOf result Stop.WriteFault → Rose (K.faults sink.old) (K.faults sink.new) }
+    ensures too_long { IsErrOf result Stop.TooLong ↔ (taken reader.new ≡ limit_of reader.new + 1) }
+{
+    let mut bench = Bench::new(alloc);
+    let mut reply = Text::new(alloc);
+    let mut refused = false;
+    loop {
+        let long = match reader.next()? {
+            Mark::Whole => false,
+            Mark::Long => true,
+            Mark::End => return Ok(refused),
+        };
+        refused |= answer_line(reader.line(), long, &mut bench, &mut reply, sink)?;
+    }
+}
+
+/// Reads a script, answers its lines and sees to it that the answers arrive.
+fn run_script<S: Source, K: Sink>(alloc: Global, source: &mut S, sink: &mut K) -> Result<bool, Stop>
+    ensures ended { OnOk result ((S.ended source.new ≡ true) × (K.flushed sink.new ≡ true)) }
+    ensures answered { OnOk result (AppendsOutput (S.left source.old) (K.written sink.old) (K.written sink.new)) }
+    ensures refusal { IfOk result (TellsRefusal (S.left source.old)) }
+    ensures source_count { S.faults source.old ≤ S.faults source.new }
+    ensures sink_count { K.faults sink.old ≤ K.faults sink.new }
+    ensures read_fault { IsErrOf result Stop.ReadFault → Rose (S.faults source.old) (S.faults source.new) }
+    ensures write_fault { IsErrOf result Stop.WriteFault → Rose (K.faults sink.old) (K.faults sink.new) }
+    ensures too_long { S.taken source.new < last_count → (IsErrOf result Stop.TooLong ↔ (MAX_BYTES < S.taken source.new - S.taken source.old)) }
+{
+    let buffer = LineBuffer::new(alloc)?;
+    let mut reader = LineReader::with_buffer(buffer, source, MAX_BYTES);
+    let answered = answer_lines(alloc, &mut reader, sink);
+    let _source = reader.into_inner();
+    let refused = answered?;
+    sink.flush().map_err(|_| Stop::WriteFault)?;
+    Ok(refused)
+}
+
+/// Runs the program: with the one word `run` it reads a script from the source and writes the answer to
+/// each line to the sink, before it reads the next one. With other words it reads and writes nothing.
+pub fn run<S: Source, K: Sink>(alloc: Global, words: &Words, source: &mut S, sink: &mut K) -> Status
+    // The input was read to its end, the answers have arrived, and they are those of the script.
+    ensures ended { HasAnswered result → (S.ended source.new ≡ true) × (K.flushed sink.new ≡ true) }
+    ensures answered { HasAnswered result → AppendsOutput (S.left source.old) (K.written sink.old) (K.written sink.new) }
+    ensures refusal { HasAnswered result → IfSome (S.left source.old) (λ bytes. result ≡ status_of (has_refusal bytes)) }
+    // When each other status comes.
+    ensures words { (result ≡ Status.Words) ↔ (is_run words.now ≡ false) }
+    ensures untouched { result ≡ Status.Words → (source.new ≡ source.old) × (sink.new ≡ sink.old) }
+    ensures read_fault { result ≡ Status.ReadFault → Rose (S.faults source.old) (S.faults source.new) }
+    ensures write_fault { result ≡ Status.WriteFault → Rose (K.faults sink.old) (K.faults sink.new) }
+    ensures too_long { S.taken source.new < last_count →
+        ((result ≡ Status.TooLong) ↔ (MAX_BYTES < S.taken source.new - S.taken source.old)) }
+    // The counts of faults never fall.
+    ensures source_count { S.faults source.old ≤ S.faults source.new }
+    ensures sink_count { K.faults sink.old ≤ K.faults sink.new }
+{
+    if !is_run(words) {
+        return Status::Words;
+    }
+    match run_script(alloc, source, sink) {
+        Ok(false) => Status::Done,
+        Ok(true) => Status::Refused,
+        Err(Stop::ReadFault) => Status::ReadFault,
+        Err(Stop::WriteFault) => Status::WriteFault,
+        Err(Stop::NoMemory) => Status::NoMemory,
+        Err(Stop::TooLong) => Status::TooLong,
+    }
+}
+
+/// Whether the words are those that run a script.
+fn is_run(words: &Words) -> bool
+    ensures { result ≡ is_run words.now }
+{
+    words.len() == 1 && words.word(0) == b"run".as_slice()
+}

@@ -1,0 +1,4 @@
+pub mod LineLemmas
+pub mod RangeLemmas
+pub mod ReadLemmas
+pub mod SinkLemmas

@@ -1,0 +1,121 @@
+-- The bytes held are those held first and all that came since.
+use Rattle.std.proofs.Common.{◌≡◌, ◌-◌, ℕ, ◌∷◌, ◌++◌, Result, Ok, Err, length, take, drop, sym, ap, ◌∙◌, inl, subst, arith}
+use Rattle.std.proofs.lemmas.Result.{err_from_is_err_and}
+use Rattle.retro_io.specs.declared.mark.ReadError.{ReadError}
+use Rattle.retro_io.specs.Faults.{count_after}
+use Rattle.retro_io.specs.Lines.{has_line_feed, line_feed}
+use Rattle.retro_io.specs.Source.{Gives}
+use Rattle.retro_io.specs.Reads.{MakesOf, GivesFirst, GivesPiece}
+use Rattle.retro_io.proofs.LineLemmas.{unbroken-back}
+use Rattle.retro_io.proofs.ReadLemmas.{Took-then, Took-both, MakesOf-error, MakesOf-later, GivesFirst-of, GivesFirst-piece, grown, length-behind, count_after-twice}
+use Rattle.retro_io.proofs.line_reader.LineReader.read_line.Goals as goal
+use Rattle.retro_io.proofs.line_reader.LineReader.read_line.Goals.{After-fill}
+use Rattle.retro_io.proofs.line_reader.LineReader.read_line.Given.{Over}
+
+-- a fill that failed
+abbrev failing : ReadError → Result ℕ ReadError
+failing error = Err error
+
+-- how many bytes came
+size : (g : Over) (c : After-fill g)
+    → length (drop (length c.loop-self.self.buffer.held) c.fill.new.self.buffer.held) ≡ c.fill.new.self.taken - c.loop-self.self.taken
+size g c = length-behind c.loop-self.self.buffer.held c.fill.new.self.buffer.held _ c.fill.ensures.length
+
+pub returns-in_err-fill-clause-took : goal.returns-in_err-fill-clause-took
+returns-in_err-fill-clause-took g c =
+    let p = err_from_is_err_and c.from_residual.result c.from_residual.ensures.1 in
+    let held = c.args.self.now.buffer.held in
+    let came = drop (length c.loop-self.self.buffer.held) c.fill.new.self.buffer.held in
+    let count = size g (goal.at.returns-in_err-fill-clause-took g c).After-fill in
+    let error = c.in_err-fill.field-0.0 in
+    rw (p.1, p.2)
+    (Took-then _ _ _ (λ xs. c.loop-self.self.buffer.held ≡ held ++ xs)
+    (MakesOf (Err error) c.fill.new.self.buffer.shown c.fill.new.self.ended held c.fill.new.self.buffer.held)
+    (c.loop-self.self.taken - c.args.self.now.taken) (c.fill.new.self.taken - c.args.self.now.taken) came
+    c.loop-self.invariant.took c.fill.ensures.gives (omega (arith, count, c.fill.ensures.taken, c.loop-self.invariant.rises))
+    (λ xs e. MakesOf-error error _ _ _ _ xs came (unbroken-back held xs (ap has_line_feed (sym e) ∙ c.loop-self.invariant.unbroken))
+    (λ is. omega (arith, count, (c.in_err-fill.ensures.fault (ap failing is)).0))
+    (λ is. omega (arith, count, c.in_err-fill.ensures.last (ap failing is), c.in_err-fill.ensures.too_long.0 (ap failing is), c.fill.ensures.limit))))
+
+pub returns-then-branch-eq0-clause-took : goal.returns-then-branch-eq0-clause-took
+returns-then-branch-eq0-clause-took g c =
+    let held = c.args.self.now.buffer.held in
+    let before = c.loop-self.self.buffer.held in
+    let now = c.fill.new.self.buffer.held in
+    let came = drop (length before) now in
+    let count = size g (goal.at.returns-then-branch-eq0-clause-took g c).After-fill in
+    let mark = c.give_last.result in
+    let shown = c.give_last.new.self.buffer.shown in
+    let after = c.give_last.new.self.buffer.held in
+    let gives : GivesFirst mark shown c.give_last.new.self.ended now after =
+    subst (λ ended. GivesFirst mark shown ended now after) (sym c.give_last.ensures.ended) c.give_last.ensures.gives in
+    Took-then _ _ _ (λ xs. before ≡ held ++ xs)
+    (MakesOf (Ok mark) shown c.give_last.new.self.ended held after)
+    (c.loop-self.self.taken - c.args.self.now.taken) (c.give_last.new.self.taken - c.args.self.now.taken) came
+    c.loop-self.invariant.took
+    (subst (λ source. Gives (g.S.Source.left c.loop-self.self.source.now) came (g.S.Source.left source)) (sym c.give_last.ensures.source) c.fill.ensures.gives)
+    (omega (arith, count, c.fill.ensures.taken, c.loop-self.invariant.rises, c.give_last.ensures.taken))
+    (λ xs e. GivesFirst-of mark shown c.give_last.new.self.ended now (held ++ (xs ++ came)) after (grown held before now xs e c.fill.ensures.kept) gives)
+
+pub returns-in-Some-clause-took : goal.returns-in-Some-clause-took
+returns-in-Some-clause-took g c =
+    let held = c.args.self.now.buffer.held in
+    let before = c.loop-self.self.buffer.held in
+    let now = c.fill.new.self.buffer.held in
+    let came = drop (length before) now in
+    let count = size g (goal.at.returns-in-Some-clause-took g c).After-fill in
+    let mark = c.give.result in
+    let shown = c.give.new.self.shown in
+    let after = c.give.new.self.held in
+    let ended = c.fill.new.self.ended in
+    let found = c.in-Some.ensures in
+    let piece : GivesPiece mark shown ended now after = record {
+      piece = take c.in-Some.at now;
+      unbroken = found.2;
+      shows = c.give.ensures.shown;
+      cut = inl (found.3 ∙ ap (λ l. take c.in-Some.at now ++ line_feed ∷ l) (sym c.give.ensures.held));
+    } in
+    Took-then _ _ _ (λ xs. before ≡ held ++ xs)
+    (MakesOf (Ok mark) shown ended held after)
+    (c.loop-self.self.taken - c.args.self.now.taken) (c.fill.new.self.taken - c.args.self.now.taken) came
+    c.loop-self.invariant.took c.fill.ensures.gives
+    (omega (arith, count, c.fill.ensures.taken, c.loop-self.invariant.rises))
+    (λ xs e. GivesFirst-of mark shown ended now (held ++ (xs ++ came)) after (grown held before now xs e c.fill.ensures.kept)
+    (GivesFirst-piece mark shown ended now after piece))
+
+pub loop-self-preserved : goal.loop-self-preserved
+loop-self-preserved g c =
+    let held = c.args.self.now.buffer.held in
+    let before = c.loop-self.self.buffer.held in
+    let now = c.fill.new.self.buffer.held in
+    let came = drop (length before) now in
+    let count = size g (goal.at.loop-self-preserved g c).After-fill in
+    record {
+      reference = c.fill.ensures.reference ∙ c.loop-self.invariant.reference;
+      limit = c.fill.ensures.limit ∙ c.loop-self.invariant.limit;
+      failed = c.in_ok-fill.ensures.failed;
+      ended = c.fill.ensures.ended;
+      unbroken = c.in_default.ensures;
+      rises = omega (arith, c.fill.ensures.taken, c.loop-self.invariant.rises);
+      in_limit = c.fill.new.self.in_limit c.in_ok-fill.ensures.failed;
+      source_taken = c.fill.ensures.source_taken ∙ ap (λ n. count_after n (c.fill.new.self.taken - c.loop-self.self.taken)) c.loop-self.invariant.source_taken
+          ∙ count_after-twice (g.S.Source.taken c.args.self.now.source.now) _ _
+          ∙ ap (count_after (g.S.Source.taken c.args.self.now.source.now)) (omega (arith, c.fill.ensures.taken, c.loop-self.invariant.rises));
+      source_faults = omega (arith, c.fill.ensures.source_faults, c.loop-self.invariant.source_faults);
+      took = Took-then _ _ _ (λ xs. before ≡ held ++ xs) (λ xs. now ≡ held ++ xs)
+          (c.loop-self.self.taken - c.args.self.now.taken) (c.fill.new.self.taken - c.args.self.now.taken) came
+          c.loop-self.invariant.took c.fill.ensures.gives (omega (arith, count, c.fill.ensures.taken, c.loop-self.invariant.rises))
+          (λ xs e. grown held before now xs e c.fill.ensures.kept);
+    }
+
+pub returns-clause-took : goal.returns-clause-took
+returns-clause-took g c =
+    let held = c.args.self.now.buffer.held in
+    let before = c.loop-self.self.buffer.held in
+    let last = c.read_long.new.self in
+    Took-both _ _ _ (λ xs. before ≡ held ++ xs) (MakesOf c.read_long.result last.buffer.shown last.ended before last.buffer.held)
+    (MakesOf c.read_long.result last.buffer.shown last.ended held last.buffer.held)
+    (c.loop-self.self.taken - c.args.self.now.taken) (last.taken - c.loop-self.self.taken) (last.taken - c.args.self.now.taken)
+    c.loop-self.invariant.took c.read_long.ensures.took
+    (omega (arith, c.read_long.ensures.taken, c.loop-self.invariant.rises))
+    (λ xs ys e m. MakesOf-later c.read_long.result last.buffer.shown last.ended held before last.buffer.held xs ys e c.loop-self.invariant.unbroken m)

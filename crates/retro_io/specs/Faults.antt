@@ -1,0 +1,14 @@
+-- A count that stands still at the last value of 64 bits, and what it means that a count of faults rose.
+use Rattle.std.specs.Prelude.{◌≡◌, ℕ, ◌+◌, ◌-◌, ◌^◌, ◌<◌, ◌⊎◌, min, max}
+
+-- the last value of a count
+abbrev pub last_count : ℕ
+last_count = 2 ^ 64 - 1
+
+-- a count after so many more; it stands still at its last value
+abbrev pub count_after : ℕ → ℕ → ℕ
+count_after count more = max count (min (count + more) last_count)
+
+-- a count of faults rose in a call: it is greater at the exit than at the entry, or it stands at its last value
+abbrev pub Rose : ℕ → ℕ → Type 0
+Rose before after = (before < after) ⊎ (after ≡ last_count)

@@ -1,0 +1,9 @@
+pub mod Faults
+pub mod LineBuffer
+pub mod LineReader
+pub mod Lines
+pub mod Marks
+pub mod Memory
+pub mod Reads
+pub mod Sink
+pub mod Source

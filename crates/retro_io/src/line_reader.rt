@@ -1,0 +1,264 @@
+ghost use Rattle.std.specs.Prelude.{◌≡◌, ℕ, ◌+◌, ◌-◌, ◌^◌, ◌≤◌, ◌<◌, ◌↔◌, [], ◌∷◌, ◌++◌, true, false, length, take, drop, Result, Ok, IfOk, IfSome, OnErr, OnOk, IsErrOf, IsTrue, MatchResult, MatchOption, is_err};
+ghost use Rattle.retro_io.specs.Faults.{Rose, count_after};
+ghost use Rattle.retro_io.specs.Lines.{has_line_feed, longest};
+ghost use Rattle.retro_io.specs.Marks.{GivesNextOf, Measures, gives_line};
+ghost use Rattle.retro_io.specs.Reads.{GivesFirst, MakesOf, Took};
+ghost use Rattle.retro_io.specs.Source.{Gives, GivesCount, bytes_left};
+
+use crate::line_buffer::{LONGEST, LineBuffer};
+use crate::{Failed, Mark, ReadError, Source};
+use retro_base::NoMemory;
+use std::alloc::Global;
+
+/// Reads the lines of a source, up to a limit of bytes. A contract learns what became of the source where `into_inner`
+/// gives it back, and not where a reader is dropped.
+#[derive(Drop)]
+pub struct LineReader<'a, S: Source> {
+    source: &'a mut S,
+    buffer: LineBuffer,
+    taken: u64,
+    limit: u64,
+    ended: bool,
+    failed: bool,
+    ghost limited: { limit < 2 ^ 62 },
+    ghost within: { taken ≤ limit + 1 },
+    ghost in_limit: { failed ≡ false → taken ≤ limit },
+    ghost counted: { length buffer.held ≤ taken },
+    ghost all_given: { ended ≡ true → buffer.held ≡ [] },
+    ghost none_left: { ended ≡ true → bytes_left (S.left source.now) ≡ [] },
+    ghost at_end: { ended ≡ true → S.ended source.now ≡ true },
+}
+
+impl<'a, S: Source> LineReader<'a, S> {
+    ghost use Rattle.retro_io.specs.LineReader.{held, line_of, taken, given, limit_of, has_ended, has_failed, source_of, reference_of, rest_of};
+
+    /// A reader of the lines of the source. It reserves all the memory that it will need.
+    pub fn new(alloc: Global, source: &'a mut S, limit: u64) -> Result<LineReader<'a, S>, NoMemory>
+        requires { limit < 2 ^ 62 }
+        ensures reference { IfOk result (λ r. reference_of r ≡ source.entry.ghost_name) }
+        ensures source { IfOk result (λ r. source_of r ≡ source.entry.now) }
+        ensures held { IfOk result (λ r. held r ≡ []) }
+        ensures taken { IfOk result (λ r. taken r ≡ 0) }
+        ensures limit { IfOk result (λ r. limit_of r ≡ limit) }
+        ensures ended { IfOk result (λ r. has_ended r ≡ false) }
+        ensures failed { IfOk result (λ r. has_failed r ≡ false) }
+    {
+        let buffer = LineBuffer::new(alloc)?;
+        Ok(LineReader::with_buffer(buffer, source, limit))
+    }
+
+    /// The same with a buffer that is there already, and so without want of memory.
+    pub fn with_buffer(buffer: LineBuffer, source: &'a mut S, limit: u64) -> LineReader<'a, S>
+        requires limit { limit < 2 ^ 62 }
+        requires empty { buffer.held ≡ [] }
+        ensures reference { reference_of result ≡ source.entry.ghost_name }
+        ensures source { source_of result ≡ source.entry.now }
+        ensures held { held result ≡ [] }
+        ensures taken { taken result ≡ 0 }
+        ensures limit { limit_of result ≡ limit }
+        ensures ended { has_ended result ≡ false }
+        ensures failed { has_failed result ≡ false }
+    {
+        LineReader {
+            source,
+            buffer,
+            taken: 0,
+            limit,
+            ended: false,
+            failed: false,
+        }
+    }
+
+    /// Gives the source back. Bytes that the reader holds are lost.
+    pub fn into_inner(self) -> &'a mut S
+        ensures reference { result.ghost_name ≡ reference_of self.entry }
+        ensures source { result.now ≡ source_of self.entry }
+    {
+        let LineReader {
+            source,
+            buffer: _buffer,
+            taken: _taken,
+            limit: _limit,
+            ended: _ended,
+            failed: _failed,
+        } = self;
+        source
+    }
+
+    /// What the reader shows of the line that it gave last: of a long one its first 4,096 bytes.
+    pub fn line(&self) -> &[u8]
+        ensures { result.now ≡ line_of self.now }
+    {
+        self.buffer.line()
+    }
+
+    /// Moves to the next line. It takes no memory, and reads from the source only where no whole line is held and no
+    /// read of its own has answered the end.
+    pub fn next(&mut self) -> Result<Mark, ReadError>
+        requires { has_failed self.old ≡ false }
+        ensures reference { reference_of self.new ≡ reference_of self.old }
+        ensures limit { limit_of self.new ≡ limit_of self.old }
+        ensures failed { has_failed self.new ≡ is_err result }
+        ensures taken { taken self.old ≤ taken self.new }
+        ensures within { taken self.new ≤ limit_of self.new + 1 }
+        // It reads only where no whole line is held and no read of its own has answered the end.
+        ensures line_held { has_line_feed (held self.old) ≡ true → source_of self.new ≡ source_of self.old }
+        ensures after_end { has_ended self.old ≡ true → (source_of self.new ≡ source_of self.old) × (result ≡ Ok Mark.End) }
+        // What became of the source.
+        ensures source_taken { S.taken (source_of self.new)
+            ≡ count_after (S.taken (source_of self.old)) (taken self.new - taken self.old) }
+        ensures source_left { GivesCount (S.left (source_of self.old)) (taken self.new - taken self.old) (S.left (source_of self.new)) }
+        ensures source_faults { S.faults (source_of self.old) ≤ S.faults (source_of self.new) }
+        // The lines given are those of the bytes.
+        ensures lines { IfOk result (λ mark. GivesNextOf mark (line_of self.new) (has_ended self.new) (rest_of self.old) (rest_of self.new)) }
+        ensures shown { IfOk result (λ mark. Measures mark (line_of self.new)) }
+        ensures progress { IfOk result (λ mark. IsTrue (gives_line mark) → given self.old < given self.new) }
+        ensures at_end { IfOk result (λ mark. mark ≡ Mark.End →
+            (held self.new ≡ []) × (has_ended self.new ≡ true) × (S.ended (source_of self.new) ≡ true)) }
+        // It reads only where no whole line is held and no read of its own has answered the end.
+        ensures kept_line { has_line_feed (held self.old) ≡ true → source_of self.new ≡ source_of self.old }
+        ensures kept_end { has_ended self.old ≡ true → (source_of self.new ≡ source_of self.old) × (result ≡ Ok Mark.End) }
+        // An error comes only where no whole line was held.
+        ensures unbroken { OnErr result (has_line_feed (held self.old) ≡ false) }
+        ensures fault { IsErrOf result ReadError.ReadFault → Rose (S.faults (source_of self.old)) (S.faults (source_of self.new)) }
+        ensures fault_unbroken { IsErrOf result ReadError.ReadFault → IfSome (S.left (source_of self.old))
+            (λ bytes. has_line_feed (take (taken self.new - taken self.old) bytes) ≡ false) }
+        ensures too_long { IsErrOf result ReadError.TooLong ↔ (taken self.new ≡ limit_of self.new + 1) }
+        ensures too_long_unbroken { IsErrOf result ReadError.TooLong → IfSome (S.left (source_of self.old))
+            (λ bytes. has_line_feed (take (limit_of self.old - taken self.old) bytes) ≡ false) }
+    {
+        if self.ended {
+            return Ok(Mark::End);
+        }
+        match self.buffer.line_feed_from(0) {
+            Some(at) => Ok(self.buffer.give(at, at + 1)),
+            None => self.read_line(),
+        }
+    }
+
+    /// Reads until a line feed comes, or the end, or an error.
+    fn read_line(&mut self) -> Result<Mark, ReadError>
+        requires failed { has_failed self.old ≡ false }
+        requires ended { has_ended self.old ≡ false }
+        requires unbroken { has_line_feed (held self.old) ≡ false }
+        ensures reference { reference_of self.new ≡ reference_of self.old }
+        ensures limit { limit_of self.new ≡ limit_of self.old }
+        ensures failed { has_failed self.new ≡ is_err result }
+        ensures taken { taken self.old ≤ taken self.new }
+        ensures source_taken { S.taken (source_of self.new)
+            ≡ count_after (S.taken (source_of self.old)) (taken self.new - taken self.old) }
+        ensures source_faults { S.faults (source_of self.old) ≤ S.faults (source_of self.new) }
+        ensures took { Took (S.left (source_of self.old)) (S.left (source_of self.new)) (taken self.new - taken self.old)
+            (MakesOf result (line_of self.new) (has_ended self.new) (held self.old) (held self.new)) }
+        ensures fault { IsErrOf result ReadError.ReadFault → Rose (S.faults (source_of self.old)) (S.faults (source_of self.new)) }
+        ensures too_long { IsErrOf result ReadError.TooLong ↔ (taken self.new ≡ limit_of self.new + 1) }
+    {
+        while self.buffer.len() <= LONGEST + 1 {
+            let held = self.buffer.len();
+            if self.fill()? == 0 {
+                return Ok(self.give_last());
+            }
+            if let Some(at) = self.buffer.line_feed_from(held) {
+                return Ok(self.buffer.give(at, at + 1));
+            }
+        }
+        self.read_long()
+    }
+
+    /// Reads on, past a line that is long already, until a line feed comes, or the end, or an error.
+    fn read_long(&mut self) -> Result<Mark, ReadError>
+        requires failed { has_failed self.old ≡ false }
+        requires ended { has_ended self.old ≡ false }
+        requires unbroken { has_line_feed (held self.old) ≡ false }
+        requires long { longest + 1 < length (held self.old) }
+        ensures reference { reference_of self.new ≡ reference_of self.old }
+        ensures limit { limit_of self.new ≡ limit_of self.old }
+        ensures failed { has_failed self.new ≡ is_err result }
+        ensures taken { taken self.old ≤ taken self.new }
+        ensures source_taken { S.taken (source_of self.new)
+            ≡ count_after (S.taken (source_of self.old)) (taken self.new - taken self.old) }
+        ensures source_faults { S.faults (source_of self.old) ≤ S.faults (source_of self.new) }
+        ensures took { Took (S.left (source_of self.old)) (S.left (source_of self.new)) (taken self.new - taken self.old)
+            (MakesOf result (line_of self.new) (has_ended self.new) (held self.old) (held self.new)) }
+        ensures fault { IsErrOf result ReadError.ReadFault → Rose (S.faults (source_of self.old)) (S.faults (source_of self.new)) }
+        ensures too_long { IsErrOf result ReadError.TooLong ↔ (taken self.new ≡ limit_of self.new + 1) }
+    {
+        loop {
+            self.buffer.keep_front();
+            if self.fill()? == 0 {
+                self.buffer.give_long(LONGEST);
+                self.ended = true;
+                return Ok(Mark::Long);
+            }
+            if let Some(at) = self.buffer.line_feed_from(LONGEST) {
+                self.buffer.give_long(at + 1);
+                return Ok(Mark::Long);
+            }
+        }
+    }
+
+    /// Gives what is held at the end of the input, if there is anything.
+    fn give_last(&mut self) -> Mark
+        requires failed { has_failed self.old ≡ false }
+        requires unbroken { has_line_feed (held self.old) ≡ false }
+        requires at_end { S.ended (source_of self.old) ≡ true }
+        requires none_left { bytes_left (S.left (source_of self.old)) ≡ [] }
+        ensures reference { reference_of self.new ≡ reference_of self.old }
+        ensures source { source_of self.new ≡ source_of self.old }
+        ensures limit { limit_of self.new ≡ limit_of self.old }
+        ensures failed { has_failed self.new ≡ false }
+        ensures ended { has_ended self.new ≡ true }
+        ensures taken { taken self.new ≡ taken self.old }
+        ensures gives { GivesFirst result (line_of self.new) true (held self.old) (held self.new) }
+    {
+        let held = self.buffer.len();
+        self.ended = true;
+        if held == 0 {
+            Mark::End
+        } else {
+            self.buffer.give(held, held)
+        }
+    }
+
+    /// Reads behind the bytes held: up to the limit, or the one byte that shows that there are more. The buffer offers far
+    /// more than 16 bytes behind those that it keeps of a line.
+    fn fill(&mut self) -> Result<usize, ReadError>
+        requires failed { has_failed self.old ≡ false }
+        requires ended { has_ended self.old ≡ false }
+        requires room { length (held self.old) < 65536 }
+        ensures reference { reference_of self.new ≡ reference_of self.old }
+        ensures limit { limit_of self.new ≡ limit_of self.old }
+        ensures failed { has_failed self.new ≡ is_err result }
+        ensures ended { has_ended self.new ≡ false }
+        ensures count { IfOk result (λ count. taken self.new ≡ taken self.old + count) }
+        ensures taken { taken self.old ≤ taken self.new }
+        ensures source_taken { S.taken (source_of self.new)
+            ≡ count_after (S.taken (source_of self.old)) (taken self.new - taken self.old) }
+        ensures source_faults { S.faults (source_of self.old) ≤ S.faults (source_of self.new) }
+        ensures kept { take (length (held self.old)) (held self.new) ≡ held self.old }
+        ensures length { length (held self.new) ≡ length (held self.old) + (taken self.new - taken self.old) }
+        ensures gives { Gives (S.left (source_of self.old)) (drop (length (held self.old)) (held self.new)) (S.left (source_of self.new)) }
+        ensures at_end { IfOk result (λ count. count ≡ 0 →
+            (bytes_left (S.left (source_of self.new)) ≡ []) × (S.ended (source_of self.new) ≡ true)) }
+        ensures fault { IsErrOf result ReadError.ReadFault →
+            (taken self.new ≡ taken self.old) × Rose (S.faults (source_of self.old)) (S.faults (source_of self.new)) }
+        ensures too_long { IsErrOf result ReadError.TooLong ↔ (taken self.new ≡ limit_of self.new + 1) }
+        ensures last { IsErrOf result ReadError.TooLong → taken self.old ≡ limit_of self.old }
+    {
+        let most = (self.limit - self.taken).max(1);
+        match self.buffer.fill_from(self.source, most) {
+            Ok(count) => {
+                self.taken += count as u64;
+                if self.taken > self.limit {
+                    self.failed = true;
+                    return Err(ReadError::TooLong);
+                }
+                Ok(count)
+            }
+            Err(Failed) => {
+                self.failed = true;
+                Err(ReadError::ReadFault)
+            }
+        }
+    }
+}

@@ -1,0 +1,62 @@
+ghost use Rattle.std.specs.Prelude.{◌≡◌, ℕ, Bool, true, false, List, Option, [], ◌≤◌, ◌<◌, length, take, drop, Result, is_ok, IfOk, OnErr, OnOk, MatchResult};
+ghost use Rattle.retro_io.specs.Faults.{Rose, last_count};
+ghost use Rattle.retro_io.specs.Sink.{Appends, AppendsPart};
+
+use crate::Failed;
+
+/// Where bytes go. A sink may tell contracts what was written to it; one over a file or a pipe tells nothing.
+pub trait Sink {
+    /// The bytes written, where the sink tells them.
+    ghost written: { Self → Option (List ℕ) };
+
+    /// Whether the last call was a flush that succeeded.
+    ghost flushed: { Self → Bool };
+
+    /// A count of faults. It never falls, and stands still at its last value.
+    ghost faults: { Self → ℕ };
+
+    /// Appends a front of the piece, and says how many bytes it has: at least one, where the piece is not empty.
+    /// Nothing is appended by a write that fails.
+    fn write(&mut self, piece: &[u8]) -> Result<usize, Failed>
+        ensures within { IfOk result (λ count. count ≤ length piece.now) }
+        ensures some { IfOk result (λ count. 0 < length piece.now → 0 < count) }
+        ensures appended { MatchResult result
+            (λ count. Appends (written self.old) (take count piece.now) (written self.new))
+            (λ _. written self.new ≡ written self.old) }
+        ensures flushed { flushed self.new ≡ false }
+        ensures kept_count { faults self.old ≤ faults self.new }
+        ensures counted { faults self.new ≤ last_count }
+        ensures failed { OnErr result (Rose (faults self.old) (faults self.new)) };
+
+    /// Sees to it that what was written arrives.
+    fn flush(&mut self) -> Result<(), Failed>
+        ensures written { written self.new ≡ written self.old }
+        ensures flushed { flushed self.new ≡ is_ok result }
+        ensures kept_count { faults self.old ≤ faults self.new }
+        ensures counted { faults self.new ≤ last_count }
+        ensures failed { OnErr result (Rose (faults self.old) (faults self.new)) };
+}
+
+/// A write failed, and only a front of the bytes was appended.
+#[derive(Clone, Copy, Debug, PartialEq, Eq)]
+pub struct WriteFault;
+
+/// Writes all these bytes. Each write is handed all that is not yet appended; for no bytes there is no write.
+pub fn put_all<K: Sink>(sink: &mut K, bytes: &[u8]) -> Result<(), WriteFault>
+    ensures appended { MatchResult result
+        (λ _. Appends (K.written sink.old) bytes.now (K.written sink.new))
+        (λ _. AppendsPart (K.written sink.old) bytes.now (K.written sink.new)) }
+    ensures flushed { 0 < length bytes.now → K.flushed sink.new ≡ false }
+    ensures nothing { length bytes.now ≡ 0 → sink.new ≡ sink.old }
+    ensures kept_count { K.faults sink.old ≤ K.faults sink.new }
+    ensures failed { OnErr result (Rose (K.faults sink.old) (K.faults sink.new)) }
+{
+    let mut appended = 0;
+    while appended < bytes.len() {
+        match sink.write(&bytes[appended..]) {
+            Ok(count) => appended += count,
+            Err(Failed) => return Err(WriteFault),
+        }
+    }
+    Ok(())
+}

@@ -1,0 +1,67 @@
+ghost use Rattle.std.specs.Prelude.{◌≡◌, ◌≤◌, false, None};
+ghost use Rattle.retro_io.specs.Faults.{Rose, last_count};
+
+use crate::{Failed, Sink};
+use std::io::Write;
+
+/// A sink over a writer of std. It tells nothing of what was written; each `Err` of the writer is a fault, and so is a
+/// write that takes nothing of a piece that is not empty.
+#[derive(Drop)]
+pub struct StdSink<W> {
+    writer: W,
+    flushed: bool,
+    faults: u64,
+    ghost counted: { faults ≤ last_count },
+}
+
+impl<W: Write> StdSink<W> {
+    /// A sink over this writer.
+    pub fn new(writer: W) -> StdSink<W>
+        ensures flushed { ⟦<StdSink<W> as Sink>⟧.flushed result ≡ false }
+        ensures faults { ⟦<StdSink<W> as Sink>⟧.faults result ≡ 0 }
+    {
+        StdSink {
+            writer,
+            flushed: false,
+            faults: 0,
+        }
+    }
+
+    /// Notes a fault.
+    fn fail(&mut self) -> Failed
+        ensures rose { Rose self.old.faults self.new.faults }
+        ensures kept_count { self.old.faults ≤ self.new.faults }
+        ensures flushed { self.new.flushed ≡ self.old.flushed }
+    {
+        self.faults = self.faults.saturating_add(1);
+        Failed
+    }
+}
+
+impl<W: Write> Sink for StdSink<W> {
+    ghost written = { λ _. None };
+
+    ghost flushed = { λ s. s.flushed };
+
+    ghost faults = { λ s. s.faults };
+
+    fn write(&mut self, piece: &[u8]) -> Result<usize, Failed> {
+        self.flushed = false;
+        match self.writer.write(piece) {
+            Ok(0) if !piece.is_empty() => Err(self.fail()),
+            Ok(count) => Ok(count),
+            Err(_) => Err(self.fail()),
+        }
+    }
+
+    fn flush(&mut self) -> Result<(), Failed> {
+        self.flushed = false;
+        match self.writer.flush() {
+            Ok(()) => {
+                self.flushed = true;
+                Ok(())
+            }
+            Err(_) => Err(self.fail()),
+        }
+    }
+}

@@ -1,0 +1,28 @@
+-- The numbers of the script, as words spell them.
+use Rattle.std.specs.Prelude.{ℕ, ◌+◌, ◌-◌, ◌*◌, ◌^◌, ◌==◌, nat_le, ℤ, pos, neg_ℤ, List, [], ◌∷◌, Option, Some, None, option_map, option_and_then, if◌then◌else◌}
+use Rattle.retro_base.specs.Name.{is_digit}
+
+-- the number whose digits are those of a number and then these
+abbrev pub natural_after : ℕ → List ℕ → Option ℕ
+natural_after n [] = Some n
+natural_after n (byte ∷ bytes) = if is_digit byte then natural_after (10 * n + (byte - 48)) bytes else None
+
+-- one or more digits, of which the first may be zeros
+abbrev pub natural_of : List ℕ → Option ℕ
+natural_of [] = None
+natural_of (byte ∷ bytes) = natural_after 0 (byte ∷ bytes)
+
+-- a number up to a greatest one
+abbrev pub up_to : ℕ → ℕ → Option ℕ
+up_to most n = if nat_le n most then Some n else None
+
+-- a moment: a natural below 2 ^ 64
+unfoldable pub time_of : List ℕ → Option ℕ
+time_of word = option_and_then (up_to (2 ^ 64 - 1)) (natural_of word)
+
+-- a value: an optional `-` and digits, from -2 ^ 63 up to 2 ^ 63 - 1
+unfoldable pub value_of : List ℕ → Option ℤ
+value_of [] = None
+value_of (byte ∷ bytes) =
+    if byte == 45 then option_map (λ n. neg_ℤ (pos n)) (option_and_then (up_to (2 ^ 63)) (natural_of bytes))
+    else option_map pos (option_and_then (up_to (2 ^ 63 - 1)) (natural_of (byte ∷ bytes)))

@@ -1,0 +1,45 @@
+ghost use Rattle.std.specs.Prelude.{◌≡◌, ◌+◌, ◌-◌, ◌*◌, ◌^◌, ◌≤◌, option_and_then};
+ghost use Rattle.script_grammar.specs.Numbers.{natural_of, time_of, up_to, value_of};
+
+/// The moment that a word spells.
+#[tactic(auto, unfolding(crate::specs::Numbers::time_of))]
+pub fn read_time(word: &[u8]) -> Option<u64>
+    ensures { result ≡ time_of word.now }
+{
+    read_natural(word)
+}
+
+/// The value that a word spells.
+#[tactic(auto, unfolding(crate::specs::Numbers::value_of))]
+pub fn read_value(word: &[u8]) -> Option<i64>
+    ensures { result ≡ value_of word.now }
+{
+    match word {
+        [b'-', digits @ ..] => 0i64.checked_sub_unsigned(read_natural(digits)?),
+        digits => i64::try_from(read_natural(digits)?).ok(),
+    }
+}
+
+fn read_natural(digits: &[u8]) -> Option<u64>
+    ensures { result ≡ option_and_then (up_to (2 ^ 64 - 1)) (natural_of digits.now) }
+{
+    if digits.is_empty() {
+        return None;
+    }
+    let mut value = 0u64;
+    for digit in digits {
+        if !digit.is_ascii_digit() {
+            return None;
+        }
+        value = with_digit(value, *digit)?;
+    }
+    Some(value)
+}
+
+/// The number with one digit more, if it is in range.
+fn with_digit(value: u64, digit: u8) -> Option<u64>
+    requires { 48 ≤ digit }
+    ensures { result ≡ up_to (2 ^ 64 - 1) (10 * value + (digit - 48)) }
+{
+    value.checked_mul(10)?.checked_add(u64::from(digit - b'0'))
+}
