@@ -1,5 +1,5 @@
 -- A balanced tree has at most three levels for each digit of its weight.
-use Rattle.std.proofs.Common.{◌≡◌, ℕ, zero, suc, ◌+◌, ◌*◌, ◌^◌, ◌<◌, ◌≤◌, List, ◌∷◌, length, length-append, refl, sym, ap, ◌∙◌, subst, arith}
+use Rattle.std.proofs.Common.{◌≡◌, ℕ, zero, suc, ◌+◌, ◌*◌, ◌^◌, ◌<◌, ◌≤◌, List, ◌∷◌, length, length-append, ap, ◌∙◌, subst, arith}
 use Rattle.std.proofs.lemmas.Nat.{pow-add}
 use Rattle.weighted_tree.specs.Balance.{weight}
 use Rattle.weighted_tree.specs.Nodes.{IsRoot}

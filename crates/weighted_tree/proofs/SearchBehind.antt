@@ -1,5 +1,5 @@
 -- The first place behind a measure, put together from the two sides of a node.
-use Rattle.std.proofs.Common.{◌≡◌, ℕ, ◌+◌, ◌-◌, ◌<◌, ◌≤◌, List, [], ◌∷◌, ◌++◌, Bool, true, false, refl, sym, ap, ◌∙◌, arith, take, length, length-append}
+use Rattle.std.proofs.Common.{◌≡◌, ℕ, ◌+◌, ◌-◌, ◌≤◌, List, [], ◌∷◌, ◌++◌, Bool, true, false, refl, sym, ap, ◌∙◌, arith, take, length, length-append}
 use Rattle.monoid_laws.specs.Laws.{MonoidLaws}
 use Rattle.monoid_laws.specs.Stretch.{measure_of}
 use Rattle.weighted_tree.specs.Search.{IsRising, IsFirstPlace}

@@ -1,5 +1,5 @@
 -- The last place up to `to`, put together from the two sides of a node.
-use Rattle.std.proofs.Common.{◌≡◌, ℕ, zero, suc, ◌+◌, ◌-◌, ◌<◌, ◌≤◌, List, [], ◌∷◌, ◌++◌, Bool, true, false, refl, sym, ap, ◌∙◌, arith, take, drop, length, length-append}
+use Rattle.std.proofs.Common.{◌≡◌, ℕ, ◌+◌, ◌-◌, ◌<◌, ◌≤◌, List, ◌∷◌, ◌++◌, Bool, true, false, sym, ap, ◌∙◌, arith, take, drop, length}
 use Rattle.monoid_laws.specs.Laws.{MonoidLaws}
 use Rattle.monoid_laws.specs.Stretch.{measure_of, stretch}
 use Rattle.monoid_laws.proofs.Totals.{measure_of-around}
@@ -7,7 +7,7 @@ use Rattle.weighted_tree.specs.Search.{IsFalling, HoldsNowhere, IsLastPlace, up_
 use Rattle.weighted_tree.specs.SearchSteps.{before_place}
 use Rattle.weighted_tree.proofs.PlacesBack.{not_later, front_falling, front_last, front_nowhere, back_falling, back_last, back_none}
 use Rattle.weighted_tree.proofs.SearchBefore.{drop_all}
-use Rattle.weighted_tree.proofs.Stretches.{take-before, take-behind, stretch-before, stretch-behind, stretch-around}
+use Rattle.weighted_tree.proofs.Stretches.{take-behind, stretch-before, stretch-behind, stretch-around}
 
 module _ {A M : Type 0} {count : M → ℕ} {unit : M} {join : M → M → M} (laws : MonoidLaws count unit join) (measured : A → M) (holds : M → Bool) (left right : List A) (x : A) (to : ℕ) where
   abbrev whole : List A

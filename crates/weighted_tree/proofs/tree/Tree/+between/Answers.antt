@@ -1,4 +1,4 @@
-use Rattle.std.proofs.Common.{◌≡◌, ◌-◌, ap, sym, ◌∙◌, arith, take, drop, length}
+use Rattle.std.proofs.Common.{◌≡◌, ◌-◌, arith, take, drop, length}
 use Rattle.monoid_laws.proofs.Totals.{measure_of-around}
 use Rattle.weighted_tree.proofs.Levels.{level_left, level_right, both_sides}
 use Rattle.weighted_tree.proofs.Stretches.{stretch-behind, stretch-around}

@@ -1,8 +1,6 @@
 use Rattle.std.proofs.Common.{◌≡◌, ◌-◌, refl, arith, ◌∙◌, ◌∷◌, ◌++◌, ap, sym, subst, length}
 use Rattle.std.specs.Prelude.{slice_set}
-use Rattle.weighted_tree.specs.Balance.{weight}
 use Rattle.weighted_tree.specs.Nodes.{node_items, IsRoot}
-use Rattle.weighted_tree.specs.Visits.{FourALevel}
 use Rattle.weighted_tree.proofs.Levels.{level_left, level_right, level_end}
 use Rattle.weighted_tree.proofs.Middles.{set-before, set-middle, set-behind}
 use Rattle.weighted_tree.proofs.tree.Tree.+exchange.Goals as goal

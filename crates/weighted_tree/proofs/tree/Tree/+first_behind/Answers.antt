@@ -1,4 +1,4 @@
-use Rattle.std.proofs.Common.{◌≡◌, ℕ, ◌+◌, ◌≤◌, sym, ap, ◌∙◌, subst, arith, take, length}
+use Rattle.std.proofs.Common.{◌≡◌, sym, ap, ◌∙◌}
 use Rattle.monoid_laws.specs.Stretch.{measure_of}
 use Rattle.weighted_tree.proofs.Levels.{one_left, one_right}
 use Rattle.weighted_tree.proofs.SearchBehind.{left_rising, left_first, middle_first, right_rising, right_first}

@@ -1,4 +1,4 @@
-use Rattle.std.proofs.Common.{◌≡◌, ◌-◌, ap, sym, ◌∙◌, arith, drop, length}
+use Rattle.std.proofs.Common.{◌≡◌, ◌-◌, arith, drop, length}
 use Rattle.monoid_laws.proofs.Totals.{measure_of-around}
 use Rattle.weighted_tree.proofs.Levels.{one_left, one_right}
 use Rattle.weighted_tree.proofs.Stretches.{drop-before, drop-behind}
