@@ -1,6 +1,6 @@
 -- A timeline stays one behind each edit that is accepted.
-use Rattle.std.proofs.Common.{◌≡◌, ◌≢◌, ℕ, ◌+◌, ◌<◌, ◌≤◌, List, refl, arith}
-use Rattle.std.specs.List.{insert, remove, AllByRecursion}
+use Rattle.std.proofs.Common.{◌≡◌, ◌≢◌, ℕ, ◌+◌, ◌<◌, ◌≤◌, List, arith}
+use Rattle.std.specs.List.{insert, remove}
 use Rattle.retro_base.specs.declared.kind.Kind.{Kind}
 use Rattle.retro_base.specs.declared.row.Row.{Row}
 use Rattle.retro_base.specs.declared.row.TheConstants.{MAX_NEXT}

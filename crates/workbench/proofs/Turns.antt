@@ -1,7 +1,7 @@
 -- What a timeline makes of an edit and of a question, case by case.
-use Rattle.std.proofs.Common.{◌≡◌, ℕ, zero, suc, ◌+◌, ◌<◌, ◌≤◌, true, false, List, [], ◌∷◌, length, slice_get, take, refl, sym, ◌∙◌, ap, subst, arith, Option, Some, None}
+use Rattle.std.proofs.Common.{◌≡◌, ℕ, true, false, List, [], ◌∷◌, length, slice_get, take, refl, sym, ◌∙◌, ap, subst, Option, Some, None}
 use Rattle.std.specs.Prelude.{option_map, option_and_then}
-use Rattle.std.specs.List.{insert, remove}
+use Rattle.std.specs.List.{remove}
 use Rattle.retro_base.specs.declared.kind.Kind.{Kind}
 use Rattle.retro_base.specs.declared.op.Op.{Op}
 use Rattle.retro_base.specs.declared.question.Question.{Question}
@@ -10,7 +10,6 @@ use Rattle.retro_base.specs.Kind.{kind_of, same_kind}
 use Rattle.retro_base.specs.Replay.{failure, present, state_at}
 use Rattle.retro_base.specs.Answers.{answer_of, content}
 use Rattle.retro_base.specs.Questions.{suits}
-use Rattle.retro_base.specs.Edits.{failing_row}
 use Rattle.retro_base.specs.Places.{place_of_time, place_of_row}
 use Rattle.retro_base.specs.Timeline.{TimesNeverFall}
 use Rattle.script_grammar.specs.declared.command.Spot.{Spot}

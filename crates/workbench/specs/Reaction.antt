@@ -9,7 +9,6 @@ use Rattle.script_grammar.specs.declared.command.LineError.TheVariants as errors
 use Rattle.script_grammar.specs.Command.{read}
 use Rattle.workbench.specs.declared.outcome.Outcome.{Outcome}
 use Rattle.workbench.specs.declared.outcome.Outcome.TheVariants.{Silent, Accepted, Refused}
-use Rattle.workbench.specs.declared.outcome.Refusal.{Refusal}
 use Rattle.workbench.specs.declared.outcome.Refusal.TheVariants as refusals
 use Rattle.workbench.specs.declared.bench.TheConstants.{MAX_TIMELINES}
 use Rattle.workbench.specs.Bench.{Timeline, Bench, fresh, is_named, has_timeline}

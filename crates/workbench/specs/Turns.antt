@@ -1,9 +1,8 @@
 -- What one timeline makes of an edit and of a question.
-use Rattle.std.specs.Prelude.{ℕ, suc, ◌+◌, not, nat_le, List, length, slice_get, if◌then◌else◌}
+use Rattle.std.specs.Prelude.{ℕ, suc, ◌+◌, nat_le, List, length, slice_get, if◌then◌else◌}
 use Rattle.std.specs.Prelude.{Option, Some, None, option_map, option_and_then}
 use Rattle.std.specs.List.{insert, remove}
 use Rattle.retro_base.specs.declared.op.Op.{Op}
-use Rattle.retro_base.specs.declared.question.Question.{Question}
 use Rattle.retro_base.specs.declared.row.Row.{Row}
 use Rattle.retro_base.specs.declared.row.TheConstants.{MAX_ROWS, MAX_NEXT}
 use Rattle.retro_base.specs.Kind.{kind_of, same_kind}
@@ -67,7 +66,7 @@ judged timeline edited outcome (Some failing) = refuses timeline (refusals.At fa
 abbrev pub with_row : Timeline → Seat → Op → Timeline
 with_row timeline seat op = record timeline {
   rows = insert timeline.rows seat.place (record { number = timeline.next; time = seat.time; op = op });
-  next = timeline.next + 1
+  next = timeline.next + 1;
 }
 
 -- the timeline without the row at a place

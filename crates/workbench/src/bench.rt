@@ -1,4 +1,4 @@
-ghost use Rattle.std.specs.Prelude.{◌≡◌, ◌≢◌, ◌≤◌, ◌++◌, ◌∷◌, [], length, nat_le, position, Ok, Err, IsTrue, IfOk, OnOk, OnErr, if◌then◌else◌};
+ghost use Rattle.std.specs.Prelude.{◌≡◌, ◌≢◌, ◌≤◌, ◌++◌, ◌∷◌, [], length, nat_le, position, Ok, Err, IsTrue, IfOk, OnOk, OnErr, true, if◌then◌else◌};
 ghost use Rattle.retro_base.specs.declared.kind.Kind.TheVariants.{Pq};
 ghost use Rattle.script_grammar.specs.declared.command.LineError.TheVariants as errors;
 ghost use Rattle.script_grammar.specs.Command.{command, StartsNoPq};
@@ -57,8 +57,9 @@ impl Bench {
     pub fn line(&mut self, line: &[u8], long: bool) -> Result<Reply, NoMemory>
         requires within { length line.now ≤ 4096 }
         requires full { IsTrue long → length line.now ≡ 4096 }
-        ensures { IfOk result (λ reply. let reaction = reaction_to self.old (if long then Err errors.Long else command line.now) in
+        ensures reacts { IfOk result (λ reply. let reaction = reaction_to self.old (if long then Err errors.Long else command line.now) in
             (self.new ≡ reaction.bench) × (reply.text ≡ reaction.answer) × (reply.refused ≡ reaction.refused)) }
+        ensures keeps { IfOk result (λ reply. reply.refused ≡ true → self.new ≡ self.old) }
     {
         let outcome = self.obey(read_line(line, long))?;
         let mut text = Text::new(self.alloc);
@@ -92,7 +93,11 @@ impl Bench {
             Command::New { name, kind } => self.start(*name, *kind),
             Command::Insert { name, spot, op } => self.put(*name, *spot, *op),
             Command::Delete { name, number } => self.delete(*name, *number),
-            Command::Ask { name, moment, query } => self.ask(*name, *moment, *query),
+            Command::Ask {
+                name,
+                moment,
+                query,
+            } => self.ask(*name, *moment, *query),
         }
     }
 
@@ -145,7 +150,9 @@ impl Bench {
     fn has(&self, name: Name) -> bool
         ensures { result ≡ has_timeline name self.now }
     {
-        self.timelines.iter().any(|timeline| timeline.name() == name)
+        self.timelines
+            .iter()
+            .any(|timeline| timeline.name() == name)
     }
 
     /// Whether there are as many timelines as there may be.
@@ -159,6 +166,8 @@ impl Bench {
     fn index_of(&self, name: Name) -> Option<usize>
         ensures { result ≡ position (is_named name) self.now }
     {
-        self.timelines.iter().position(|timeline| timeline.name() == name)
+        self.timelines
+            .iter()
+            .position(|timeline| timeline.name() == name)
     }
 }

@@ -109,7 +109,10 @@ impl Timeline {
             op,
         };
         match self.structure.failure_after_insert(seat.place, op) {
-            Some(index) => Ok(fails_at(row_behind_insert(self.rows.as_slice(), seat.place, row, index))),
+            Some(index) => {
+                let failing = row_behind_insert(self.rows.as_slice(), seat.place, row, index);
+                Ok(fails_at(failing))
+            }
             None => {
                 self.rows.reserve(1)?;
                 self.structure.insert(seat.place, row)?;

@@ -6,26 +6,26 @@ use Rattle.retro_cli.proofs.script.answer_lines.Goals.{in-Whole, in-Long}
 
 pub returns-in-End-clause-answered : goal.returns-in-End-clause-answered
 returns-in-End-clause-answered g c =
-    (appends_output _ _ _ _ _ _ _ (line_of c.next.new.self) (has_ended c.next.new.self) c.loop-long.invariant.answers (rw c.in-End.is at c.in_ok-next.ensures.lines)).0
+    (appends_output _ _ _ _ _ _ _ (line_of c.next.new.self) (has_ended c.next.new.self) c.loop-bench.invariant.answers (rw c.in-End.is at c.in_ok-next.ensures.lines)).0
 
 pub returns-in-End-clause-refusal : goal.returns-in-End-clause-refusal
 returns-in-End-clause-refusal g c =
-    (appends_output _ _ _ _ _ _ _ (line_of c.next.new.self) (has_ended c.next.new.self) c.loop-long.invariant.answers (rw c.in-End.is at c.in_ok-next.ensures.lines)).1
+    (appends_output _ _ _ _ _ _ _ (line_of c.next.new.self) (has_ended c.next.new.self) c.loop-bench.invariant.answers (rw c.in-End.is at c.in_ok-next.ensures.lines)).1
 
 pub returns-in-End-clause-left : goal.returns-in-End-clause-left
 returns-in-End-clause-left g c =
-    gives_count-twice _ _ _ _ _ _ c.loop-long.invariant.more c.in_ok-next.ensures.taken c.loop-long.invariant.left c.in_ok-next.ensures.source_left
+    gives_count-twice _ _ _ _ _ _ c.loop-bench.invariant.more c.in_ok-next.ensures.taken c.loop-bench.invariant.left c.in_ok-next.ensures.source_left
 
 pub returns-in_err-next-clause-left : goal.returns-in_err-next-clause-left
 returns-in_err-next-clause-left g c =
-    gives_count-twice _ _ _ _ _ _ c.loop-long.invariant.more c.next.ensures.taken c.loop-long.invariant.left c.next.ensures.source_left
+    gives_count-twice _ _ _ _ _ _ c.loop-bench.invariant.more c.next.ensures.taken c.loop-bench.invariant.left c.next.ensures.source_left
 
 pub returns-in_err-refused-clause-left : goal.returns-in_err-refused-clause-left
 returns-in_err-refused-clause-left g c =
-    gives_count-twice _ _ _ _ _ _ c.loop-long.invariant.more c.in_ok-next.ensures.taken c.loop-long.invariant.left c.in_ok-next.ensures.source_left
+    gives_count-twice _ _ _ _ _ _ c.loop-bench.invariant.more c.in_ok-next.ensures.taken c.loop-bench.invariant.left c.in_ok-next.ensures.source_left
 
-pub loop-long-init : goal.loop-long-init
-loop-long-init g c = record {
+pub loop-bench-init : goal.loop-bench-init
+loop-bench-init g c = record {
   reference = refl;
   limit = refl;
   failed = c.requires;
@@ -37,23 +37,23 @@ loop-long-init g c = record {
   answers = λ bytes e. rw c.new-bench.ensures (goes_on_first bytes _ _ e);
 }
 
-pub loop-long-preserved : goal.loop-long-preserved
-loop-long-preserved g c =
+pub loop-bench-preserved : goal.loop-bench-preserved
+loop-bench-preserved g c =
     let as_given : GivenAs c.in_ok-next.field-0 c.match-branch-2.long =
     elim c.match-branch-2.branch [ in-Whole w ↦ rw w.in-Whole.is w.long-is | in-Long w ↦ rw w.in-Long.is w.long-is ] in
     let answered = rw c.line.ensures at c.in_ok-refused.ensures.answered in
     record {
-      reference = c.in_ok-next.ensures.reference ∙ c.loop-long.invariant.reference;
-      limit = c.in_ok-next.ensures.limit ∙ c.loop-long.invariant.limit;
+      reference = c.in_ok-next.ensures.reference ∙ c.loop-bench.invariant.reference;
+      limit = c.in_ok-next.ensures.limit ∙ c.loop-bench.invariant.limit;
       failed = c.in_ok-next.ensures.failed;
-      more = omega (arith, c.in_ok-next.ensures.taken, c.loop-long.invariant.more);
+      more = omega (arith, c.in_ok-next.ensures.taken, c.loop-bench.invariant.more);
       taken = c.in_ok-next.ensures.source_taken
-          ∙ rw c.loop-long.invariant.taken (count_after-twice _ _ _ _ c.loop-long.invariant.more c.in_ok-next.ensures.taken);
-      left = gives_count-twice _ _ _ _ _ _ c.loop-long.invariant.more c.in_ok-next.ensures.taken c.loop-long.invariant.left c.in_ok-next.ensures.source_left;
-      source_count = omega (arith, c.in_ok-next.ensures.source_faults, c.loop-long.invariant.source_count);
-      sink_count = omega (arith, c.in_ok-refused.ensures.kept_count, c.loop-long.invariant.sink_count);
+          ∙ rw c.loop-bench.invariant.taken (count_after-twice _ _ _ _ c.loop-bench.invariant.more c.in_ok-next.ensures.taken);
+      left = gives_count-twice _ _ _ _ _ _ c.loop-bench.invariant.more c.in_ok-next.ensures.taken c.loop-bench.invariant.left c.in_ok-next.ensures.source_left;
+      source_count = omega (arith, c.in_ok-next.ensures.source_faults, c.loop-bench.invariant.source_count);
+      sink_count = omega (arith, c.in_ok-refused.ensures.kept_count, c.loop-bench.invariant.sink_count);
       answers = λ bytes e.
           rw (answered.0, answered.1)
           (goes_on_next c.in_ok-next.field-0 c.match-branch-2.long (line_of c.next.new.self) (has_ended c.next.new.self) bytes _ _ _ _ _ _ _
-          as_given c.in_ok-next.ensures.lines (c.loop-long.invariant.answers bytes e) answered.2);
+          as_given c.in_ok-next.ensures.lines (c.loop-bench.invariant.answers bytes e) answered.2);
     }

@@ -6,8 +6,8 @@ use Rattle.retro_io.specs.LineReader.{given, taken, limit_of, has_failed, refere
 use Rattle.retro_cli.proofs.Scripts.{GoesOn}
 use Rattle.retro_cli.proofs.script.answer_lines.Given as goal
 
-abbrev pub invariant-loop-long : goal.invariant-loop-long
-invariant-loop-long g l = record {
+abbrev pub invariant-loop-bench : goal.invariant-loop-bench
+invariant-loop-bench g l = record {
   reference : reference_of l.reader ≡ reference_of l.fn.reader;
   limit : limit_of l.reader ≡ limit_of l.fn.reader;
   failed : has_failed l.reader ≡ false;
@@ -20,5 +20,5 @@ invariant-loop-long g l = record {
       → GoesOn bytes (g.K.Sink.written l.fn.sink) l.bench l.refused (rest_of l.reader) (g.K.Sink.written l.sink);
 }
 
-abbrev pub decreases-loop-long : goal.decreases-loop-long
-decreases-loop-long g l = limit_of l.reader + 1 - given l.reader
+abbrev pub decreases-loop-bench : goal.decreases-loop-bench
+decreases-loop-bench g l = limit_of l.reader + 1 - given l.reader

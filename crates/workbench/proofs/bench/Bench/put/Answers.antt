@@ -1,14 +1,13 @@
-use Rattle.std.proofs.Common.{◌≡◌}
-use Rattle.workbench.specs.Turns.{puts, deletes, stays, tells}
+use Rattle.workbench.specs.Turns.{puts}
 use Rattle.workbench.proofs.Named.{turned, on_named_nowhere}
 use Rattle.workbench.proofs.bench.Bench.put.Goals as goal
 
 pub returns-in-Some-clause-ok : goal.returns-in-Some-clause-ok
-returns-in-Some-clause-ok c = 
+returns-in-Some-clause-ok c =
     rw (← c.self.view_is)
-        (turned c.put.result c.args.name (λ timeline. puts timeline c.args.spot c.args.op) c.self.inside.timelines.items c.in-Some.index c.index_mut.result.now c.put.new.self
-        (rw (← c.self.view_is) at c.in-Some.ensures) c.index_mut.ensures.value c.put.ensures.ok)
+    (turned c.put.result c.args.name (λ timeline. puts timeline c.args.spot c.args.op) c.self.inside.timelines.items c.in-Some.index c.index_mut.result.now c.put.new.self
+    (rw (← c.self.view_is) at c.in-Some.ensures) c.index_mut.ensures.value c.put.ensures.ok)
 
 pub returns-in-None-clause-ok : goal.returns-in-None-clause-ok
-returns-in-None-clause-ok c = 
+returns-in-None-clause-ok c =
     rw c.refused.ensures (on_named_nowhere c.args.name (λ timeline. puts timeline c.args.spot c.args.op) c.args.self.now c.in-None.ensures)

@@ -1,4 +1,4 @@
-use Rattle.std.proofs.Common.{sym, ◌∙◌, ap, rules, append_assoc}
+use Rattle.std.proofs.Common.{rules, append_assoc}
 use Rattle.workbench.proofs.outcome.Refusal.print.Goals as goal
 
 pub returns-in_ok-push_all-in-NameTaken : goal.returns-in_ok-push_all-in-NameTaken

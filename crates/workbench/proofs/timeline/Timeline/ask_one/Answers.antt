@@ -6,11 +6,11 @@ use Rattle.engine.specs.Engine.{kind_inside}
 use Rattle.workbench.proofs.timeline.Timeline.ask_one.Goals as goal
 
 pub returns-then-not-suits-clause-ok : goal.returns-then-not-suits-clause-ok
-returns-then-not-suits-clause-ok c = 
+returns-then-not-suits-clause-ok c =
     let unsuited : suits c.args.question (kind_inside c.self.inside.structure) ≡ false = rw c.kind.ensures.kind at (sym c.suits.ensures ∙ c.if-not-suits.true) in
     rw (← c.self.view_is, c.refused.ensures) (sym (tells_unsuited _ c.args.moment c.args.question unsuited))
 
 pub returns-in-Now-clause-ok : goal.returns-in-Now-clause-ok
-returns-in-Now-clause-ok c = 
+returns-in-Now-clause-ok c =
     let suited : suits c.args.question (kind_inside c.self.inside.structure) ≡ true = rw c.kind.ensures.kind at (sym c.suits.ensures ∙ c.if-not-suits.false) in
     rw (← c.self.view_is, c.in-Now.is) (ap (λ a. Told a) (rw c.self.invariant.0 at c.ask_now.ensures) ∙ sym (tells_now _ c.args.question suited))

@@ -1,4 +1,4 @@
-use Rattle.std.proofs.Common.{◌≡◌, ◌<◌, refl, arith, sym, ◌∙◌}
+use Rattle.std.proofs.Common.{◌≡◌, refl, arith, sym, ◌∙◌}
 use Rattle.std.specs.List.{insert}
 use Rattle.retro_base.specs.declared.row.Row.{Row}
 use Rattle.workbench.proofs.Timelines.{timeline_with}
