@@ -1,4 +1,5 @@
 pub mod LineLemmas
+pub mod OfferLemmas
 pub mod RangeLemmas
 pub mod ReadLemmas
 pub mod SinkLemmas

@@ -25,6 +25,15 @@ Gives-append (Some bytes) None c xs ys p q = absurd p
 Gives-append (Some bytes) (Some mid) None xs ys p q = absurd q
 Gives-append (Some bytes) (Some mid) (Some rest) xs ys p q = p ∙ ap (λ l. xs ++ l) q ∙ sym (append_assoc xs ys rest)
 
+-- nothing was taken
+pub Took-none : (left : Option (List ℕ)) (count : ℕ) (P : List ℕ → Type 0) → count ≡ 0 → P [] → Took left left count P
+Took-none left count P none holds = record {
+  got = [];
+  gives = Gives-nil left;
+  counts = sym none;
+  holds = holds;
+}
+
 -- first some bytes, and then more
 pub Took-then : (a b c : Option (List ℕ)) (P R : List ℕ → Type 0) (first count : ℕ) (ys : List ℕ)
     → Took a b first P → Gives b ys c → count ≡ first + length ys → ((xs : List ℕ) → P xs → R (xs ++ ys)) → Took a c count R

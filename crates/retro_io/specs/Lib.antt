@@ -4,6 +4,7 @@ pub mod LineReader
 pub mod Lines
 pub mod Marks
 pub mod Memory
+pub mod Offers
 pub mod Reads
 pub mod Sink
 pub mod Source

@@ -1,5 +1,5 @@
 -- The lines of a list of bytes.
-use Rattle.std.specs.Prelude.{◌≡◌, ℕ, Bool, true, false, ◌==◌, nat_lt, ◌⊎◌, List, [], ◌∷◌, ◌++◌, length, map, if◌then◌else◌}
+use Rattle.std.specs.Prelude.{◌≡◌, ℕ, Bool, true, false, ◌==◌, ◌⊎◌, List, [], ◌∷◌, ◌++◌, map, if◌then◌else◌}
 pub use Rattle.retro_base.specs.LineLength.{longest, is_long}
 
 -- the byte that ends a line

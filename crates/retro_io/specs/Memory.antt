@@ -1,5 +1,7 @@
--- What the sources and the sink in memory are seen as.
-use Rattle.std.specs.Prelude.{ℕ, Bool, List}
+-- What the sources and the sink in memory are seen as, and what their calls do.
+use Rattle.std.specs.Prelude.{◌≡◌, ℕ, ◌-◌, Bool, ◌==◌, ◌||◌, nat_le, min, List, length, Result, Ok, is_err, IfOk, OnErr}
+use Rattle.std.specs.List.{list_any}
+use Rattle.retro_io.specs.Faults.{count_after}
 
 -- the bytes left, how many were taken, and whether the last read into a buffer that is not empty gave nothing
 pub record Stocked : Type 0 where
@@ -24,3 +26,25 @@ pub record Roomed : Type 0 where
   pub calls : ℕ
   pub flushed : Bool
   pub faults : ℕ
+
+-- a read that never fails gives as many bytes as the buffer holds and as there are
+abbrev pub ReadsWhole : {E : Type 0} → Stocked → ℕ → Result ℕ E → Stocked → Type 0
+ReadsWhole before room answer after = answer ≡ Ok (min room (length before.left))
+
+-- a read fails exactly where its number is among those chosen; it gives a piece at the most, and no more than the buffer holds and than there is
+abbrev pub ReadsPieced : {E : Type 0} → Pieced → ℕ → Result ℕ E → Pieced → Type 0
+ReadsPieced before room answer after =
+    (is_err answer ≡ list_any (λ number. number == before.calls) before.failing)
+    × IfOk answer (λ count. count ≡ min (min before.piece room) (length before.stock.left))
+    × (after.calls ≡ count_after before.calls 1)
+    × OnErr answer (after.faults ≡ count_after before.faults 1)
+    × (after.piece ≡ before.piece) × (after.failing ≡ before.failing)
+
+-- a write fails exactly where its number is among those chosen or the room is full; it takes a piece at the most, and no more than there is room for
+abbrev pub WritesRoomed : {E : Type 0} → Roomed → List ℕ → Result ℕ E → Roomed → Type 0
+WritesRoomed before piece answer after =
+    (is_err answer ≡ (list_any (λ number. number == before.calls) before.failing || nat_le before.room (length before.written)))
+    × IfOk answer (λ count. count ≡ min (min before.piece (length piece)) (before.room - length before.written))
+    × (after.calls ≡ count_after before.calls 1)
+    × OnErr answer (after.faults ≡ count_after before.faults 1)
+    × (after.room ≡ before.room) × (after.piece ≡ before.piece) × (after.failing ≡ before.failing)

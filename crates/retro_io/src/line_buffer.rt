@@ -1,8 +1,9 @@
 ghost use Rattle.std.specs.Prelude.{◌≡◌, ◌+◌, ◌-◌, ◌≢◌, ◌≤◌, ◌<◌, ℕ, [], ◌∷◌, ◌++◌, true, false, length, take, drop, slice_index, Result, IfOk, OnErr, MatchResult, MatchOption};
 ghost use Rattle.std.specs.List.{slice_range};
-ghost use Rattle.retro_io.specs.Faults.{Rose, last_count};
+ghost use Rattle.retro_io.specs.Faults.{Rose};
 ghost use Rattle.retro_io.specs.Lines.{has_line_feed, longest, line_feed, without_return};
 ghost use Rattle.retro_io.specs.Marks.{Shows};
+ghost use Rattle.retro_io.specs.Offers.{OffersOnce};
 ghost use Rattle.retro_io.specs.Source.{Gives, bytes_left, taken_after};
 
 use crate::{Failed, Mark, Source};
@@ -133,7 +134,7 @@ impl LineBuffer {
         most: u64,
     ) -> Result<usize, Failed>
         requires some { 0 < most }
-        requires room { length self.old.held < 65536 }
+        requires room { length self.old.held + 16 ≤ 65536 }
         ensures kept { take (length self.old.held) self.new.held ≡ self.old.held }
         ensures count { MatchResult result
             (λ count. length self.new.held ≡ length self.old.held + count)
@@ -144,6 +145,7 @@ impl LineBuffer {
             (λ _. S.left source.new ≡ S.left source.old) }
         ensures at_end { IfOk result (λ count. count ≡ 0 → (bytes_left (S.left source.new) ≡ []) × (S.ended source.new ≡ true)) }
         ensures taken { S.taken source.new ≡ taken_after (S.taken source.old) result }
+        ensures offers { OffersOnce S.reads most source.old result source.new }
         ensures kept_count { S.faults source.old ≤ S.faults source.new }
         ensures failed { OnErr result (Rose (S.faults source.old) (S.faults source.new)) }
     {
@@ -214,6 +216,7 @@ fn read_into<S: Source>(
         (λ _. S.left source.new ≡ S.left source.old) }
     ensures at_end { IfOk result (λ count. count ≡ 0 → (bytes_left (S.left source.new) ≡ []) × (S.ended source.new ≡ true)) }
     ensures taken { S.taken source.new ≡ taken_after (S.taken source.old) result }
+    ensures reads { S.reads source.old (upto - from) result source.new }
     ensures kept_count { S.faults source.old ≤ S.faults source.new }
     ensures failed { OnErr result (Rose (S.faults source.old) (S.faults source.new)) }
 {

@@ -1,7 +1,8 @@
-ghost use Rattle.std.specs.Prelude.{◌≡◌, ℕ, ◌+◌, ◌-◌, ◌^◌, ◌≤◌, ◌<◌, ◌↔◌, [], ◌∷◌, ◌++◌, true, false, length, take, drop, Result, Ok, IfOk, IfSome, OnErr, OnOk, IsErrOf, IsTrue, MatchResult, MatchOption, is_err};
+ghost use Rattle.std.specs.Prelude.{◌≡◌, ◌+◌, ◌-◌, ◌^◌, ◌≤◌, ◌<◌, ◌↔◌, [], true, false, length, take, drop, Result, Ok, IfOk, IfSome, OnErr, IsErrOf, IsTrue, is_err};
 ghost use Rattle.retro_io.specs.Faults.{Rose, count_after};
 ghost use Rattle.retro_io.specs.Lines.{has_line_feed, longest};
 ghost use Rattle.retro_io.specs.Marks.{GivesNextOf, Measures, gives_line};
+ghost use Rattle.retro_io.specs.Offers.{OffersEach};
 ghost use Rattle.retro_io.specs.Reads.{GivesFirst, MakesOf, Took};
 ghost use Rattle.retro_io.specs.Source.{Gives, GivesCount, bytes_left};
 
@@ -93,7 +94,8 @@ impl<'a, S: Source> LineReader<'a, S> {
     }
 
     /// Moves to the next line. It takes no memory, and reads from the source only where no whole line is held and no
-    /// read of its own has answered the end.
+    /// read of its own has answered the end. A read offers a buffer of 16 bytes at least, or of all that are left up to the
+    /// limit where they are fewer, or of the one byte that shows that there are more.
     pub fn next(&mut self) -> Result<Mark, ReadError>
         requires { has_failed self.old ≡ false }
         ensures reference { reference_of self.new ≡ reference_of self.old }
@@ -101,9 +103,6 @@ impl<'a, S: Source> LineReader<'a, S> {
         ensures failed { has_failed self.new ≡ is_err result }
         ensures taken { taken self.old ≤ taken self.new }
         ensures within { taken self.new ≤ limit_of self.new + 1 }
-        // It reads only where no whole line is held and no read of its own has answered the end.
-        ensures line_held { has_line_feed (held self.old) ≡ true → source_of self.new ≡ source_of self.old }
-        ensures after_end { has_ended self.old ≡ true → (source_of self.new ≡ source_of self.old) × (result ≡ Ok Mark.End) }
         // What became of the source.
         ensures source_taken { S.taken (source_of self.new)
             ≡ count_after (S.taken (source_of self.old)) (taken self.new - taken self.old) }
@@ -118,6 +117,8 @@ impl<'a, S: Source> LineReader<'a, S> {
         // It reads only where no whole line is held and no read of its own has answered the end.
         ensures kept_line { has_line_feed (held self.old) ≡ true → source_of self.new ≡ source_of self.old }
         ensures kept_end { has_ended self.old ≡ true → (source_of self.new ≡ source_of self.old) × (result ≡ Ok Mark.End) }
+        ensures offers { OffersEach S.reads (limit_of self.old - taken self.old)
+            (source_of self.old) (taken self.new - taken self.old) (source_of self.new) }
         // An error comes only where no whole line was held.
         ensures unbroken { OnErr result (has_line_feed (held self.old) ≡ false) }
         ensures fault { IsErrOf result ReadError.ReadFault → Rose (S.faults (source_of self.old)) (S.faults (source_of self.new)) }
@@ -148,6 +149,8 @@ impl<'a, S: Source> LineReader<'a, S> {
         ensures source_taken { S.taken (source_of self.new)
             ≡ count_after (S.taken (source_of self.old)) (taken self.new - taken self.old) }
         ensures source_faults { S.faults (source_of self.old) ≤ S.faults (source_of self.new) }
+        ensures offers { OffersEach S.reads (limit_of self.old - taken self.old)
+            (source_of self.old) (taken self.new - taken self.old) (source_of self.new) }
         ensures took { Took (S.left (source_of self.old)) (S.left (source_of self.new)) (taken self.new - taken self.old)
             (MakesOf result (line_of self.new) (has_ended self.new) (held self.old) (held self.new)) }
         ensures fault { IsErrOf result ReadError.ReadFault → Rose (S.faults (source_of self.old)) (S.faults (source_of self.new)) }
@@ -178,6 +181,8 @@ impl<'a, S: Source> LineReader<'a, S> {
         ensures source_taken { S.taken (source_of self.new)
             ≡ count_after (S.taken (source_of self.old)) (taken self.new - taken self.old) }
         ensures source_faults { S.faults (source_of self.old) ≤ S.faults (source_of self.new) }
+        ensures offers { OffersEach S.reads (limit_of self.old - taken self.old)
+            (source_of self.old) (taken self.new - taken self.old) (source_of self.new) }
         ensures took { Took (S.left (source_of self.old)) (S.left (source_of self.new)) (taken self.new - taken self.old)
             (MakesOf result (line_of self.new) (has_ended self.new) (held self.old) (held self.new)) }
         ensures fault { IsErrOf result ReadError.ReadFault → Rose (S.faults (source_of self.old)) (S.faults (source_of self.new)) }
@@ -225,7 +230,7 @@ impl<'a, S: Source> LineReader<'a, S> {
     fn fill(&mut self) -> Result<usize, ReadError>
         requires failed { has_failed self.old ≡ false }
         requires ended { has_ended self.old ≡ false }
-        requires room { length (held self.old) < 65536 }
+        requires room { length (held self.old) + 16 ≤ 65536 }
         ensures reference { reference_of self.new ≡ reference_of self.old }
         ensures limit { limit_of self.new ≡ limit_of self.old }
         ensures failed { has_failed self.new ≡ is_err result }
@@ -235,6 +240,8 @@ impl<'a, S: Source> LineReader<'a, S> {
         ensures source_taken { S.taken (source_of self.new)
             ≡ count_after (S.taken (source_of self.old)) (taken self.new - taken self.old) }
         ensures source_faults { S.faults (source_of self.old) ≤ S.faults (source_of self.new) }
+        ensures offers { OffersEach S.reads (limit_of self.old - taken self.old)
+            (source_of self.old) (taken self.new - taken self.old) (source_of self.new) }
         ensures kept { take (length (held self.old)) (held self.new) ≡ held self.old }
         ensures length { length (held self.new) ≡ length (held self.old) + (taken self.new - taken self.old) }
         ensures gives { Gives (S.left (source_of self.old)) (drop (length (held self.old)) (held self.new)) (S.left (source_of self.new)) }

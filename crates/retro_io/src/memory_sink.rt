@@ -1,6 +1,6 @@
-ghost use Rattle.std.specs.Prelude.{◌≡◌, ◌≤◌, ◌<◌, ◌==◌, ◌+◌, ◌-◌, ◌||◌, [], true, false, length, take, min, nat_le, Some, is_ok, is_err, IfOk, IsOk, OnErr, MatchResult};
-ghost use Rattle.std.specs.List.{list_any};
-ghost use Rattle.retro_io.specs.Faults.{Rose, count_after, last_count};
+ghost use Rattle.std.specs.Prelude.{◌≡◌, ◌≤◌, ◌<◌, ◌==◌, ◌-◌, ◌||◌, [], true, false, length, take, min, Some, is_ok, IfOk, IsOk, OnErr, MatchResult};
+ghost use Rattle.retro_io.specs.Faults.{Rose, last_count};
+ghost use Rattle.retro_io.specs.Memory.{WritesRoomed};
 ghost use Rattle.retro_io.specs.Sink.{Appends};
 
 use crate::stock::is_among;
@@ -85,6 +85,8 @@ impl Sink for MemorySink {
 
     ghost faults = { λ s. s.faults };
 
+    ghost writes = { WritesRoomed };
+
     /// Fails exactly where the number of the call is among those chosen or the room is full, and takes a piece at the most,
     /// and no more than there is room for.
     fn write(&mut self, piece: &[u8]) -> Result<usize, Failed>
@@ -94,19 +96,10 @@ impl Sink for MemorySink {
             (λ count. Appends (Some self.old.written) (take count piece.now) (Some self.new.written))
             (λ _. Some self.new.written ≡ Some self.old.written) }
         ensures flushed { self.new.flushed ≡ false }
+        ensures does { WritesRoomed self.old piece.now result self.new }
         ensures kept_count { self.old.faults ≤ self.new.faults }
         ensures counted { self.new.faults ≤ last_count }
         ensures failed { OnErr result (Rose self.old.faults self.new.faults) }
-        // When it fails, and how much it takes.
-        ensures fails { is_err result
-            ≡ (list_any (λ number. number == self.old.calls) self.old.failing || nat_le self.old.room (length self.old.written)) }
-        ensures count { IfOk result (λ count.
-            count ≡ min (min self.old.piece (length piece.now)) (self.old.room - length self.old.written)) }
-        ensures calls { self.new.calls ≡ count_after self.old.calls 1 }
-        ensures failure { OnErr result (self.new.faults ≡ count_after self.old.faults 1) }
-        ensures room { self.new.room ≡ self.old.room }
-        ensures piece { self.new.piece ≡ self.old.piece }
-        ensures failing { self.new.failing ≡ self.old.failing }
     {
         let room = self.room as usize - self.bytes.len();
         let fails = is_among(self.calls, &self.failing) || room == 0;

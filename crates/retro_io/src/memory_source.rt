@@ -1,6 +1,6 @@
-ghost use Rattle.std.specs.Prelude.{◌≡◌, ◌≤◌, ◌<◌, ◌==◌, ◌+◌, [], false, length, take, min, Some, is_err, IfOk, OnErr, MatchResult};
-ghost use Rattle.std.specs.List.{list_any};
-ghost use Rattle.retro_io.specs.Faults.{Rose, count_after, last_count};
+ghost use Rattle.std.specs.Prelude.{◌≡◌, ◌≤◌, ◌<◌, [], false, length, take, Some, IfOk, OnErr, MatchResult};
+ghost use Rattle.retro_io.specs.Faults.{Rose, last_count};
+ghost use Rattle.retro_io.specs.Memory.{ReadsPieced};
 ghost use Rattle.retro_io.specs.Source.{Gives, bytes_left, ended_after, taken_after};
 
 use crate::stock::{Stock, is_among};
@@ -73,6 +73,8 @@ impl Source for MemorySource {
 
     ghost faults = { λ s. s.faults };
 
+    ghost reads = { ReadsPieced };
+
     /// Fails exactly where the number of the call is among those chosen, and gives a piece at the most.
     fn read(&mut self, buffer: &mut [u8]) -> Result<usize, Failed>
         ensures within { IfOk result (λ count. count ≤ length buffer.new) }
@@ -82,16 +84,10 @@ impl Source for MemorySource {
         ensures at_end { IfOk result (λ count. count ≡ 0 → 0 < length buffer.new → bytes_left (Some self.new.stock.left) ≡ []) }
         ensures taken { self.new.stock.taken ≡ taken_after self.old.stock.taken result }
         ensures ended { self.new.stock.ended ≡ ended_after self.old.stock.ended result buffer.new }
+        ensures does { ReadsPieced self.old (length buffer.new) result self.new }
         ensures kept_count { self.old.faults ≤ self.new.faults }
         ensures counted { self.new.faults ≤ last_count }
         ensures failed { OnErr result (Rose self.old.faults self.new.faults) }
-        // When it fails, and how much it gives.
-        ensures fails { is_err result ≡ list_any (λ number. number == self.old.calls) self.old.failing }
-        ensures count { IfOk result (λ count. count ≡ min (min self.old.piece (length buffer.new)) (length self.old.stock.left)) }
-        ensures calls { self.new.calls ≡ count_after self.old.calls 1 }
-        ensures failure { OnErr result (self.new.faults ≡ count_after self.old.faults 1) }
-        ensures piece { self.new.piece ≡ self.old.piece }
-        ensures failing { self.new.failing ≡ self.old.failing }
     {
         let fails = is_among(self.calls, &self.failing);
         self.calls = self.calls.saturating_add(1);

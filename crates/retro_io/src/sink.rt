@@ -1,6 +1,7 @@
-ghost use Rattle.std.specs.Prelude.{◌≡◌, ℕ, Bool, true, false, List, Option, [], ◌≤◌, ◌<◌, length, take, drop, Result, is_ok, IfOk, OnErr, OnOk, MatchResult};
+ghost use Rattle.std.specs.Prelude.{◌≡◌, ℕ, Bool, false, List, Option, ◌≤◌, ◌<◌, length, take, Result, is_ok, IfOk, OnErr, MatchResult};
 ghost use Rattle.retro_io.specs.Faults.{Rose, last_count};
-ghost use Rattle.retro_io.specs.Sink.{Appends, AppendsPart};
+ghost use Rattle.retro_io.specs.Sink.{Appends, AppendsPart, HandsAll, HandsAllUntilFault};
+ghost use Rattle.retro_io.specs.declared.source.Failed.{Failed};
 
 use crate::Failed;
 
@@ -15,6 +16,10 @@ pub trait Sink {
     /// A count of faults. It never falls, and stands still at its last value.
     ghost faults: { Self → ℕ };
 
+    /// What a write may do: how the sink stood before it, the piece that it was handed, its answer, and how the sink stands
+    /// behind it.
+    ghost writes: { Self → List ℕ → Result ℕ Failed → Self → Type 0 };
+
     /// Appends a front of the piece, and says how many bytes it has: at least one, where the piece is not empty.
     /// Nothing is appended by a write that fails.
     fn write(&mut self, piece: &[u8]) -> Result<usize, Failed>
@@ -24,6 +29,7 @@ pub trait Sink {
             (λ count. Appends (written self.old) (take count piece.now) (written self.new))
             (λ _. written self.new ≡ written self.old) }
         ensures flushed { flushed self.new ≡ false }
+        ensures does { writes self.old piece.now result self.new }
         ensures kept_count { faults self.old ≤ faults self.new }
         ensures counted { faults self.new ≤ last_count }
         ensures failed { OnErr result (Rose (faults self.old) (faults self.new)) };
@@ -46,6 +52,9 @@ pub fn put_all<K: Sink>(sink: &mut K, bytes: &[u8]) -> Result<(), WriteFault>
     ensures appended { MatchResult result
         (λ _. Appends (K.written sink.old) bytes.now (K.written sink.new))
         (λ _. AppendsPart (K.written sink.old) bytes.now (K.written sink.new)) }
+    ensures handed { MatchResult result
+        (λ _. HandsAll K.writes bytes.now sink.old (length bytes.now) sink.new)
+        (λ _. HandsAllUntilFault K.writes bytes.now sink.old sink.new) }
     ensures flushed { 0 < length bytes.now → K.flushed sink.new ≡ false }
     ensures nothing { length bytes.now ≡ 0 → sink.new ≡ sink.old }
     ensures kept_count { K.faults sink.old ≤ K.faults sink.new }

@@ -1,4 +1,4 @@
-ghost use Rattle.std.specs.Prelude.{◌≡◌, ◌≤◌, false, None};
+ghost use Rattle.std.specs.Prelude.{◌≡◌, ◌≤◌, false, None, ⊤};
 ghost use Rattle.retro_io.specs.Faults.{Rose, last_count};
 
 use crate::{Failed, Sink};
@@ -44,6 +44,8 @@ impl<W: Write> Sink for StdSink<W> {
     ghost flushed = { λ s. s.flushed };
 
     ghost faults = { λ s. s.faults };
+
+    ghost writes = { λ _ _ _ _. ⊤ };
 
     fn write(&mut self, piece: &[u8]) -> Result<usize, Failed> {
         self.flushed = false;

@@ -1,4 +1,4 @@
-ghost use Rattle.std.specs.Prelude.{◌≡◌, ◌≤◌, false, None};
+ghost use Rattle.std.specs.Prelude.{◌≡◌, ◌≤◌, false, None, ⊤};
 ghost use Rattle.retro_io.specs.Faults.{last_count};
 
 use crate::{Failed, Source};
@@ -38,6 +38,8 @@ impl<R: Read> Source for StdSource<R> {
     ghost ended = { λ s. s.ended };
 
     ghost faults = { λ s. s.faults };
+
+    ghost reads = { λ _ _ _ _. ⊤ };
 
     fn read(&mut self, buffer: &mut [u8]) -> Result<usize, Failed> {
         match self.reader.read(buffer) {

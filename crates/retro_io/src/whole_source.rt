@@ -1,5 +1,6 @@
-ghost use Rattle.std.specs.Prelude.{◌≡◌, ◌≤◌, ◌<◌, [], false, length, take, min, Some, IfOk, IsOk, OnErr, MatchResult};
+ghost use Rattle.std.specs.Prelude.{◌≡◌, ◌≤◌, ◌<◌, [], false, length, take, Some, IfOk, OnErr, MatchResult};
 ghost use Rattle.retro_io.specs.Faults.{Rose, last_count};
+ghost use Rattle.retro_io.specs.Memory.{ReadsWhole};
 ghost use Rattle.retro_io.specs.Source.{Gives, bytes_left, ended_after, taken_after};
 
 use crate::stock::Stock;
@@ -44,6 +45,8 @@ impl Source for WholeSource {
 
     ghost faults = { λ _. 0 };
 
+    ghost reads = { ReadsWhole };
+
     /// Gives as many bytes as the buffer holds and as there are.
     fn read(&mut self, buffer: &mut [u8]) -> Result<usize, Failed>
         ensures within { IfOk result (λ count. count ≤ length buffer.new) }
@@ -53,12 +56,10 @@ impl Source for WholeSource {
         ensures at_end { IfOk result (λ count. count ≡ 0 → 0 < length buffer.new → bytes_left (Some self.new.left) ≡ []) }
         ensures taken { self.new.taken ≡ taken_after self.old.taken result }
         ensures ended { self.new.ended ≡ ended_after self.old.ended result buffer.new }
+        ensures does { ReadsWhole self.old (length buffer.new) result self.new }
         ensures kept_count { 0 ≤ 0 }
         ensures counted { 0 ≤ last_count }
         ensures failed { OnErr result (Rose 0 0) }
-        // It never fails, and gives all that it can.
-        ensures never { IsOk result }
-        ensures count { IfOk result (λ count. count ≡ min (length buffer.new) (length self.old.left)) }
     {
         let most = buffer.len().max(1);
         Ok(self.stock.give(buffer, most))

@@ -1,8 +1,9 @@
 -- The line given is the first of the lines of the bytes held and of those taken in the call.
-use Rattle.std.proofs.Common.{[], ◌∷◌, ◌++◌, take, sym, ap, ◌∙◌, inl}
+use Rattle.std.proofs.Common.{[], ◌∷◌, ◌++◌, take, sym, ap, ◌∙◌, inl, arith}
 use Rattle.std.proofs.lemmas.List.{append-nil}
 use Rattle.retro_io.specs.Lines.{line_feed}
 use Rattle.retro_io.specs.Reads.{GivesPiece}
+use Rattle.retro_io.proofs.OfferLemmas.{OffersEach-none}
 use Rattle.retro_io.proofs.ReadLemmas.{Gives-nil, GivesFirst-of, GivesFirst-piece, GivesNextOf-from, lines_of_call, progress_of_call, measures_shown, measures_of_call}
 use Rattle.retro_io.proofs.line_reader.LineReader.next.Goals as goal
 
@@ -44,3 +45,9 @@ pub returns-in-None-clause-shown : goal.returns-in-None-clause-shown
 returns-in-None-clause-shown g c =
     let last = c.read_line.new.self in
     measures_of_call c.read_line.result last.buffer.shown last.ended c.args.self.now.buffer.held last.buffer.held _ _ _ c.read_line.ensures.took
+
+pub returns-then-self-clause-offers : goal.returns-then-self-clause-offers
+returns-then-self-clause-offers g c = OffersEach-none g.S.Source.reads _ _ _ (omega arith)
+
+pub returns-in-Some-clause-offers : goal.returns-in-Some-clause-offers
+returns-in-Some-clause-offers g c = OffersEach-none g.S.Source.reads _ _ _ (omega arith)

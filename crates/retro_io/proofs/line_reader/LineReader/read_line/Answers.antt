@@ -1,13 +1,16 @@
 -- The bytes held are those held first and all that came since.
-use Rattle.std.proofs.Common.{◌≡◌, ◌-◌, ℕ, ◌∷◌, ◌++◌, Result, Ok, Err, length, take, drop, sym, ap, ◌∙◌, inl, subst, arith}
+use Rattle.std.proofs.Common.{◌≡◌, ◌-◌, ℕ, ◌∷◌, ◌++◌, Result, Ok, Err, length, take, drop, sym, ap, ◌∙◌, refl, inl, subst, arith}
+use Rattle.std.proofs.lemmas.List.{append-nil}
 use Rattle.std.proofs.lemmas.Result.{err_from_is_err_and}
 use Rattle.retro_io.specs.declared.mark.ReadError.{ReadError}
 use Rattle.retro_io.specs.Faults.{count_after}
 use Rattle.retro_io.specs.Lines.{has_line_feed, line_feed}
 use Rattle.retro_io.specs.Source.{Gives}
+use Rattle.retro_io.specs.Offers.{OffersEach}
 use Rattle.retro_io.specs.Reads.{MakesOf, GivesFirst, GivesPiece}
 use Rattle.retro_io.proofs.LineLemmas.{unbroken-back}
-use Rattle.retro_io.proofs.ReadLemmas.{Took-then, Took-both, MakesOf-error, MakesOf-later, GivesFirst-of, GivesFirst-piece, grown, length-behind, count_after-twice}
+use Rattle.retro_io.proofs.OfferLemmas.{OffersEach-none, OffersEach-then}
+use Rattle.retro_io.proofs.ReadLemmas.{Took-none, Took-then, Took-both, MakesOf-error, MakesOf-later, GivesFirst-of, GivesFirst-piece, grown, length-behind, count_after-twice}
 use Rattle.retro_io.proofs.line_reader.LineReader.read_line.Goals as goal
 use Rattle.retro_io.proofs.line_reader.LineReader.read_line.Goals.{After-fill}
 use Rattle.retro_io.proofs.line_reader.LineReader.read_line.Given.{Over}
@@ -20,6 +23,47 @@ failing error = Err error
 size : (g : Over) (c : After-fill g)
     → length (drop (length c.loop-self.self.buffer.held) c.fill.new.self.buffer.held) ≡ c.fill.new.self.taken - c.loop-self.self.taken
 size g c = length-behind c.loop-self.self.buffer.held c.fill.new.self.buffer.held _ c.fill.ensures.length
+
+-- what the reads offered, with those of the fill
+filled : (g : Over) (c : After-fill g) → OffersEach g.S.Source.reads (c.args.self.now.limit - c.args.self.now.taken) c.args.self.now.source.now
+    (c.fill.new.self.taken - c.args.self.now.taken) c.fill.new.self.source.now
+filled g c =
+    OffersEach-then g.S.Source.reads _ _ _ _ _ _ _ _ (omega (arith, c.loop-self.invariant.limit, c.loop-self.invariant.rises))
+    (omega (arith, c.fill.ensures.taken, c.loop-self.invariant.rises)) c.loop-self.invariant.offers c.fill.ensures.offers
+
+pub loop-self-init : goal.loop-self-init
+loop-self-init g c = record {
+  reference = refl;
+  limit = refl;
+  failed = c.requires.failed;
+  ended = c.requires.ended;
+  unbroken = c.requires.unbroken;
+  rises = omega arith;
+  in_limit = c.args.self.now.in_limit c.requires.failed;
+  source_taken = omega arith;
+  source_faults = omega arith;
+  offers = OffersEach-none g.S.Source.reads _ _ _ (omega arith);
+  took = Took-none _ _ _ (omega arith) (sym (append-nil c.args.self.now.buffer.held));
+}
+
+pub returns-in_err-fill-clause-offers : goal.returns-in_err-fill-clause-offers
+returns-in_err-fill-clause-offers g c = filled g (goal.at.returns-in_err-fill-clause-offers g c).After-fill
+
+pub returns-then-branch-eq0-clause-offers : goal.returns-then-branch-eq0-clause-offers
+returns-then-branch-eq0-clause-offers g c =
+    subst (λ source. OffersEach g.S.Source.reads (c.args.self.now.limit - c.args.self.now.taken) c.args.self.now.source.now
+    (c.give_last.new.self.taken - c.args.self.now.taken) source) (sym c.give_last.ensures.source)
+    (subst (λ taken. OffersEach g.S.Source.reads (c.args.self.now.limit - c.args.self.now.taken) c.args.self.now.source.now
+    (taken - c.args.self.now.taken) c.fill.new.self.source.now) (sym c.give_last.ensures.taken)
+    (filled g (goal.at.returns-then-branch-eq0-clause-offers g c).After-fill))
+
+pub returns-in-Some-clause-offers : goal.returns-in-Some-clause-offers
+returns-in-Some-clause-offers g c = filled g (goal.at.returns-in-Some-clause-offers g c).After-fill
+
+pub returns-clause-offers : goal.returns-clause-offers
+returns-clause-offers g c =
+    OffersEach-then g.S.Source.reads _ _ _ _ _ _ _ _ (omega (arith, c.loop-self.invariant.limit, c.loop-self.invariant.rises))
+    (omega (arith, c.read_long.ensures.taken, c.loop-self.invariant.rises)) c.loop-self.invariant.offers c.read_long.ensures.offers
 
 pub returns-in_err-fill-clause-took : goal.returns-in_err-fill-clause-took
 returns-in_err-fill-clause-took g c =
@@ -102,6 +146,7 @@ loop-self-preserved g c =
           ∙ count_after-twice (g.S.Source.taken c.args.self.now.source.now) _ _
           ∙ ap (count_after (g.S.Source.taken c.args.self.now.source.now)) (omega (arith, c.fill.ensures.taken, c.loop-self.invariant.rises));
       source_faults = omega (arith, c.fill.ensures.source_faults, c.loop-self.invariant.source_faults);
+      offers = filled g (goal.at.loop-self-preserved g c).After-fill;
       took = Took-then _ _ _ (λ xs. before ≡ held ++ xs) (λ xs. now ≡ held ++ xs)
           (c.loop-self.self.taken - c.args.self.now.taken) (c.fill.new.self.taken - c.args.self.now.taken) came
           c.loop-self.invariant.took c.fill.ensures.gives (omega (arith, count, c.fill.ensures.taken, c.loop-self.invariant.rises))

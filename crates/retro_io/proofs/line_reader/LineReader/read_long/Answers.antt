@@ -6,9 +6,11 @@ use Rattle.retro_io.specs.declared.mark.Mark.TheVariants.{Long}
 use Rattle.retro_io.specs.declared.mark.ReadError.{ReadError}
 use Rattle.retro_io.specs.Faults.{count_after}
 use Rattle.retro_io.specs.Lines.{longest, line_feed, has_line_feed}
+use Rattle.retro_io.specs.Offers.{OffersEach}
 use Rattle.retro_io.specs.Reads.{MakesOf}
 use Rattle.retro_io.proofs.LineLemmas.{unbroken-append, unbroken-take, unbroken-drop}
-use Rattle.retro_io.proofs.ReadLemmas.{Took-then, MakesOf-error, Shows-long, cut_behind, length-behind, count_after-twice}
+use Rattle.retro_io.proofs.OfferLemmas.{OffersEach-none, OffersEach-then}
+use Rattle.retro_io.proofs.ReadLemmas.{Took-none, Took-then, MakesOf-error, Shows-long, cut_behind, length-behind, count_after-twice}
 use Rattle.retro_io.proofs.line_reader.LineReader.read_long.Goals as goal
 use Rattle.retro_io.proofs.line_reader.LineReader.read_long.Goals.{After-fill}
 use Rattle.retro_io.proofs.line_reader.LineReader.read_long.Given.{Over}
@@ -27,6 +29,38 @@ front g c =
 size : (g : Over) (c : After-fill g)
     → length (drop (length c.keep_front.new.self.held) c.fill.new.self.buffer.held) ≡ c.fill.new.self.taken - c.loop-self.self.taken
 size g c = length-behind c.keep_front.new.self.held c.fill.new.self.buffer.held _ c.fill.ensures.length
+
+-- what the reads offered, with those of the fill
+filled : (g : Over) (c : After-fill g) → OffersEach g.S.Source.reads (c.args.self.now.limit - c.args.self.now.taken) c.args.self.now.source.now
+    (c.fill.new.self.taken - c.args.self.now.taken) c.fill.new.self.source.now
+filled g c =
+    OffersEach-then g.S.Source.reads _ _ _ _ _ _ _ _ (omega (arith, c.loop-self.invariant.limit, c.loop-self.invariant.rises))
+    (omega (arith, c.fill.ensures.taken, c.loop-self.invariant.rises)) c.loop-self.invariant.offers c.fill.ensures.offers
+
+pub loop-self-init : goal.loop-self-init
+loop-self-init g c = record {
+  reference = refl;
+  limit = refl;
+  failed = c.requires.failed;
+  ended = c.requires.ended;
+  long = omega (arith, c.requires.long);
+  front = refl;
+  rises = omega arith;
+  in_limit = c.args.self.now.in_limit c.requires.failed;
+  source_taken = omega arith;
+  source_faults = omega arith;
+  offers = OffersEach-none g.S.Source.reads _ _ _ (omega arith);
+  took = Took-none _ _ _ (omega arith) refl;
+}
+
+pub returns-in_err-fill-clause-offers : goal.returns-in_err-fill-clause-offers
+returns-in_err-fill-clause-offers g c = filled g (goal.at.returns-in_err-fill-clause-offers g c).After-fill
+
+pub returns-then-branch-eq0-clause-offers : goal.returns-then-branch-eq0-clause-offers
+returns-then-branch-eq0-clause-offers g c = filled g (goal.at.returns-then-branch-eq0-clause-offers g c).After-fill
+
+pub returns-in-Some-clause-offers : goal.returns-in-Some-clause-offers
+returns-in-Some-clause-offers g c = filled g (goal.at.returns-in-Some-clause-offers g c).After-fill
 
 pub returns-in_err-fill-clause-took : goal.returns-in_err-fill-clause-took
 returns-in_err-fill-clause-took g c =
@@ -137,6 +171,7 @@ loop-self-preserved g c =
           ∙ count_after-twice (g.S.Source.taken c.args.self.now.source.now) _ _
           ∙ ap (count_after (g.S.Source.taken c.args.self.now.source.now)) (omega (arith, c.fill.ensures.taken, c.loop-self.invariant.rises));
       source_faults = omega (arith, c.fill.ensures.source_faults, c.loop-self.invariant.source_faults);
+      offers = filled g at_fill;
       took = Took-then _ _ _ (λ xs. has_line_feed xs ≡ false) (λ xs. has_line_feed xs ≡ false)
           (c.loop-self.self.taken - c.args.self.now.taken) (c.fill.new.self.taken - c.args.self.now.taken) came
           c.loop-self.invariant.took c.fill.ensures.gives (omega (arith, count, c.fill.ensures.taken, c.loop-self.invariant.rises))
