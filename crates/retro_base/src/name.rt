@@ -3,7 +3,7 @@ ghost use Rattle.std.specs.Cmp.{partial_equiv_from_equiv};
 ghost use Rattle.std.specs.Cmp.Lexicographic.{nat_list_eq_equiv};
 ghost use Rattle.std.specs.List.{list_all};
 ghost use Rattle.std.specs.Str.{bytes_eq};
-ghost use Rattle.retro_base.specs.Name.{is_letter, is_name, is_name_byte, is_reserved, name_of, starts_with_letter};
+ghost use Rattle.retro_base.specs.Name.{is_name, is_name_byte, is_reserved, name_of, starts_with_letter};
 
 use std::marker::Model;
 

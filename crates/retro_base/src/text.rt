@@ -1,6 +1,7 @@
 ghost use Rattle.std.specs.Prelude.{◌≡◌, [], ◌++◌, OnOk, OnErr};
 
 use crate::NoMemory;
+use itoa::{Buffer, Integer};
 use std::alloc::Global;
 use std::marker::Model;
 
@@ -38,6 +39,14 @@ impl Text {
         Ok(())
     }
 
+    /// Appends a number in decimal, behind a `-` where it is below 0. Without memory for it the text stays as it was.
+    pub fn push_number<I: Integer>(&mut self, number: I) -> Result<(), NoMemory>
+        ensures ok { OnOk result (self.new ≡ self.old ++ I.text number) }
+        ensures err { OnErr result (self.new ≡ self.old) }
+    {
+        self.push_all(Buffer::new().format(number).as_bytes())
+    }
+
     /// Empties the text.
     pub fn clear(&mut self)
         ensures { self.new ≡ [] }
@@ -52,3 +61,6 @@ impl Text {
         self.bytes.as_slice()
     }
 }
+
+#[cfg(test)]
+mod tests;

@@ -1,8 +1,8 @@
-ghost use Rattle.std.specs.Prelude.{◌≡◌, ◌+◌, ◌-◌, ◌<◌, ◌↔◌, ◌≤◌, ◌^◌, [], true, false, Err, IsTrue, IfOk, IfSome, OnOk, IsErrOf, if◌then◌else◌, length};
+ghost use Rattle.std.specs.Prelude.{◌≡◌, ◌+◌, ◌-◌, ◌<◌, ◌↔◌, ◌≤◌, true, false, Err, IsTrue, IfOk, IfSome, OnOk, IsErrOf, if◌then◌else◌, length};
 ghost use Rattle.retro_io.specs.Faults.{Rose, count_after, last_count};
 ghost use Rattle.retro_io.specs.Sink.{Appends};
 ghost use Rattle.retro_io.specs.Source.{GivesCount};
-ghost use Rattle.retro_io.specs.LineReader.{held, taken, limit_of, has_failed, reference_of, rest_of, source_of};
+ghost use Rattle.retro_io.specs.LineReader.{taken, limit_of, has_failed, reference_of, rest_of, source_of};
 ghost use Rattle.script_grammar.specs.declared.command.LineError.TheVariants as errors;
 ghost use Rattle.script_grammar.specs.Command.{command};
 ghost use Rattle.retro_cli.specs.declared.script.TheConstants.{MAX_BYTES};

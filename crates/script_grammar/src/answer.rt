@@ -2,7 +2,6 @@ ghost use Rattle.std.specs.Prelude.{◌≡◌, ◌++◌, OnOk, OnErr};
 ghost use Rattle.retro_base.specs.Text.{AppendsPrefix};
 ghost use Rattle.script_grammar.specs.AnswerText.{answer_text, pair_text};
 
-use itoa::{Buffer, Integer};
 use retro_base::{Answer, NoMemory, Text};
 
 /// Appends the text of an answer. Without memory a first part of it may have been appended.
@@ -13,7 +12,7 @@ pub fn print_answer(answer: Answer, out: &mut Text) -> Result<(), NoMemory>
     match answer {
         Answer::Number { value } => {
             out.push_all(b"= ")?;
-            print_number(value, out)
+            out.push_number(value)
         }
         Answer::Pair { key, value } => {
             out.push_all(b"= ")?;
@@ -28,15 +27,7 @@ pub fn print_pair(key: i64, value: i64, out: &mut Text) -> Result<(), NoMemory>
     ensures ok { OnOk result (out.new ≡ out.old ++ pair_text key value) }
     ensures err { OnErr result (AppendsPrefix out.old out.new (pair_text key value)) }
 {
-    print_number(key, out)?;
+    out.push_number(key)?;
     out.push_all(b":")?;
-    print_number(value, out)
-}
-
-/// Appends the digits of a number.
-pub fn print_number<I: Integer>(number: I, out: &mut Text) -> Result<(), NoMemory>
-    ensures ok { OnOk result (out.new ≡ out.old ++ I.text number) }
-    ensures err { OnErr result (out.new ≡ out.old) }
-{
-    out.push_all(Buffer::new().format(number).as_bytes())
+    out.push_number(value)
 }

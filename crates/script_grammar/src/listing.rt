@@ -3,7 +3,7 @@ ghost use Rattle.std.specs.List.{flat_map};
 ghost use Rattle.retro_base.specs.Text.{AppendsPrefix};
 ghost use Rattle.script_grammar.specs.AnswerText.{item_text, listing_text};
 
-use crate::answer::{print_number, print_pair};
+use crate::answer::print_pair;
 use retro_base::{Item, Listing, NoMemory, Text};
 
 /// Appends the text of a listing. Without memory a first part of it may have been appended.
@@ -34,7 +34,7 @@ fn print_item(item: Item, out: &mut Text) -> Result<(), NoMemory>
 {
     out.push_all(b" ")?;
     match item {
-        Item::Single { value } => print_number(value, out),
+        Item::Single { value } => out.push_number(value),
         Item::Pair { key, value } => print_pair(key, value, out),
     }
 }

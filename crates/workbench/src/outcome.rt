@@ -1,8 +1,7 @@
-ghost use Rattle.std.specs.Prelude.{◌≡◌, ◌++◌, decimal, OnOk};
+ghost use Rattle.std.specs.Prelude.{◌≡◌, ◌++◌, OnOk};
 ghost use Rattle.workbench.specs.Outcome.{is_refusal, refusal_text, reply_text};
 ghost use Rattle.workbench.specs.declared.outcome.Outcome.TheVariants as outcomes;
 
-use itoa::Buffer;
 use retro_base::{Answer, Listing, Name, NoMemory, Text};
 use script_grammar::{print_answer, print_listing};
 
@@ -72,7 +71,7 @@ impl Outcome {
             Outcome::Accepted => out.push_all(b"ok")?,
             Outcome::Put { number } => {
                 out.push_all(b"ok #")?;
-                print_number(u64::from(*number), out)?;
+                out.push_number(*number)?;
             }
             Outcome::Told { answer } => print_answer(*answer, out)?,
             Outcome::Listed { listing } => print_listing(listing, out)?,
@@ -99,23 +98,17 @@ impl Refusal {
             Refusal::Kind => out.push_all(b"refused kind")?,
             Refusal::NoRow { number } => {
                 out.push_all(b"refused no row #")?;
-                print_number(u64::from(*number), out)?;
+                out.push_number(*number)?;
             }
             Refusal::Full => out.push_all(b"refused full")?,
             Refusal::Numbers => out.push_all(b"refused numbers")?,
             Refusal::At { number, time } => {
                 out.push_all(b"refused at #")?;
-                print_number(u64::from(*number), out)?;
+                out.push_number(*number)?;
                 out.push_all(b" ")?;
-                print_number(*time, out)?;
+                out.push_number(*time)?;
             }
         }
         Ok(())
     }
-}
-
-fn print_number(number: u64, out: &mut Text) -> Result<(), NoMemory>
-    ensures { OnOk result (out.new ≡ out.old ++ decimal number) }
-{
-    out.push_all(Buffer::new().format(number).as_bytes())
 }
