@@ -4,6 +4,7 @@ pub mod CountLaws
 pub mod Extreme
 pub mod ExtremeLaws
 pub mod Laws
+pub mod MeasureLaws
 pub mod Stretch
 pub mod Summed
 pub mod SummedLaws

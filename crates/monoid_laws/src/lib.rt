@@ -19,6 +19,7 @@
 //!
 //! Contracts say what a value means by the list that it was made of: `measure_of` of
 //! specs/Stretch.antt joins the values of a list's items, and each reader says what it answers of it.
+//! specs/MeasureLaws.antt has what the laws give of it, for the proofs of the layer above.
 #![tactic(auto)]
 
 mod both;

@@ -2,7 +2,7 @@
 use Rattle.std.proofs.Common.{◌≡◌, ℕ, ◌∷◌, ◌++◌, List, sym, ap, ◌∙◌}
 use Rattle.monoid_laws.specs.Laws.{MonoidLaws}
 use Rattle.monoid_laws.specs.Stretch.{measure_of}
-use Rattle.monoid_laws.proofs.Totals.{measure_of-around}
+use Rattle.monoid_laws.specs.MeasureLaws.{measure_of-around}
 
 module _ {A M : Type 0} {items : M → ℕ} {unit : M} {join : M → M → M} (laws : MonoidLaws items unit join) (measured : A → M) where
   -- a stretch, an item and a stretch behind a measure

@@ -2,7 +2,7 @@
 use Rattle.std.proofs.Common.{◌≡◌, ℕ, zero, suc, ◌+◌, ◌-◌, ◌<◌, ◌≤◌, List, [], ◌∷◌, ◌++◌, Bool, true, false, refl, sym, ap, ◌∙◌, arith, take, drop, length, length-append}
 use Rattle.monoid_laws.specs.Laws.{MonoidLaws}
 use Rattle.monoid_laws.specs.Stretch.{measure_of, stretch}
-use Rattle.monoid_laws.proofs.Totals.{measure_of-around}
+use Rattle.monoid_laws.specs.MeasureLaws.{measure_of-around}
 use Rattle.weighted_tree.specs.Search.{IsRising, HoldsNowhere, IsFirstPlace, from_place}
 use Rattle.weighted_tree.specs.SearchSteps.{behind_place}
 use Rattle.weighted_tree.proofs.Places.{not_earlier, front_rising, front_first, back_rising, back_first, back_nowhere}

@@ -2,7 +2,7 @@
 use Rattle.std.proofs.Common.{◌≡◌, ℕ, ◌+◌, ◌-◌, ◌<◌, ◌≤◌, List, ◌∷◌, ◌++◌, Bool, true, false, sym, ap, ◌∙◌, arith, take, drop, length}
 use Rattle.monoid_laws.specs.Laws.{MonoidLaws}
 use Rattle.monoid_laws.specs.Stretch.{measure_of, stretch}
-use Rattle.monoid_laws.proofs.Totals.{measure_of-around}
+use Rattle.monoid_laws.specs.MeasureLaws.{measure_of-around}
 use Rattle.weighted_tree.specs.Search.{IsFalling, HoldsNowhere, IsLastPlace, up_to_place}
 use Rattle.weighted_tree.specs.SearchSteps.{before_place}
 use Rattle.weighted_tree.proofs.PlacesBack.{not_later, front_falling, front_last, front_nowhere, back_falling, back_last, back_none}

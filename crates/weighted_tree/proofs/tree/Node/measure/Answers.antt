@@ -1,4 +1,4 @@
-use Rattle.monoid_laws.proofs.Totals.{measure_of-around}
+use Rattle.monoid_laws.specs.MeasureLaws.{measure_of-around}
 use Rattle.weighted_tree.proofs.tree.Node.measure.Goals as goal
 
 pub returns : goal.returns

@@ -1,5 +1,5 @@
 use Rattle.std.proofs.Common.{◌≡◌, ◌-◌, arith, take, drop, length}
-use Rattle.monoid_laws.proofs.Totals.{measure_of-around}
+use Rattle.monoid_laws.specs.MeasureLaws.{measure_of-around}
 use Rattle.weighted_tree.proofs.Levels.{level_left, level_right, both_sides}
 use Rattle.weighted_tree.proofs.Stretches.{stretch-behind, stretch-around}
 use Rattle.weighted_tree.proofs.tree.Tree.+between.Goals as goal

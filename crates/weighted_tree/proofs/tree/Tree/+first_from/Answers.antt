@@ -1,6 +1,6 @@
 use Rattle.std.proofs.Common.{true, ◌≡◌, ◌<◌, ◌≤◌, ◌∷◌, sym, ap, ◌∙◌, arith, drop, length, length-append}
 use Rattle.monoid_laws.specs.Stretch.{measure_of, stretch}
-use Rattle.monoid_laws.proofs.Totals.{items-measure_of}
+use Rattle.monoid_laws.specs.MeasureLaws.{items-measure_of}
 use Rattle.weighted_tree.proofs.Levels.{level_left, level_right, one_left, one_right, both_sides, few_of_one}
 use Rattle.weighted_tree.proofs.Stretches.{drop_length}
 use Rattle.weighted_tree.proofs.SearchFrom.{stretch_none, right_rising, right_first, right_nowhere, right_measure, left_rising, left_first, deep_rising, middle_first, deep_first, all_nowhere, all_measure}

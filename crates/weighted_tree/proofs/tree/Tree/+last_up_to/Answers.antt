@@ -1,6 +1,6 @@
 use Rattle.std.proofs.Common.{true, ◌≡◌, ◌-◌, ◌<◌, ◌≤◌, ◌∷◌, sym, ap, ◌∙◌, arith, take, length, length-append}
 use Rattle.monoid_laws.specs.Stretch.{measure_of, stretch}
-use Rattle.monoid_laws.proofs.Totals.{items-measure_of}
+use Rattle.monoid_laws.specs.MeasureLaws.{items-measure_of}
 use Rattle.weighted_tree.proofs.Levels.{level_left, level_right, one_left, one_right, both_sides_back, few_of_one}
 use Rattle.weighted_tree.proofs.Stretches.{take_length}
 use Rattle.weighted_tree.proofs.SearchFrom.{stretch_none}

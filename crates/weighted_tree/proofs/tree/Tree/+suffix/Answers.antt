@@ -1,5 +1,5 @@
 use Rattle.std.proofs.Common.{◌≡◌, ◌-◌, arith, drop, length}
-use Rattle.monoid_laws.proofs.Totals.{measure_of-around}
+use Rattle.monoid_laws.specs.MeasureLaws.{measure_of-around}
 use Rattle.weighted_tree.proofs.Levels.{one_left, one_right}
 use Rattle.weighted_tree.proofs.Stretches.{drop-before, drop-behind}
 use Rattle.weighted_tree.proofs.tree.Tree.+suffix.Goals as goal

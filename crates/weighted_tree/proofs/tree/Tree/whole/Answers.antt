@@ -1,5 +1,5 @@
 use Rattle.std.proofs.Common.{ap, sym, ◌∙◌, subst, length}
-use Rattle.monoid_laws.proofs.Totals.{items-measure_of}
+use Rattle.monoid_laws.specs.MeasureLaws.{items-measure_of}
 use Rattle.weighted_tree.specs.Nodes.{items_of, node_items, IsSound}
 use Rattle.weighted_tree.proofs.tree.Tree.whole.Goals as goal
 

@@ -1,4 +1,4 @@
--- What the laws give of the measure of a list.
+-- Laws of `measure_of`, over any monoid. They stand here for the layer above: its proofs cite them.
 use Rattle.std.proofs.Common.{◌≡◌, ℕ, List, [], ◌∷◌, ◌++◌, length, sym, ap, ◌∙◌, arith}
 use Rattle.monoid_laws.specs.Laws.{MonoidLaws}
 use Rattle.monoid_laws.specs.Stretch.{measure_of}
@@ -10,10 +10,6 @@ module _ {A M : Type 0} {items : M → ℕ} {unit : M} {join : M → M → M} (l
   measure_of-append (x ∷ xs) ys =
       ap (join (measured x)) (measure_of-append xs ys)
       ∙ sym (laws.assoc (measured x) (measure_of unit join measured xs) (measure_of unit join measured ys))
-
-  -- one item
-  pub measure_of-one : (x : A) → measure_of unit join measured (x ∷ []) ≡ measured x
-  measure_of-one x = laws.right_unit (measured x)
 
   -- two stretches and an item between them
   pub measure_of-around : (xs ys : List A) (x : A) → measure_of unit join measured (xs ++ x ∷ ys) ≡ join (join (measure_of unit join measured xs) (measured x)) (measure_of unit join measured ys)
