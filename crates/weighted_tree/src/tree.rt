@@ -15,15 +15,16 @@ pub struct Tree<T: Measured> {
     link: Link<T>,
 }
 
-// What a node has to know of a subtree without reading its root.
+// What a node has to know of a subtree without reading its root. Fields lie in memory as they stand here,
+// and the box fills the gap before a measure that is aligned to 16 bytes.
 #[cycle(tree)]
 #[derive(Drop)]
 enum Link<T: Measured> {
     Empty,
     Full {
         size: u32,
-        measure: T::Measure,
         node: Box<Node<T>>,
+        measure: T::Measure,
     },
 }
 
