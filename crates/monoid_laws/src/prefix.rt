@@ -1,4 +1,4 @@
-ghost use Rattle.std.specs.Prelude.{◌≡◌, ◌+◌, ◌^◌, ◌<◌, ℤ, neg_ℤ, List};
+ghost use Rattle.std.specs.Prelude.{◌≡◌, ◌+◌, ℤ, neg_ℤ, List};
 ghost use Rattle.monoid_laws.specs.Summed.{sum_of};
 ghost use Rattle.monoid_laws.specs.Walk.{no_walk, one_step, joined_walk, end_of, lowest_of, walk_of, opposite_step, opposite_walk_of, IsSign, IsLeastPrefix, IsGreatestPrefix};
 ghost use Rattle.monoid_laws.specs.WalkLaws.{walk_laws};

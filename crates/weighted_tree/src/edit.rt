@@ -1,7 +1,6 @@
 ghost use Rattle.std.specs.Prelude.{◌≡◌, ℕ, ◌+◌, ◌*◌, ◌^◌, ◌<◌, ◌≤◌, [], ◌∷◌, ◌++◌, length, slice_get, slice_set, Some, OnOk, OnErr};
 ghost use Rattle.std.specs.List.{insert, remove};
 ghost use Rattle.weighted_tree.specs.Balance.{weight, IsBalanced};
-ghost use Rattle.weighted_tree.specs.Nodes.{node_items};
 ghost use Rattle.weighted_tree.specs.Visits.{IsWithinLevels, FourALevel, FewVisits};
 
 use crate::Tree;

@@ -1,4 +1,4 @@
-ghost use Rattle.std.specs.Prelude.{◌≡◌, ℕ, Bool, true, false, ◌+◌, ◌^◌, ◌<◌, ◌≤◌, take, drop, length, IfSome};
+ghost use Rattle.std.specs.Prelude.{◌≡◌, Bool, true, false, ◌+◌, ◌^◌, ◌<◌, ◌≤◌, take, drop, length, IfSome};
 ghost use Rattle.monoid_laws.specs.Stretch.{measure_of};
 ghost use Rattle.weighted_tree.specs.Balance.{weight};
 ghost use Rattle.weighted_tree.specs.Search.{Tests, IsRising, IsFalling, IsFirstPlace, IsLastPlace, IsFirstOrNone, IsLastOrNone, from_place, up_to_place};
