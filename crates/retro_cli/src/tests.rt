@@ -213,10 +213,11 @@ fn faults_and_other_words_have_their_status(rt: HostRuntime) -> Result<(), NoMem
     assert_eq!(rt; sink.written(), b"ok\n".as_slice());
     assert_eq!(rt; status.code(), 4);
 
-    let command_lines: [&[&[u8]]; 4] = [
+    let command_lines: [&[&[u8]]; 5] = [
         &[],
         &[b"run", b"now"],
         &[b"gen", b"pq", b"x", b"7"],
+        &[b"gen", b"pq", b"1000001", b"7"],
         &[b"follow", b"9x"],
     ];
     for command_line in command_lines {
