@@ -1,5 +1,5 @@
+pub mod DueLemmas
 pub mod LineLemmas
-pub mod OfferLemmas
 pub mod RangeLemmas
 pub mod ReadLemmas
 pub mod SinkLemmas

@@ -36,3 +36,11 @@ pub read_part : (xs : List ℕ) (held count : ℕ) → drop held (slice_range xs
 read_part xs held count =
     let width : held + count - 0 ≡ held + count = omega arith in
     ap (λ n. drop held (take n xs)) width ∙ drop-take held count xs
+
+-- the same in a vector that was written to, of which so many bytes were held
+pub came : (held new old : List ℕ) (size start count : ℕ) → length held ≡ start → length new ≡ size
+    → drop (length held) (slice_range (take size (new ++ drop (length new) old)) 0 (start + count)) ≡ take count (drop start new)
+came held new old size start count short whole =
+    ap (λ n. drop n (slice_range (take size (new ++ drop (length new) old)) 0 (start + count))) short
+    ∙ ap (λ xs. drop start (slice_range xs 0 (start + count))) (items_after size new old whole)
+    ∙ read_part new start count

@@ -34,21 +34,24 @@ Took-none left count P none holds = record {
   holds = holds;
 }
 
+pub Took-left : (a b : Option (List ℕ)) (count : ℕ) (P Q : List ℕ → Type 0) → Took a b count (λ xs. P xs × Q xs) → Took a b count P
+Took-left a b count P Q t = record { got = t.got; gives = t.gives; counts = t.counts; holds = t.holds.0 }
+
 -- first some bytes, and then more
 pub Took-then : (a b c : Option (List ℕ)) (P R : List ℕ → Type 0) (first count : ℕ) (ys : List ℕ)
-    → Took a b first P → Gives b ys c → count ≡ first + length ys → ((xs : List ℕ) → P xs → R (xs ++ ys)) → Took a c count R
+    → Took a b first P → Gives b ys c → count ≡ first + length ys → ((xs : List ℕ) → length xs ≡ first → P xs → R (xs ++ ys)) → Took a c count R
 Took-then a b c P R first count ys t gives sum f = record {
   got = t.got ++ ys;
   gives = Gives-append a b c t.got ys t.gives gives;
   counts = length-append t.got ys ∙ ap (λ n. n + length ys) t.counts ∙ sym sum;
-  holds = f t.got t.holds;
+  holds = f t.got t.counts t.holds;
 }
 
 pub Took-both : (a b c : Option (List ℕ)) (P Q R : List ℕ → Type 0) (first second count : ℕ)
     → Took a b first P → Took b c second Q → count ≡ first + second
-    → ((xs ys : List ℕ) → P xs → Q ys → R (xs ++ ys)) → Took a c count R
+    → ((xs ys : List ℕ) → length xs ≡ first → P xs → Q ys → R (xs ++ ys)) → Took a c count R
 Took-both a b c P Q R first second count t u sum f =
-    Took-then a b c P R first count u.got t u.gives (sum ∙ ap (λ n. first + n) (sym u.counts)) (λ xs p. f xs u.got p u.holds)
+    Took-then a b c P R first count u.got t u.gives (sum ∙ ap (λ n. first + n) (sym u.counts)) (λ xs n p. f xs u.got n p u.holds)
 
 -- a piece that is given of the bytes is one of the same bytes in other words
 pub GivesFirst-of : (mark : Mark) (shown : List ℕ) (ended : Bool) (xs ys after : List ℕ) → xs ≡ ys

@@ -1,10 +1,10 @@
+pub mod DueReads
 pub mod Faults
 pub mod LineBuffer
 pub mod LineReader
 pub mod Lines
 pub mod Marks
 pub mod Memory
-pub mod Offers
 pub mod Reads
 pub mod Sink
 pub mod Source

@@ -1,5 +1,5 @@
 -- What the sources and the sink in memory are seen as, and what their calls do.
-use Rattle.std.specs.Prelude.{◌≡◌, ℕ, ◌-◌, Bool, ◌==◌, ◌||◌, nat_le, min, List, length, Result, Ok, is_err, IfOk, OnErr}
+use Rattle.std.specs.Prelude.{◌≡◌, ℕ, ◌-◌, Bool, ◌==◌, ◌||◌, nat_le, min, List, length, take, Result, Ok, Err, is_err, IfOk}
 use Rattle.std.specs.List.{list_any}
 use Rattle.retro_io.specs.Faults.{count_after}
 
@@ -27,17 +27,22 @@ pub record Roomed : Type 0 where
   pub flushed : Bool
   pub faults : ℕ
 
+-- a count of faults behind a call: a call that fails counts as one
+abbrev pub faults_after : {V E : Type 0} → ℕ → Result V E → ℕ
+faults_after before (Ok value) = before
+faults_after before (Err failed) = count_after before 1
+
 -- a read that never fails gives as many bytes as the buffer holds and as there are
-abbrev pub ReadsWhole : {E : Type 0} → Stocked → ℕ → Result ℕ E → Stocked → Type 0
-ReadsWhole before room answer after = answer ≡ Ok (min room (length before.left))
+abbrev pub ReadsWhole : {E : Type 0} → Stocked → ℕ → Result (List ℕ) E → Stocked → Type 0
+ReadsWhole before room answer after = answer ≡ Ok (take room before.left)
 
 -- a read fails exactly where its number is among those chosen; it gives a piece at the most, and no more than the buffer holds and than there is
-abbrev pub ReadsPieced : {E : Type 0} → Pieced → ℕ → Result ℕ E → Pieced → Type 0
+abbrev pub ReadsPieced : {E : Type 0} → Pieced → ℕ → Result (List ℕ) E → Pieced → Type 0
 ReadsPieced before room answer after =
     (is_err answer ≡ list_any (λ number. number == before.calls) before.failing)
-    × IfOk answer (λ count. count ≡ min (min before.piece room) (length before.stock.left))
+    × IfOk answer (λ bytes. bytes ≡ take (min before.piece room) before.stock.left)
     × (after.calls ≡ count_after before.calls 1)
-    × OnErr answer (after.faults ≡ count_after before.faults 1)
+    × (after.faults ≡ faults_after before.faults answer)
     × (after.piece ≡ before.piece) × (after.failing ≡ before.failing)
 
 -- a write fails exactly where its number is among those chosen or the room is full; it takes a piece at the most, and no more than there is room for
@@ -46,5 +51,5 @@ WritesRoomed before piece answer after =
     (is_err answer ≡ (list_any (λ number. number == before.calls) before.failing || nat_le before.room (length before.written)))
     × IfOk answer (λ count. count ≡ min (min before.piece (length piece)) (before.room - length before.written))
     × (after.calls ≡ count_after before.calls 1)
-    × OnErr answer (after.faults ≡ count_after before.faults 1)
+    × (after.faults ≡ faults_after before.faults answer)
     × (after.room ≡ before.room) × (after.piece ≡ before.piece) × (after.failing ≡ before.failing)

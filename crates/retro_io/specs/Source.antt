@@ -1,5 +1,5 @@
 -- What a read does to the meanings of a source.
-use Rattle.std.specs.Prelude.{◌≡◌, ℕ, Bool, ◌==◌, ◌≤◌, List, [], ◌∷◌, ◌++◌, length, drop, Option, None, Some, Result, Ok, Err}
+use Rattle.std.specs.Prelude.{◌≡◌, ℕ, Bool, ◌==◌, ◌≤◌, List, [], ◌∷◌, ◌++◌, length, take, drop, Option, None, Some, Result, Ok, Err}
 use Rattle.retro_io.specs.Faults.{count_after}
 
 -- the bytes left, and none where the source does not tell them
@@ -32,3 +32,8 @@ ended_after before (Err failed) buffer = ended_at before 1 buffer
 abbrev pub taken_after : {E : Type 0} → ℕ → Result ℕ E → ℕ
 taken_after before (Ok count) = count_after before count
 taken_after before (Err failed) = before
+
+-- the answer of a read, with the bytes that it gave in the front of the buffer
+abbrev pub bytes_given : {E : Type 0} → Result ℕ E → List ℕ → Result (List ℕ) E
+bytes_given (Ok count) buffer = Ok (take count buffer)
+bytes_given (Err failed) buffer = Err failed

@@ -1,10 +1,10 @@
 ghost use Rattle.std.specs.Prelude.{◌≡◌, ◌+◌, ◌-◌, ◌≢◌, ◌≤◌, ◌<◌, ℕ, [], ◌∷◌, ◌++◌, true, false, length, take, drop, slice_index, Result, IfOk, OnErr, MatchResult, MatchOption};
 ghost use Rattle.std.specs.List.{slice_range};
+ghost use Rattle.retro_io.specs.DueReads.{ReadOnce};
 ghost use Rattle.retro_io.specs.Faults.{Rose};
 ghost use Rattle.retro_io.specs.Lines.{has_line_feed, longest, line_feed, without_return};
 ghost use Rattle.retro_io.specs.Marks.{Shows};
-ghost use Rattle.retro_io.specs.Offers.{OffersOnce};
-ghost use Rattle.retro_io.specs.Source.{Gives, bytes_left, taken_after};
+ghost use Rattle.retro_io.specs.Source.{Gives, bytes_given, bytes_left, taken_after};
 
 use crate::{Failed, Mark, Source};
 use retro_base::NoMemory;
@@ -145,7 +145,7 @@ impl LineBuffer {
             (λ _. S.left source.new ≡ S.left source.old) }
         ensures at_end { IfOk result (λ count. count ≡ 0 → (bytes_left (S.left source.new) ≡ []) × (S.ended source.new ≡ true)) }
         ensures taken { S.taken source.new ≡ taken_after (S.taken source.old) result }
-        ensures offers { OffersOnce S.reads most source.old result source.new }
+        ensures reads { ReadOnce S.reads most source.old (drop (length self.old.held) self.new.held) source.new }
         ensures kept_count { S.faults source.old ≤ S.faults source.new }
         ensures failed { OnErr result (Rose (S.faults source.old) (S.faults source.new)) }
     {
@@ -216,7 +216,7 @@ fn read_into<S: Source>(
         (λ _. S.left source.new ≡ S.left source.old) }
     ensures at_end { IfOk result (λ count. count ≡ 0 → (bytes_left (S.left source.new) ≡ []) × (S.ended source.new ≡ true)) }
     ensures taken { S.taken source.new ≡ taken_after (S.taken source.old) result }
-    ensures reads { S.reads source.old (upto - from) result source.new }
+    ensures reads { S.reads source.old (upto - from) (bytes_given result (drop from bytes.new)) source.new }
     ensures kept_count { S.faults source.old ≤ S.faults source.new }
     ensures failed { OnErr result (Rose (S.faults source.old) (S.faults source.new)) }
 {

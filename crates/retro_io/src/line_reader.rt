@@ -1,8 +1,8 @@
 ghost use Rattle.std.specs.Prelude.{◌≡◌, ◌+◌, ◌-◌, ◌^◌, ◌≤◌, ◌<◌, ◌↔◌, [], true, false, length, take, drop, Result, Ok, IfOk, IfSome, OnErr, IsErrOf, IsTrue, is_err};
+ghost use Rattle.retro_io.specs.DueReads.{ReadOnce, WereDue, WereDueOf};
 ghost use Rattle.retro_io.specs.Faults.{Rose, count_after};
 ghost use Rattle.retro_io.specs.Lines.{has_line_feed, longest};
 ghost use Rattle.retro_io.specs.Marks.{GivesNextOf, Measures, gives_line};
-ghost use Rattle.retro_io.specs.Offers.{OffersEach};
 ghost use Rattle.retro_io.specs.Reads.{GivesFirst, MakesOf, Took};
 ghost use Rattle.retro_io.specs.Source.{Gives, GivesCount, bytes_left};
 
@@ -114,10 +114,11 @@ impl<'a, S: Source> LineReader<'a, S> {
         ensures progress { IfOk result (λ mark. IsTrue (gives_line mark) → given self.old < given self.new) }
         ensures at_end { IfOk result (λ mark. mark ≡ Mark.End →
             (held self.new ≡ []) × (has_ended self.new ≡ true) × (S.ended (source_of self.new) ≡ true)) }
-        // It reads only where no whole line is held and no read of its own has answered the end.
+        // It reads only where no whole line is held and no read of its own has answered the end or failed, and offers a buffer
+        // of the stated size.
         ensures kept_line { has_line_feed (held self.old) ≡ true → source_of self.new ≡ source_of self.old }
         ensures kept_end { has_ended self.old ≡ true → (source_of self.new ≡ source_of self.old) × (result ≡ Ok Mark.End) }
-        ensures offers { OffersEach S.reads (limit_of self.old - taken self.old)
+        ensures reads { WereDueOf S.reads (limit_of self.old - taken self.old) (held self.old) (has_ended self.old)
             (source_of self.old) (taken self.new - taken self.old) (source_of self.new) }
         // An error comes only where no whole line was held.
         ensures unbroken { OnErr result (has_line_feed (held self.old) ≡ false) }
@@ -149,10 +150,9 @@ impl<'a, S: Source> LineReader<'a, S> {
         ensures source_taken { S.taken (source_of self.new)
             ≡ count_after (S.taken (source_of self.old)) (taken self.new - taken self.old) }
         ensures source_faults { S.faults (source_of self.old) ≤ S.faults (source_of self.new) }
-        ensures offers { OffersEach S.reads (limit_of self.old - taken self.old)
-            (source_of self.old) (taken self.new - taken self.old) (source_of self.new) }
         ensures took { Took (S.left (source_of self.old)) (S.left (source_of self.new)) (taken self.new - taken self.old)
-            (MakesOf result (line_of self.new) (has_ended self.new) (held self.old) (held self.new)) }
+            (λ got. MakesOf result (line_of self.new) (has_ended self.new) (held self.old) (held self.new) got
+            × WereDue S.reads (limit_of self.old - taken self.old) (held self.old) false (source_of self.old) got (source_of self.new)) }
         ensures fault { IsErrOf result ReadError.ReadFault → Rose (S.faults (source_of self.old)) (S.faults (source_of self.new)) }
         ensures too_long { IsErrOf result ReadError.TooLong ↔ (taken self.new ≡ limit_of self.new + 1) }
     {
@@ -181,10 +181,9 @@ impl<'a, S: Source> LineReader<'a, S> {
         ensures source_taken { S.taken (source_of self.new)
             ≡ count_after (S.taken (source_of self.old)) (taken self.new - taken self.old) }
         ensures source_faults { S.faults (source_of self.old) ≤ S.faults (source_of self.new) }
-        ensures offers { OffersEach S.reads (limit_of self.old - taken self.old)
-            (source_of self.old) (taken self.new - taken self.old) (source_of self.new) }
         ensures took { Took (S.left (source_of self.old)) (S.left (source_of self.new)) (taken self.new - taken self.old)
-            (MakesOf result (line_of self.new) (has_ended self.new) (held self.old) (held self.new)) }
+            (λ got. MakesOf result (line_of self.new) (has_ended self.new) (held self.old) (held self.new) got
+            × WereDue S.reads (limit_of self.old - taken self.old) (held self.old) false (source_of self.old) got (source_of self.new)) }
         ensures fault { IsErrOf result ReadError.ReadFault → Rose (S.faults (source_of self.old)) (S.faults (source_of self.new)) }
         ensures too_long { IsErrOf result ReadError.TooLong ↔ (taken self.new ≡ limit_of self.new + 1) }
     {
@@ -240,8 +239,8 @@ impl<'a, S: Source> LineReader<'a, S> {
         ensures source_taken { S.taken (source_of self.new)
             ≡ count_after (S.taken (source_of self.old)) (taken self.new - taken self.old) }
         ensures source_faults { S.faults (source_of self.old) ≤ S.faults (source_of self.new) }
-        ensures offers { OffersEach S.reads (limit_of self.old - taken self.old)
-            (source_of self.old) (taken self.new - taken self.old) (source_of self.new) }
+        ensures reads { ReadOnce S.reads (limit_of self.old - taken self.old)
+            (source_of self.old) (drop (length (held self.old)) (held self.new)) (source_of self.new) }
         ensures kept { take (length (held self.old)) (held self.new) ≡ held self.old }
         ensures length { length (held self.new) ≡ length (held self.old) + (taken self.new - taken self.old) }
         ensures gives { Gives (S.left (source_of self.old)) (drop (length (held self.old)) (held self.new)) (S.left (source_of self.new)) }

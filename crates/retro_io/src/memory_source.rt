@@ -1,7 +1,7 @@
 ghost use Rattle.std.specs.Prelude.{◌≡◌, ◌≤◌, ◌<◌, [], false, length, take, Some, IfOk, OnErr, MatchResult};
 ghost use Rattle.retro_io.specs.Faults.{Rose, last_count};
 ghost use Rattle.retro_io.specs.Memory.{ReadsPieced};
-ghost use Rattle.retro_io.specs.Source.{Gives, bytes_left, ended_after, taken_after};
+ghost use Rattle.retro_io.specs.Source.{Gives, bytes_given, bytes_left, ended_after, taken_after};
 
 use crate::stock::{Stock, is_among};
 use crate::{Failed, Source};
@@ -84,7 +84,7 @@ impl Source for MemorySource {
         ensures at_end { IfOk result (λ count. count ≡ 0 → 0 < length buffer.new → bytes_left (Some self.new.stock.left) ≡ []) }
         ensures taken { self.new.stock.taken ≡ taken_after self.old.stock.taken result }
         ensures ended { self.new.stock.ended ≡ ended_after self.old.stock.ended result buffer.new }
-        ensures does { ReadsPieced self.old (length buffer.new) result self.new }
+        ensures does { ReadsPieced self.old (length buffer.new) (bytes_given result buffer.new) self.new }
         ensures kept_count { self.old.faults ≤ self.new.faults }
         ensures counted { self.new.faults ≤ last_count }
         ensures failed { OnErr result (Rose self.old.faults self.new.faults) }

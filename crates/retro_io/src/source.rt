@@ -1,6 +1,6 @@
 ghost use Rattle.std.specs.Prelude.{◌≡◌, ℕ, Bool, List, Option, [], ◌≤◌, ◌<◌, length, take, Result, IfOk, OnErr, MatchResult};
 ghost use Rattle.retro_io.specs.Faults.{Rose, last_count};
-ghost use Rattle.retro_io.specs.Source.{Gives, bytes_left, ended_after, taken_after};
+ghost use Rattle.retro_io.specs.Source.{Gives, bytes_given, bytes_left, ended_after, taken_after};
 ghost use Rattle.retro_io.specs.declared.source.Failed.{Failed};
 
 /// A read or a write failed.
@@ -21,9 +21,9 @@ pub trait Source {
     /// A count of faults. It never falls, and stands still at its last value.
     ghost faults: { Self → ℕ };
 
-    /// What a read may do: how the source stood before it, how many bytes the buffer has that it was offered, its answer, and
-    /// how the source stands behind it.
-    ghost reads: { Self → ℕ → Result ℕ Failed → Self → Type 0 };
+    /// What a read may do: how the source stood before it, how many bytes the buffer has that it was offered, the bytes that
+    /// it gave, and how the source stands behind it.
+    ghost reads: { Self → ℕ → Result (List ℕ) Failed → Self → Type 0 };
 
     /// Takes some of the next bytes into the front of the buffer, and says how many. None, where the buffer has room,
     /// is the end. Nothing is taken by a read that fails.
@@ -35,7 +35,7 @@ pub trait Source {
         ensures at_end { IfOk result (λ count. count ≡ 0 → 0 < length buffer.new → bytes_left (left self.new) ≡ []) }
         ensures taken { taken self.new ≡ taken_after (taken self.old) result }
         ensures ended { ended self.new ≡ ended_after (ended self.old) result buffer.new }
-        ensures does { reads self.old (length buffer.new) result self.new }
+        ensures does { reads self.old (length buffer.new) (bytes_given result buffer.new) self.new }
         ensures kept_count { faults self.old ≤ faults self.new }
         ensures counted { faults self.new ≤ last_count }
         ensures failed { OnErr result (Rose (faults self.old) (faults self.new)) };

@@ -1,7 +1,7 @@
 ghost use Rattle.std.specs.Prelude.{◌≡◌, ◌≤◌, ◌<◌, [], false, length, take, Some, IfOk, OnErr, MatchResult};
 ghost use Rattle.retro_io.specs.Faults.{Rose, last_count};
 ghost use Rattle.retro_io.specs.Memory.{ReadsWhole};
-ghost use Rattle.retro_io.specs.Source.{Gives, bytes_left, ended_after, taken_after};
+ghost use Rattle.retro_io.specs.Source.{Gives, bytes_given, bytes_left, ended_after, taken_after};
 
 use crate::stock::Stock;
 use crate::{Failed, Source};
@@ -56,7 +56,7 @@ impl Source for WholeSource {
         ensures at_end { IfOk result (λ count. count ≡ 0 → 0 < length buffer.new → bytes_left (Some self.new.left) ≡ []) }
         ensures taken { self.new.taken ≡ taken_after self.old.taken result }
         ensures ended { self.new.ended ≡ ended_after self.old.ended result buffer.new }
-        ensures does { ReadsWhole self.old (length buffer.new) result self.new }
+        ensures does { ReadsWhole self.old (length buffer.new) (bytes_given result buffer.new) self.new }
         ensures kept_count { 0 ≤ 0 }
         ensures counted { 0 ≤ last_count }
         ensures failed { OnErr result (Rose 0 0) }

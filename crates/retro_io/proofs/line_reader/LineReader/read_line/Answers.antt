@@ -1,16 +1,16 @@
 -- The bytes held are those held first and all that came since.
-use Rattle.std.proofs.Common.{◌≡◌, ◌-◌, ℕ, ◌∷◌, ◌++◌, Result, Ok, Err, length, take, drop, sym, ap, ◌∙◌, refl, inl, subst, arith}
+use Rattle.std.proofs.Common.{◌≡◌, ◌-◌, ℕ, List, false, ◌∷◌, ◌++◌, Result, Ok, Err, length, take, drop, sym, ap, ◌∙◌, refl, inl, subst, arith}
 use Rattle.std.proofs.lemmas.List.{append-nil}
 use Rattle.std.proofs.lemmas.Result.{err_from_is_err_and}
 use Rattle.retro_io.specs.declared.mark.ReadError.{ReadError}
+use Rattle.retro_io.specs.DueReads.{ReadOnce, ReadsDue, WereDue}
 use Rattle.retro_io.specs.Faults.{count_after}
 use Rattle.retro_io.specs.Lines.{has_line_feed, line_feed}
 use Rattle.retro_io.specs.Source.{Gives}
-use Rattle.retro_io.specs.Offers.{OffersEach}
 use Rattle.retro_io.specs.Reads.{MakesOf, GivesFirst, GivesPiece}
 use Rattle.retro_io.proofs.LineLemmas.{unbroken-back}
-use Rattle.retro_io.proofs.OfferLemmas.{OffersEach-none, OffersEach-then}
-use Rattle.retro_io.proofs.ReadLemmas.{Took-none, Took-then, Took-both, MakesOf-error, MakesOf-later, GivesFirst-of, GivesFirst-piece, grown, length-behind, count_after-twice}
+use Rattle.retro_io.proofs.DueLemmas.{Took-due, Took-due-on, WereDue-then}
+use Rattle.retro_io.proofs.ReadLemmas.{Took-none, Took-both, MakesOf-error, MakesOf-later, GivesFirst-of, GivesFirst-piece, grown, length-behind, count_after-twice}
 use Rattle.retro_io.proofs.line_reader.LineReader.read_line.Goals as goal
 use Rattle.retro_io.proofs.line_reader.LineReader.read_line.Goals.{After-fill}
 use Rattle.retro_io.proofs.line_reader.LineReader.read_line.Given.{Over}
@@ -24,12 +24,10 @@ size : (g : Over) (c : After-fill g)
     → length (drop (length c.loop-self.self.buffer.held) c.fill.new.self.buffer.held) ≡ c.fill.new.self.taken - c.loop-self.self.taken
 size g c = length-behind c.loop-self.self.buffer.held c.fill.new.self.buffer.held _ c.fill.ensures.length
 
--- what the reads offered, with those of the fill
-filled : (g : Over) (c : After-fill g) → OffersEach g.S.Source.reads (c.args.self.now.limit - c.args.self.now.taken) c.args.self.now.source.now
-    (c.fill.new.self.taken - c.args.self.now.taken) c.fill.new.self.source.now
-filled g c =
-    OffersEach-then g.S.Source.reads _ _ _ _ _ _ _ _ (omega (arith, c.loop-self.invariant.limit, c.loop-self.invariant.rises))
-    (omega (arith, c.fill.ensures.taken, c.loop-self.invariant.rises)) c.loop-self.invariant.offers c.fill.ensures.offers
+-- none of the bytes held first and taken since ends a line
+held_unbroken : (g : Over) (c : After-fill g) (xs : List ℕ) → c.loop-self.self.buffer.held ≡ c.args.self.now.buffer.held ++ xs
+    → has_line_feed (c.args.self.now.buffer.held ++ xs) ≡ false
+held_unbroken g c xs e = ap has_line_feed (sym e) ∙ c.loop-self.invariant.unbroken
 
 pub loop-self-init : goal.loop-self-init
 loop-self-init g c = record {
@@ -42,28 +40,8 @@ loop-self-init g c = record {
   in_limit = c.args.self.now.in_limit c.requires.failed;
   source_taken = omega arith;
   source_faults = omega arith;
-  offers = OffersEach-none g.S.Source.reads _ _ _ (omega arith);
-  took = Took-none _ _ _ (omega arith) (sym (append-nil c.args.self.now.buffer.held));
+  took = Took-none _ _ _ (omega arith) (sym (append-nil c.args.self.now.buffer.held), ReadsDue.none);
 }
-
-pub returns-in_err-fill-clause-offers : goal.returns-in_err-fill-clause-offers
-returns-in_err-fill-clause-offers g c = filled g (goal.at.returns-in_err-fill-clause-offers g c).After-fill
-
-pub returns-then-branch-eq0-clause-offers : goal.returns-then-branch-eq0-clause-offers
-returns-then-branch-eq0-clause-offers g c =
-    subst (λ source. OffersEach g.S.Source.reads (c.args.self.now.limit - c.args.self.now.taken) c.args.self.now.source.now
-    (c.give_last.new.self.taken - c.args.self.now.taken) source) (sym c.give_last.ensures.source)
-    (subst (λ taken. OffersEach g.S.Source.reads (c.args.self.now.limit - c.args.self.now.taken) c.args.self.now.source.now
-    (taken - c.args.self.now.taken) c.fill.new.self.source.now) (sym c.give_last.ensures.taken)
-    (filled g (goal.at.returns-then-branch-eq0-clause-offers g c).After-fill))
-
-pub returns-in-Some-clause-offers : goal.returns-in-Some-clause-offers
-returns-in-Some-clause-offers g c = filled g (goal.at.returns-in-Some-clause-offers g c).After-fill
-
-pub returns-clause-offers : goal.returns-clause-offers
-returns-clause-offers g c =
-    OffersEach-then g.S.Source.reads _ _ _ _ _ _ _ _ (omega (arith, c.loop-self.invariant.limit, c.loop-self.invariant.rises))
-    (omega (arith, c.read_long.ensures.taken, c.loop-self.invariant.rises)) c.loop-self.invariant.offers c.read_long.ensures.offers
 
 pub returns-in_err-fill-clause-took : goal.returns-in_err-fill-clause-took
 returns-in_err-fill-clause-took g c =
@@ -73,10 +51,10 @@ returns-in_err-fill-clause-took g c =
     let count = size g (goal.at.returns-in_err-fill-clause-took g c).After-fill in
     let error = c.in_err-fill.field-0.0 in
     rw (p.1, p.2)
-    (Took-then _ _ _ (λ xs. c.loop-self.self.buffer.held ≡ held ++ xs)
-    (MakesOf (Err error) c.fill.new.self.buffer.shown c.fill.new.self.ended held c.fill.new.self.buffer.held)
-    (c.loop-self.self.taken - c.args.self.now.taken) (c.fill.new.self.taken - c.args.self.now.taken) came
+    (Took-due g.S.Source.reads _ _ _ _ held _ _ _ _ _ _ (λ xs. c.loop-self.self.buffer.held ≡ held ++ xs)
+    (MakesOf (Err error) c.fill.new.self.buffer.shown c.fill.new.self.ended held c.fill.new.self.buffer.held) came
     c.loop-self.invariant.took c.fill.ensures.gives (omega (arith, count, c.fill.ensures.taken, c.loop-self.invariant.rises))
+    (omega (arith, c.loop-self.invariant.limit, c.loop-self.invariant.rises)) (held_unbroken g (goal.at.returns-in_err-fill-clause-took g c).After-fill) c.fill.ensures.reads
     (λ xs e. MakesOf-error error _ _ _ _ xs came (unbroken-back held xs (ap has_line_feed (sym e) ∙ c.loop-self.invariant.unbroken))
     (λ is. omega (arith, count, (c.in_err-fill.ensures.fault (ap failing is)).0))
     (λ is. omega (arith, count, c.in_err-fill.ensures.last (ap failing is), c.in_err-fill.ensures.too_long.0 (ap failing is), c.fill.ensures.limit))))
@@ -93,12 +71,14 @@ returns-then-branch-eq0-clause-took g c =
     let after = c.give_last.new.self.buffer.held in
     let gives : GivesFirst mark shown c.give_last.new.self.ended now after =
     subst (λ ended. GivesFirst mark shown ended now after) (sym c.give_last.ensures.ended) c.give_last.ensures.gives in
-    Took-then _ _ _ (λ xs. before ≡ held ++ xs)
-    (MakesOf (Ok mark) shown c.give_last.new.self.ended held after)
-    (c.loop-self.self.taken - c.args.self.now.taken) (c.give_last.new.self.taken - c.args.self.now.taken) came
+    Took-due g.S.Source.reads _ _ _ _ held _ _ _ _ _ _ (λ xs. before ≡ held ++ xs)
+    (MakesOf (Ok mark) shown c.give_last.new.self.ended held after) came
     c.loop-self.invariant.took
     (subst (λ source. Gives (g.S.Source.left c.loop-self.self.source.now) came (g.S.Source.left source)) (sym c.give_last.ensures.source) c.fill.ensures.gives)
     (omega (arith, count, c.fill.ensures.taken, c.loop-self.invariant.rises, c.give_last.ensures.taken))
+    (omega (arith, c.loop-self.invariant.limit, c.loop-self.invariant.rises)) (held_unbroken g (goal.at.returns-then-branch-eq0-clause-took g c).After-fill)
+    (subst (λ source. ReadOnce g.S.Source.reads (c.loop-self.self.limit - c.loop-self.self.taken) c.loop-self.self.source.now came source)
+    (sym c.give_last.ensures.source) c.fill.ensures.reads)
     (λ xs e. GivesFirst-of mark shown c.give_last.new.self.ended now (held ++ (xs ++ came)) after (grown held before now xs e c.fill.ensures.kept) gives)
 
 pub returns-in-Some-clause-took : goal.returns-in-Some-clause-took
@@ -119,11 +99,11 @@ returns-in-Some-clause-took g c =
       shows = c.give.ensures.shown;
       cut = inl (found.3 ∙ ap (λ l. take c.in-Some.at now ++ line_feed ∷ l) (sym c.give.ensures.held));
     } in
-    Took-then _ _ _ (λ xs. before ≡ held ++ xs)
-    (MakesOf (Ok mark) shown ended held after)
-    (c.loop-self.self.taken - c.args.self.now.taken) (c.fill.new.self.taken - c.args.self.now.taken) came
+    Took-due g.S.Source.reads _ _ _ _ held _ _ _ _ _ _ (λ xs. before ≡ held ++ xs)
+    (MakesOf (Ok mark) shown ended held after) came
     c.loop-self.invariant.took c.fill.ensures.gives
     (omega (arith, count, c.fill.ensures.taken, c.loop-self.invariant.rises))
+    (omega (arith, c.loop-self.invariant.limit, c.loop-self.invariant.rises)) (held_unbroken g (goal.at.returns-in-Some-clause-took g c).After-fill) c.fill.ensures.reads
     (λ xs e. GivesFirst-of mark shown ended now (held ++ (xs ++ came)) after (grown held before now xs e c.fill.ensures.kept)
     (GivesFirst-piece mark shown ended now after piece))
 
@@ -146,11 +126,11 @@ loop-self-preserved g c =
           ∙ count_after-twice (g.S.Source.taken c.args.self.now.source.now) _ _
           ∙ ap (count_after (g.S.Source.taken c.args.self.now.source.now)) (omega (arith, c.fill.ensures.taken, c.loop-self.invariant.rises));
       source_faults = omega (arith, c.fill.ensures.source_faults, c.loop-self.invariant.source_faults);
-      offers = filled g (goal.at.loop-self-preserved g c).After-fill;
-      took = Took-then _ _ _ (λ xs. before ≡ held ++ xs) (λ xs. now ≡ held ++ xs)
-          (c.loop-self.self.taken - c.args.self.now.taken) (c.fill.new.self.taken - c.args.self.now.taken) came
+      took = Took-due-on g.S.Source.reads _ _ _ _ held _ _ _ _ _ _ (λ xs. before ≡ held ++ xs) (λ xs. now ≡ held ++ xs) came
           c.loop-self.invariant.took c.fill.ensures.gives (omega (arith, count, c.fill.ensures.taken, c.loop-self.invariant.rises))
-          (λ xs e. grown held before now xs e c.fill.ensures.kept);
+          (omega (arith, c.loop-self.invariant.limit, c.loop-self.invariant.rises)) (held_unbroken g (goal.at.loop-self-preserved g c).After-fill) c.fill.ensures.reads
+          (λ xs e. grown held before now xs e c.fill.ensures.kept)
+          (omega (arith, count, c.in_ok-fill.ensures.count, c.if-branch-eq0.false));
     }
 
 pub returns-clause-took : goal.returns-clause-took
@@ -158,9 +138,20 @@ returns-clause-took g c =
     let held = c.args.self.now.buffer.held in
     let before = c.loop-self.self.buffer.held in
     let last = c.read_long.new.self in
-    Took-both _ _ _ (λ xs. before ≡ held ++ xs) (MakesOf c.read_long.result last.buffer.shown last.ended before last.buffer.held)
-    (MakesOf c.read_long.result last.buffer.shown last.ended held last.buffer.held)
+    let left = c.args.self.now.limit - c.args.self.now.taken in
+    let rest = c.loop-self.self.limit - c.loop-self.self.taken in
+    let first = c.args.self.now.source.now in
+    let middle = c.loop-self.self.source.now in
+    Took-both _ _ _ (λ xs. (before ≡ held ++ xs) × ReadsDue g.S.Source.reads left held false first xs false middle)
+    (λ ys. MakesOf c.read_long.result last.buffer.shown last.ended before last.buffer.held ys
+    × WereDue g.S.Source.reads rest before false middle ys last.source.now)
+    (λ xs. MakesOf c.read_long.result last.buffer.shown last.ended held last.buffer.held xs
+    × WereDue g.S.Source.reads left held false first xs last.source.now)
     (c.loop-self.self.taken - c.args.self.now.taken) (last.taken - c.loop-self.self.taken) (last.taken - c.args.self.now.taken)
     c.loop-self.invariant.took c.read_long.ensures.took
     (omega (arith, c.read_long.ensures.taken, c.loop-self.invariant.rises))
-    (λ xs ys e m. MakesOf-later c.read_long.result last.buffer.shown last.ended held before last.buffer.held xs ys e c.loop-self.invariant.unbroken m)
+    (λ xs ys n p q. (
+      MakesOf-later c.read_long.result last.buffer.shown last.ended held before last.buffer.held xs ys p.0 c.loop-self.invariant.unbroken q.0,
+      WereDue-then g.S.Source.reads left rest held before false first middle last.source.now xs ys
+          (omega (arith, n, c.loop-self.invariant.limit, c.loop-self.invariant.rises)) p.0 p.1 q.1,
+    ))

@@ -1,8 +1,8 @@
 -- All that was taken is held, and has no line feed.
 use Rattle.std.proofs.Common.{◌≡◌, ◌≤◌, ◌+◌, ◌-◌, ◌++◌, false, List, ℕ}
+use Rattle.retro_io.specs.DueReads.{ReadsDue}
 use Rattle.retro_io.specs.Faults.{count_after}
 use Rattle.retro_io.specs.Lines.{has_line_feed}
-use Rattle.retro_io.specs.Offers.{OffersEach}
 use Rattle.retro_io.specs.Reads.{Took}
 use Rattle.retro_io.proofs.line_reader.LineReader.read_line.Given as goal
 
@@ -17,10 +17,10 @@ invariant-loop-self g l = record {
   in_limit : l.self.taken ≤ l.self.limit;
   source_taken : g.S.Source.taken l.self.source.now ≡ count_after (g.S.Source.taken l.initial.self.source.now) (l.self.taken - l.initial.self.taken);
   source_faults : g.S.Source.faults l.initial.self.source.now ≤ g.S.Source.faults l.self.source.now;
-  offers : OffersEach g.S.Source.reads (l.initial.self.limit - l.initial.self.taken) l.initial.self.source.now
-      (l.self.taken - l.initial.self.taken) l.self.source.now;
   took : Took (g.S.Source.left l.initial.self.source.now) (g.S.Source.left l.self.source.now) (l.self.taken - l.initial.self.taken)
-      (λ (got : List ℕ). l.self.buffer.held ≡ l.initial.self.buffer.held ++ got);
+      (λ (got : List ℕ). (l.self.buffer.held ≡ l.initial.self.buffer.held ++ got)
+      × ReadsDue g.S.Source.reads (l.initial.self.limit - l.initial.self.taken) l.initial.self.buffer.held false l.initial.self.source.now
+      got false l.self.source.now);
 }
 
 abbrev pub decreases-loop-self : goal.decreases-loop-self

@@ -1,16 +1,16 @@
 -- The bytes of the long line are those held first and all that came since.
-use Rattle.std.proofs.Common.{◌≡◌, ◌+◌, ◌-◌, ℕ, [], ◌∷◌, ◌++◌, true, false, Result, Ok, Err, length, take, drop, sym, ap, ◌∙◌, refl, inl, inr, arith}
+use Rattle.std.proofs.Common.{◌≡◌, ◌+◌, ◌-◌, ℕ, List, [], ◌∷◌, ◌++◌, true, false, Result, Ok, Err, length, take, drop, sym, ap, ◌∙◌, refl, inl, inr, arith}
 use Rattle.std.proofs.lemmas.List.{take-append-le, drop-append-le, drop_all, length-take-le, length-append, nil_from_length}
 use Rattle.std.proofs.lemmas.Result.{err_from_is_err_and}
 use Rattle.retro_io.specs.declared.mark.Mark.TheVariants.{Long}
 use Rattle.retro_io.specs.declared.mark.ReadError.{ReadError}
+use Rattle.retro_io.specs.DueReads.{ReadsDue}
 use Rattle.retro_io.specs.Faults.{count_after}
 use Rattle.retro_io.specs.Lines.{longest, line_feed, has_line_feed}
-use Rattle.retro_io.specs.Offers.{OffersEach}
 use Rattle.retro_io.specs.Reads.{MakesOf}
 use Rattle.retro_io.proofs.LineLemmas.{unbroken-append, unbroken-take, unbroken-drop}
-use Rattle.retro_io.proofs.OfferLemmas.{OffersEach-none, OffersEach-then}
-use Rattle.retro_io.proofs.ReadLemmas.{Took-none, Took-then, MakesOf-error, Shows-long, cut_behind, length-behind, count_after-twice}
+use Rattle.retro_io.proofs.DueLemmas.{Took-due, Took-due-on}
+use Rattle.retro_io.proofs.ReadLemmas.{Took-none, MakesOf-error, Shows-long, cut_behind, length-behind, count_after-twice}
 use Rattle.retro_io.proofs.line_reader.LineReader.read_long.Goals as goal
 use Rattle.retro_io.proofs.line_reader.LineReader.read_long.Goals.{After-fill}
 use Rattle.retro_io.proofs.line_reader.LineReader.read_long.Given.{Over}
@@ -30,12 +30,9 @@ size : (g : Over) (c : After-fill g)
     → length (drop (length c.keep_front.new.self.held) c.fill.new.self.buffer.held) ≡ c.fill.new.self.taken - c.loop-self.self.taken
 size g c = length-behind c.keep_front.new.self.held c.fill.new.self.buffer.held _ c.fill.ensures.length
 
--- what the reads offered, with those of the fill
-filled : (g : Over) (c : After-fill g) → OffersEach g.S.Source.reads (c.args.self.now.limit - c.args.self.now.taken) c.args.self.now.source.now
-    (c.fill.new.self.taken - c.args.self.now.taken) c.fill.new.self.source.now
-filled g c =
-    OffersEach-then g.S.Source.reads _ _ _ _ _ _ _ _ (omega (arith, c.loop-self.invariant.limit, c.loop-self.invariant.rises))
-    (omega (arith, c.fill.ensures.taken, c.loop-self.invariant.rises)) c.loop-self.invariant.offers c.fill.ensures.offers
+-- none of the bytes held first and taken since ends a line
+held_unbroken : (g : Over) (c : After-fill g) (xs : List ℕ) → has_line_feed xs ≡ false → has_line_feed (c.args.self.now.buffer.held ++ xs) ≡ false
+held_unbroken g c xs u = unbroken-append c.args.self.now.buffer.held xs c.requires.unbroken u
 
 pub loop-self-init : goal.loop-self-init
 loop-self-init g c = record {
@@ -49,18 +46,8 @@ loop-self-init g c = record {
   in_limit = c.args.self.now.in_limit c.requires.failed;
   source_taken = omega arith;
   source_faults = omega arith;
-  offers = OffersEach-none g.S.Source.reads _ _ _ (omega arith);
-  took = Took-none _ _ _ (omega arith) refl;
+  took = Took-none _ _ _ (omega arith) (refl, ReadsDue.none);
 }
-
-pub returns-in_err-fill-clause-offers : goal.returns-in_err-fill-clause-offers
-returns-in_err-fill-clause-offers g c = filled g (goal.at.returns-in_err-fill-clause-offers g c).After-fill
-
-pub returns-then-branch-eq0-clause-offers : goal.returns-then-branch-eq0-clause-offers
-returns-then-branch-eq0-clause-offers g c = filled g (goal.at.returns-then-branch-eq0-clause-offers g c).After-fill
-
-pub returns-in-Some-clause-offers : goal.returns-in-Some-clause-offers
-returns-in-Some-clause-offers g c = filled g (goal.at.returns-in-Some-clause-offers g c).After-fill
 
 pub returns-in_err-fill-clause-took : goal.returns-in_err-fill-clause-took
 returns-in_err-fill-clause-took g c =
@@ -69,10 +56,10 @@ returns-in_err-fill-clause-took g c =
     let count = size g (goal.at.returns-in_err-fill-clause-took g c).After-fill in
     let error = c.in_err-fill.field-0.0 in
     rw (p.1, p.2)
-    (Took-then _ _ _ (λ xs. has_line_feed xs ≡ false)
-    (MakesOf (Err error) c.fill.new.self.buffer.shown c.fill.new.self.ended c.args.self.now.buffer.held c.fill.new.self.buffer.held)
-    (c.loop-self.self.taken - c.args.self.now.taken) (c.fill.new.self.taken - c.args.self.now.taken) came
+    (Took-due g.S.Source.reads _ _ _ _ c.args.self.now.buffer.held _ _ _ _ _ _ (λ xs. has_line_feed xs ≡ false)
+    (MakesOf (Err error) c.fill.new.self.buffer.shown c.fill.new.self.ended c.args.self.now.buffer.held c.fill.new.self.buffer.held) came
     c.loop-self.invariant.took c.fill.ensures.gives (omega (arith, count, c.fill.ensures.taken, c.loop-self.invariant.rises))
+    (omega (arith, c.loop-self.invariant.limit, c.loop-self.invariant.rises)) (held_unbroken g (goal.at.returns-in_err-fill-clause-took g c).After-fill) c.fill.ensures.reads
     (λ xs u. MakesOf-error error _ _ _ _ xs came u
     (λ is. omega (arith, count, (c.in_err-fill.ensures.fault (ap failing is)).0))
     (λ is. omega (arith, count, c.in_err-fill.ensures.last (ap failing is), c.in_err-fill.ensures.too_long.0 (ap failing is), c.fill.ensures.limit))))
@@ -96,10 +83,10 @@ returns-then-branch-eq0-clause-took g c =
     let count = size g (goal.at.returns-then-branch-eq0-clause-took g c).After-fill in
     let none : length came ≡ 0 = omega (arith, count, c.in_ok-fill.ensures.count, c.if-branch-eq0.true) in
     let unbroken : has_line_feed came ≡ false = ap has_line_feed (nil_from_length came none) in
-    Took-then _ _ _ (λ xs. has_line_feed xs ≡ false)
-    (MakesOf (Ok Long) c.give_long.new.self.shown true held c.give_long.new.self.held)
-    (c.loop-self.self.taken - c.args.self.now.taken) (c.fill.new.self.taken - c.args.self.now.taken) came
+    Took-due g.S.Source.reads _ _ _ _ held _ _ _ _ _ _ (λ xs. has_line_feed xs ≡ false)
+    (MakesOf (Ok Long) c.give_long.new.self.shown true held c.give_long.new.self.held) came
     c.loop-self.invariant.took c.fill.ensures.gives (omega (arith, count, c.fill.ensures.taken, c.loop-self.invariant.rises))
+    (omega (arith, c.loop-self.invariant.limit, c.loop-self.invariant.rises)) (held_unbroken g (goal.at.returns-then-branch-eq0-clause-took g c).After-fill) c.fill.ensures.reads
     (λ xs u. record {
       piece = held ++ (xs ++ came);
       unbroken = unbroken-append held (xs ++ came) c.requires.unbroken (unbroken-append xs came u unbroken);
@@ -136,10 +123,10 @@ returns-in-Some-clause-took g c =
     let splits : came ≡ line ++ line_feed ∷ after =
     ap (drop kept) found.3 ∙ drop-append-le kept (take at now) (line_feed ∷ after) (omega (arith, short, found.0, c.keep_front.ensures.length)) in
     let unbroken : has_line_feed line ≡ false = unbroken-drop kept (take at now) found.2 in
-    Took-then _ _ _ (λ xs. has_line_feed xs ≡ false)
-    (MakesOf (Ok Long) c.give_long-in-Some.new.self.shown c.fill.new.self.ended held c.give_long-in-Some.new.self.held)
-    (c.loop-self.self.taken - c.args.self.now.taken) (c.fill.new.self.taken - c.args.self.now.taken) came
+    Took-due g.S.Source.reads _ _ _ _ held _ _ _ _ _ _ (λ xs. has_line_feed xs ≡ false)
+    (MakesOf (Ok Long) c.give_long-in-Some.new.self.shown c.fill.new.self.ended held c.give_long-in-Some.new.self.held) came
     c.loop-self.invariant.took c.fill.ensures.gives (omega (arith, count, c.fill.ensures.taken, c.loop-self.invariant.rises))
+    (omega (arith, c.loop-self.invariant.limit, c.loop-self.invariant.rises)) (held_unbroken g (goal.at.returns-in-Some-clause-took g c).After-fill) c.fill.ensures.reads
     (λ xs u. record {
       piece = held ++ (xs ++ line);
       unbroken = unbroken-append held (xs ++ line) c.requires.unbroken (unbroken-append xs line u unbroken);
@@ -171,9 +158,9 @@ loop-self-preserved g c =
           ∙ count_after-twice (g.S.Source.taken c.args.self.now.source.now) _ _
           ∙ ap (count_after (g.S.Source.taken c.args.self.now.source.now)) (omega (arith, c.fill.ensures.taken, c.loop-self.invariant.rises));
       source_faults = omega (arith, c.fill.ensures.source_faults, c.loop-self.invariant.source_faults);
-      offers = filled g at_fill;
-      took = Took-then _ _ _ (λ xs. has_line_feed xs ≡ false) (λ xs. has_line_feed xs ≡ false)
-          (c.loop-self.self.taken - c.args.self.now.taken) (c.fill.new.self.taken - c.args.self.now.taken) came
+      took = Took-due-on g.S.Source.reads _ _ _ _ c.args.self.now.buffer.held _ _ _ _ _ _ (λ xs. has_line_feed xs ≡ false) (λ xs. has_line_feed xs ≡ false) came
           c.loop-self.invariant.took c.fill.ensures.gives (omega (arith, count, c.fill.ensures.taken, c.loop-self.invariant.rises))
-          (λ xs u. unbroken-append xs came u (unbroken-drop kept now c.in_default.ensures));
+          (omega (arith, c.loop-self.invariant.limit, c.loop-self.invariant.rises)) (held_unbroken g at_fill) c.fill.ensures.reads
+          (λ xs u. unbroken-append xs came u (unbroken-drop kept now c.in_default.ensures))
+          (omega (arith, count, c.in_ok-fill.ensures.count, c.if-branch-eq0.false));
     }

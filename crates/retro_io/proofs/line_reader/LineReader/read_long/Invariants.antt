@@ -1,8 +1,8 @@
 -- No byte that was taken since ends a line, and the first bytes of the line are still held.
 use Rattle.std.proofs.Common.{◌≡◌, ◌≤◌, ◌+◌, ◌-◌, false, length, take, List, ℕ}
+use Rattle.retro_io.specs.DueReads.{ReadsDue}
 use Rattle.retro_io.specs.Faults.{count_after}
 use Rattle.retro_io.specs.Lines.{longest, has_line_feed}
-use Rattle.retro_io.specs.Offers.{OffersEach}
 use Rattle.retro_io.specs.Reads.{Took}
 use Rattle.retro_io.proofs.line_reader.LineReader.read_long.Given as goal
 
@@ -18,10 +18,10 @@ invariant-loop-self g l = record {
   in_limit : l.self.taken ≤ l.self.limit;
   source_taken : g.S.Source.taken l.self.source.now ≡ count_after (g.S.Source.taken l.initial.self.source.now) (l.self.taken - l.initial.self.taken);
   source_faults : g.S.Source.faults l.initial.self.source.now ≤ g.S.Source.faults l.self.source.now;
-  offers : OffersEach g.S.Source.reads (l.initial.self.limit - l.initial.self.taken) l.initial.self.source.now
-      (l.self.taken - l.initial.self.taken) l.self.source.now;
   took : Took (g.S.Source.left l.initial.self.source.now) (g.S.Source.left l.self.source.now) (l.self.taken - l.initial.self.taken)
-      (λ (got : List ℕ). has_line_feed got ≡ false);
+      (λ (got : List ℕ). (has_line_feed got ≡ false)
+      × ReadsDue g.S.Source.reads (l.initial.self.limit - l.initial.self.taken) l.initial.self.buffer.held false l.initial.self.source.now
+      got false l.self.source.now);
 }
 
 abbrev pub decreases-loop-self : goal.decreases-loop-self
