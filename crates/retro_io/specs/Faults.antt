@@ -1,5 +1,5 @@
 -- A count that stands still at the last value of 64 bits, and what it means that a count of faults rose.
-use Rattle.std.specs.Prelude.{◌≡◌, ℕ, ◌+◌, ◌-◌, ◌^◌, ◌<◌, ◌⊎◌, min, max}
+use Rattle.std.specs.Prelude.{◌≡◌, ℕ, ◌+◌, ◌-◌, ◌^◌, ◌<◌, ◌⊎◌, min, max, Result, Ok, Err}
 
 -- the last value of a count
 abbrev pub last_count : ℕ
@@ -12,3 +12,8 @@ count_after count more = max count (min (count + more) last_count)
 -- a count of faults rose in a call: it is greater at the exit than at the entry, or it stands at its last value
 abbrev pub Rose : ℕ → ℕ → Type 0
 Rose before after = (before < after) ⊎ (after ≡ last_count)
+
+-- a count of faults behind a call: one that fails counts
+abbrev pub faults_after : {V E : Type 0} → ℕ → Result V E → ℕ
+faults_after before (Ok value) = before
+faults_after before (Err failed) = count_after before 1

@@ -1,5 +1,6 @@
 pub mod DueReads
 pub mod Faults
+pub mod Known
 pub mod LineBuffer
 pub mod LineReader
 pub mod Lines

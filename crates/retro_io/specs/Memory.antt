@@ -1,7 +1,7 @@
 -- What the sources and the sink in memory are seen as, and what their calls do.
-use Rattle.std.specs.Prelude.{◌≡◌, ℕ, ◌-◌, Bool, ◌==◌, ◌||◌, nat_le, min, List, length, take, Result, Ok, Err, is_err, IfOk}
+use Rattle.std.specs.Prelude.{◌≡◌, ℕ, ◌-◌, Bool, ◌==◌, ◌||◌, nat_le, min, List, length, take, Result, Ok, is_err, IfOk}
 use Rattle.std.specs.List.{list_any}
-use Rattle.retro_io.specs.Faults.{count_after}
+use Rattle.retro_io.specs.Faults.{count_after, faults_after}
 
 -- the bytes left, how many were taken, and whether the last read into a buffer that is not empty gave nothing
 pub record Stocked : Type 0 where
@@ -26,11 +26,6 @@ pub record Roomed : Type 0 where
   pub calls : ℕ
   pub flushed : Bool
   pub faults : ℕ
-
--- a count of faults behind a call: a call that fails counts as one
-abbrev pub faults_after : {V E : Type 0} → ℕ → Result V E → ℕ
-faults_after before (Ok value) = before
-faults_after before (Err failed) = count_after before 1
 
 -- a read that never fails gives as many bytes as the buffer holds and as there are
 abbrev pub ReadsWhole : {E : Type 0} → Stocked → ℕ → Result (List ℕ) E → Stocked → Type 0

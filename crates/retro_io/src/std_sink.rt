@@ -1,11 +1,12 @@
-ghost use Rattle.std.specs.Prelude.{◌≡◌, ◌≤◌, false, None, ⊤};
-ghost use Rattle.retro_io.specs.Faults.{Rose, last_count};
+ghost use Rattle.std.specs.Prelude.{◌≡◌, ◌≤◌, false, None};
+ghost use Rattle.std.specs.Io.KnownBytes.{WriteAppends};
+ghost use Rattle.retro_io.specs.Faults.{Rose, count_after, faults_after, last_count};
 
 use crate::{Failed, Sink};
 use std::io::Write;
 
-/// A sink over a writer of std. It tells nothing of what was written; each `Err` of the writer is a fault, and so is a
-/// write that takes nothing of a piece that is not empty.
+/// A sink over a writer of std. It tells nothing of what was written but what std's own contract knows of the writer
+/// (`writes`); each `Err` of the writer is a fault, and so is a write that takes nothing of a piece that is not empty.
 #[derive(Drop)]
 pub struct StdSink<W> {
     writer: W,
@@ -30,6 +31,8 @@ impl<W: Write> StdSink<W> {
     /// Notes a fault.
     fn fail(&mut self) -> Failed
         ensures rose { Rose self.old.faults self.new.faults }
+        ensures count { self.new.faults ≡ count_after self.old.faults 1 }
+        ensures writer { self.new.writer ≡ self.old.writer }
         ensures kept_count { self.old.faults ≤ self.new.faults }
         ensures flushed { self.new.flushed ≡ self.old.flushed }
     {
@@ -45,7 +48,9 @@ impl<W: Write> Sink for StdSink<W> {
 
     ghost faults = { λ s. s.faults };
 
-    ghost writes = { λ _ _ _ _. ⊤ };
+    ghost writes = { λ before piece answer after.
+        WriteAppends (W.contents before.writer) (W.contents after.writer) answer piece
+        × (after.faults ≡ faults_after before.faults answer) };
 
     fn write(&mut self, piece: &[u8]) -> Result<usize, Failed> {
         self.flushed = false;

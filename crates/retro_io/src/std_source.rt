@@ -1,10 +1,12 @@
-ghost use Rattle.std.specs.Prelude.{◌≡◌, ◌≤◌, false, None, ⊤};
-ghost use Rattle.retro_io.specs.Faults.{last_count};
+ghost use Rattle.std.specs.Prelude.{◌≡◌, ◌≤◌, false, None};
+ghost use Rattle.retro_io.specs.Faults.{faults_after, last_count};
+ghost use Rattle.retro_io.specs.Known.{ReadsKnown};
 
 use crate::{Failed, Source};
 use std::io::Read;
 
-/// A source over a reader of std. It tells nothing of its bytes; each `Err` of the reader is a fault.
+/// A source over a reader of std. It tells nothing of its bytes but what std's own contract knows of the reader's (`reads`);
+/// each `Err` of the reader is a fault.
 #[derive(Drop)]
 pub struct StdSource<R> {
     reader: R,
@@ -39,7 +41,9 @@ impl<R: Read> Source for StdSource<R> {
 
     ghost faults = { λ s. s.faults };
 
-    ghost reads = { λ _ _ _ _. ⊤ };
+    ghost reads = { λ before room answer after.
+        ReadsKnown (R.remaining before.reader) room answer (R.remaining after.reader)
+        × (after.faults ≡ faults_after before.faults answer) };
 
     fn read(&mut self, buffer: &mut [u8]) -> Result<usize, Failed> {
         match self.reader.read(buffer) {
