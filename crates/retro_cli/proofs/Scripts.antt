@@ -1,8 +1,8 @@
 -- The answers to a script, line by line.
-use Rattle.std.proofs.Common.{◌≡◌, ℕ, Bool, true, false, ◌||◌, ◌≤◌, ◌<◌, ◌-◌, ◌+◌, Result, Err, List, [], ◌∷◌, ◌++◌, length, arith, refl, sym, ap, ◌∙◌, append_assoc, append-nil, length-drop, drop, Option, Some, None}
-use Rattle.std.specs.Prelude.{if◌then◌else◌}
+use Rattle.std.proofs.Common.{◌≡◌, ℕ, Bool, true, false, ◌||◌, ◌≤◌, ◌<◌, ◌-◌, ◌+◌, Result, Ok, Err, List, [], ◌∷◌, ◌++◌, length, arith, refl, sym, ap, ◌∙◌, subst, append_assoc, append-nil, length-drop, drop, Option, Some, None}
+use Rattle.std.specs.Prelude.{if◌then◌else◌, OnErr}
 use Rattle.std.proofs.Math.Nat.{sub_self}
-use Rattle.std.proofs.lemmas.List.{drop-drop}
+use Rattle.std.proofs.lemmas.List.{append_cancel_left, drop-drop}
 use Rattle.std.proofs.lemmas.Bool.{le-ltb, lt-ltb}
 use Rattle.retro_io.specs.declared.mark.Mark.{Mark}
 use Rattle.retro_io.specs.declared.mark.Mark.TheVariants.{Whole, Long, End}
@@ -20,7 +20,7 @@ use Rattle.workbench.specs.Bench.{Bench}
 use Rattle.workbench.specs.Reaction.{Reaction, reaction_to, reacts}
 use Rattle.retro_io.specs.Lines.{lines, longest}
 use Rattle.retro_cli.specs.Output.{output, has_refusal}
-use Rattle.retro_cli.specs.Run.{AppendsOutput, TellsRefusal}
+use Rattle.retro_cli.specs.Run.{AppendsFirstAnswers, AppendsFront, AppendsOutput, AppendsOutputFront, TellsRefusal}
 
 answers_to-cons : (bench : Bench) (line : List ℕ) (more : List (List ℕ))
     → answers_to bench (line ∷ more) ≡ (reacts bench line).answer ++ answers_to (reacts bench line).bench more
@@ -54,6 +54,10 @@ none_is_not_some e = cc
 some_same : {xs ys : List ℕ} (o : Option (List ℕ)) → o ≡ Some xs → o ≡ Some ys → xs ≡ ys
 some_same o e f = cc
 
+pub on_err : {V E A : Type 0} (result : Result V E) → A → OnErr result A
+on_err (Ok value) holds = tt
+on_err (Err error) holds = holds
+
 appends_nothing : (written : Option (List ℕ)) → Appends written [] written
 appends_nothing None = refl
 appends_nothing (Some w) = ap (λ xs. Some xs) (sym (append-nil w))
@@ -63,19 +67,61 @@ appends_more : (first written written' : Option (List ℕ)) (so_far text : List 
 appends_more None written written' so_far text before after = rw before at after
 appends_more (Some w) written written' so_far text before after = (rw before at after) ∙ ap (λ xs. Some xs) (append_assoc w so_far text)
 
--- What was appended so far, followed by the answers to the lines that are left, is the output of the script; and so with refusals.
+-- the bench that lines leave
+pub bench_after : Bench → List (List ℕ) → Bench
+bench_after bench [] = bench
+bench_after bench (line ∷ more) = bench_after (reacts bench line).bench more
+
+bench_after-line : (bench : Bench) (given : List (List ℕ)) (line : List ℕ) → bench_after bench (given ++ line ∷ []) ≡ (reacts (bench_after bench given) line).bench
+unfolding bench_after
+bench_after-line bench [] line = refl
+bench_after-line bench (x ∷ given) line = bench_after-line (reacts bench x).bench given line
+
+-- first some lines are answered, and then more
+answers_to-append : (bench : Bench) (given more : List (List ℕ)) → answers_to bench (given ++ more) ≡ answers_to bench given ++ answers_to (bench_after bench given) more
+unfolding bench_after
+answers_to-append bench [] more = ap (λ xs. xs ++ answers_to bench more) (sym (answers_to-nil bench))
+answers_to-append bench (x ∷ given) more =
+    answers_to-cons bench x (given ++ more) ∙ ap (λ xs. (reacts bench x).answer ++ xs) (answers_to-append (reacts bench x).bench given more)
+    ∙ sym (append_assoc (reacts bench x).answer _ _) ∙ ap (λ xs. xs ++ answers_to (bench_after (reacts bench x).bench given) more) (sym (answers_to-cons bench x given))
+
+refuses_one-append : (bench : Bench) (given more : List (List ℕ)) → refuses_one bench (given ++ more) ≡ (refuses_one bench given || refuses_one (bench_after bench given) more)
+unfolding bench_after
+refuses_one-append bench [] more = ap (λ b. b || refuses_one bench more) (sym (refuses_one-nil bench))
+refuses_one-append bench (x ∷ given) more =
+    refuses_one-cons bench x (given ++ more) ∙ ap (λ b. (reacts bench x).refused || b) (refuses_one-append (reacts bench x).bench given more)
+    ∙ sym (or_assoc (reacts bench x).refused _ _) ∙ ap (λ b. b || refuses_one (bench_after (reacts bench x).bench given) more) (sym (refuses_one-cons bench x given))
+
+answers_to-line : (bench : Bench) (line : List ℕ) → answers_to bench (line ∷ []) ≡ (reacts bench line).answer
+answers_to-line bench line =
+    answers_to-cons bench line [] ∙ ap (λ xs. (reacts bench line).answer ++ xs) (answers_to-nil (reacts bench line).bench) ∙ append-nil (reacts bench line).answer
+
+refuses_one-line : (bench : Bench) (line : List ℕ) → refuses_one bench (line ∷ []) ≡ (reacts bench line).refused
+refuses_one-line bench line =
+    refuses_one-cons bench line [] ∙ ap (λ b. (reacts bench line).refused || b) (refuses_one-nil (reacts bench line).bench) ∙ or-false (reacts bench line).refused
+
+-- The lines given so far are the first ones of the script, and were answered; the others are those of what is left.
 pub record GoesOn (bytes : List ℕ) (first : Option (List ℕ)) (bench : Bench) (refused : Bool) (rest written : Option (List ℕ)) : Type 0 where
+  pub given : List (List ℕ)
   pub left : List ℕ
-  pub so_far : List ℕ
   pub rest_is : rest ≡ Some left
-  pub appended : Appends first so_far written
-  pub answers : so_far ++ answers_to bench (lines left) ≡ output bytes
-  pub refusals : (refused || refuses_one bench (lines left)) ≡ has_refusal bytes
+  pub cut : lines bytes ≡ given ++ lines left
+  pub bench_is : bench_after [] given ≡ bench
+  pub appended : Appends first (answers_to [] given) written
+  pub refusals : refuses_one [] given ≡ refused
 
 -- at the start nothing is answered
 pub goes_on_first : (bytes : List ℕ) (rest written : Option (List ℕ)) → rest ≡ Some bytes → GoesOn bytes written [] false rest written
-goes_on_first bytes rest written e =
-    record { left = bytes; so_far = []; rest_is = e; appended = appends_nothing written; answers = refl; refusals = refl }
+unfolding bench_after
+goes_on_first bytes rest written e = record {
+  given = [];
+  left = bytes;
+  rest_is = e;
+  cut = refl;
+  bench_is = refl;
+  appended = rw answers_to-nil (appends_nothing written);
+  refusals = refuses_one-nil [];
+}
 
 -- after one more line, whose answer was appended
 goes_on_line : (bytes : List ℕ) (first : Option (List ℕ)) (bench : Bench) (refused : Bool) (now after line : List ℕ) (written written' : Option (List ℕ))
@@ -85,15 +131,19 @@ goes_on_line : (bytes : List ℕ) (first : Option (List ℕ)) (bench : Bench) (r
 goes_on_line bytes first bench refused now after line written written' on cut appended =
     let same : now ≡ on.left = some_same (Some now) refl on.rest_is in
     let cut_left : lines on.left ≡ line ∷ lines after = rw same at cut in
+    let answers : answers_to [] on.given ++ (reacts bench line).answer ≡ answers_to [] (on.given ++ line ∷ []) =
+    sym (answers_to-append [] on.given (line ∷ [])
+    ∙ ap (λ b. answers_to [] on.given ++ answers_to b (line ∷ [])) on.bench_is
+    ∙ ap (λ xs. answers_to [] on.given ++ xs) (answers_to-line bench line)) in
     record {
+      given = on.given ++ line ∷ [];
       left = after;
-      so_far = on.so_far ++ (reacts bench line).answer;
       rest_is = refl;
-      appended = appends_more first written written' on.so_far _ on.appended appended;
-      answers = append_assoc on.so_far _ _ ∙ ap (λ xs. on.so_far ++ xs) (sym (answers_to-cons bench line (lines after)))
-          ∙ ap (λ ls. on.so_far ++ answers_to bench ls) (sym cut_left) ∙ on.answers;
-      refusals = or_assoc refused _ _ ∙ ap (λ b. refused || b) (sym (refuses_one-cons bench line (lines after)))
-          ∙ ap (λ ls. refused || refuses_one bench ls) (sym cut_left) ∙ on.refusals;
+      cut = on.cut ∙ ap (λ ls. on.given ++ ls) cut_left ∙ sym (append_assoc on.given (line ∷ []) (lines after));
+      bench_is = bench_after-line [] on.given line ∙ ap (λ b. (reacts b line).bench) on.bench_is;
+      appended = subst (λ xs. Appends first xs written') answers (appends_more first written written' _ _ on.appended appended);
+      refusals = refuses_one-append [] on.given (line ∷ []) ∙ ap (λ b. refuses_one [] on.given || refuses_one b (line ∷ [])) on.bench_is
+          ∙ ap (λ b. b || refuses_one bench (line ∷ [])) on.refusals ∙ ap (λ b. refused || b) (refuses_one-line bench line);
     }
 
 -- at the end all is answered
@@ -101,8 +151,8 @@ goes_on_last : (bytes : List ℕ) (first : Option (List ℕ)) (bench : Bench) (r
     → GoesOn bytes first bench refused rest written → rest ≡ Some [] → Appends first (output bytes) written × (refused ≡ has_refusal bytes)
 goes_on_last bytes first bench refused rest written on e =
     let none_left : on.left ≡ [] = some_same rest on.rest_is e in
-    let answered : on.so_far ≡ output bytes = sym (append-nil on.so_far) ∙ rw (none_left, answers_to-nil) at on.answers in
-    (rw answered at on.appended, sym (or-false refused) ∙ rw (none_left, refuses_one-nil) at on.refusals)
+    let all : on.given ≡ lines bytes = sym (on.cut ∙ ap (λ xs. on.given ++ lines xs) none_left ∙ append-nil on.given) in
+    (subst (λ ls. Appends first (answers_to [] ls) written) all on.appended, sym on.refusals ∙ ap (refuses_one []) all)
 
 -- a line is answered as a long one exactly where it is given as one
 abbrev pub GivenAs : Mark → Bool → Type 0
@@ -145,6 +195,87 @@ goes_on_next Long long shown has_ended bytes first bench refused (Some now) (Som
     rw as_given
     (goes_on_reading bytes first bench refused now after gives.0 (Err errors.Long) written written' (read_long gives.0 gives.2) gives.3 on (rw as_given at appended))
 goes_on_next End long shown has_ended bytes first bench refused rest rest' written written' as_given gives on appended = absurd as_given
+
+-- nothing was appended
+pub appends_no_front : (written : Option (List ℕ)) (bytes : List ℕ) → AppendsFront written bytes written
+appends_no_front written bytes = record { front = []; back = bytes; whole = refl; appended = appends_nothing written }
+
+pub appends_no_answers : (script written : Option (List ℕ)) → AppendsFirstAnswers script written written
+appends_no_answers None written = tt
+appends_no_answers (Some bytes) written =
+    record { answered = []; unanswered = lines bytes; cut = refl; appended = rw answers_to-nil (appends_nothing written) }
+
+pub appends_no_output : (script written : Option (List ℕ)) → AppendsOutputFront script written written
+appends_no_output None written = tt
+appends_no_output (Some bytes) written = appends_no_front written (output bytes)
+
+-- the answers so far are a front of the output
+pub front_so_far : (script first : Option (List ℕ)) (bench : Bench) (refused : Bool) (rest written : Option (List ℕ))
+    → ((bytes : List ℕ) → script ≡ Some bytes → GoesOn bytes first bench refused rest written) → AppendsOutputFront script first written
+front_so_far None first bench refused rest written on = tt
+front_so_far (Some bytes) first bench refused rest written on =
+    let here = on bytes refl in
+    record {
+      front = answers_to [] here.given;
+      back = answers_to (bench_after [] here.given) (lines here.left);
+      whole = ap (answers_to []) here.cut ∙ answers_to-append [] here.given (lines here.left);
+      appended = here.appended;
+    }
+
+-- and they are the whole answers to the lines given
+pub first_answers : (script first : Option (List ℕ)) (bench : Bench) (refused : Bool) (rest written : Option (List ℕ))
+    → ((bytes : List ℕ) → script ≡ Some bytes → GoesOn bytes first bench refused rest written) → AppendsFirstAnswers script first written
+first_answers None first bench refused rest written on = tt
+first_answers (Some bytes) first bench refused rest written on =
+    let here = on bytes refl in
+    record { answered = here.given; unanswered = lines here.left; cut = here.cut; appended = here.appended }
+
+-- the whole output is a front of it
+pub front_of_all : (script before after : Option (List ℕ)) → AppendsOutput script before after → AppendsOutputFront script before after
+front_of_all None before after all = tt
+front_of_all (Some bytes) before after all = record { front = output bytes; back = []; whole = sym (append-nil (output bytes)); appended = all }
+
+-- what a sink tells behind these bytes
+abbrev then_written : Option (List ℕ) → List ℕ → Option (List ℕ)
+then_written None text = None
+then_written (Some w) text = Some (w ++ text)
+
+appends_then : (written : Option (List ℕ)) (text : List ℕ) → Appends written text (then_written written text)
+appends_then None text = refl
+appends_then (Some w) text = refl
+
+-- a front of an answer behind the answers so far is a front of all
+front_between : (first written written' later : Option (List ℕ)) (answer so_far so_far' behind all : List ℕ) → Appends first so_far written
+    → Appends written answer later → Appends first so_far' later → so_far' ++ behind ≡ all → AppendsFront written answer written'
+    → AppendsFront first all written'
+front_between None written written' later answer so_far so_far' behind all before whole after is part =
+    record { front = []; back = all; whole = refl; appended = rw before at part.appended }
+front_between (Some w) written written' later answer so_far so_far' behind all before whole after is part =
+    let same : (w ++ so_far) ++ answer ≡ w ++ so_far' = some_same later (rw before at whole) after in
+    let grown : so_far ++ answer ≡ so_far' = append_cancel_left w _ _ (sym (append_assoc w so_far answer) ∙ same) in
+    record {
+      front = so_far ++ part.front;
+      back = part.back ++ behind;
+      whole = sym is ∙ ap (λ xs. xs ++ behind) (sym grown ∙ ap (λ xs. so_far ++ xs) part.whole)
+          ∙ append_assoc so_far (part.front ++ part.back) behind ∙ ap (λ xs. so_far ++ xs) (append_assoc part.front part.back behind)
+          ∙ sym (append_assoc so_far part.front (part.back ++ behind));
+      appended = (rw before at part.appended) ∙ ap (λ xs. Some xs) (append_assoc w so_far part.front);
+    }
+
+-- and so of the answer to the next line
+pub front_in_line : (script first : Option (List ℕ)) (bench : Bench) (refused : Bool) (mark : Mark) (long : Bool) (shown : List ℕ) (has_ended : Bool)
+    (rest rest' written written' : Option (List ℕ)) → GivenAs mark long → GivesNextOf mark shown has_ended rest rest'
+    → ((bytes : List ℕ) → script ≡ Some bytes → GoesOn bytes first bench refused rest written)
+    → AppendsFront written (reacts_as bench long shown).answer written' → AppendsOutputFront script first written'
+front_in_line None first bench refused mark long shown has_ended rest rest' written written' as_given gives on part = tt
+front_in_line (Some bytes) first bench refused mark long shown has_ended rest rest' written written' as_given gives on part =
+    let here = on bytes refl in
+    let answer = (reacts_as bench long shown).answer in
+    let later = then_written written answer in
+    let next = goes_on_next mark long shown has_ended bytes first bench refused rest rest' written later as_given gives here (appends_then written answer) in
+    front_between first written written' later answer (answers_to [] here.given) (answers_to [] next.given) _ (output bytes)
+    here.appended (appends_then written answer) next.appended
+    (sym (ap (answers_to []) next.cut ∙ answers_to-append [] next.given (lines next.left))) part
 
 nothing_left : (shown : List ℕ) (has_ended : Bool) (rest rest' : Option (List ℕ)) (left : List ℕ) → GivesNextOf End shown has_ended rest rest' → rest ≡ Some left → rest ≡ Some []
 nothing_left shown has_ended None rest' left gives e = absurd (none_is_not_some e)

@@ -1,8 +1,10 @@
 -- What is claimed of a run of the program.
-use Rattle.std.specs.Prelude.{◌≡◌, ℕ, Bool, true, false, ◌<◌, List, [], ◌∷◌, length, codes}
+use Rattle.std.specs.Prelude.{◌≡◌, ℕ, Bool, true, false, ◌<◌, List, [], ◌∷◌, ◌++◌, length, codes}
 use Rattle.std.specs.Prelude.{Option, Some, None}
 use Rattle.std.specs.Str.{bytes_eq}
+use Rattle.retro_io.specs.Lines.{lines}
 use Rattle.retro_io.specs.Sink.{Appends}
+use Rattle.workbench.specs.Answers.{answers_to}
 use Rattle.retro_cli.specs.declared.script.TheConstants.{MAX_BYTES}
 use Rattle.retro_cli.specs.declared.status.Status.{Status}
 use Rattle.retro_cli.specs.declared.status.Status.TheVariants as statuses
@@ -29,6 +31,37 @@ status_of true = statuses.Refused
 abbrev pub AppendsOutput : Option (List ℕ) → Option (List ℕ) → Option (List ℕ) → Type 0
 AppendsOutput None before after = Unit {0}
 AppendsOutput (Some bytes) before after = Appends before (output bytes) after
+
+-- a front of these bytes was appended, where the sink tells what was written
+pub record AppendsFront (before : Option (List ℕ)) (bytes : List ℕ) (after : Option (List ℕ)) : Type 0 where
+  pub front : List ℕ
+  pub back : List ℕ
+  pub whole : bytes ≡ front ++ back
+  pub appended : Appends before front after
+
+-- the same of the output of the script, where the source tells the script
+abbrev pub AppendsOutputFront : Option (List ℕ) → Option (List ℕ) → Option (List ℕ) → Type 0
+AppendsOutputFront None before after = Unit {0}
+AppendsOutputFront (Some bytes) before after = AppendsFront before (output bytes) after
+
+-- the whole answers to some first lines of the script were appended
+pub record AppendsAnswersTo (bytes : List ℕ) (before after : Option (List ℕ)) : Type 0 where
+  pub answered : List (List ℕ)
+  pub unanswered : List (List ℕ)
+  pub cut : lines bytes ≡ answered ++ unanswered
+  pub appended : Appends before (answers_to [] answered) after
+
+-- the same where the source tells the script
+abbrev pub AppendsFirstAnswers : Option (List ℕ) → Option (List ℕ) → Option (List ℕ) → Type 0
+AppendsFirstAnswers None before after = Unit {0}
+AppendsFirstAnswers (Some bytes) before after = AppendsAnswersTo bytes before after
+
+-- the run ended early, for another cause than a write that failed
+abbrev pub EndsBetweenLines : Status → Type 0
+EndsBetweenLines statuses.ReadFault = Unit {0}
+EndsBetweenLines statuses.NoMemory = Unit {0}
+EndsBetweenLines statuses.TooLong = Unit {0}
+EndsBetweenLines status = ⊥
 
 -- whether a line of the script was refused, where the source tells the script
 abbrev pub TellsRefusal : Option (List ℕ) → Bool → Type 0

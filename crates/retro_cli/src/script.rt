@@ -1,4 +1,4 @@
-ghost use Rattle.std.specs.Prelude.{◌≡◌, ◌+◌, ◌-◌, ◌<◌, ◌↔◌, ◌≤◌, true, false, Err, IsTrue, IfOk, IfSome, OnOk, IsErrOf, if◌then◌else◌, length};
+ghost use Rattle.std.specs.Prelude.{◌≡◌, ◌+◌, ◌-◌, ◌<◌, ◌↔◌, ◌≤◌, true, false, Err, IsTrue, IfOk, IfSome, OnErr, OnOk, IsErrOf, if◌then◌else◌, length};
 ghost use Rattle.retro_io.specs.Faults.{Rose, count_after, last_count};
 ghost use Rattle.retro_io.specs.Sink.{Appends};
 ghost use Rattle.retro_io.specs.Source.{GivesCount};
@@ -7,7 +7,7 @@ ghost use Rattle.script_grammar.specs.declared.command.LineError.TheVariants as 
 ghost use Rattle.script_grammar.specs.Command.{command};
 ghost use Rattle.retro_cli.specs.declared.script.TheConstants.{MAX_BYTES};
 ghost use Rattle.retro_cli.specs.Output.{has_refusal};
-ghost use Rattle.retro_cli.specs.Run.{is_run, AppendsOutput, EndsWithoutFault, HasAnswered, MayBeTooLong, TellsRefusal, status_of};
+ghost use Rattle.retro_cli.specs.Run.{is_run, AppendsFirstAnswers, AppendsFront, AppendsOutput, AppendsOutputFront, EndsBetweenLines, EndsWithoutFault, HasAnswered, MayBeTooLong, TellsRefusal, status_of};
 ghost use Rattle.workbench.specs.Reaction.{reaction_to};
 
 use crate::stop::Stop;
@@ -31,6 +31,9 @@ fn answer_line<K: Sink>(
     ensures answered { IfOk result (λ refused. let reaction = reaction_to bench.old (if long then Err errors.Long else command line.now) in
         (bench.new ≡ reaction.bench) × (refused ≡ reaction.refused)
         × Appends (K.written sink.old) reaction.answer (K.written sink.new)) }
+    ensures front { OnErr result (let reaction = reaction_to bench.old (if long then Err errors.Long else command line.now) in
+        AppendsFront (K.written sink.old) reaction.answer (K.written sink.new)) }
+    ensures whole { OnErr result ((IsErrOf result Stop.WriteFault → ⊥) → K.written sink.new ≡ K.written sink.old) }
     ensures kept_count { K.faults sink.old ≤ K.faults sink.new }
     ensures fault { IsErrOf result Stop.WriteFault → Rose (K.faults sink.old) (K.faults sink.new) }
     ensures reads_nothing { (IsErrOf result Stop.ReadFault → ⊥) × (IsErrOf result Stop.TooLong → ⊥) }
@@ -56,6 +59,9 @@ fn answer_lines<S: Source, K: Sink>(
     ensures left { GivesCount (S.left (source_of reader.old)) (taken reader.new - taken reader.old) (S.left (source_of reader.new)) }
     ensures ended { OnOk result (S.ended (source_of reader.new) ≡ true) }
     ensures answered { OnOk result (AppendsOutput (rest_of reader.old) (K.written sink.old) (K.written sink.new)) }
+    ensures front { AppendsOutputFront (rest_of reader.old) (K.written sink.old) (K.written sink.new) }
+    ensures whole { OnErr result ((IsErrOf result Stop.WriteFault → ⊥) →
+        AppendsFirstAnswers (rest_of reader.old) (K.written sink.old) (K.written sink.new)) }
     ensures refusal { IfOk result (TellsRefusal (rest_of reader.old)) }
     ensures source_count { S.faults (source_of reader.old) ≤ S.faults (source_of reader.new) }
     ensures sink_count { K.faults sink.old ≤ K.faults sink.new }
@@ -79,6 +85,9 @@ fn answer_lines<S: Source, K: Sink>(
 fn run_script<S: Source, K: Sink>(alloc: Global, source: &mut S, sink: &mut K) -> Result<bool, Stop>
     ensures ended { OnOk result ((S.ended source.new ≡ true) × (K.flushed sink.new ≡ true)) }
     ensures answered { OnOk result (AppendsOutput (S.left source.old) (K.written sink.old) (K.written sink.new)) }
+    ensures front { AppendsOutputFront (S.left source.old) (K.written sink.old) (K.written sink.new) }
+    ensures whole { OnErr result ((IsErrOf result Stop.WriteFault → ⊥) →
+        AppendsFirstAnswers (S.left source.old) (K.written sink.old) (K.written sink.new)) }
     ensures refusal { IfOk result (TellsRefusal (S.left source.old)) }
     ensures source_count { S.faults source.old ≤ S.faults source.new }
     ensures sink_count { K.faults sink.old ≤ K.faults sink.new }
@@ -103,6 +112,10 @@ pub fn run<S: Source, K: Sink>(alloc: Global, words: &Words, source: &mut S, sin
     ensures ended { HasAnswered result → (S.ended source.new ≡ true) × (K.flushed sink.new ≡ true) }
     ensures answered { HasAnswered result → AppendsOutput (S.left source.old) (K.written sink.old) (K.written sink.new) }
     ensures refusal { HasAnswered result → IfSome (S.left source.old) (λ bytes. result ≡ status_of (has_refusal bytes)) }
+    // At every status, what was appended is a front of the output; where it ended between two lines, it is the whole answers to
+    // some first lines.
+    ensures front { AppendsOutputFront (S.left source.old) (K.written sink.old) (K.written sink.new) }
+    ensures whole { EndsBetweenLines result → AppendsFirstAnswers (S.left source.old) (K.written sink.old) (K.written sink.new) }
     // When each other status comes.
     ensures words { (result ≡ Status.Words) ↔ (is_run words.now ≡ false) }
     ensures untouched { result ≡ Status.Words → (source.new ≡ source.old) × (sink.new ≡ sink.old) }

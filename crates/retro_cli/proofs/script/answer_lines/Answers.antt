@@ -1,6 +1,7 @@
 use Rattle.std.proofs.Common.{refl, ◌∙◌, arith}
+use Rattle.std.proofs.lemmas.Result.{err_from_is_err_and}
 use Rattle.retro_io.specs.LineReader.{line_of, has_ended}
-use Rattle.retro_cli.proofs.Scripts.{GivenAs, appends_output, goes_on_first, goes_on_next, count_after-twice, gives_count-none, gives_count-twice}
+use Rattle.retro_cli.proofs.Scripts.{GivenAs, appends_output, first_answers, on_err, front_in_line, front_of_all, front_so_far, goes_on_first, goes_on_next, count_after-twice, gives_count-none, gives_count-twice}
 use Rattle.retro_cli.proofs.script.answer_lines.Goals as goal
 use Rattle.retro_cli.proofs.script.answer_lines.Goals.{in-Whole, in-Long}
 
@@ -23,6 +24,30 @@ returns-in_err-next-clause-left g c =
 pub returns-in_err-refused-clause-left : goal.returns-in_err-refused-clause-left
 returns-in_err-refused-clause-left g c =
     gives_count-twice _ _ _ _ _ _ c.loop-bench.invariant.more c.in_ok-next.ensures.taken c.loop-bench.invariant.left c.in_ok-next.ensures.source_left
+
+pub returns-in_err-next-clause-front : goal.returns-in_err-next-clause-front
+returns-in_err-next-clause-front g c = front_so_far _ _ _ _ _ _ c.loop-bench.invariant.answers
+
+pub returns-in-End-clause-front : goal.returns-in-End-clause-front
+returns-in-End-clause-front g c =
+    front_of_all _ _ _
+    (appends_output _ _ _ _ _ _ _ (line_of c.next.new.self) (has_ended c.next.new.self) c.loop-bench.invariant.answers (rw c.in-End.is at c.in_ok-next.ensures.lines)).0
+
+pub returns-in_err-refused-clause-front : goal.returns-in_err-refused-clause-front
+returns-in_err-refused-clause-front g c =
+    let as_given : GivenAs c.in_ok-next.field-0 c.match-branch-2.long =
+    elim c.match-branch-2.branch [ in-Whole w ↦ rw w.in-Whole.is w.long-is | in-Long w ↦ rw w.in-Long.is w.long-is ] in
+    front_in_line _ _ _ _ c.in_ok-next.field-0 c.match-branch-2.long (line_of c.next.new.self) (has_ended c.next.new.self) _ _ _ _
+    as_given c.in_ok-next.ensures.lines c.loop-bench.invariant.answers (rw c.line.ensures at c.in_err-refused.ensures.front)
+
+pub returns-in_err-next-clause-whole : goal.returns-in_err-next-clause-whole
+returns-in_err-next-clause-whole g c = on_err c.from_residual.result (λ _. first_answers _ _ _ _ _ _ c.loop-bench.invariant.answers)
+
+pub returns-in_err-refused-clause-whole : goal.returns-in_err-refused-clause-whole
+returns-in_err-refused-clause-whole g c =
+    let p = err_from_is_err_and c.from_residual-in_err-refused.result c.from_residual-in_err-refused.ensures.1 in
+    rw (p.1, p.2) (λ no_fault.
+    rw (c.in_err-refused.ensures.whole no_fault) (first_answers _ _ _ _ _ _ c.loop-bench.invariant.answers))
 
 pub loop-bench-init : goal.loop-bench-init
 loop-bench-init g c = record {

@@ -1,4 +1,4 @@
--- The answers so far, followed by the answers to what is left, are the answers to all.
+-- The lines given so far are the first ones of the script, and were answered.
 use Rattle.std.proofs.Common.{◌≡◌, ℕ, ◌≤◌, ◌+◌, ◌-◌, List, Some, false}
 use Rattle.retro_io.specs.Faults.{count_after}
 use Rattle.retro_io.specs.Source.{GivesCount}
