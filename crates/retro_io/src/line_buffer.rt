@@ -47,7 +47,8 @@ impl Model for LineBuffer {
 impl LineBuffer {
     /// An empty buffer, with all the memory that it will need.
     pub fn new(alloc: Global) -> Result<LineBuffer, NoMemory>
-        ensures { IfOk result (λ buffer. buffer.held ≡ []) }
+        ensures held { IfOk result (λ buffer. buffer.held ≡ []) }
+        ensures shown { IfOk result (λ buffer. buffer.shown ≡ []) }
     {
         Ok(LineBuffer {
             bytes: vec![in alloc; 0; CAPACITY]?,

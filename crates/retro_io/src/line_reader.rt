@@ -86,7 +86,8 @@ impl<'a, S: Source> LineReader<'a, S> {
         source
     }
 
-    /// What the reader shows of the line that it gave last: of a long one its first 4,096 bytes.
+    /// What the reader shows of the line that it gave in the last call: of a long one its first 4,096 bytes. Where the last
+    /// call gave no line, what it shows means nothing.
     pub fn line(&self) -> &[u8]
         ensures { result.now ≡ line_of self.now }
     {

@@ -1,4 +1,4 @@
-ghost use Rattle.std.specs.Prelude.{◌≡◌, ◌≤◌, ◌<◌, ◌==◌, ◌-◌, ◌||◌, [], true, false, length, take, min, Some, is_ok, IfOk, IsOk, OnErr, MatchResult};
+ghost use Rattle.std.specs.Prelude.{◌≡◌, ◌≤◌, ◌<◌, ◌==◌, ◌-◌, ◌||◌, [], true, false, length, take, min, Some, is_ok, IfOk, IsOk, OnErr, OnOk, MatchResult};
 ghost use Rattle.retro_io.specs.Faults.{Rose, last_count};
 ghost use Rattle.retro_io.specs.Memory.{WritesRoomed};
 ghost use Rattle.retro_io.specs.Sink.{Appends};
@@ -121,6 +121,7 @@ impl Sink for MemorySink {
         ensures kept_count { self.old.faults ≤ self.new.faults }
         ensures counted { self.new.faults ≤ last_count }
         ensures failed { OnErr result (Rose self.old.faults self.new.faults) }
+        ensures same_count { OnOk result (self.new.faults ≡ self.old.faults) }
         // It never fails, and changes nothing else.
         ensures always { IsOk result }
         ensures state { self.new ≡ record self.old { flushed = true } }

@@ -1,4 +1,4 @@
-ghost use Rattle.std.specs.Prelude.{◌≡◌, ℕ, Bool, false, List, Option, ◌≤◌, ◌<◌, length, take, Result, is_ok, IfOk, OnErr, MatchResult};
+ghost use Rattle.std.specs.Prelude.{◌≡◌, ℕ, Bool, false, List, Option, ◌≤◌, ◌<◌, length, take, Result, is_ok, IfOk, OnErr, OnOk, MatchResult};
 ghost use Rattle.retro_io.specs.Faults.{Rose, last_count};
 ghost use Rattle.retro_io.specs.Sink.{Appends, AppendsPart, HandsAll, HandsAllUntilFault};
 ghost use Rattle.retro_io.specs.declared.source.Failed.{Failed};
@@ -40,7 +40,8 @@ pub trait Sink {
         ensures flushed { flushed self.new ≡ is_ok result }
         ensures kept_count { faults self.old ≤ faults self.new }
         ensures counted { faults self.new ≤ last_count }
-        ensures failed { OnErr result (Rose (faults self.old) (faults self.new)) };
+        ensures failed { OnErr result (Rose (faults self.old) (faults self.new)) }
+        ensures same_count { OnOk result (faults self.new ≡ faults self.old) };
 }
 
 /// A write failed, and only a front of the bytes was appended.

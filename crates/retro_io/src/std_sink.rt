@@ -16,10 +16,13 @@ pub struct StdSink<W> {
 }
 
 impl<W: Write> StdSink<W> {
+    ghost use Rattle.retro_io.specs.Known.{writer_of};
+
     /// A sink over this writer.
     pub fn new(writer: W) -> StdSink<W>
         ensures flushed { ⟦<StdSink<W> as Sink>⟧.flushed result ≡ false }
         ensures faults { ⟦<StdSink<W> as Sink>⟧.faults result ≡ 0 }
+        ensures writer { writer_of result ≡ writer }
     {
         StdSink {
             writer,
@@ -32,7 +35,7 @@ impl<W: Write> StdSink<W> {
     fn fail(&mut self) -> Failed
         ensures rose { Rose self.old.faults self.new.faults }
         ensures count { self.new.faults ≡ count_after self.old.faults 1 }
-        ensures writer { self.new.writer ≡ self.old.writer }
+        ensures writer { writer_of self.new ≡ writer_of self.old }
         ensures kept_count { self.old.faults ≤ self.new.faults }
         ensures flushed { self.new.flushed ≡ self.old.flushed }
     {
@@ -42,6 +45,8 @@ impl<W: Write> StdSink<W> {
 }
 
 impl<W: Write> Sink for StdSink<W> {
+    ghost use Rattle.retro_io.specs.Known.{writer_of};
+
     ghost written = { λ _. None };
 
     ghost flushed = { λ s. s.flushed };
@@ -49,7 +54,7 @@ impl<W: Write> Sink for StdSink<W> {
     ghost faults = { λ s. s.faults };
 
     ghost writes = { λ before piece answer after.
-        WriteAppends (W.contents before.writer) (W.contents after.writer) answer piece
+        WriteAppends (W.contents (writer_of before)) (W.contents (writer_of after)) answer piece
         × (after.faults ≡ faults_after before.faults answer) };
 
     fn write(&mut self, piece: &[u8]) -> Result<usize, Failed> {

@@ -1,6 +1,5 @@
 ghost use Rattle.std.specs.Prelude.{◌≡◌, ◌≤◌, false, None};
 ghost use Rattle.retro_io.specs.Faults.{faults_after, last_count};
-ghost use Rattle.retro_io.specs.Known.{ReadsKnown};
 
 use crate::{Failed, Source};
 use std::io::Read;
@@ -17,11 +16,14 @@ pub struct StdSource<R> {
 }
 
 impl<R: Read> StdSource<R> {
+    ghost use Rattle.retro_io.specs.Known.{reader_of};
+
     /// A source over this reader.
     pub fn new(reader: R) -> StdSource<R>
         ensures taken { ⟦<StdSource<R> as Source>⟧.taken result ≡ 0 }
         ensures ended { ⟦<StdSource<R> as Source>⟧.ended result ≡ false }
         ensures faults { ⟦<StdSource<R> as Source>⟧.faults result ≡ 0 }
+        ensures reader { reader_of result ≡ reader }
     {
         StdSource {
             reader,
@@ -33,6 +35,8 @@ impl<R: Read> StdSource<R> {
 }
 
 impl<R: Read> Source for StdSource<R> {
+    ghost use Rattle.retro_io.specs.Known.{ReadsKnown, reader_of};
+
     ghost left = { λ _. None };
 
     ghost taken = { λ s. s.taken };
@@ -42,7 +46,7 @@ impl<R: Read> Source for StdSource<R> {
     ghost faults = { λ s. s.faults };
 
     ghost reads = { λ before room answer after.
-        ReadsKnown (R.remaining before.reader) room answer (R.remaining after.reader)
+        ReadsKnown (R.remaining (reader_of before)) room answer (R.remaining (reader_of after))
         × (after.faults ≡ faults_after before.faults answer) };
 
     fn read(&mut self, buffer: &mut [u8]) -> Result<usize, Failed> {
