@@ -1,5 +1,5 @@
 -- What is claimed of a run of the program.
-use Rattle.std.specs.Prelude.{◌≡◌, ℕ, Bool, true, false, ◌<◌, List, [], ◌∷◌, ◌++◌, length, codes}
+use Rattle.std.specs.Prelude.{◌≡◌, ℕ, Bool, true, false, ◌<◌, List, [], ◌∷◌, ◌++◌, length, take, codes}
 use Rattle.std.specs.Prelude.{Option, Some, None}
 use Rattle.std.specs.Str.{bytes_eq}
 use Rattle.retro_io.specs.Lines.{lines}
@@ -8,7 +8,7 @@ use Rattle.workbench.specs.Answers.{answers_to}
 use Rattle.retro_cli.specs.declared.script.TheConstants.{MAX_BYTES}
 use Rattle.retro_cli.specs.declared.status.Status.{Status}
 use Rattle.retro_cli.specs.declared.status.Status.TheVariants as statuses
-use Rattle.retro_cli.specs.Output.{output, has_refusal}
+use Rattle.retro_cli.specs.Output.{output, has_refusal, up_to_last_feed}
 
 -- the words of the command line are the one word `run`
 abbrev pub is_run : List (List ℕ) → Bool
@@ -55,6 +55,23 @@ pub record AppendsAnswersTo (bytes : List ℕ) (before after : Option (List ℕ)
 abbrev pub AppendsFirstAnswers : Option (List ℕ) → Option (List ℕ) → Option (List ℕ) → Type 0
 AppendsFirstAnswers None before after = Unit {0}
 AppendsFirstAnswers (Some bytes) before after = AppendsAnswersTo bytes before after
+
+-- exactly the output of the bytes that were taken, up to their last line feed, was appended
+pub record AppendsTaken (bytes rest : List ℕ) (before after : Option (List ℕ)) : Type 0 where
+  pub taken : List ℕ
+  pub cut : bytes ≡ taken ++ rest
+  pub appended : Appends before (output (up_to_last_feed taken)) after
+
+-- the same where the source tells the script and what is left of it
+abbrev pub AppendsOutputOfTaken : Option (List ℕ) → Option (List ℕ) → Option (List ℕ) → Option (List ℕ) → Type 0
+AppendsOutputOfTaken None left before after = Unit {0}
+AppendsOutputOfTaken (Some bytes) None before after = ⊥
+AppendsOutputOfTaken (Some bytes) (Some rest) before after = AppendsTaken bytes rest before after
+
+-- exactly the output of so many first bytes of the script, up to their last line feed, was appended, where the source tells the script
+abbrev pub AppendsOutputOfFirst : Option (List ℕ) → ℕ → Option (List ℕ) → Option (List ℕ) → Type 0
+AppendsOutputOfFirst None count before after = Unit {0}
+AppendsOutputOfFirst (Some bytes) count before after = Appends before (output (up_to_last_feed (take count bytes))) after
 
 -- the run ended early, for another cause than a write that failed
 abbrev pub EndsBetweenLines : Status → Type 0

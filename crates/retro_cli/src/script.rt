@@ -2,12 +2,12 @@ ghost use Rattle.std.specs.Prelude.{◌≡◌, ◌+◌, ◌-◌, ◌<◌, ◌↔
 ghost use Rattle.retro_io.specs.Faults.{Rose, count_after, last_count};
 ghost use Rattle.retro_io.specs.Sink.{Appends};
 ghost use Rattle.retro_io.specs.Source.{GivesCount};
-ghost use Rattle.retro_io.specs.LineReader.{taken, limit_of, has_failed, reference_of, rest_of, source_of};
+ghost use Rattle.retro_io.specs.LineReader.{taken, given, limit_of, has_failed, reference_of, rest_of, source_of};
 ghost use Rattle.script_grammar.specs.declared.command.LineError.TheVariants as errors;
 ghost use Rattle.script_grammar.specs.Command.{command};
 ghost use Rattle.retro_cli.specs.declared.script.TheConstants.{MAX_BYTES};
 ghost use Rattle.retro_cli.specs.Output.{has_refusal};
-ghost use Rattle.retro_cli.specs.Run.{is_run, AppendsFirstAnswers, AppendsFront, AppendsOutput, AppendsOutputFront, EndsBetweenLines, EndsWithoutFault, HasAnswered, MayBeTooLong, TellsRefusal, status_of};
+ghost use Rattle.retro_cli.specs.Run.{is_run, AppendsFirstAnswers, AppendsFront, AppendsOutput, AppendsOutputFront, AppendsOutputOfFirst, AppendsOutputOfTaken, EndsBetweenLines, EndsWithoutFault, HasAnswered, MayBeTooLong, TellsRefusal, status_of};
 ghost use Rattle.workbench.specs.Reaction.{reaction_to};
 
 use crate::stop::Stop;
@@ -62,6 +62,10 @@ fn answer_lines<S: Source, K: Sink>(
     ensures front { AppendsOutputFront (rest_of reader.old) (K.written sink.old) (K.written sink.new) }
     ensures whole { OnErr result ((IsErrOf result Stop.WriteFault → ⊥) →
         AppendsFirstAnswers (rest_of reader.old) (K.written sink.old) (K.written sink.new)) }
+    ensures taken_answers { IsErrOf result Stop.ReadFault →
+        AppendsOutputOfTaken (rest_of reader.old) (S.left (source_of reader.new)) (K.written sink.old) (K.written sink.new) }
+    ensures first_answers { IsErrOf result Stop.TooLong →
+        AppendsOutputOfFirst (rest_of reader.old) (limit_of reader.old - given reader.old) (K.written sink.old) (K.written sink.new) }
     ensures refusal { IfOk result (TellsRefusal (rest_of reader.old)) }
     ensures source_count { S.faults (source_of reader.old) ≤ S.faults (source_of reader.new) }
     ensures sink_count { K.faults sink.old ≤ K.faults sink.new }
@@ -88,6 +92,10 @@ fn run_script<S: Source, K: Sink>(alloc: Global, source: &mut S, sink: &mut K) -
     ensures front { AppendsOutputFront (S.left source.old) (K.written sink.old) (K.written sink.new) }
     ensures whole { OnErr result ((IsErrOf result Stop.WriteFault → ⊥) →
         AppendsFirstAnswers (S.left source.old) (K.written sink.old) (K.written sink.new)) }
+    ensures taken_answers { IsErrOf result Stop.ReadFault →
+        AppendsOutputOfTaken (S.left source.old) (S.left source.new) (K.written sink.old) (K.written sink.new) }
+    ensures first_answers { IsErrOf result Stop.TooLong →
+        AppendsOutputOfFirst (S.left source.old) MAX_BYTES (K.written sink.old) (K.written sink.new) }
     ensures refusal { IfOk result (TellsRefusal (S.left source.old)) }
     ensures source_count { S.faults source.old ≤ S.faults source.new }
     ensures sink_count { K.faults sink.old ≤ K.faults sink.new }
@@ -112,10 +120,15 @@ pub fn run<S: Source, K: Sink>(alloc: Global, words: &Words, source: &mut S, sin
     ensures ended { HasAnswered result → (S.ended source.new ≡ true) × (K.flushed sink.new ≡ true) }
     ensures answered { HasAnswered result → AppendsOutput (S.left source.old) (K.written sink.old) (K.written sink.new) }
     ensures refusal { HasAnswered result → IfSome (S.left source.old) (λ bytes. result ≡ status_of (has_refusal bytes)) }
-    // At every status, what was appended is a front of the output; where it ended between two lines, it is the whole answers to
-    // some first lines.
+    // At every status, what was appended is a front of the output. Where the run ended between two lines, it is the whole
+    // answers to some first lines: at a failed read to all whose line feed was taken, at a script that is too long to all
+    // that end within the bytes that it may have.
     ensures front { AppendsOutputFront (S.left source.old) (K.written sink.old) (K.written sink.new) }
     ensures whole { EndsBetweenLines result → AppendsFirstAnswers (S.left source.old) (K.written sink.old) (K.written sink.new) }
+    ensures taken_answers { result ≡ Status.ReadFault →
+        AppendsOutputOfTaken (S.left source.old) (S.left source.new) (K.written sink.old) (K.written sink.new) }
+    ensures first_answers { result ≡ Status.TooLong →
+        AppendsOutputOfFirst (S.left source.old) MAX_BYTES (K.written sink.old) (K.written sink.new) }
     // When each other status comes.
     ensures words { (result ≡ Status.Words) ↔ (is_run words.now ≡ false) }
     ensures untouched { result ≡ Status.Words → (source.new ≡ source.old) × (sink.new ≡ sink.old) }

@@ -227,3 +227,40 @@ fn faults_and_other_words_have_their_status(rt: HostRuntime) -> Result<(), NoMem
     }
     Ok(())
 }
+
+#[test]
+fn a_fault_leaves_the_answers_before_it(rt: HostRuntime) -> Result<(), NoMemory> {
+    let script =
+        b"new q queue\nq at 10 enq 5\nq at 20 enq 7\nq ask front\nq at 15 deq\nq ask front\n\
+        q at 5 enq 9\nq ask front\n";
+    // The reads from one line's end to the next, each of one byte; the write that is the next; and what stands then.
+    let table: [(u32, u32, u32, &[u8]); 8] = [
+        (0, 12, 0, b""),
+        (12, 26, 1, b"ok\n"),
+        (26, 40, 2, b"ok\nok #1\n"),
+        (40, 52, 3, b"ok\nok #1\nok #2\n"),
+        (52, 64, 4, b"ok\nok #1\nok #2\n= 5\n"),
+        (64, 76, 5, b"ok\nok #1\nok #2\n= 5\nok #3\n"),
+        (76, 89, 6, b"ok\nok #1\nok #2\n= 5\nok #3\n= 7\n"),
+        (89, 101, 7, b"ok\nok #1\nok #2\n= 5\nok #3\n= 7\nok #4\n"),
+    ];
+    for (from, to, write, answers) in table {
+        for read in from..to {
+            let failing = Failing {
+                reads: &[read],
+                writes: &[],
+            };
+            let (status, sink) = run_over(rt.alloc(), &[b"run"], script, 1, &failing)?;
+            assert_eq!(rt; sink.written(), answers);
+            assert_eq!(rt; status, Status::ReadFault);
+        }
+        let failing = Failing {
+            reads: &[],
+            writes: &[write],
+        };
+        let (status, sink) = run_over(rt.alloc(), &[b"run"], script, 512, &failing)?;
+        assert_eq!(rt; sink.written(), answers);
+        assert_eq!(rt; status, Status::WriteFault);
+    }
+    Ok(())
+}

@@ -2,7 +2,7 @@
 use Rattle.std.proofs.Common.{◌≡◌, ℕ, ◌≤◌, ◌+◌, ◌-◌, List, Some, false}
 use Rattle.retro_io.specs.Faults.{count_after}
 use Rattle.retro_io.specs.Source.{GivesCount}
-use Rattle.retro_io.specs.LineReader.{given, taken, limit_of, has_failed, reference_of, rest_of, source_of}
+use Rattle.retro_io.specs.LineReader.{given, taken, limit_of, has_ended, has_failed, reference_of, rest_of, source_of}
 use Rattle.retro_cli.proofs.Scripts.{GoesOn}
 use Rattle.retro_cli.proofs.script.answer_lines.Given as goal
 
@@ -17,7 +17,7 @@ invariant-loop-bench g l = record {
   source_count : g.S.Source.faults (source_of l.fn.reader) ≤ g.S.Source.faults (source_of l.reader);
   sink_count : g.K.Sink.faults l.fn.sink ≤ g.K.Sink.faults l.sink;
   answers : (bytes : List ℕ) → rest_of l.fn.reader ≡ Some bytes
-      → GoesOn bytes (g.K.Sink.written l.fn.sink) l.bench l.refused (rest_of l.reader) (g.K.Sink.written l.sink);
+      → GoesOn bytes (g.K.Sink.written l.fn.sink) l.bench l.refused (has_ended l.reader) (rest_of l.reader) (g.K.Sink.written l.sink);
 }
 
 abbrev pub decreases-loop-bench : goal.decreases-loop-bench
