@@ -1,6 +1,6 @@
 -- The answers to a script, line by line.
 use Rattle.std.proofs.Common.{◌≡◌, ℕ, Bool, true, false, ◌||◌, ◌≤◌, ◌<◌, ◌-◌, ◌+◌, Result, Ok, Err, List, [], ◌∷◌, ◌++◌, length, arith, refl, sym, ap, ◌∙◌, subst, append_assoc, append-nil, length-append, length-drop, drop, take, inl, inr, Option, Some, None}
-use Rattle.std.specs.Prelude.{if◌then◌else◌, ◌==◌, IfSome, OnErr, map}
+use Rattle.std.specs.Prelude.{if◌then◌else◌, ◌==◌, IfSome, OnErr}
 use Rattle.std.proofs.Math.Nat.{sub_self}
 use Rattle.std.proofs.Math.Seq.{take-append-add}
 use Rattle.std.proofs.lemmas.List.{append_cancel_left, drop-drop, take-append-drop}
@@ -22,7 +22,8 @@ use Rattle.workbench.specs.Answers.{answers_to, refuses_one}
 use Rattle.workbench.specs.Bench.{Bench}
 use Rattle.workbench.specs.Reaction.{Reaction, reaction_to, reacts}
 use Rattle.retro_io.specs.LineReader.{held_and_left}
-use Rattle.retro_io.specs.Lines.{lines, longest, has_line_feed, line_feed, onto_first, pieces, without_return, StartsWith}
+use Rattle.retro_io.specs.LineLaws.{lines-cut, unbroken-append}
+use Rattle.retro_io.specs.Lines.{lines, longest, has_line_feed, line_feed, without_return, StartsWith}
 use Rattle.retro_cli.specs.declared.stop.Stop.{Stop}
 use Rattle.retro_cli.specs.declared.stop.Stop.TheVariants as stops
 use Rattle.retro_cli.specs.Stop.{StopsAt}
@@ -114,15 +115,6 @@ if_same : {A : Type 0} (test : Bool) (a : A) → (if test then a else a) ≡ a
 if_same true a = refl
 if_same false a = refl
 
-neither : (test rest : Bool) → (if test then true else rest) ≡ false → (test ≡ false) × (rest ≡ false)
-neither true rest e = absurd (true_is_not_false e)
-neither false rest e = (refl, e)
-
--- no line feed in front, and none behind
-unbroken_both : (xs ys : List ℕ) → has_line_feed xs ≡ false → has_line_feed ys ≡ false → has_line_feed (xs ++ ys) ≡ false
-unbroken_both [] ys u v = v
-unbroken_both (b ∷ xs) ys u v = let w = neither (b == line_feed) (has_line_feed xs) u in rw w.0 (unbroken_both xs ys w.1 v)
-
 broken_at : (piece more : List ℕ) → has_line_feed (piece ++ line_feed ∷ more) ≡ true
 broken_at [] more = refl
 broken_at (b ∷ piece) more = rw (broken_at piece more) (if_same (b == line_feed) true)
@@ -136,11 +128,6 @@ up_to_line : (piece more : List ℕ) → up_to_last_feed (piece ++ line_feed ∷
 unfolding up_to_last_feed
 up_to_line [] more = refl
 up_to_line (b ∷ piece) more = rw (broken_at (b ∷ piece) more) (ap (λ xs. b ∷ xs) (up_to_line piece more))
-
-pieces_line : (piece more : List ℕ) → has_line_feed piece ≡ false → pieces (piece ++ line_feed ∷ more) ≡ piece ∷ pieces more
-pieces_line [] more u = refl
-pieces_line (b ∷ piece) more u =
-    let w = neither (b == line_feed) (has_line_feed piece) u in rw w.0 (ap (onto_first b) (pieces_line piece more w.1))
 
 -- bytes that end behind a line feed, or are none, and their lines
 pub record AreWhole (past : List ℕ) (given : List (List ℕ)) : Type 0 where
@@ -158,7 +145,7 @@ whole_line past given piece whole unbroken = record {
   up_to = λ more. ap up_to_last_feed (behind_line past piece more) ∙ whole.up_to (piece ++ line_feed ∷ more)
       ∙ ap (λ xs. past ++ xs) (up_to_line piece more) ∙ sym (behind_line past piece (up_to_last_feed more));
   parts = λ more. ap lines (behind_line past piece more) ∙ whole.parts (piece ++ line_feed ∷ more)
-      ∙ ap (λ ps. given ++ map without_return ps) (pieces_line piece more unbroken)
+      ∙ ap (λ ls. given ++ ls) (lines-cut piece more unbroken)
       ∙ sym (append_assoc given (without_return piece ∷ []) (lines more));
 }
 
@@ -414,7 +401,7 @@ answers_of_taken (Some bytes) first bench refused held (Some src) source' count 
     let left_is : here.left ≡ came ++ drop count src =
     some_same (Some (held ++ src)) here.rest_is refl ∙ ap (λ xs. held ++ xs) (sym (take-append-drop count src)) ∙ sym (append_assoc held (take count src) (drop count src)) in
     let up_to : up_to_last_feed (here.past ++ came) ≡ here.past =
-    whole.up_to came ∙ ap (λ xs. here.past ++ xs) (up_to_none came (unbroken_both held (take count src) unbroken unbroken')) ∙ append-nil here.past in
+    whole.up_to came ∙ ap (λ xs. here.past ++ xs) (up_to_none came (unbroken-append held (take count src) unbroken unbroken')) ∙ append-nil here.past in
     let given : lines here.past ≡ here.given = ap lines (sym (append-nil here.past)) ∙ whole.parts [] ∙ append-nil here.given in
     rw gives.1 record {
       taken = here.past ++ came;
@@ -451,7 +438,7 @@ answers_of_first first bench refused held₀ held (Some src₀) (Some src) taken
     ap (λ n. take n bytes) count ∙ ap (take (length (here.past ++ held) + (limit - taken))) cut
     ∙ take-append-add (here.past ++ held) src (limit - taken) ∙ append_assoc here.past held last in
     let up_to : up_to_last_feed (here.past ++ (held ++ last)) ≡ here.past =
-    whole.up_to (held ++ last) ∙ ap (λ xs. here.past ++ xs) (up_to_none (held ++ last) (unbroken_both held last unbroken unbroken')) ∙ append-nil here.past in
+    whole.up_to (held ++ last) ∙ ap (λ xs. here.past ++ xs) (up_to_none (held ++ last) (unbroken-append held last unbroken unbroken')) ∙ append-nil here.past in
     let given : lines here.past ≡ here.given = ap lines (sym (append-nil here.past)) ∙ whole.parts [] ∙ append-nil here.given in
     subst (λ ls. Appends first (answers_to [] ls) written) (sym (ap lines (ap up_to_last_feed front ∙ up_to) ∙ given)) here.appended
 

@@ -5,18 +5,8 @@ use Rattle.std.specs.List.{slice_range}
 use Rattle.std.proofs.lemmas.List.{take-append-drop, drop_more, length-take-le, get_or-take, get_or-drop, length-drop, take-take, drop-take}
 use Rattle.std.proofs.lemmas.Bool.{eq-eqb, ne_eqb}
 use Rattle.std.proofs.lemmas.List.Edits.{between_more}
+use Rattle.retro_io.specs.LineLaws.{both_false, unbroken-append}
 use Rattle.retro_io.specs.Lines.{line_feed, carriage_return, onto_first, pieces, without_return, lines, has_line_feed}
-
--- a test that gives true or another answer is false only where both are
-pub both_false : (test other : Bool) → cond test true other ≡ false → (test ≡ false) × (other ≡ false)
-both_false true other h = absurd (cc)
-both_false false other h = (refl, h)
-
-pub unbroken-append : (xs ys : List ℕ) → has_line_feed xs ≡ false → has_line_feed ys ≡ false → has_line_feed (xs ++ ys) ≡ false
-unbroken-append [] ys p q = q
-unbroken-append (x ∷ xs) ys p q =
-    let parts = both_false (x == line_feed) (has_line_feed xs) p in
-    rw (parts.0) (unbroken-append xs ys parts.1 q)
 
 pub unbroken-front : (xs ys : List ℕ) → has_line_feed (xs ++ ys) ≡ false → has_line_feed xs ≡ false
 unbroken-front [] ys p = refl
@@ -42,13 +32,6 @@ unbroken-from_each (x ∷ xs) each =
     let here : (x == line_feed) ≡ false = each 0 (omega arith) in
     rw here (unbroken-from_each xs (λ k h. each (suc k) (omega arith)))
 
--- the first piece, where a line feed ends it
-pub pieces-cut : (piece after : List ℕ) → has_line_feed piece ≡ false → pieces (piece ++ line_feed ∷ after) ≡ piece ∷ pieces after
-pieces-cut [] after p = refl
-pieces-cut (b ∷ piece) after p =
-    let parts = both_false (b == line_feed) (has_line_feed piece) p in
-    rw (parts.0) (ap (onto_first b) (pieces-cut piece after parts.1))
-
 -- the last piece, which none ends
 pub pieces-last : (b : ℕ) (piece : List ℕ) → has_line_feed (b ∷ piece) ≡ false → pieces (b ∷ piece) ≡ (b ∷ piece) ∷ []
 pieces-last b [] p =
@@ -57,9 +40,6 @@ pieces-last b [] p =
 pieces-last b (c ∷ piece) p =
     let parts = both_false (b == line_feed) (has_line_feed (c ∷ piece)) p in
     rw (parts.0) (ap (onto_first b) (pieces-last c piece parts.1))
-
-pub lines-cut : (piece after : List ℕ) → has_line_feed piece ≡ false → lines (piece ++ line_feed ∷ after) ≡ without_return piece ∷ lines after
-lines-cut piece after p = ap (map without_return) (pieces-cut piece after p)
 
 pub lines-last : (piece : List ℕ) → has_line_feed piece ≡ false → 0 < length piece → lines piece ≡ without_return piece ∷ []
 lines-last [] p h = absurd (omega arith)

@@ -2,6 +2,7 @@ pub mod DueReads
 pub mod Faults
 pub mod Known
 pub mod LineBuffer
+pub mod LineLaws
 pub mod LineReader
 pub mod Lines
 pub mod Marks

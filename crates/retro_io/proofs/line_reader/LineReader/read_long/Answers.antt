@@ -8,7 +8,8 @@ use Rattle.retro_io.specs.DueReads.{ReadsDue}
 use Rattle.retro_io.specs.Faults.{count_after}
 use Rattle.retro_io.specs.Lines.{longest, line_feed, has_line_feed}
 use Rattle.retro_io.specs.Reads.{MakesOf}
-use Rattle.retro_io.proofs.LineLemmas.{unbroken-append, unbroken-take, unbroken-drop}
+use Rattle.retro_io.specs.LineLaws.{unbroken-append}
+use Rattle.retro_io.proofs.LineLemmas.{unbroken-take, unbroken-drop}
 use Rattle.retro_io.proofs.DueLemmas.{Took-due, Took-due-on}
 use Rattle.retro_io.proofs.ReadLemmas.{Took-none, MakesOf-error, Shows-long, cut_behind, length-behind, count_after-twice}
 use Rattle.retro_io.proofs.line_reader.LineReader.read_long.Goals as goal
