@@ -12,6 +12,7 @@ use Rattle.retro_io.specs.declared.mark.ReadError.TheVariants.{ReadFault, TooLon
 use Rattle.retro_io.specs.Faults.{count_after}
 use Rattle.retro_io.specs.Marks.{GivesNextOf}
 use Rattle.retro_io.specs.Sink.{Appends}
+use Rattle.retro_io.specs.SinkLaws.{Appends-append, Appends-none}
 use Rattle.retro_io.specs.Source.{GivesCount}
 use Rattle.script_grammar.specs.declared.command.Command.{Command}
 use Rattle.script_grammar.specs.declared.command.LineError.{LineError}
@@ -68,15 +69,6 @@ some_same o e f = cc
 pub on_err : {V E A : Type 0} (result : Result V E) → A → OnErr result A
 on_err (Ok value) holds = tt
 on_err (Err error) holds = holds
-
-appends_nothing : (written : Option (List ℕ)) → Appends written [] written
-appends_nothing None = refl
-appends_nothing (Some w) = ap (λ xs. Some xs) (sym (append-nil w))
-
-appends_more : (first written written' : Option (List ℕ)) (so_far text : List ℕ) → Appends first so_far written → Appends written text written'
-    → Appends first (so_far ++ text) written'
-appends_more None written written' so_far text before after = rw before at after
-appends_more (Some w) written written' so_far text before after = (rw before at after) ∙ ap (λ xs. Some xs) (append_assoc w so_far text)
 
 -- the bench that lines leave
 pub bench_after : Bench → List (List ℕ) → Bench
@@ -193,7 +185,7 @@ goes_on_first bytes ended rest written e = record {
   cut = refl;
   whole = λ _. record { up_to = λ more. refl; parts = λ more. refl };
   bench_is = refl;
-  appended = rw answers_to-nil (appends_nothing written);
+  appended = rw answers_to-nil (Appends-none written);
   refusals = refuses_one-nil [];
 }
 
@@ -219,7 +211,7 @@ goes_on_line bytes first bench refused ended now after line written written' on 
       whole = next.whole;
       cut = on.cut ∙ ap (λ ls. on.given ++ ls) cut_left ∙ sym (append_assoc on.given (line ∷ []) (lines after));
       bench_is = bench_after-line [] on.given line ∙ ap (λ b. (reacts b line).bench) on.bench_is;
-      appended = subst (λ xs. Appends first xs written') answers (appends_more first written written' _ _ on.appended appended);
+      appended = subst (λ xs. Appends first xs written') answers (Appends-append first written written' _ _ on.appended appended);
       refusals = refuses_one-append [] on.given (line ∷ []) ∙ ap (λ b. refuses_one [] on.given || refuses_one b (line ∷ [])) on.bench_is
           ∙ ap (λ b. b || refuses_one bench (line ∷ [])) on.refusals ∙ ap (λ b. refused || b) (refuses_one-line bench line);
     }
@@ -294,12 +286,12 @@ goes_on_next End long shown has_ended bytes first bench refused rest rest' writt
 
 -- nothing was appended
 pub appends_no_front : (written : Option (List ℕ)) (bytes : List ℕ) → AppendsFront written bytes written
-appends_no_front written bytes = record { front = []; back = bytes; whole = refl; appended = appends_nothing written }
+appends_no_front written bytes = record { front = []; back = bytes; whole = refl; appended = Appends-none written }
 
 pub appends_no_answers : (script written : Option (List ℕ)) → AppendsFirstAnswers script written written
 appends_no_answers None written = tt
 appends_no_answers (Some bytes) written =
-    record { answered = []; unanswered = lines bytes; cut = refl; appended = rw answers_to-nil (appends_nothing written) }
+    record { answered = []; unanswered = lines bytes; cut = refl; appended = rw answers_to-nil (Appends-none written) }
 
 pub appends_no_output : (script written : Option (List ℕ)) → AppendsOutputFront script written written
 appends_no_output None written = tt

@@ -262,5 +262,16 @@ fn a_fault_leaves_the_answers_before_it(rt: HostRuntime) -> Result<(), NoMemory>
         assert_eq!(rt; sink.written(), answers);
         assert_eq!(rt; status, Status::WriteFault);
     }
+    // The read that would have answered the end.
+    let failing = Failing {
+        reads: &[101],
+        writes: &[],
+    };
+    let (status, sink) = run_over(rt.alloc(), &[b"run"], script, 1, &failing)?;
+    assert_eq!(rt;
+        sink.written(),
+        b"ok\nok #1\nok #2\n= 5\nok #3\n= 7\nok #4\n= 5\n".as_slice()
+    );
+    assert_eq!(rt; status, Status::ReadFault);
     Ok(())
 }

@@ -9,4 +9,5 @@ pub mod Marks
 pub mod Memory
 pub mod Reads
 pub mod Sink
+pub mod SinkLaws
 pub mod Source

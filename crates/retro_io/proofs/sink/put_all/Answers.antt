@@ -2,7 +2,8 @@
 use Rattle.std.proofs.Common.{◌≡◌, ◌<◌, ◌-◌, Ok, Err, length, drop, take, ap, subst, refl, arith}
 use Rattle.std.proofs.lemmas.List.{take_rest, length-drop}
 use Rattle.retro_io.specs.Sink.{Appends, HandsAll}
-use Rattle.retro_io.proofs.SinkLemmas.{Appends-none, Appends-more}
+use Rattle.retro_io.specs.SinkLaws.{Appends-none}
+use Rattle.retro_io.proofs.SinkLemmas.{Appends-more}
 use Rattle.retro_io.proofs.sink.put_all.Goals as goal
 
 pub loop-appended-init : goal.loop-appended-init
