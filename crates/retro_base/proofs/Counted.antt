@@ -3,7 +3,7 @@ use Rattle.std.proofs.Common.{◌≡◌, ◌≢◌, ℕ, ℤ, zero, suc, ◌≤�
 use Rattle.std.specs.List.{insert, remove, slice_get, AllByRecursion}
 use Rattle.std.specs.Result.{result_err}
 use Rattle.std.proofs.lemmas.List.{take-append-drop, length-map}
-use Rattle.retro_base.specs.declared.counting.Tally.TheVariants.{Key}
+use Rattle.retro_base.specs.declared.counting.Quantity.TheVariants.{Key}
 use Rattle.retro_base.specs.declared.kind.Kind.{Kind}
 use Rattle.retro_base.specs.declared.kind.Kind.TheVariants.{Queue, Stack, Deque, Dict, Pq}
 use Rattle.retro_base.specs.declared.row.Row.{Row}
@@ -13,10 +13,10 @@ use Rattle.retro_base.specs.State.{State, items, pairs, empty}
 use Rattle.retro_base.specs.Answers.{content}
 use Rattle.retro_base.specs.Replay.{run, failure, IsValid}
 use Rattle.retro_base.specs.Timeline.{AreOfKind}
-use Rattle.retro_base.specs.Counting.{tally_of, tallied, counted}
-use Rattle.retro_base.proofs.CountedLines.{IsLine, line_tally, line_failure, line_few}
+use Rattle.retro_base.specs.Counting.{quantity_of, quantity_after, counted}
+use Rattle.retro_base.proofs.CountedLines.{IsLine, line_quantity, line_failure, line_few}
 use Rattle.retro_base.proofs.CountedKeys.{all_keys, one_key, passed_in, passed_out, key_of_row, pairs_few}
-use Rattle.retro_base.proofs.Histories.{all_with, all_without}
+use Rattle.retro_base.proofs.Replayable.{all_with, all_without}
 use Rattle.retro_base.proofs.SortedPairs.{sorted_nil}
 
 all_lines : (kind : Kind) (rows : List Row) → IsLine kind → AreOfKind kind rows → AllByRecursion (λ row. IsLine (kind_of row.op)) rows
@@ -35,34 +35,34 @@ of_kind_at kind (first ∷ rows) zero row all at = let same : first ≡ row = cc
 of_kind_at kind (first ∷ rows) (suc place) row all at = of_kind_at kind rows place row all.1 at
 
 line_with : (kind : Kind) (rows : List Row) (place : ℕ) (row : Row) → IsLine kind → AreOfKind kind rows → kind_of row.op ≡ kind
-    → result_err (run (insert rows place row) (items [])) ≡ result_err (counted (tally_of row.op) (insert rows place row) 0)
+    → result_err (run (insert rows place row) (items [])) ≡ result_err (counted (quantity_of row.op) (insert rows place row) 0)
 line_with kind rows place row line all here =
-    rw (line_tally row.op (rw here line)) (line_failure (insert rows place row) (all_lines kind (insert rows place row) line (all_with (λ r. kind_of r.op ≡ kind) rows place row all here)))
+    rw (line_quantity row.op (rw here line)) (line_failure (insert rows place row) (all_lines kind (insert rows place row) line (all_with (λ r. kind_of r.op ≡ kind) rows place row all here)))
 
 line_without : (kind : Kind) (rows : List Row) (place : ℕ) (row : Row) → IsLine kind → AreOfKind kind rows → kind_of row.op ≡ kind
-    → result_err (run (remove rows place) (items [])) ≡ result_err (counted (tally_of row.op) (remove rows place) 0)
+    → result_err (run (remove rows place) (items [])) ≡ result_err (counted (quantity_of row.op) (remove rows place) 0)
 line_without kind rows place row line all here =
-    rw (line_tally row.op (rw here line)) (line_failure (remove rows place) (all_lines kind (remove rows place) line (all_without (λ r. kind_of r.op ≡ kind) rows place all)))
+    rw (line_quantity row.op (rw here line)) (line_failure (remove rows place) (all_lines kind (remove rows place) line (all_without (λ r. kind_of r.op ≡ kind) rows place all)))
 
 dict_with : (rows : List Row) (place : ℕ) (row : Row) → AreOfKind Dict rows → IsValid Dict rows → kind_of row.op ≡ Dict
-    → result_err (run (insert rows place row) (pairs [])) ≡ result_err (counted (tally_of row.op) (insert rows place row) 0)
+    → result_err (run (insert rows place row) (pairs [])) ≡ result_err (counted (quantity_of row.op) (insert rows place row) 0)
 dict_with rows place row all valid here =
     let key = key_of_row row.op here in
     rw key.1 (one_key key.0 (insert rows place row) [] (all_with (λ r. kind_of r.op ≡ Dict) rows place row all here) sorted_nil
-    (λ q apart. passed_in (λ r n. tallied (Key q) r.op n) row (λ n. key.2 q n apart) (take place rows) (drop place rows) 0
+    (λ q apart. passed_in (λ r n. quantity_after (Key q) r.op n) row (λ n. key.2 q n apart) (take place rows) (drop place rows) 0
     (rw (take-append-drop place rows) (all_keys rows [] all sorted_nil valid q))))
 
 dict_without : (rows : List Row) (place : ℕ) (row : Row) → AreOfKind Dict rows → IsValid Dict rows → kind_of row.op ≡ Dict → slice_get rows place ≡ Some row
-    → result_err (run (remove rows place) (pairs [])) ≡ result_err (counted (tally_of row.op) (remove rows place) 0)
+    → result_err (run (remove rows place) (pairs [])) ≡ result_err (counted (quantity_of row.op) (remove rows place) 0)
 dict_without rows place row all valid here at =
     let key = key_of_row row.op here in
     rw key.1 (one_key key.0 (remove rows place) [] (all_without (λ r. kind_of r.op ≡ Dict) rows place all) sorted_nil
-    (λ q apart. passed_out (λ r n. tallied (Key q) r.op n) row (λ n. key.2 q n apart) (take place rows) (drop (suc place) rows) 0
+    (λ q apart. passed_out (λ r n. quantity_after (Key q) r.op n) row (λ n. key.2 q n apart) (take place rows) (drop (suc place) rows) 0
     (rw (← around rows place row at) (all_keys rows [] all sorted_nil valid q))))
 
 -- were a row put in
 pub failure_with : (kind : Kind) (rows : List Row) (place : ℕ) (row : Row) → kind ≢ Pq → AreOfKind kind rows → IsValid kind rows → kind_of row.op ≡ kind
-    → failure kind (insert rows place row) ≡ result_err (counted (tally_of row.op) (insert rows place row) 0)
+    → failure kind (insert rows place row) ≡ result_err (counted (quantity_of row.op) (insert rows place row) 0)
 failure_with Queue rows place row served all valid here = line_with Queue rows place row tt all here
 failure_with Stack rows place row served all valid here = line_with Stack rows place row tt all here
 failure_with Deque rows place row served all valid here = line_with Deque rows place row tt all here
@@ -70,7 +70,7 @@ failure_with Dict rows place row served all valid here = dict_with rows place ro
 failure_with Pq rows place row served all valid here = absurd (served refl)
 
 without_at : (kind : Kind) (rows : List Row) (place : ℕ) (row : Row) → kind ≢ Pq → AreOfKind kind rows → IsValid kind rows → kind_of row.op ≡ kind → slice_get rows place ≡ Some row
-    → failure kind (remove rows place) ≡ result_err (counted (tally_of row.op) (remove rows place) 0)
+    → failure kind (remove rows place) ≡ result_err (counted (quantity_of row.op) (remove rows place) 0)
 without_at Queue rows place row served all valid here at = line_without Queue rows place row tt all here
 without_at Stack rows place row served all valid here at = line_without Stack rows place row tt all here
 without_at Deque rows place row served all valid here at = line_without Deque rows place row tt all here
@@ -79,7 +79,7 @@ without_at Pq rows place row served all valid here at = absurd (served refl)
 
 -- were the row at the place taken out
 pub failure_without : (kind : Kind) (rows : List Row) (place : ℕ) (row : Row) → kind ≢ Pq → AreOfKind kind rows → IsValid kind rows → slice_get rows place ≡ Some row
-    → failure kind (remove rows place) ≡ result_err (counted (tally_of row.op) (remove rows place) 0)
+    → failure kind (remove rows place) ≡ result_err (counted (quantity_of row.op) (remove rows place) 0)
 failure_without kind rows place row served all valid at = without_at kind rows place row served all valid (of_kind_at kind rows place row all at) at
 
 length_map_of : {A B : Type 0} (f : A → B) (xs : List A) → length (map f xs) ≡ length xs

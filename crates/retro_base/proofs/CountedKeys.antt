@@ -5,7 +5,7 @@ use Rattle.std.specs.Map.{remove_entry}
 use Rattle.std.specs.Option.{option_map}
 use Rattle.std.specs.Ordering.{int_cmp, int_eq, match_ordering}
 use Rattle.std.specs.Result.{result_err}
-use Rattle.retro_base.specs.declared.counting.Tally.TheVariants.{Key}
+use Rattle.retro_base.specs.declared.counting.Quantity.TheVariants.{Key}
 use Rattle.retro_base.specs.declared.kind.Kind.TheVariants.{Dict}
 use Rattle.retro_base.specs.declared.op.Op.{Op}
 use Rattle.retro_base.specs.declared.op.Op.TheVariants.{Enq, Deq, Push, Pop, PushL, PushR, PopL, PopR, Put, Del, Ins, DelMin}
@@ -14,7 +14,7 @@ use Rattle.retro_base.specs.Kind.{kind_of}
 use Rattle.retro_base.specs.State.{State, pairs, perform, step, with_key}
 use Rattle.retro_base.specs.Replay.{one_later, fold_rows, run}
 use Rattle.retro_base.specs.Timeline.{AreOfKind}
-use Rattle.retro_base.specs.Counting.{one_fewer, pair_behind, tally_of, tallied, counted}
+use Rattle.retro_base.specs.Counting.{one_fewer, pair_after, quantity_of, quantity_after, counted}
 use Rattle.retro_base.proofs.Folds.{not_both, ok_same, one_later-ok, fold_rows-nil, fold_rows-some, fold_rows-none}
 use Rattle.retro_base.proofs.SortedPairs.{AreSorted, has, same_key, same_as_itself, sorted_with, has_with, sorted_without, others_stay, is_gone}
 
@@ -24,11 +24,11 @@ pair_count key ps = cond (has key ps) 1 0
 
 -- what an operation that can be performed leaves
 abbrev Goes : Op → List (ℤ × ℤ) → State → Type 0
-Goes op ps state = (qs : List (ℤ × ℤ)) × (state ≡ pairs qs) × AreSorted qs × ((q : ℤ) → pair_behind q op (pair_count q ps) ≡ Some (pair_count q qs)) × (length qs ≤ suc (length ps))
+Goes op ps state = (qs : List (ℤ × ℤ)) × (state ≡ pairs qs) × AreSorted qs × ((q : ℤ) → pair_after q op (pair_count q ps) ≡ Some (pair_count q qs)) × (length qs ≤ suc (length ps))
 
 -- an operation that cannot be performed finds no pair of its key
 abbrev Stops : Op → List (ℤ × ℤ) → Type 0
-Stops op ps = (key : ℤ) × (tally_of op ≡ Key key) × (pair_behind key op (pair_count key ps) ≡ None)
+Stops op ps = (key : ℤ) × (quantity_of op ≡ Key key) × (pair_after key op (pair_count key ps) ≡ None)
 
 put_length : (k v : ℤ) (ps : List (ℤ × ℤ)) → length (with_key k v ps) ≤ suc (length ps)
 put_length k v [] = omega arith
@@ -56,7 +56,7 @@ put_goes k v ps state sorted e = (
   put_length k v ps,
 )
 
-del_counts : (k : ℤ) (ps : List (ℤ × ℤ)) → AreSorted ps → has k ps ≡ true → (q : ℤ) → pair_behind q (Del k) (pair_count q ps) ≡ Some (pair_count q (remove_entry (int_eq k) ps))
+del_counts : (k : ℤ) (ps : List (ℤ × ℤ)) → AreSorted ps → has k ps ≡ true → (q : ℤ) → pair_after q (Del k) (pair_count q ps) ≡ Some (pair_count q (remove_entry (int_eq k) ps))
 del_counts k ps sorted there q =
     elim (int_eq q k) as (λ b. int_eq q k ≡ b → cond b (one_fewer (pair_count q ps)) (Some (pair_count q ps)) ≡ Some (pair_count q (remove_entry (int_eq k) ps))) [
       | true ↦ λ same. rw (same_key q k same, there, is_gone k ps sorted) refl
@@ -128,7 +128,7 @@ later_none (Ok s) e = refl
 later_none (Err i) e = absurd (cc)
 
 abbrev keyed : ℤ → Row → ℕ → Option ℕ
-keyed key row n = tallied (Key key) row.op n
+keyed key row n = quantity_after (Key key) row.op n
 
 -- where all rows can be performed, the rows of each key find their pairs
 pub all_keys : (rows : List Row) (ps : List (ℤ × ℤ)) → AreOfKind Dict rows → AreSorted ps → result_err (run rows (pairs ps)) ≡ None
@@ -170,31 +170,31 @@ one_key key (row ∷ rows) ps all sorted others =
 
 -- A row that leaves the count as it is may be put in or taken out.
 module _ (next_of : Row → ℕ → Option ℕ) (row : Row) (passes : (n : ℕ) → next_of row n ≡ Some n) where
-  pub passed_in : (before behind : List Row) (n : ℕ) → result_err (fold_rows next_of (before ++ behind) n) ≡ None
-      → result_err (fold_rows next_of (before ++ row ∷ behind) n) ≡ None
-  passed_in [] behind n e = ap result_err (fold_rows-some next_of row behind n n (passes n)) ∙ later_none _ e
-  passed_in (first ∷ before) behind n e =
-      elim (next_of first n) as (λ o. next_of first n ≡ o → result_err (fold_rows next_of (first ∷ (before ++ row ∷ behind)) n) ≡ None) [
-        | None ↦ λ at. absurd (clash _ (ap result_err (fold_rows-none next_of first (before ++ behind) n at)) (e))
+  pub passed_in : (before after : List Row) (n : ℕ) → result_err (fold_rows next_of (before ++ after) n) ≡ None
+      → result_err (fold_rows next_of (before ++ row ∷ after) n) ≡ None
+  passed_in [] after n e = ap result_err (fold_rows-some next_of row after n n (passes n)) ∙ later_none _ e
+  passed_in (first ∷ before) after n e =
+      elim (next_of first n) as (λ o. next_of first n ≡ o → result_err (fold_rows next_of (first ∷ (before ++ row ∷ after)) n) ≡ None) [
+        | None ↦ λ at. absurd (clash _ (ap result_err (fold_rows-none next_of first (before ++ after) n at)) (e))
         | Some m ↦ λ at.
-            ap result_err (fold_rows-some next_of first (before ++ row ∷ behind) n m at)
-            ∙ later_none _ (passed_in before behind m (none_later _ (sym (ap result_err (fold_rows-some next_of first (before ++ behind) n m at)) ∙ e)))
+            ap result_err (fold_rows-some next_of first (before ++ row ∷ after) n m at)
+            ∙ later_none _ (passed_in before after m (none_later _ (sym (ap result_err (fold_rows-some next_of first (before ++ after) n m at)) ∙ e)))
       ] refl
 
-  pub passed_out : (before behind : List Row) (n : ℕ) → result_err (fold_rows next_of (before ++ row ∷ behind) n) ≡ None
-      → result_err (fold_rows next_of (before ++ behind) n) ≡ None
-  passed_out [] behind n e = none_later _ (sym (ap result_err (fold_rows-some next_of row behind n n (passes n))) ∙ e)
-  passed_out (first ∷ before) behind n e =
-      elim (next_of first n) as (λ o. next_of first n ≡ o → result_err (fold_rows next_of (first ∷ (before ++ behind)) n) ≡ None) [
-        | None ↦ λ at. absurd (clash _ (ap result_err (fold_rows-none next_of first (before ++ row ∷ behind) n at)) (e))
+  pub passed_out : (before after : List Row) (n : ℕ) → result_err (fold_rows next_of (before ++ row ∷ after) n) ≡ None
+      → result_err (fold_rows next_of (before ++ after) n) ≡ None
+  passed_out [] after n e = none_later _ (sym (ap result_err (fold_rows-some next_of row after n n (passes n))) ∙ e)
+  passed_out (first ∷ before) after n e =
+      elim (next_of first n) as (λ o. next_of first n ≡ o → result_err (fold_rows next_of (first ∷ (before ++ after)) n) ≡ None) [
+        | None ↦ λ at. absurd (clash _ (ap result_err (fold_rows-none next_of first (before ++ row ∷ after) n at)) (e))
         | Some m ↦ λ at.
-            ap result_err (fold_rows-some next_of first (before ++ behind) n m at)
-            ∙ later_none _ (passed_out before behind m (none_later _ (sym (ap result_err (fold_rows-some next_of first (before ++ row ∷ behind) n m at)) ∙ e)))
+            ap result_err (fold_rows-some next_of first (before ++ after) n m at)
+            ∙ later_none _ (passed_out before after m (none_later _ (sym (ap result_err (fold_rows-some next_of first (before ++ row ∷ after) n m at)) ∙ e)))
       ] refl
 
 -- an operation of a dictionary has a key, and leaves the pairs of other keys as they are
 abbrev Keyed : Op → Type 0
-Keyed op = (key : ℤ) × (tally_of op ≡ Key key) × ((q : ℤ) (n : ℕ) → int_eq q key ≡ false → pair_behind q op n ≡ Some n)
+Keyed op = (key : ℤ) × (quantity_of op ≡ Key key) × ((q : ℤ) (n : ℕ) → int_eq q key ≡ false → pair_after q op n ≡ Some n)
 
 pub key_of_row : (op : Op) → kind_of op ≡ Dict → Keyed op
 key_of_row (Enq v) h = absurd (cc)

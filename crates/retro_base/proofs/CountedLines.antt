@@ -3,7 +3,7 @@ use Rattle.std.proofs.Common.{◌≡◌, ℕ, ℤ, ◌-◌, ◌≤◌, List, [],
 use Rattle.std.specs.Option.{option_map}
 use Rattle.std.specs.Result.{result_err}
 use Rattle.std.specs.List.{AllByRecursion}
-use Rattle.retro_base.specs.declared.counting.Tally.TheVariants.{Items}
+use Rattle.retro_base.specs.declared.counting.Quantity.TheVariants.{Items}
 use Rattle.retro_base.specs.declared.kind.Kind.{Kind}
 use Rattle.retro_base.specs.declared.kind.Kind.TheVariants.{Queue, Stack, Deque, Dict, Pq}
 use Rattle.retro_base.specs.declared.op.Op.{Op}
@@ -12,7 +12,7 @@ use Rattle.retro_base.specs.declared.row.Row.{Row}
 use Rattle.retro_base.specs.Kind.{kind_of}
 use Rattle.retro_base.specs.State.{State, items, perform, step, without_first, without_last}
 use Rattle.retro_base.specs.Replay.{run}
-use Rattle.retro_base.specs.Counting.{size_behind, one_fewer, tally_of, tallied, counted}
+use Rattle.retro_base.specs.Counting.{size_after, one_fewer, quantity_of, quantity_after, counted}
 use Rattle.retro_base.proofs.CountedSizes.{counted-le}
 use Rattle.retro_base.proofs.Folds.{BothOrNeither, Agree, folds_agree, same_failure}
 
@@ -46,7 +46,7 @@ last_taken : (xs : List ℤ) → BothOrNeither HasItems (option_map items (witho
 last_taken [] = tt
 last_taken (x ∷ xs) = (take (length xs) (x ∷ xs), refl, omega (arith, length-take (length xs) (x ∷ xs)))
 
-line_keeps_pace : (op : Op) (number : ℕ) (xs : List ℤ) → IsLine (kind_of op) → BothOrNeither HasItems (perform op number (items xs)) (size_behind op (length xs))
+line_keeps_pace : (op : Op) (number : ℕ) (xs : List ℤ) → IsLine (kind_of op) → BothOrNeither HasItems (perform op number (items xs)) (size_after op (length xs))
 unfolding perform
 line_keeps_pace (Enq v) n xs h = (xs ++ v ∷ [], refl, omega (arith, length-append xs (v ∷ [])))
 line_keeps_pace Deq n xs h = first_taken xs
@@ -61,27 +61,27 @@ line_keeps_pace (Del k) n xs h = absurd h
 line_keeps_pace (Ins k) n xs h = absurd h
 line_keeps_pace DelMin n xs h = absurd h
 
-line_at : (row : Row) (state : State) (size : ℕ) → IsLine (kind_of row.op) → HasItems state size → BothOrNeither HasItems (step row state) (tallied Items row.op size)
+line_at : (row : Row) (state : State) (size : ℕ) → IsLine (kind_of row.op) → HasItems state size → BothOrNeither HasItems (step row state) (quantity_after Items row.op size)
 line_at row state size of_kind has = rw (has.1, ← has.2) (line_keeps_pace row.op row.number has.0 of_kind)
 
 -- an edit of such a row is decided by the number of items
-pub line_tally : (op : Op) → IsLine (kind_of op) → tally_of op ≡ Items
-line_tally (Enq v) h = refl
-line_tally Deq h = refl
-line_tally (Push v) h = refl
-line_tally Pop h = refl
-line_tally (PushL v) h = refl
-line_tally (PushR v) h = refl
-line_tally PopL h = refl
-line_tally PopR h = refl
-line_tally (Put k v) h = absurd h
-line_tally (Del k) h = absurd h
-line_tally (Ins k) h = absurd h
-line_tally DelMin h = absurd h
+pub line_quantity : (op : Op) → IsLine (kind_of op) → quantity_of op ≡ Items
+line_quantity (Enq v) h = refl
+line_quantity Deq h = refl
+line_quantity (Push v) h = refl
+line_quantity Pop h = refl
+line_quantity (PushL v) h = refl
+line_quantity (PushR v) h = refl
+line_quantity PopL h = refl
+line_quantity PopR h = refl
+line_quantity (Put k v) h = absurd h
+line_quantity (Del k) h = absurd h
+line_quantity (Ins k) h = absurd h
+line_quantity DelMin h = absurd h
 
 pub line_agrees : (rows : List Row) → AllByRecursion (λ row. IsLine (kind_of row.op)) rows → Agree HasItems (run rows (items [])) (counted Items rows 0)
 line_agrees rows all =
-    folds_agree HasItems (λ row. IsLine (kind_of row.op)) step (λ row n. tallied Items row.op n)
+    folds_agree HasItems (λ row. IsLine (kind_of row.op)) step (λ row n. quantity_after Items row.op n)
     (λ row state size of_kind has. line_at row state size of_kind has) rows (items []) 0 all ([], refl, refl)
 
 -- which row fails first is found by counting

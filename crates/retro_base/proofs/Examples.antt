@@ -68,9 +68,9 @@ none_below_the_bottom = refl
 abbrev one_moment : List Row
 one_moment = row 3 5 (Enq (pos 3)) ∷ row 1 5 (Enq (pos 1)) ∷ row 2 5 (Enq (pos 2)) ∷ []
 
-behind_its_time : state_at Queue one_moment (place_of_time 5 one_moment) ≡ items (pos 3 ∷ pos 1 ∷ pos 2 ∷ [])
+after_its_time : state_at Queue one_moment (place_of_time 5 one_moment) ≡ items (pos 3 ∷ pos 1 ∷ pos 2 ∷ [])
 unfolding fold_rows perform
-behind_its_time = refl
+after_its_time = refl
 
 before_a_row : place_of_row 1 one_moment ≡ Some 1
 before_a_row = refl

@@ -201,21 +201,21 @@ module _ {S : Type 0} {next_of : Row → S → Option S} {rows : List Row} where
       ] refl
 
 -- A row put in between: the outcome is that of the rows before it, of the row, or of the rows behind it.
-module _ {S : Type 0} (next_of : Row → S → Option S) (before behind : List Row) (row : Row) (s : S) where
-  pub between_err : (i : ℕ) → fold_rows next_of before s ≡ Err i → fold_rows next_of (before ++ row ∷ behind) s ≡ Err i
-  between_err i e = fold_rows-append_err next_of before (row ∷ behind) s i e
+module _ {S : Type 0} (next_of : Row → S → Option S) (before after : List Row) (row : Row) (s : S) where
+  pub between_err : (i : ℕ) → fold_rows next_of before s ≡ Err i → fold_rows next_of (before ++ row ∷ after) s ≡ Err i
+  between_err i e = fold_rows-append_err next_of before (row ∷ after) s i e
 
   pub between_stops : (t : S) → fold_rows next_of before s ≡ Ok t → next_of row t ≡ None
-      → fold_rows next_of (before ++ row ∷ behind) s ≡ Err (length before)
+      → fold_rows next_of (before ++ row ∷ after) s ≡ Err (length before)
   between_stops t e stops =
-      fold_rows-append next_of before (row ∷ behind) s t e
-      ∙ ap (later (length before)) (fold_rows-none next_of row behind t stops) ∙ ap (λ j. Err j) (omega arith)
+      fold_rows-append next_of before (row ∷ after) s t e
+      ∙ ap (later (length before)) (fold_rows-none next_of row after t stops) ∙ ap (λ j. Err j) (omega arith)
 
   pub between_goes : (t u : S) → fold_rows next_of before s ≡ Ok t → next_of row t ≡ Some u
-      → fold_rows next_of (before ++ row ∷ behind) s ≡ later (length before + 1) (fold_rows next_of behind u)
+      → fold_rows next_of (before ++ row ∷ after) s ≡ later (length before + 1) (fold_rows next_of after u)
   between_goes t u e goes =
-      fold_rows-append next_of before (row ∷ behind) s t e
-      ∙ ap (later (length before)) (fold_rows-some next_of row behind t u goes) ∙ later-suc (length before) _
+      fold_rows-append next_of before (row ∷ after) s t e
+      ∙ ap (later (length before)) (fold_rows-some next_of row after t u goes) ∙ later-suc (length before) _
 
 -- a failure is at one of the rows
 err_within_by : {S : Type 0} (r : Result S ℕ) (n i : ℕ) → ((j : ℕ) → r ≡ Err j → j < n) → one_later r ≡ Err i → i < suc n
@@ -255,8 +255,8 @@ module _ {S : Type 0} (next_of : Row → S → Option S) (a b : List Row) (s : S
   later_possible n (Ok t) e = refl
   later_possible n (Err i) e = absurd (cc)
 
-  pub behind_possible : (t : S) → fold_rows next_of a s ≡ Ok t → result_err (fold_rows next_of (a ++ b) s) ≡ None → result_err (fold_rows next_of b t) ≡ None
-  behind_possible t e valid = later_possible (length a) _ (sym (ap result_err (fold_rows-append next_of a b s t e)) ∙ valid)
+  pub after_possible : (t : S) → fold_rows next_of a s ≡ Ok t → result_err (fold_rows next_of (a ++ b) s) ≡ None → result_err (fold_rows next_of b t) ≡ None
+  after_possible t e valid = later_possible (length a) _ (sym (ap result_err (fold_rows-append next_of a b s t e)) ∙ valid)
 
   pub both_parts : (t u : S) → fold_rows next_of a s ≡ Ok t → fold_rows next_of b t ≡ Ok u → fold_rows next_of (a ++ b) s ≡ Ok u
   both_parts t u e f = fold_rows-append next_of a b s t e ∙ ap (later (length a)) f

@@ -8,4 +8,4 @@ pub mod PairSteps
 pub mod SortedPairs
 pub mod CountedKeys
 pub mod Counted
-pub mod Histories
+pub mod Replayable

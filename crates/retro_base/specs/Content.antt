@@ -7,7 +7,7 @@ use Rattle.retro_base.specs.declared.content.Content.{Content}
 use Rattle.retro_base.specs.declared.content.Content.TheVariants.{Line, Pairs}
 use Rattle.retro_base.specs.State.{State, items, pairs, empty}
 use Rattle.retro_base.specs.Replay.{run}
-use Rattle.retro_base.specs.Timeline.{IsHistory}
+use Rattle.retro_base.specs.Timeline.{IsReplayable}
 
 -- the state that is held
 abbrev pub state_of : Content → State
@@ -17,5 +17,5 @@ state_of (Pairs map) = pairs map.entries
 -- the rows of a structure of every kind but the priority queue, with the state behind them
 pub record IsKept (kind : Kind) (rows : List Row) (state : State) : Type 0 where
   pub served : kind ≢ Pq
-  pub history : IsHistory kind rows
+  pub replayable : IsReplayable kind rows
   pub kept : run rows (empty kind) ≡ Ok state

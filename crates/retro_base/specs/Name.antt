@@ -2,6 +2,7 @@
 use Rattle.std.specs.Prelude.{◌≡◌, ℕ, ◌-◌, ◌==◌, Bool, true, false, not, ◌&&◌, ◌||◌, nat_le, List, [], ◌∷◌, ◌++◌, length, take, replicate, codes, Option, Some, None, if◌then◌else◌}
 use Rattle.std.specs.List.{list_any, list_all}
 use Rattle.std.specs.Str.{bytes_eq}
+use Rattle.retro_base.specs.Limits.{longest_name}
 
 -- the bytes from one to another, both included
 abbrev pub is_between : ℕ → ℕ → ℕ → Bool
@@ -32,19 +33,19 @@ reserved_words = codes "new" ∷ codes "save" ∷ codes "timeline" ∷ codes "en
 abbrev pub is_reserved : List ℕ → Bool
 is_reserved word = list_any (λ reserved. bytes_eq word reserved) reserved_words
 
--- 1 to 32 bytes that begin with a letter, hold letters, digits, `_` and `-` alone, and are no reserved word
+-- bytes, at most as many as a name may have, that begin with a letter, hold letters, digits, `_` and `-` alone, and are no reserved word
 unfoldable pub is_name : List ℕ → Bool
-is_name word = starts_with_letter word && nat_le (length word) 32 && list_all is_name_byte word && not (is_reserved word)
+is_name word = starts_with_letter word && nat_le (length word) longest_name && list_all is_name_byte word && not (is_reserved word)
 
 -- the name that has these bytes, if they are one
 abbrev pub name_of : List ℕ → Option (List ℕ)
 name_of word = if is_name word then Some word else None
 
--- the bytes of a name, and zeros up to 32 bytes
+-- the bytes of a name, and zeros up to the greatest length
 abbrev pub padded : List ℕ → List ℕ
-padded word = word ++ replicate (32 - length word) 0
+padded word = word ++ replicate (longest_name - length word) 0
 
--- a name in 32 bytes: its own, and zeros behind them
+-- a name in as many bytes as one may have: its own, and zeros behind them
 pub record IsPadded (bytes : List ℕ) (size : ℕ) : Type 0 where
   pub valid : is_name (take size bytes) ≡ true
   pub size_is : size ≡ length (take size bytes)

@@ -3,12 +3,12 @@ use Rattle.std.specs.Prelude.{◌≡◌, ◌≢◌, ℕ, ◌<◌, ◌≤◌, Lis
 use Rattle.std.specs.List.{AllByRecursion}
 use Rattle.retro_base.specs.declared.kind.Kind.{Kind}
 use Rattle.retro_base.specs.declared.row.Row.{Row}
-use Rattle.retro_base.specs.declared.row.TheConstants.{MAX_ROWS, MAX_NEXT}
+use Rattle.retro_base.specs.Limits.{most_rows, next_limit}
 use Rattle.retro_base.specs.Kind.{kind_of}
 use Rattle.retro_base.specs.Replay.{IsValid}
 
 -- what a structure is seen as: its kind, and the rows that it performs
-pub record History : Type 0 where
+pub record Structure : Type 0 where
   pub kind : Kind
   pub rows : List Row
 
@@ -26,8 +26,8 @@ abbrev pub AreOfKind : Kind → List Row → Type 0
 AreOfKind kind rows = AllByRecursion (λ row. kind_of row.op ≡ kind) rows
 
 -- rows of one kind, with numbers of their own, that replay whole
-pub record IsHistory (kind : Kind) (rows : List Row) : Type 0 where
-  pub few : length rows ≤ MAX_ROWS
+pub record IsReplayable (kind : Kind) (rows : List Row) : Type 0 where
+  pub few : length rows ≤ most_rows
   pub of_kind : AreOfKind kind rows
   pub own_numbers : HaveOwnNumbers rows
   pub valid : IsValid kind rows
@@ -39,7 +39,7 @@ TimesNeverFall (row ∷ rows) = AllByRecursion (λ later. row.time ≤ later.tim
 
 -- a timeline: a history whose times never fall, and whose numbers are from 1 to below next
 pub record IsTimeline (kind : Kind) (rows : List Row) (next : ℕ) : Type 0 where
-  pub history : IsHistory kind rows
+  pub replayable : IsReplayable kind rows
   pub in_order : TimesNeverFall rows
   pub numbered : AllByRecursion (λ row. (1 ≤ row.number) × (row.number < next)) rows
-  pub next_in_range : (1 ≤ next) × (next ≤ MAX_NEXT)
+  pub next_in_range : (1 ≤ next) × (next ≤ next_limit)

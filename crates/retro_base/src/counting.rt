@@ -2,14 +2,14 @@ ghost use Rattle.std.specs.Prelude.{◌≡◌, ◌+◌, ◌^◌, ◌<◌, ◌≤
 ghost use Rattle.std.specs.List.{insert, remove};
 ghost use Rattle.std.specs.Result.{result_err};
 ghost use Rattle.retro_base.specs.declared.row.Row.{Row};
-ghost use Rattle.retro_base.specs.declared.row.TheConstants.{MAX_ROWS};
-ghost use Rattle.retro_base.specs.Counting.{size_behind, pair_behind, tally_of, tallied, counted};
+ghost use Rattle.retro_base.specs.Limits.{most_rows};
+ghost use Rattle.retro_base.specs.Counting.{size_after, pair_after, quantity_of, quantity_after, counted};
 
 use crate::{Op, Row};
 
 /// What is counted along the rows, to find the first one that cannot be performed.
 #[derive(Clone, Copy)]
-pub(crate) enum Tally {
+pub(crate) enum Quantity {
     /// The items of a queue, a stack or a deque.
     Items,
     /// The pair of this key of a dictionary: 1 where it is there, and else 0.
@@ -17,11 +17,11 @@ pub(crate) enum Tally {
 }
 
 /// What decides on an edit of a row with this operation.
-fn tally_of(op: Op) -> Tally
-    ensures { result ≡ tally_of op }
+fn quantity_of(op: Op) -> Quantity
+    ensures { result ≡ quantity_of op }
 {
     match op {
-        Op::Put { key, .. } | Op::Del { key } => Tally::Key { key },
+        Op::Put { key, .. } | Op::Del { key } => Quantity::Key { key },
         Op::Enq { .. }
         | Op::Deq
         | Op::Push { .. }
@@ -31,14 +31,14 @@ fn tally_of(op: Op) -> Tally
         | Op::PopL
         | Op::PopR
         | Op::Ins { .. }
-        | Op::DelMin => Tally::Items,
+        | Op::DelMin => Quantity::Items,
     }
 }
 
 /// How many items there are behind an operation, where there is one to take.
 fn size_after(op: Op, size: u32) -> Option<u32>
     requires { size + 1 < 2 ^ 32 }
-    ensures { result ≡ size_behind op size }
+    ensures { result ≡ size_after op size }
 {
     match op {
         Op::Enq { .. }
@@ -55,7 +55,7 @@ fn size_after(op: Op, size: u32) -> Option<u32>
 
 /// How many pairs of the key there are behind an operation, where there is one to take.
 fn pair_after(key: i64, op: Op, size: u32) -> Option<u32>
-    ensures { result ≡ pair_behind key op size }
+    ensures { result ≡ pair_after key op size }
 {
     match op {
         Op::Put { key: other, .. } if key == other => Some(1),
@@ -65,24 +65,24 @@ fn pair_after(key: i64, op: Op, size: u32) -> Option<u32>
 }
 
 /// How many are counted behind an operation, where there is one to take.
-fn after(tally: Tally, op: Op, size: u32) -> Option<u32>
+fn counted_after(quantity: Quantity, op: Op, size: u32) -> Option<u32>
     requires { size + 1 < 2 ^ 32 }
-    ensures { result ≡ tallied tally op size }
+    ensures { result ≡ quantity_after quantity op size }
 {
-    match tally {
-        Tally::Items => size_after(op, size),
-        Tally::Key { key } => pair_after(key, op, size),
+    match quantity {
+        Quantity::Items => size_after(op, size),
+        Quantity::Key { key } => pair_after(key, op, size),
     }
 }
 
 /// How many are counted behind these rows, or the index of the first one that finds nothing.
-fn count(tally: Tally, rows: &[Row], size: u32) -> Result<u32, u32>
+fn count(quantity: Quantity, rows: &[Row], size: u32) -> Result<u32, u32>
     requires { size + length rows.now < 2 ^ 32 }
-    ensures { result ≡ counted tally rows.now size }
+    ensures { result ≡ counted quantity rows.now size }
 {
     let mut size = size;
     for (index, row) in rows.iter().enumerate() {
-        size = match after(tally, row.op, size) {
+        size = match counted_after(quantity, row.op, size) {
             Some(next) => next,
             None => return Err(index as u32),
         };
@@ -93,21 +93,21 @@ fn count(tally: Tally, rows: &[Row], size: u32) -> Result<u32, u32>
 /// The index of the first row that finds nothing to take, were a row with this operation put in.
 pub(crate) fn first_failure_with(rows: &[Row], place: usize, op: Op) -> Option<u32>
     requires within { place ≤ length rows.now }
-    requires few { length rows.now ≤ MAX_ROWS }
+    requires few { length rows.now ≤ most_rows }
     ensures first { (row : Row)
-        → row.op ≡ op → result ≡ result_err (counted (tally_of op) (insert rows.now place row) 0) }
+        → row.op ≡ op → result ≡ result_err (counted (quantity_of op) (insert rows.now place row) 0) }
     ensures index { IfSome result (λ index. index ≤ length rows.now) }
 {
-    let tally = tally_of(op);
-    let (before, behind) = rows.split_at(place);
-    let size = match count(tally, before, 0) {
+    let quantity = quantity_of(op);
+    let (before, after) = rows.split_at(place);
+    let size = match count(quantity, before, 0) {
         Ok(size) => size,
         Err(index) => return Some(index),
     };
-    let Some(next) = after(tally, op, size) else {
+    let Some(next) = counted_after(quantity, op, size) else {
         return Some(place as u32);
     };
-    match count(tally, behind, next) {
+    match count(quantity, after, next) {
         Ok(_) => None,
         Err(index) => Some(place as u32 + 1 + index),
     }
@@ -116,20 +116,20 @@ pub(crate) fn first_failure_with(rows: &[Row], place: usize, op: Op) -> Option<u
 /// The index of the first row that finds nothing to take, were the row at the place taken out.
 pub(crate) fn first_failure_without(rows: &[Row], place: usize) -> Option<u32>
     requires within { place < length rows.now }
-    requires few { length rows.now ≤ MAX_ROWS }
+    requires few { length rows.now ≤ most_rows }
     ensures first { (row : Row)
         → slice_get rows.now place ≡ Some row
-        → result ≡ result_err (counted (tally_of row.op) (remove rows.now place) 0) }
+        → result ≡ result_err (counted (quantity_of row.op) (remove rows.now place) 0) }
     ensures index { IfSome result (λ index. index + 1 < length rows.now) }
 {
-    let tally = tally_of(rows[place].op);
+    let quantity = quantity_of(rows[place].op);
     let (before, _) = rows.split_at(place);
-    let (_, behind) = rows.split_at(place + 1);
-    let size = match count(tally, before, 0) {
+    let (_, after) = rows.split_at(place + 1);
+    let size = match count(quantity, before, 0) {
         Ok(size) => size,
         Err(index) => return Some(index),
     };
-    match count(tally, behind, size) {
+    match count(quantity, after, size) {
         Ok(_) => None,
         Err(index) => Some(place as u32 + index),
     }

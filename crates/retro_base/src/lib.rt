@@ -12,11 +12,13 @@
 //! - Rows: `Kind`, `Op`, `Row`, `Entry`, `Change`. Questions: `Question`, `Answer`, `Item`, `Listing`.
 //! - Structures: `Retro`, `PlainList`.
 //! - Texts: `Name`, `Text`. Costs: `Steps`. Memory: `NoMemory`.
+//! - Limits: `MAX_ROWS`, `MAX_NEXT`, which are those of `specs/Limits.antt`.
 #![tactic(auto)]
 
 mod content;
 mod counting;
 mod kind;
+mod limits;
 mod line;
 mod listing;
 mod memory;
@@ -31,6 +33,7 @@ mod steps;
 mod text;
 
 pub use kind::Kind;
+pub use limits::{MAX_NEXT, MAX_ROWS, limits_are_those_stated};
 pub use listing::Listing;
 pub use memory::NoMemory;
 pub use name::Name;
@@ -38,6 +41,6 @@ pub use op::Op;
 pub use plain_list::PlainList;
 pub use question::{Answer, Item, Question};
 pub use retro::Retro;
-pub use row::{Change, Entry, MAX_NEXT, MAX_ROWS, Row};
+pub use row::{Change, Entry, Row};
 pub use steps::Steps;
 pub use text::Text;

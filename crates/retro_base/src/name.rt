@@ -3,6 +3,7 @@ ghost use Rattle.std.specs.Cmp.{partial_equiv_from_equiv};
 ghost use Rattle.std.specs.Cmp.Lexicographic.{nat_list_eq_equiv};
 ghost use Rattle.std.specs.List.{list_all};
 ghost use Rattle.std.specs.Str.{bytes_eq};
+ghost use Rattle.retro_base.specs.Limits.{longest_name};
 ghost use Rattle.retro_base.specs.Name.{is_name, is_name_byte, is_reserved, name_of, starts_with_letter};
 
 use std::marker::Model;
@@ -74,7 +75,7 @@ impl Eq for Name {
 #[tactic(auto, unfolding(crate::specs::Name::is_name))]
 fn is_name(bytes: &[u8]) -> bool
     ensures answer { result ≡ is_name bytes.now }
-    ensures short { IsTrue result → length bytes.now ≤ 32 }
+    ensures short { IsTrue result → length bytes.now ≤ longest_name }
 {
     starts_with_letter(bytes)
         && bytes.len() <= MAX_BYTES

@@ -36,9 +36,9 @@ fn replayed_without(
 {
     let mut content = Content::new(alloc, kind);
     let (before, _) = rows.split_at(place);
-    let (_, behind) = rows.split_at(place + 1);
+    let (_, after) = rows.split_at(place + 1);
     content.perform_all(before)?;
-    content.perform_all(behind)?;
+    content.perform_all(after)?;
     Ok(content)
 }
 
@@ -121,9 +121,9 @@ pub struct PlainList {
 
 impl Model for PlainList {
     ghost use Rattle.retro_base.specs.Content.{state_of, IsKept};
-    ghost use Rattle.retro_base.specs.Timeline.{History};
+    ghost use Rattle.retro_base.specs.Timeline.{Structure};
 
-    ghost Value = { History };
+    ghost Value = { Structure };
 
     ghost view = { λ p. record { kind = p.kind; rows = p.rows.items } };
 

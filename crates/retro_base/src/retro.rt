@@ -2,14 +2,14 @@ ghost use Rattle.std.specs.Prelude.{◌≡◌, ◌+◌, ◌<◌, ◌≤◌, List
 ghost use Rattle.std.specs.List.{insert, remove};
 ghost use Rattle.retro_base.specs.declared.kind.Kind.{Kind};
 ghost use Rattle.retro_base.specs.declared.row.Row.{Row};
-ghost use Rattle.retro_base.specs.declared.row.TheConstants.{MAX_ROWS};
+ghost use Rattle.retro_base.specs.Limits.{most_rows};
 ghost use Rattle.retro_base.specs.Kind.{kind_of};
 ghost use Rattle.retro_base.specs.Replay.{failure, IsValid, present, state_at};
 ghost use Rattle.retro_base.specs.Answers.{answer_of, content};
 ghost use Rattle.retro_base.specs.Questions.{suits};
 ghost use Rattle.retro_base.specs.Edits.{add, cut};
 ghost use Rattle.retro_base.specs.Bridges.{IsChange};
-ghost use Rattle.retro_base.specs.Timeline.{IsFresh, IsHistory};
+ghost use Rattle.retro_base.specs.Timeline.{IsFresh, IsReplayable};
 
 use crate::{Answer, Change, Kind, Listing, NoMemory, Op, Question, Row};
 
@@ -25,12 +25,12 @@ pub trait Retro {
     /// The kind of the structure.
     fn kind(&self) -> Kind
         ensures kind { result ≡ kind self.now }
-        ensures history { IsHistory (kind self.now) (rows self.now) };
+        ensures replayable { IsReplayable (kind self.now) (rows self.now) };
 
     /// How many rows there are.
     fn len(&self) -> u32
         ensures length { result ≡ length (rows self.now) }
-        ensures few { result ≤ MAX_ROWS };
+        ensures few { result ≤ most_rows };
 
     /// The index of the first row that could not be performed, were a row with this operation put in
     /// at the place; none where all rows could.
@@ -51,13 +51,13 @@ pub trait Retro {
     /// before.
     fn insert(&mut self, place: u32, row: Row) -> Result<Change, NoMemory>
         requires within { place ≤ length (rows self.old) }
-        requires room { length (rows self.old) < MAX_ROWS }
+        requires room { length (rows self.old) < most_rows }
         requires fresh { IsFresh row.number (rows self.old) }
         requires of_kind { kind_of row.op ≡ kind self.old }
         requires replays { IsValid (kind self.old) (insert (rows self.old) place row) }
         ensures kind { kind self.new ≡ kind self.old }
         ensures rows { OnOk result (rows self.new ≡ insert (rows self.old) place row) }
-        ensures history { OnOk result (IsHistory (kind self.new) (rows self.new)) }
+        ensures replayable { OnOk result (IsReplayable (kind self.new) (rows self.new)) }
         ensures change { IfOk result (IsChange (kind self.old) (rows self.old) (add place row)) }
         ensures err { OnErr result (rows self.new ≡ rows self.old) };
 
@@ -69,7 +69,7 @@ pub trait Retro {
         ensures kind { kind self.new ≡ kind self.old }
         ensures row { IfOk result (λ taken. slice_get (rows self.old) place ≡ Some taken.0) }
         ensures rows { OnOk result (rows self.new ≡ remove (rows self.old) place) }
-        ensures history { OnOk result (IsHistory (kind self.new) (rows self.new)) }
+        ensures replayable { OnOk result (IsReplayable (kind self.new) (rows self.new)) }
         ensures change { IfOk result (λ taken. IsChange (kind self.old) (rows self.old) (cut place) taken.1) }
         ensures err { OnErr result (rows self.new ≡ rows self.old) };
 

@@ -1,11 +1,5 @@
 use crate::Op;
 
-/// The most rows that a timeline has.
-pub const MAX_ROWS: u32 = 65536;
-
-/// The number that no row draws: row numbers are below it.
-pub const MAX_NEXT: u32 = 16777216;
-
 /// One line of a history: an operation, when it was performed, and the number by which edits name it.
 #[derive(Clone, Copy, Debug, PartialEq, Eq)]
 pub struct Row {

@@ -4,7 +4,7 @@ use Rattle.std.specs.List.{position_from}
 use Rattle.std.proofs.lemmas.List.Quantifiers.{position-Some}
 use Rattle.std.proofs.lemmas.Iterator.Adapters.{position_from-zero}
 use Rattle.retro_base.specs.declared.kind.Kind.{Kind}
-use Rattle.workbench.specs.declared.bench.TheConstants.{MAX_TIMELINES}
+use Rattle.retro_base.specs.Limits.{most_timelines}
 use Rattle.workbench.specs.declared.outcome.Outcome.{Outcome}
 use Rattle.workbench.specs.declared.outcome.Outcome.TheVariants.{Accepted, Refused}
 use Rattle.workbench.specs.declared.outcome.Refusal.TheVariants as refusals
@@ -15,11 +15,11 @@ use Rattle.workbench.specs.Turns.{Turn, stays}
 some_is_not_none : {X : Type 0} {x : X} → Some x ≡ None → ⊥
 some_is_not_none e = cc
 
-pub starts_full : (bench : List Timeline) (name : List ℕ) (kind : Kind) → has_timeline name bench ≡ false → nat_le MAX_TIMELINES (length bench) ≡ true
+pub starts_full : (bench : List Timeline) (name : List ℕ) (kind : Kind) → has_timeline name bench ≡ false → nat_le most_timelines (length bench) ≡ true
     → starts bench name kind ≡ leaves bench (Refused refusals.Timelines)
 starts_full bench name kind free full = rw (free, full) refl
 
-pub starts_anew : (bench : List Timeline) (name : List ℕ) (kind : Kind) → has_timeline name bench ≡ false → nat_le MAX_TIMELINES (length bench) ≡ false
+pub starts_anew : (bench : List Timeline) (name : List ℕ) (kind : Kind) → has_timeline name bench ≡ false → nat_le most_timelines (length bench) ≡ false
     → starts bench name kind ≡ record { bench = bench ++ fresh name kind ∷ []; outcome = Accepted }
 starts_anew bench name kind free room = rw (free, room) refl
 

@@ -2,7 +2,7 @@
 use Rattle.std.proofs.Common.{◌≡◌, ℕ, Bool, true, false, cond, nat_le, List, [], ◌∷◌, ◌++◌, length, refl, ap, Option, Some, None, Result, Ok, Err}
 use Rattle.retro_base.specs.declared.op.Op.{Op}
 use Rattle.retro_base.specs.declared.row.Row.{Row}
-use Rattle.retro_base.specs.declared.row.TheConstants.{MAX_ROWS, MAX_NEXT}
+use Rattle.retro_base.specs.Limits.{most_rows, next_limit}
 use Rattle.retro_base.specs.Edits.{failing_row}
 use Rattle.retro_base.specs.Kind.{kind_of, same_kind}
 use Rattle.retro_base.specs.Places.{place_of_row}
@@ -11,7 +11,7 @@ use Rattle.script_grammar.specs.declared.command.Command.TheVariants.{Nothing, N
 use Rattle.script_grammar.specs.declared.command.LineError.{LineError}
 use Rattle.script_grammar.specs.declared.command.LineError.TheVariants as errors
 use Rattle.script_grammar.specs.declared.command.Spot.{Spot}
-use Rattle.workbench.specs.declared.bench.TheConstants.{MAX_TIMELINES}
+use Rattle.retro_base.specs.Limits.{most_timelines}
 use Rattle.workbench.specs.declared.outcome.Outcome.{Outcome}
 use Rattle.workbench.specs.declared.outcome.Outcome.TheVariants.{Accepted, Put, Refused}
 use Rattle.workbench.specs.declared.outcome.Refusal.TheVariants as refusals
@@ -40,9 +40,9 @@ keeps_seats : (timeline : Timeline) (op : Op) (seat : Seat) → Keeps timeline (
 keeps_seats timeline op seat =
     let edited : Timeline = with_row timeline seat op in
     let stands : Turn = judged timeline edited (Put timeline.next) (failing_row timeline.kind edited.rows) in
-    keeps_if (nat_le MAX_ROWS (length timeline.rows)) timeline (refuses timeline refusals.Full) (cond (nat_le MAX_NEXT timeline.next) (refuses timeline refusals.Numbers) stands)
+    keeps_if (nat_le most_rows (length timeline.rows)) timeline (refuses timeline refusals.Full) (cond (nat_le next_limit timeline.next) (refuses timeline refusals.Numbers) stands)
     (λ refused. refl)
-    (keeps_if (nat_le MAX_NEXT timeline.next) timeline (refuses timeline refusals.Numbers) stands (λ refused. refl)
+    (keeps_if (nat_le next_limit timeline.next) timeline (refuses timeline refusals.Numbers) stands (λ refused. refl)
     (keeps_judged timeline edited (Put timeline.next) (failing_row timeline.kind edited.rows) refl))
 
 keeps_seats_at : (timeline : Timeline) (number : ℕ) (op : Op) (seat : Option Seat) → Keeps timeline (seats_at timeline number op seat)
@@ -87,9 +87,9 @@ refusal_keeps bench (Err errors.Syntax) refused = refl
 refusal_keeps bench (Ok Nothing) refused = refl
 refusal_keeps bench (Ok (New name kind)) refused =
     let started : Effect = record { bench = bench ++ fresh name kind ∷ []; outcome = Accepted } in
-    let room : Effect = cond (nat_le MAX_TIMELINES (length bench)) (leaves bench (Refused refusals.Timelines)) started in
+    let room : Effect = cond (nat_le most_timelines (length bench)) (leaves bench (Refused refusals.Timelines)) started in
     leaves_if (has_timeline name bench) bench (leaves bench (Refused refusals.NameTaken)) room (λ e. refl)
-    (leaves_if (nat_le MAX_TIMELINES (length bench)) bench (leaves bench (Refused refusals.Timelines)) started (λ e. refl)
+    (leaves_if (nat_le most_timelines (length bench)) bench (leaves bench (Refused refusals.Timelines)) started (λ e. refl)
     (λ e. absurd (not_both false refl e))) refused
 refusal_keeps bench (Ok (Insert name spot op)) refused = named_keeps name (λ timeline. puts timeline spot op) (λ timeline. keeps_puts timeline spot op) bench refused
 refusal_keeps bench (Ok (Delete name number)) refused = named_keeps name (λ timeline. deletes timeline number) (λ timeline. keeps_deletes timeline number) bench refused

@@ -10,7 +10,7 @@ use Rattle.script_grammar.specs.Command.{read}
 use Rattle.workbench.specs.declared.outcome.Outcome.{Outcome}
 use Rattle.workbench.specs.declared.outcome.Outcome.TheVariants.{Silent, Accepted, Refused}
 use Rattle.workbench.specs.declared.outcome.Refusal.TheVariants as refusals
-use Rattle.workbench.specs.declared.bench.TheConstants.{MAX_TIMELINES}
+use Rattle.retro_base.specs.Limits.{most_timelines}
 use Rattle.workbench.specs.Bench.{Timeline, Bench, fresh, is_named, has_timeline}
 use Rattle.workbench.specs.Outcome.{reply_text, is_refusal}
 use Rattle.workbench.specs.Turns.{Turn, stays, puts, deletes, tells}
@@ -28,7 +28,7 @@ leaves bench outcome = record { bench = bench; outcome = outcome }
 abbrev pub starts : Bench → List ℕ → Kind → Effect
 starts bench name kind =
     if has_timeline name bench then leaves bench (Refused refusals.NameTaken)
-    else (if nat_le MAX_TIMELINES (length bench) then leaves bench (Refused refusals.Timelines)
+    else (if nat_le most_timelines (length bench) then leaves bench (Refused refusals.Timelines)
     else record { bench = bench ++ fresh name kind ∷ []; outcome = Accepted })
 
 -- the effect on a bench that has one more timeline in front

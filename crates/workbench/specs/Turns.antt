@@ -4,7 +4,7 @@ use Rattle.std.specs.Prelude.{Option, Some, None, option_map, option_and_then}
 use Rattle.std.specs.List.{insert, remove}
 use Rattle.retro_base.specs.declared.op.Op.{Op}
 use Rattle.retro_base.specs.declared.row.Row.{Row}
-use Rattle.retro_base.specs.declared.row.TheConstants.{MAX_ROWS, MAX_NEXT}
+use Rattle.retro_base.specs.Limits.{most_rows, next_limit}
 use Rattle.retro_base.specs.Kind.{kind_of, same_kind}
 use Rattle.retro_base.specs.Replay.{state_at}
 use Rattle.retro_base.specs.Answers.{answer_of, content}
@@ -76,8 +76,8 @@ without_row timeline place = record timeline { rows = remove timeline.rows place
 -- a row at a seat: there has to be room for it, and a number
 abbrev pub seats : Timeline → Op → Seat → Turn
 seats timeline op seat =
-    if nat_le MAX_ROWS (length timeline.rows) then refuses timeline refusals.Full
-    else (if nat_le MAX_NEXT timeline.next then refuses timeline refusals.Numbers
+    if nat_le most_rows (length timeline.rows) then refuses timeline refusals.Full
+    else (if nat_le next_limit timeline.next then refuses timeline refusals.Numbers
     else judged timeline (with_row timeline seat op) (Put timeline.next) (failing_row timeline.kind (with_row timeline seat op).rows))
 
 -- a row at a seat, if the spot has one

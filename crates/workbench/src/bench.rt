@@ -2,7 +2,7 @@ ghost use Rattle.std.specs.Prelude.{◌≡◌, ◌≢◌, ◌≤◌, [], length,
 ghost use Rattle.retro_base.specs.declared.kind.Kind.TheVariants.{Pq};
 ghost use Rattle.script_grammar.specs.declared.command.LineError.TheVariants as errors;
 ghost use Rattle.script_grammar.specs.Command.{command, StartsNoPq};
-ghost use Rattle.workbench.specs.declared.bench.TheConstants.{MAX_TIMELINES};
+ghost use Rattle.retro_base.specs.Limits.{most_timelines};
 ghost use Rattle.workbench.specs.Bench.{has_timeline, is_named};
 ghost use Rattle.workbench.specs.Reaction.{obeys, on_named, reaction_to, starts};
 ghost use Rattle.workbench.specs.Turns.{deletes, puts, stays, tells};
@@ -157,7 +157,7 @@ impl Bench {
 
     /// Whether there are as many timelines as there may be.
     fn is_full(&self) -> bool
-        ensures { result ≡ nat_le MAX_TIMELINES (length self.now) }
+        ensures { result ≡ nat_le most_timelines (length self.now) }
     {
         self.timelines.as_slice().len() >= MAX_TIMELINES
     }

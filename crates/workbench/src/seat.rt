@@ -1,5 +1,5 @@
 ghost use Rattle.std.specs.Prelude.{◌≡◌, ◌≤◌, ◌<◌, length, IfSome};
-ghost use Rattle.retro_base.specs.declared.row.TheConstants.{MAX_ROWS};
+ghost use Rattle.retro_base.specs.Limits.{most_rows};
 ghost use Rattle.retro_base.specs.Places.{place_of_row, place_of_time};
 ghost use Rattle.workbench.specs.Turns.{row_named, seat_before, seat_of};
 
@@ -15,7 +15,7 @@ pub(crate) struct Seat {
 
 /// The seat of a spot, where it has one.
 pub(crate) fn seat_of(rows: &[Row], spot: Spot) -> Option<Seat>
-    requires { length rows.now ≤ MAX_ROWS }
+    requires { length rows.now ≤ most_rows }
     ensures seat { result ≡ seat_of spot rows.now }
     ensures within { IfSome result (λ seat. seat.place ≤ length rows.now) }
 {
@@ -47,7 +47,7 @@ pub(crate) fn row_named(spot: Spot) -> u32
 
 /// The place of the row with this number.
 pub(crate) fn place_of_row(rows: &[Row], number: u32) -> Option<u32>
-    requires { length rows.now ≤ MAX_ROWS }
+    requires { length rows.now ≤ most_rows }
     ensures place { result ≡ place_of_row number rows.now }
     ensures within { IfSome result (λ place. place < length rows.now) }
 {
@@ -64,7 +64,7 @@ fn index_of_row(rows: &[Row], number: u32) -> Option<usize>
 
 /// The place behind all rows up to this time.
 fn place_of_time(rows: &[Row], time: u64) -> u32
-    requires { length rows.now ≤ MAX_ROWS }
+    requires { length rows.now ≤ most_rows }
     ensures place { result ≡ place_of_time time rows.now }
     ensures within { result ≤ length rows.now }
 {
@@ -73,7 +73,7 @@ fn place_of_time(rows: &[Row], time: u64) -> u32
 
 /// The seat in front of the row with this number, at that row's time.
 fn seat_before(rows: &[Row], number: u32) -> Option<Seat>
-    requires { length rows.now ≤ MAX_ROWS }
+    requires { length rows.now ≤ most_rows }
     ensures seat { result ≡ seat_before number rows.now }
     ensures within { IfSome result (λ seat. seat.place < length rows.now) }
 {

@@ -1,7 +1,7 @@
 ghost use Rattle.std.specs.Prelude.{◌≡◌, ◌≢◌, ◌+◌, ◌<◌, ◌≤◌, true, length, slice_get, Some, IfOk, OnErr};
 ghost use Rattle.std.specs.List.{insert, remove};
 ghost use Rattle.retro_base.specs.declared.kind.Kind.TheVariants.{Pq};
-ghost use Rattle.retro_base.specs.declared.row.TheConstants.{MAX_ROWS};
+ghost use Rattle.retro_base.specs.Limits.{most_rows};
 ghost use Rattle.retro_base.specs.Kind.{kind_of, same_kind};
 ghost use Rattle.retro_base.specs.Answers.{content};
 ghost use Rattle.retro_base.specs.Questions.{suits};

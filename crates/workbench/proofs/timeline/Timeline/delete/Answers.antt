@@ -19,7 +19,7 @@ invariant_of-self-in-None c =
       performed ∙ sym kept,
       rw (c.remove.ensures.kind, kept)
           (timeline_without (kind_inside c.self.inside.structure) c.self.inside.rows.items c.self.inside.next c.in-Some.place c.self.invariant.1
-          (rw (c.remove.ensures.kind, performed) at c.in_ok-remove-in-None.ensures.history)),
+          (rw (c.remove.ensures.kind, performed) at c.in_ok-remove-in-None.ensures.replayable)),
     )
 
 pub returns-in-Some-failure_after_remove-clause-ok : goal.returns-in-Some-failure_after_remove-clause-ok

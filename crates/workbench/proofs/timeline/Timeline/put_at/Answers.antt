@@ -14,5 +14,5 @@ invariant_of-self-in-None c =
       rw (c.insert.ensures.kind, kept)
           (timeline_with (kind_inside c.self.inside.structure) c.self.inside.rows.items c.self.inside.next c.args.seat.place new c.self.invariant.1 (omega arith) refl
           (rw (← c.self.view_is) at c.requires.fits)
-          (rw (c.insert.ensures.kind, performed) at c.in_ok-insert-in-None.ensures.history)),
+          (rw (c.insert.ensures.kind, performed) at c.in_ok-insert-in-None.ensures.replayable)),
     )

@@ -7,13 +7,13 @@ use Rattle.retro_base.specs.declared.kind.Kind.{Kind}
 use Rattle.retro_base.specs.declared.kind.Kind.TheVariants.{Queue, Stack, Deque, Dict, Pq}
 use Rattle.retro_base.specs.declared.row.Change.TheVariants.{Plain}
 use Rattle.retro_base.specs.declared.row.Row.{Row}
-use Rattle.retro_base.specs.declared.row.TheConstants.{MAX_ROWS}
+use Rattle.retro_base.specs.Limits.{most_rows}
 use Rattle.retro_base.specs.Kind.{kind_of}
 use Rattle.retro_base.specs.Replay.{fold_rows, IsValid}
 use Rattle.retro_base.specs.State.{step, empty}
 use Rattle.retro_base.specs.Edits.{Edit}
 use Rattle.retro_base.specs.Bridges.{IsChange}
-use Rattle.retro_base.specs.Timeline.{History, IsFresh, HaveOwnNumbers, IsHistory}
+use Rattle.retro_base.specs.Timeline.{Structure, IsFresh, HaveOwnNumbers, IsReplayable}
 use Rattle.retro_base.proofs.Folds.{front_possible}
 
 -- what holds of all elements and of one more holds of all after it is put in
@@ -28,38 +28,38 @@ own_numbers_with [] (suc place) row own fresh = (tt, tt)
 own_numbers_with (first ∷ rows) (suc place) row own fresh =
     (all_with (λ r. r.number ≢ first.number) rows place row own.0 (λ same. fresh.0 (sym same)), own_numbers_with rows place row own.1 fresh.1)
 
-pub empty_history : (kind : Kind) → IsHistory kind []
+pub empty_replayable : (kind : Kind) → IsReplayable kind []
 unfolding fold_rows
-empty_history kind = record { few = lit≤ tt; of_kind = tt; own_numbers = tt; valid = refl }
+empty_replayable kind = record { few = lit≤ tt; of_kind = tt; own_numbers = tt; valid = refl }
 
-pub history_with : (kind : Kind) (rows : List Row) (place : ℕ) (row : Row) → IsHistory kind rows → length rows < MAX_ROWS → place ≤ length rows
-    → IsFresh row.number rows → kind_of row.op ≡ kind → IsValid kind (insert rows place row) → IsHistory kind (insert rows place row)
-history_with kind rows place row history room within fresh of_kind valid = record {
+pub replayable_with : (kind : Kind) (rows : List Row) (place : ℕ) (row : Row) → IsReplayable kind rows → length rows < most_rows → place ≤ length rows
+    → IsFresh row.number rows → kind_of row.op ≡ kind → IsValid kind (insert rows place row) → IsReplayable kind (insert rows place row)
+replayable_with kind rows place row replayable room within fresh of_kind valid = record {
   few = omega (arith, length-insert rows place row within);
-  of_kind = all_with (λ r. kind_of r.op ≡ kind) rows place row history.of_kind of_kind;
-  own_numbers = own_numbers_with rows place row history.own_numbers fresh;
+  of_kind = all_with (λ r. kind_of r.op ≡ kind) rows place row replayable.of_kind of_kind;
+  own_numbers = own_numbers_with rows place row replayable.own_numbers fresh;
   valid = valid;
 }
 
 -- the same, where the requirements are on a value that is seen as this kind and these rows
-pub history_seen_with : (now : History) (kind : Kind) (rows : List Row) (place : ℕ) (row : Row)
-    → ◌≡◌ {A = History} (record { kind = kind; rows = rows }) now → IsHistory kind rows
-    → length now.rows < MAX_ROWS → place ≤ length now.rows → IsFresh row.number now.rows
-    → kind_of row.op ≡ now.kind → IsValid now.kind (insert now.rows place row) → IsHistory kind (insert rows place row)
-history_seen_with now kind rows place row seen history room within fresh of_kind valid =
-    let same_rows : now.rows ≡ rows = ap (λ (h : History). h.rows) (sym seen) in
-    let same_kind : now.kind ≡ kind = ap (λ (h : History). h.kind) (sym seen) in
-    history_with kind rows place row history (rw same_rows at room) (rw same_rows at within) (rw same_rows at fresh)
+pub replayable_seen_with : (now : Structure) (kind : Kind) (rows : List Row) (place : ℕ) (row : Row)
+    → ◌≡◌ {A = Structure} (record { kind = kind; rows = rows }) now → IsReplayable kind rows
+    → length now.rows < most_rows → place ≤ length now.rows → IsFresh row.number now.rows
+    → kind_of row.op ≡ now.kind → IsValid now.kind (insert now.rows place row) → IsReplayable kind (insert rows place row)
+replayable_seen_with now kind rows place row seen replayable room within fresh of_kind valid =
+    let same_rows : now.rows ≡ rows = ap (λ (h : Structure). h.rows) (sym seen) in
+    let same_kind : now.kind ≡ kind = ap (λ (h : Structure). h.kind) (sym seen) in
+    replayable_with kind rows place row replayable (rw same_rows at room) (rw same_rows at within) (rw same_rows at fresh)
     (of_kind ∙ same_kind) (rw (same_kind, same_rows) at valid)
 
 -- the same at the end of the rows
-pub history_seen_at_end : (now : History) (kind : Kind) (rows : List Row) (place : ℕ) (row : Row)
-    → ◌≡◌ {A = History} (record { kind = kind; rows = rows }) now → IsHistory kind rows
-    → length now.rows < MAX_ROWS → place ≤ length now.rows → IsFresh row.number now.rows
-    → kind_of row.op ≡ now.kind → IsValid now.kind (insert now.rows place row) → place ≡ length rows → IsHistory kind (rows ++ row ∷ [])
-history_seen_at_end now kind rows place row seen history room within fresh of_kind valid end =
+pub replayable_seen_at_end : (now : Structure) (kind : Kind) (rows : List Row) (place : ℕ) (row : Row)
+    → ◌≡◌ {A = Structure} (record { kind = kind; rows = rows }) now → IsReplayable kind rows
+    → length now.rows < most_rows → place ≤ length now.rows → IsFresh row.number now.rows
+    → kind_of row.op ≡ now.kind → IsValid now.kind (insert now.rows place row) → place ≡ length rows → IsReplayable kind (rows ++ row ∷ [])
+replayable_seen_at_end now kind rows place row seen replayable room within fresh of_kind valid end =
     let at_end : insert rows place row ≡ rows ++ row ∷ [] = rw end (insert_end rows row) in
-    rw at_end at (history_seen_with now kind rows place row seen history room within fresh of_kind valid)
+    rw at_end at (replayable_seen_with now kind rows place row seen replayable room within fresh of_kind valid)
 
 -- what holds of all elements holds of all that are left, and of those before a place
 pub all_without : {X : Type 0} (P : X → Type 0) (xs : List X) (place : ℕ) → AllByRecursion P xs → AllByRecursion P (remove xs place)
@@ -87,21 +87,21 @@ length_without (x ∷ xs) zero = omega arith
 length_without (x ∷ xs) (suc place) = omega (arith, length_without xs place)
 
 -- a history stays one when a row is taken out that leaves it valid
-pub history_without : (kind : Kind) (rows : List Row) (place : ℕ) → IsHistory kind rows → IsValid kind (remove rows place) → IsHistory kind (remove rows place)
-history_without kind rows place history valid = record {
-  few = omega (arith, length_without rows place, history.few);
-  of_kind = all_without (λ r. kind_of r.op ≡ kind) rows place history.of_kind;
-  own_numbers = own_numbers_without rows place history.own_numbers;
+pub replayable_without : (kind : Kind) (rows : List Row) (place : ℕ) → IsReplayable kind rows → IsValid kind (remove rows place) → IsReplayable kind (remove rows place)
+replayable_without kind rows place replayable valid = record {
+  few = omega (arith, length_without rows place, replayable.few);
+  of_kind = all_without (λ r. kind_of r.op ≡ kind) rows place replayable.of_kind;
+  own_numbers = own_numbers_without rows place replayable.own_numbers;
   valid = valid;
 }
 
-pub history_seen_without : (now : History) (kind : Kind) (rows : List Row) (place : ℕ)
-    → ◌≡◌ {A = History} (record { kind = kind; rows = rows }) now → IsHistory kind rows
-    → IsValid now.kind (remove now.rows place) → IsHistory kind (remove rows place)
-history_seen_without now kind rows place seen history valid =
-    let same_rows : now.rows ≡ rows = ap (λ (h : History). h.rows) (sym seen) in
-    let same_kind : now.kind ≡ kind = ap (λ (h : History). h.kind) (sym seen) in
-    history_without kind rows place history (rw (same_kind, same_rows) at valid)
+pub replayable_seen_without : (now : Structure) (kind : Kind) (rows : List Row) (place : ℕ)
+    → ◌≡◌ {A = Structure} (record { kind = kind; rows = rows }) now → IsReplayable kind rows
+    → IsValid now.kind (remove now.rows place) → IsReplayable kind (remove rows place)
+replayable_seen_without now kind rows place seen replayable valid =
+    let same_rows : now.rows ≡ rows = ap (λ (h : Structure). h.rows) (sym seen) in
+    let same_kind : now.kind ≡ kind = ap (λ (h : Structure). h.kind) (sym seen) in
+    replayable_without kind rows place replayable (rw (same_kind, same_rows) at valid)
 
 -- of the kinds other than the priority queue a change tells nothing
 pub plain_change : (kind : Kind) (rows : List Row) (edit : Edit) → kind ≢ Pq → IsChange kind rows edit Plain
