@@ -9,6 +9,7 @@ pub mod Places
 pub mod Timeline
 pub mod Questions
 pub mod Bridges
+pub mod Changes
 pub mod Counting
 pub mod Content
 pub mod Text
