@@ -2,10 +2,10 @@ use Rattle.std.proofs.Common.{◌≡◌, Some, None, sym, ◌∙◌}
 use Rattle.std.specs.List.{remove}
 use Rattle.retro_base.specs.Replay.{failure}
 use Rattle.retro_base.specs.Places.{place_of_row}
-use Rattle.workbench.proofs.Timelines.{timeline_without}
-use Rattle.workbench.proofs.Turns.{deletes_nothing, deletes_fails, deletes_stands}
+use Rattle.retro_base.specs.TimelineLaws.{timeline_without}
+use Rattle.workbench.proofs.TimelineEffects.{deletes_nothing, deletes_fails, deletes_accepted}
 use Rattle.engine.specs.Engine.{kind_inside, rows_inside}
-use Rattle.workbench.proofs.timeline.Timeline.delete.Goals as goal
+use Rattle.workbench.proofs.named_timeline.NamedTimeline.delete.Goals as goal
 
 pub returns-in_default-clause-ok : goal.returns-in_default-clause-ok
 returns-in_default-clause-ok c =
@@ -28,12 +28,12 @@ returns-in-Some-failure_after_remove-clause-ok c =
     let fails : failure (kind_inside c.self.inside.structure) (remove c.self.inside.rows.items c.in-Some.place) ≡ Some c.in-Some-failure_after_remove.index =
     rw c.self.invariant.0 at (sym c.failure_after_remove.ensures.first ∙ c.in-Some-failure_after_remove.is) in
     rw (← c.self.view_is, c.fails_at.ensures)
-    (deletes_fails _ c.args.number c.in-Some.place c.in-Some-failure_after_remove.index c.row_behind_remove.result there fails
-    (rw c.as_slice-in-Some-failure_after_remove.ensures.value at c.row_behind_remove.ensures))
+    (deletes_fails _ c.args.number c.in-Some.place c.in-Some-failure_after_remove.index c.row_after_remove.result there fails
+    (rw c.as_slice-in-Some-failure_after_remove.ensures.value at c.row_after_remove.ensures))
 
 pub returns-in_ok-remove-in-None-clause-ok : goal.returns-in_ok-remove-in-None-clause-ok
 returns-in_ok-remove-in-None-clause-ok c =
     let there : place_of_row c.args.number c.self.inside.rows.items ≡ Some c.in-Some.place = rw c.as_slice.ensures.value at (sym c.place_of_row.ensures.place ∙ c.in-Some.is) in
     let stands : failure (kind_inside c.self.inside.structure) (remove c.self.inside.rows.items c.in-Some.place) ≡ None =
     rw c.self.invariant.0 at (sym c.failure_after_remove.ensures.first ∙ c.in-None.is) in
-    rw (← c.self.view_is, c.remove-in-None.ensures.items, c.remove.ensures.kind) (deletes_stands _ c.args.number c.in-Some.place there stands)
+    rw (← c.self.view_is, c.remove-in-None.ensures.items, c.remove.ensures.kind) (deletes_accepted _ c.args.number c.in-Some.place there stands)

@@ -10,10 +10,10 @@ ghost use Rattle.script_grammar.specs.declared.command.Moment.TheVariants.{Then}
 ghost use Rattle.script_grammar.specs.declared.command.Query.TheVariants.{One, All};
 ghost use Rattle.workbench.specs.declared.outcome.Outcome.TheVariants.{Listed, Refused};
 ghost use Rattle.workbench.specs.declared.outcome.Refusal.TheVariants.{NoRow, At};
-ghost use Rattle.workbench.specs.Order.{Fits};
+ghost use Rattle.retro_base.specs.Order.{Fits};
 
 use crate::outcome::{Outcome, Refusal};
-use crate::seat::{Seat, place_of_row, row_named, seat_of};
+use crate::position::{Position, place_of_row, position_of, row_named};
 use engine::Engine;
 use retro_base::{Kind, MAX_NEXT, MAX_ROWS, Name, NoMemory, Op, Question, Retro, Row};
 use script_grammar::{Moment, Query, Spot};
@@ -23,36 +23,36 @@ use std::marker::Model;
 /// A timeline of the bench: its rows with their times and numbers, and the structure that performs
 /// them. The two hold the same rows.
 #[derive(Drop)]
-pub(crate) struct Timeline {
+pub(crate) struct NamedTimeline {
     name: Name,
     rows: Vec<Row>,
     structure: Engine,
     next: u32,
 }
 
-impl Model for Timeline {
+impl Model for NamedTimeline {
     ghost use Rattle.std.specs.Prelude.{◌≡◌};
     ghost use Rattle.engine.specs.Engine.{kind_inside, rows_inside};
     ghost use Rattle.retro_base.specs.Timeline.{IsTimeline};
-    ghost use Rattle.workbench.specs.Bench.{Timeline};
+    ghost use Rattle.workbench.specs.Bench.{NamedTimeline};
 
-    ghost Value = { Timeline };
+    ghost Value = { NamedTimeline };
 
     ghost view = { λ t. record { name = t.name; kind = kind_inside t.structure; rows = t.rows.items; next = t.next } };
 
     ghost invariant = { λ t. (rows_inside t.structure ≡ t.rows.items) × IsTimeline (kind_inside t.structure) t.rows.items t.next };
 }
 
-impl Timeline {
+impl NamedTimeline {
     ghost use Rattle.workbench.specs.Bench.{fresh};
-    ghost use Rattle.workbench.specs.Turns.{deletes, puts, seats, stays, tells};
+    ghost use Rattle.workbench.specs.TimelineEffects.{deletes, inserts, inserts_there, unchanged, answers};
 
     /// A timeline without rows.
-    pub(crate) fn new(alloc: Global, name: Name, kind: Kind) -> Timeline
+    pub(crate) fn new(alloc: Global, name: Name, kind: Kind) -> NamedTimeline
         requires { kind ≢ Pq }
         ensures { result ≡ fresh name kind }
     {
-        Timeline {
+        NamedTimeline {
             name,
             rows: Vec::new(alloc),
             structure: Engine::new(alloc, kind),
@@ -69,15 +69,15 @@ impl Timeline {
 
     /// Puts a row in at a spot, where the edited rows replay whole. After a refusal and after `NoMemory`
     /// all is as before.
-    pub(crate) fn put(&mut self, spot: Spot, op: Op) -> Result<Outcome, NoMemory>
-        ensures ok { IfOk result (λ outcome. puts self.old spot op ≡ record { timeline = self.new; outcome = outcome }) }
+    pub(crate) fn insert(&mut self, spot: Spot, op: Op) -> Result<Outcome, NoMemory>
+        ensures ok { IfOk result (λ outcome. inserts self.old spot op ≡ record { timeline = self.new; outcome = outcome }) }
         ensures err { OnErr result (self.new ≡ self.old) }
     {
         if !self.takes(op) {
             return Ok(Outcome::refused(Refusal::Kind));
         }
-        match seat_of(self.rows.as_slice(), spot) {
-            Some(seat) => self.put_at(seat, op),
+        match position_of(self.rows.as_slice(), spot) {
+            Some(position) => self.insert_at(position, op),
             None => Ok(no_row(row_named(spot))),
         }
     }
@@ -89,12 +89,12 @@ impl Timeline {
         op.kind() == self.structure.kind()
     }
 
-    /// Puts a row in at a seat, where there is room and the edited rows replay whole.
-    fn put_at(&mut self, seat: Seat, op: Op) -> Result<Outcome, NoMemory>
+    /// Puts a row in at a position, where there is room and the edited rows replay whole.
+    fn insert_at(&mut self, position: Position, op: Op) -> Result<Outcome, NoMemory>
         requires of_kind { kind_of op ≡ self.old.kind }
-        requires within { seat.place ≤ length self.old.rows }
-        requires fits { Fits self.old.rows seat.place seat.time }
-        ensures ok { IfOk result (λ outcome. seats self.old op seat ≡ record { timeline = self.new; outcome = outcome }) }
+        requires within { position.place ≤ length self.old.rows }
+        requires fits { Fits self.old.rows position.place position.time }
+        ensures ok { IfOk result (λ outcome. inserts_there self.old op position ≡ record { timeline = self.new; outcome = outcome }) }
         ensures err { OnErr result (self.new ≡ self.old) }
     {
         if self.structure.len() >= MAX_ROWS {
@@ -105,20 +105,20 @@ impl Timeline {
         }
         let row = Row {
             number: self.next,
-            time: seat.time,
+            time: position.time,
             op,
         };
-        match self.structure.failure_after_insert(seat.place, op) {
+        match self.structure.failure_after_insert(position.place, op) {
             Some(index) => {
-                let failing = row_behind_insert(self.rows.as_slice(), seat.place, row, index);
+                let failing = row_after_insert(self.rows.as_slice(), position.place, row, index);
                 Ok(fails_at(failing))
             }
             None => {
                 self.rows.reserve(1)?;
-                self.structure.insert(seat.place, row)?;
-                self.rows.insert(seat.place as usize, row).unwrap();
+                self.structure.insert(position.place, row)?;
+                self.rows.insert(position.place as usize, row).unwrap();
                 self.next += 1;
-                Ok(Outcome::Put { number: row.number })
+                Ok(Outcome::Inserted { number: row.number })
             }
         }
     }
@@ -133,7 +133,7 @@ impl Timeline {
             return Ok(no_row(number));
         };
         match self.structure.failure_after_remove(place) {
-            Some(index) => Ok(fails_at(row_behind_remove(self.rows.as_slice(), place, index))),
+            Some(index) => Ok(fails_at(row_after_remove(self.rows.as_slice(), place, index))),
             None => {
                 self.structure.remove(place)?;
                 self.rows.remove(place as usize);
@@ -142,10 +142,10 @@ impl Timeline {
         }
     }
 
-    /// What is told at a moment. The timeline stays, whatever the answer.
+    /// The answer at a moment. The timeline stays as it is, whatever the answer.
     pub(crate) fn ask(&mut self, moment: Moment, query: Query) -> Result<Outcome, NoMemory>
-        ensures stays { self.new ≡ self.old }
-        ensures ok { IfOk result (λ outcome. outcome ≡ tells self.old moment query) }
+        ensures unchanged { self.new ≡ self.old }
+        ensures ok { IfOk result (λ outcome. outcome ≡ answers self.old moment query) }
     {
         match query {
             Query::One { question } => self.ask_one(moment, question),
@@ -153,54 +153,58 @@ impl Timeline {
         }
     }
 
+    /// The answer to one question, where it suits the kind. The present is answered from what is kept.
     fn ask_one(&mut self, moment: Moment, question: Question) -> Result<Outcome, NoMemory>
-        ensures stays { self.new ≡ self.old }
-        ensures ok { IfOk result (λ outcome. outcome ≡ tells self.old moment (One question)) }
+        ensures unchanged { self.new ≡ self.old }
+        ensures ok { IfOk result (λ outcome. outcome ≡ answers self.old moment (One question)) }
     {
         if !question.suits(self.structure.kind()) {
             return Ok(Outcome::refused(Refusal::Kind));
         }
         match moment {
-            Moment::Now => Ok(Outcome::Told {
+            Moment::Now => Ok(Outcome::Answered {
                 answer: self.structure.ask_now(question),
             }),
             Moment::Then { spot } => self.ask_at(spot, question),
         }
     }
 
+    /// The answer to a question about the past, where the spot has a place.
     fn ask_at(&mut self, spot: Spot, question: Question) -> Result<Outcome, NoMemory>
         requires { suits question self.old.kind ≡ true }
-        ensures stays { self.new ≡ self.old }
-        ensures ok { IfOk result (λ outcome. outcome ≡ tells self.old (Then spot) (One question)) }
+        ensures unchanged { self.new ≡ self.old }
+        ensures ok { IfOk result (λ outcome. outcome ≡ answers self.old (Then spot) (One question)) }
     {
-        match seat_of(self.rows.as_slice(), spot) {
-            Some(seat) => {
-                let answer = self.structure.ask(seat.place, question)?;
-                Ok(Outcome::Told { answer })
+        match position_of(self.rows.as_slice(), spot) {
+            Some(position) => {
+                let answer = self.structure.ask(position.place, question)?;
+                Ok(Outcome::Answered { answer })
             }
             None => Ok(no_row(row_named(spot))),
         }
     }
 
+    /// The whole content at a moment, where it has a place.
     fn list(&mut self, moment: Moment) -> Result<Outcome, NoMemory>
-        ensures stays { self.new ≡ self.old }
-        ensures ok { IfOk result (λ outcome. outcome ≡ tells self.old moment All) }
+        ensures unchanged { self.new ≡ self.old }
+        ensures ok { IfOk result (λ outcome. outcome ≡ answers self.old moment All) }
     {
         match moment {
             Moment::Now => {
                 let place = self.structure.len();
                 self.list_at(place)
             }
-            Moment::Then { spot } => match seat_of(self.rows.as_slice(), spot) {
-                Some(seat) => self.list_at(seat.place),
+            Moment::Then { spot } => match position_of(self.rows.as_slice(), spot) {
+                Some(position) => self.list_at(position.place),
                 None => Ok(no_row(row_named(spot))),
             },
         }
     }
 
+    /// The whole content at a place.
     fn list_at(&mut self, place: u32) -> Result<Outcome, NoMemory>
         requires { place ≤ length self.old.rows }
-        ensures stays { self.new ≡ self.old }
+        ensures unchanged { self.new ≡ self.old }
         ensures ok { IfOk result (λ outcome. outcome ≡ Listed (content (state_at self.old.kind self.old.rows place))) }
     {
         let listing = self.structure.all(place)?;
@@ -215,7 +219,7 @@ fn no_row(number: u32) -> Outcome
     Outcome::refused(Refusal::NoRow { number })
 }
 
-/// The outcome of an edit behind which this row is the first that could not be performed.
+/// The outcome of an edit after which this row is the first that could not be performed.
 fn fails_at(failing: Row) -> Outcome
     ensures { result ≡ Refused (At failing.number failing.time) }
 {
@@ -226,7 +230,7 @@ fn fails_at(failing: Row) -> Outcome
 }
 
 /// The row at this index, were a row put in at the place.
-fn row_behind_insert(rows: &[Row], place: u32, row: Row, index: u32) -> Row
+fn row_after_insert(rows: &[Row], place: u32, row: Row, index: u32) -> Row
     requires place { place ≤ length rows.now }
     requires index { index ≤ length rows.now }
     ensures { slice_get (insert rows.now place row) index ≡ Some result }
@@ -241,7 +245,7 @@ fn row_behind_insert(rows: &[Row], place: u32, row: Row, index: u32) -> Row
 }
 
 /// The row at this index, were the row at the place taken out.
-fn row_behind_remove(rows: &[Row], place: u32, index: u32) -> Row
+fn row_after_remove(rows: &[Row], place: u32, index: u32) -> Row
     requires place { place < length rows.now }
     requires index { index + 1 < length rows.now }
     ensures { slice_get (remove rows.now place) index ≡ Some result }

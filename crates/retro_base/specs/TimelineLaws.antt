@@ -1,12 +1,12 @@
--- A timeline stays one behind each edit that is accepted.
+-- A timeline is still one after each edit that is accepted.
 use Rattle.std.proofs.Common.{◌≡◌, ◌≢◌, ℕ, ◌+◌, ◌<◌, ◌≤◌, List, arith}
 use Rattle.std.specs.List.{insert, remove}
 use Rattle.retro_base.specs.declared.kind.Kind.{Kind}
 use Rattle.retro_base.specs.declared.row.Row.{Row}
 use Rattle.retro_base.specs.Limits.{next_limit}
 use Rattle.retro_base.specs.Timeline.{IsReplayable, IsTimeline, IsFresh}
-use Rattle.workbench.specs.Order.{Fits}
-use Rattle.workbench.proofs.Order.{all_weaker, all_with, all_without, times_with, times_without}
+use Rattle.retro_base.specs.Order.{Fits}
+use Rattle.retro_base.specs.OrderLaws.{all_weaker, all_with, all_without, times_with, times_without}
 
 -- the number that comes next is fresh
 pub next_is_fresh : (kind : Kind) (rows : List Row) (next : ℕ) → IsTimeline kind rows next → IsFresh next rows

@@ -1,4 +1,4 @@
--- A row that is put in where its time fits keeps the times from falling, and so does a row that is taken out.
+-- A row that is put in where its time fits keeps the times from falling, and so does a row that is taken out; and where a time fits.
 use Rattle.std.proofs.Common.{◌≡◌, ℕ, zero, suc, ◌+◌, ◌<◌, ◌≤◌, true, false, cond, List, [], ◌∷◌, slice_get, refl, ◌∙◌, ap, arith, Some}
 use Rattle.std.specs.List.{insert, remove, AllByRecursion}
 use Rattle.std.proofs.Math.Dec.{leb}
@@ -7,7 +7,7 @@ use Rattle.std.proofs.lemmas.List.Sums.{sum_by-cons}
 use Rattle.retro_base.specs.declared.row.Row.{Row}
 use Rattle.retro_base.specs.Places.{place_of_time}
 use Rattle.retro_base.specs.Timeline.{TimesNeverFall}
-use Rattle.workbench.specs.Order.{Fits}
+use Rattle.retro_base.specs.Order.{Fits}
 
 -- a fact about all rows that follows from another
 pub all_weaker : {X : Type 0} (P Q : X → Type 0) (xs : List X) → ((x : X) → P x → Q x) → AllByRecursion P xs → AllByRecursion Q xs
@@ -60,7 +60,7 @@ first_place : (time : ℕ) (rows : List Row) → AllByRecursion (λ row. time < 
 first_place time [] all = refl
 first_place time (row ∷ rows) all = later time row rows (lt-leb row.time time all.0) ∙ first_place time rows all.1
 
--- a time fits behind all rows up to it
+-- a time fits after all rows up to it
 pub time_fits : (time : ℕ) (rows : List Row) → TimesNeverFall rows → Fits rows (place_of_time time rows) time
 time_fits time [] never = tt
 time_fits time (first ∷ rows) never =
@@ -68,9 +68,9 @@ time_fits time (first ∷ rows) never =
       | true ↦ λ e. rw (not_later time first rows e) (leb-true _ _ e, time_fits time rows never.1)
       | false ↦ λ e.
           let earlier : time < first.time = leb-false _ _ e in
-          let behind : AllByRecursion (λ r. time < r.time) rows = all_weaker (λ r. first.time ≤ r.time) _ rows (λ r h. omega arith) never.0 in
-          rw (later time first rows e, first_place time rows behind)
-          (omega arith, all_weaker (λ r. time < r.time) (λ r. time ≤ r.time) rows (λ r h. omega arith) behind)
+          let with_first : AllByRecursion (λ r. time < r.time) rows = all_weaker (λ r. first.time ≤ r.time) _ rows (λ r h. omega arith) never.0 in
+          rw (later time first rows e, first_place time rows with_first)
+          (omega arith, all_weaker (λ r. time < r.time) (λ r. time ≤ r.time) rows (λ r h. omega arith) with_first)
     ] refl
 
 first_time : (first row : Row) → Some first ≡ Some row → first.time ≡ row.time
@@ -84,7 +84,7 @@ fits_before (first ∷ rows) zero row never there =
 fits_before (first ∷ rows) (suc place) row never there =
     (all_at (λ r. first.time ≤ r.time) rows place row never.0 there, fits_before rows place row never.1 there)
 
--- the time of a row fits behind it
+-- the time of a row fits after it
 pub fits_after : (rows : List Row) (place : ℕ) (row : Row) → TimesNeverFall rows → slice_get rows place ≡ Some row → Fits rows (suc place) row.time
 fits_after [] place row never there = absurd (cc)
 fits_after (first ∷ rows) zero row never there =
