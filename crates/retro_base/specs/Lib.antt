@@ -17,3 +17,6 @@ pub mod Counting
 pub mod Content
 pub mod Text
 pub mod LineLength
+pub mod Digits
+pub mod Visits
+pub mod VisitsLaws
