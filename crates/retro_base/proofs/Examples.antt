@@ -1,17 +1,20 @@
 -- The definitions, computed on small histories whose answers were worked out by hand.
-use Rattle.std.proofs.Common.{◌≡◌, ℕ, ℤ, pos, negsuc, List, [], ◌∷◌, refl, Some, None}
+use Rattle.std.proofs.Common.{◌≡◌, ℕ, ℤ, pos, negsuc, true, false, List, [], ◌∷◌, map, refl, Some, None}
 use Rattle.retro_base.specs.declared.kind.Kind.TheVariants.{Queue, Stack, Deque, Dict, Pq}
 use Rattle.retro_base.specs.declared.op.Op.{Op}
 use Rattle.retro_base.specs.declared.op.Op.TheVariants.{Enq, Deq, Push, Pop, PushL, PushR, PopR, Put, Del, Ins, DelMin}
 use Rattle.retro_base.specs.declared.question.Question.TheVariants.{Front, Nth, Succ, Pred, Count, Sum, Min}
 use Rattle.retro_base.specs.declared.question.Answer.TheVariants.{Number, Nothing}
 use Rattle.retro_base.specs.declared.question.Answer.TheVariants as answers
+use Rattle.retro_base.specs.declared.row.Change.TheVariants.{Gain, Lose}
 use Rattle.retro_base.specs.declared.row.Entry.{Entry}
 use Rattle.retro_base.specs.declared.row.Row.{Row}
 use Rattle.retro_base.specs.State.{items, entries, perform}
 use Rattle.retro_base.specs.Replay.{fold_rows, failure, present, state_at}
 use Rattle.retro_base.specs.Answers.{answer_of}
-use Rattle.retro_base.specs.Edits.{add, cut, edited, failing_row}
+use Rattle.retro_base.specs.Edits.{add, cut, edited, edited_by, inverse_step, Step, failing_row}
+use Rattle.retro_base.specs.Bridges.{is_bridge, stated_bridge}
+use Rattle.retro_base.specs.Changes.{change_of}
 use Rattle.retro_base.specs.Places.{place_of_time, place_of_row}
 
 abbrev row : ℕ → ℕ → Op → Row
@@ -48,7 +51,7 @@ later_pop_fails : failing_row Stack (edited pushed_and_popped (add 1 (row 3 20 P
 unfolding fold_rows perform
 later_pop_fails = refl
 
-orphaned_pop_fails : failing_row Stack (edited pushed_and_popped (cut 0)) ≡ Some (row 2 30 Pop)
+orphaned_pop_fails : failing_row Stack (edited pushed_and_popped (cut 0 (row 1 10 (Push (pos 1))))) ≡ Some (row 2 30 Pop)
 unfolding fold_rows perform
 orphaned_pop_fails = refl
 
@@ -65,20 +68,20 @@ unfolding fold_rows perform answer_of
 none_below_the_bottom = refl
 
 -- two rows at one time, and a row put before the first of them
-abbrev one_moment : List Row
-one_moment = row 3 5 (Enq (pos 3)) ∷ row 1 5 (Enq (pos 1)) ∷ row 2 5 (Enq (pos 2)) ∷ []
+abbrev one_time : List Row
+one_time = row 3 5 (Enq (pos 3)) ∷ row 1 5 (Enq (pos 1)) ∷ row 2 5 (Enq (pos 2)) ∷ []
 
-after_its_time : state_at Queue one_moment (place_of_time 5 one_moment) ≡ items (pos 3 ∷ pos 1 ∷ pos 2 ∷ [])
+after_its_time : state_at Queue one_time (place_of_time 5 one_time) ≡ items (pos 3 ∷ pos 1 ∷ pos 2 ∷ [])
 unfolding fold_rows perform
 after_its_time = refl
 
-before_a_row : place_of_row 1 one_moment ≡ Some 1
+before_a_row : place_of_row 1 one_time ≡ Some 1
 before_a_row = refl
 
-no_such_row : place_of_row 9 one_moment ≡ None
+no_such_row : place_of_row 9 one_time ≡ None
 no_such_row = refl
 
-before_its_time : state_at Queue one_moment (place_of_time 4 one_moment) ≡ items []
+before_its_time : state_at Queue one_time (place_of_time 4 one_time) ≡ items []
 unfolding fold_rows perform
 before_its_time = refl
 
@@ -137,3 +140,69 @@ least_now = refl
 least_then : answer_of (state_at Pq late_lesser (place_of_time 5 late_lesser)) Min ≡ Number (pos 2)
 unfolding fold_rows perform answer_of
 least_then = refl
+
+-- a row is moved by one step, and the step that takes it back leads to the rows from before it
+abbrev moved_to_the_front : Step
+moved_to_the_front = cut 1 (row 2 20 (Enq (pos 7))) ∷ add 0 (row 2 5 (Enq (pos 7))) ∷ []
+
+moved : edited_by two_jobs moved_to_the_front ≡ row 2 5 (Enq (pos 7)) ∷ row 1 10 (Enq (pos 5)) ∷ []
+moved = refl
+
+moved_back : edited_by (edited_by two_jobs moved_to_the_front) (inverse_step moved_to_the_front) ≡ two_jobs
+moved_back = refl
+
+-- bridges and changes: at places 1 and 2 the queue holds the 2, which the `delmin` takes
+bridges_are_the_ends : map (is_bridge late_lesser) (0 ∷ 1 ∷ 2 ∷ 3 ∷ []) ≡ true ∷ false ∷ false ∷ true ∷ []
+unfolding fold_rows perform
+bridges_are_the_ends = refl
+
+-- before the 2 was put in, the `delmin` took the 4; without the 2 it takes it again
+abbrev before_the_lesser : List Row
+before_the_lesser = row 1 10 (Ins (pos 4)) ∷ row 2 20 DelMin ∷ []
+
+lesser_frees_the_four : change_of Pq before_the_lesser (add 0 (row 3 5 (Ins (pos 2)))) ≡ Gain 0 (entry (pos 4) 1)
+unfolding fold_rows perform
+lesser_frees_the_four = refl
+
+four_is_taken_again : change_of Pq late_lesser (cut 0 (row 3 5 (Ins (pos 2)))) ≡ Lose (Some 3) (entry (pos 4) 1)
+unfolding fold_rows perform
+four_is_taken_again = refl
+
+lesser_is_never_taken : change_of Pq late_lesser (cut 2 (row 2 20 DelMin)) ≡ Gain 0 (entry (pos 2) 3)
+unfolding fold_rows perform
+lesser_is_never_taken = refl
+
+-- a dead entry before the bridge stays dead
+dead_nine_lies_before : change_of Pq (row 1 1 (Ins (pos 9)) ∷ row 2 2 DelMin ∷ []) (add 2 (row 3 5 (Ins (pos 3)))) ≡ Gain 2 (entry (pos 3) 3)
+unfolding fold_rows perform
+dead_nine_lies_before = refl
+
+-- where an entry that survives is cut there is no bridge
+survivor_is_cut : change_of Pq (row 1 1 (Ins (pos 4)) ∷ row 2 2 (Ins (pos 6)) ∷ []) (cut 0 (row 1 1 (Ins (pos 4)))) ≡ Lose None (entry (pos 4) 1)
+unfolding fold_rows perform
+survivor_is_cut = refl
+
+-- one entry and one `delmin`: a second `delmin` fails at the bridge, and without the entry the first one fails
+abbrev taken_late : List Row
+taken_late = row 1 1 (Ins (pos 4)) ∷ row 2 3 DelMin ∷ []
+
+bridge_of_second_take : stated_bridge taken_late (add 1 (row 3 2 DelMin)) ≡ Some 2
+unfolding fold_rows perform
+bridge_of_second_take = refl
+
+second_take_fails : failure Pq (edited taken_late (add 1 (row 3 2 DelMin))) ≡ Some 2
+unfolding fold_rows perform
+second_take_fails = refl
+
+bridge_of_missing_entry : stated_bridge taken_late (cut 0 (row 1 1 (Ins (pos 4)))) ≡ Some 2
+unfolding fold_rows perform
+bridge_of_missing_entry = refl
+
+take_without_entry_fails : failure Pq (edited taken_late (cut 0 (row 1 1 (Ins (pos 4))))) ≡ Some 0
+unfolding fold_rows perform
+take_without_entry_fails = refl
+
+-- the bridge is stated by the edit alone: here it is 0, whatever entry a line names
+greater_key_survives : change_of Pq (row 1 1 (Ins (pos 1)) ∷ row 2 2 DelMin ∷ []) (add 1 (row 3 1 (Ins (pos 9)))) ≡ Gain 0 (entry (pos 9) 3)
+unfolding fold_rows perform
+greater_key_survives = refl

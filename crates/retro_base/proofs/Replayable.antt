@@ -12,7 +12,7 @@ use Rattle.retro_base.specs.Kind.{kind_of}
 use Rattle.retro_base.specs.Replay.{fold_rows, IsValid}
 use Rattle.retro_base.specs.State.{step, empty}
 use Rattle.retro_base.specs.Edits.{Edit}
-use Rattle.retro_base.specs.Bridges.{IsChange}
+use Rattle.retro_base.specs.Changes.{IsChange}
 use Rattle.retro_base.specs.Timeline.{Structure, IsFresh, HaveOwnNumbers, IsReplayable}
 use Rattle.retro_base.proofs.Folds.{front_possible}
 

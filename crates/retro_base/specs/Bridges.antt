@@ -1,18 +1,17 @@
 -- What an edit changes in the present of a priority queue. Bridges are those of Demaine, Iacono and
 -- Langerman, "Retroactive Data Structures", section 5.5.
-use Rattle.std.specs.Prelude.{◌≡◌, ℕ, ℤ, suc, ◌<◌, ◌≤◌, List, [], length, Contains, slice_get}
+use Rattle.std.specs.Prelude.{ℕ, ◌==◌, Bool, ◌&&◌, zero, suc, ◌-◌, ◌<◌, ◌≤◌, List, [], length, Contains, if◌then◌else◌}
 use Rattle.std.specs.Prelude.{Option, Some, None}
-use Rattle.std.specs.List.{AllByRecursion}
-use Rattle.retro_base.specs.declared.kind.Kind.{Kind}
-use Rattle.retro_base.specs.declared.kind.Kind.TheVariants.{Queue, Stack, Deque, Dict, Pq}
-use Rattle.retro_base.specs.declared.op.Op.TheVariants.{Ins}
-use Rattle.retro_base.specs.declared.row.Change.{Change}
-use Rattle.retro_base.specs.declared.row.Change.TheVariants.{Plain, Gain, Lose}
+use Rattle.std.specs.Ordering.{int_eq}
+use Rattle.std.specs.List.{AllByRecursion, list_all, list_any}
+use Rattle.retro_base.specs.declared.kind.Kind.TheVariants.{Pq}
+use Rattle.retro_base.specs.declared.op.Op.{Op}
+use Rattle.retro_base.specs.declared.op.Op.TheVariants.{Ins, DelMin}
 use Rattle.retro_base.specs.declared.row.Entry.{Entry}
 use Rattle.retro_base.specs.declared.row.Row.{Row}
-use Rattle.retro_base.specs.State.{State, items, pairs, entries, with_entry}
+use Rattle.retro_base.specs.State.{State, items, pairs, entries}
 use Rattle.retro_base.specs.Replay.{state_at, present}
-use Rattle.retro_base.specs.Edits.{Edit, add, cut, edited}
+use Rattle.retro_base.specs.Edits.{Edit, add, cut}
 
 -- the entries of a priority queue's state
 abbrev pub entries_of : State → List Entry
@@ -44,37 +43,70 @@ pub record IsFirstBridge (rows : List Row) (place bridge : ℕ) : Type 0 where
   pub bridges : IsBridge rows bridge
   pub first : (other : ℕ) → place ≤ other → other < bridge → ¬ IsBridge rows other
 
--- the bridge beside a gained entry: the last one up to the place of the edit
-abbrev pub IsGainBridge : List Row → Edit → ℕ → Type 0
-IsGainBridge rows (add place row) bridge = IsLastBridge rows place bridge
-IsGainBridge rows (cut place) bridge = IsLastBridge rows place bridge
+-- the tests: two entries are one, an entry is among some entries, it survives, a place is a bridge
+abbrev pub same_entry : Entry → Entry → Bool
+same_entry a b = int_eq a.key b.key && a.number == b.number
 
--- the entry that the row adds survives
-abbrev pub AddsSurvivor : List Row → Row → Type 0
-AddsSurvivor rows row = (key : ℤ) × (row.op ≡ Ins key) × Contains (survivors rows) (record { key = key; number = row.number })
+abbrev pub is_among : List Entry → Entry → Bool
+is_among held entry = list_any (same_entry entry) held
 
--- the bridge beside a lost entry: none where an entry that survives is cut, and else the first one behind the edit
-abbrev pub IsLossBridge : List Row → Edit → Option ℕ → Type 0
-IsLossBridge rows (add place row) None = ⊥
-IsLossBridge rows (add place row) (Some bridge) = IsFirstBridge rows place bridge
-IsLossBridge rows (cut place) None = (row : Row) × (slice_get rows place ≡ Some row) × AddsSurvivor rows row
-IsLossBridge rows (cut place) (Some bridge) = ((row : Row) → slice_get rows place ≡ Some row → ¬ AddsSurvivor rows row) × IsFirstBridge rows (suc place) bridge
+abbrev pub survives : List Row → Entry → Bool
+survives rows entry = is_among (survivors rows) entry
 
--- an entry that is not among them comes to these entries, in its order
-pub record Joins (entry : Entry) (before after : List Entry) : Type 0 where
-  pub absent : ¬ Contains before entry
-  pub joined : after ≡ with_entry entry before
+abbrev pub is_bridge : List Row → ℕ → Bool
+is_bridge rows place = list_all (survives rows) (entries_at rows place)
 
--- what an accepted edit of a priority queue changes
-abbrev pub IsPqChange : List Row → Edit → Change → Type 0
-IsPqChange rows edit Plain = ⊥
-IsPqChange rows edit (Gain bridge entry) = Joins entry (survivors rows) (survivors (edited rows edit)) × IsGainBridge rows edit bridge
-IsPqChange rows edit (Lose bridge entry) = Joins entry (survivors (edited rows edit)) (survivors rows) × IsLossBridge rows edit bridge
+-- the last bridge up to a place, found by going back from it: place 0 is one
+abbrev pub last_bridge : List Row → ℕ → ℕ
+last_bridge rows zero = zero
+last_bridge rows (suc place) = if is_bridge rows (suc place) then suc place else last_bridge rows place
 
--- what an accepted edit changes: of the other kinds nothing is told
-abbrev pub IsChange : Kind → List Row → Edit → Change → Type 0
-IsChange Queue rows edit change = change ≡ Plain
-IsChange Stack rows edit change = change ≡ Plain
-IsChange Deque rows edit change = change ≡ Plain
-IsChange Dict rows edit change = change ≡ Plain
-IsChange Pq rows edit change = IsPqChange rows edit change
+-- the first bridge among so many places from one on, or else the place behind them
+abbrev pub first_bridge_among : ℕ → List Row → ℕ → ℕ
+first_bridge_among zero rows place = place
+first_bridge_among (suc more) rows place = if is_bridge rows place then place else first_bridge_among more rows (suc place)
+
+-- the first bridge from a place on: the place behind all rows is one
+abbrev pub first_bridge : List Row → ℕ → ℕ
+first_bridge rows place = first_bridge_among (length rows - place) rows place
+
+-- where the bridge that an edit states is looked for: back from a place, on from a place, or nowhere
+pub data Sought : Type 0 where
+  back_from : ℕ → Sought
+  on_from : ℕ → Sought
+  nowhere : Sought
+
+-- for an added row: at its place
+abbrev pub sought_for_added : Op → ℕ → Sought
+sought_for_added (Ins key) place = back_from place
+sought_for_added DelMin place = on_from place
+sought_for_added op place = nowhere
+
+-- for a row that is cut: at its place, but behind an entry that is dead, and nowhere for one that survives
+abbrev pub sought_for_cut : List Row → Op → ℕ → ℕ → Sought
+sought_for_cut rows (Ins key) number place = if survives rows (record { key = key; number = number }) then nowhere else on_from (suc place)
+sought_for_cut rows DelMin number place = back_from place
+sought_for_cut rows op number place = nowhere
+
+abbrev pub sought : List Row → Edit → Sought
+sought rows (add place row) = sought_for_added row.op place
+sought rows (cut place row) = sought_for_cut rows row.op row.number place
+
+-- the bridge that stands there, and the same as a relation
+abbrev pub bridge_found : List Row → Sought → Option ℕ
+bridge_found rows (back_from place) = Some (last_bridge rows place)
+bridge_found rows (on_from place) = Some (first_bridge rows place)
+bridge_found rows nowhere = None
+
+abbrev pub IsFound : List Row → Sought → Option ℕ → Type 0
+IsFound rows (back_from place) (Some bridge) = IsLastBridge rows place bridge
+IsFound rows (on_from place) (Some bridge) = IsFirstBridge rows place bridge
+IsFound rows nowhere None = Unit {0}
+IsFound rows place bridge = ⊥
+
+-- the bridge that an edit states, by the rows before it: a place, or none where an entry that survives is cut
+abbrev pub stated_bridge : List Row → Edit → Option ℕ
+stated_bridge rows edit = bridge_found rows (sought rows edit)
+
+abbrev pub IsStatedBridge : List Row → Edit → Option ℕ → Type 0
+IsStatedBridge rows edit bridge = IsFound rows (sought rows edit) bridge

@@ -7,9 +7,16 @@ pub mod Answers
 pub mod Edits
 pub mod Places
 pub mod Timeline
+pub mod Order
+pub mod OrderLaws
+pub mod TimelineLaws
 pub mod Questions
 pub mod Bridges
+pub mod Changes
 pub mod Counting
 pub mod Content
 pub mod Text
 pub mod LineLength
+pub mod Digits
+pub mod Visits
+pub mod VisitsLaws

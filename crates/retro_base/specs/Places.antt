@@ -1,4 +1,4 @@
--- Where a moment lies in a timeline: a place is a number of rows that stand before it.
+-- Where a time or a row stands in a timeline: a place is a number of rows that stand before it.
 use Rattle.std.specs.Prelude.{ℕ, List, nat_le, ◌==◌}
 use Rattle.std.specs.Prelude.{Option}
 use Rattle.std.specs.Prelude.{count_by, position}

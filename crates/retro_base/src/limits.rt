@@ -11,5 +11,4 @@ pub const MAX_NEXT: u32 = 16_777_216;
 pub fn limits_are_those_stated()
     ensures rows { MAX_ROWS ≡ most_rows }
     ensures next { MAX_NEXT ≡ next_limit }
-{
-}
+{}

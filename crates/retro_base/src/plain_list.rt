@@ -57,7 +57,7 @@ fn append(kind: Kind, rows: &mut Vec<Row>, present: &mut Content, row: Row) -> R
 }
 
 /// Puts a row in at a place and performs all rows again. After `NoMemory` all is as before.
-fn put_in(
+fn insert_and_replay(
     alloc: Global,
     kind: Kind,
     rows: &mut Vec<Row>,
@@ -86,7 +86,7 @@ fn put_in(
 }
 
 /// Takes the row at a place out, having performed all others again. After `NoMemory` all is as before.
-fn take_out(
+fn remove_and_replay(
     alloc: Global,
     kind: Kind,
     rows: &mut Vec<Row>,
@@ -172,7 +172,7 @@ impl Retro for PlainList {
         if place == self.rows.len() {
             append(self.kind, &mut self.rows, &mut self.present, row)?;
         } else {
-            put_in(
+            insert_and_replay(
                 self.alloc,
                 self.kind,
                 &mut self.rows,
@@ -185,7 +185,7 @@ impl Retro for PlainList {
     }
 
     fn remove(&mut self, place: u32) -> Result<(Row, Change), NoMemory> {
-        let row = take_out(
+        let row = remove_and_replay(
             self.alloc,
             self.kind,
             &mut self.rows,

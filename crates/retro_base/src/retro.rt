@@ -8,7 +8,7 @@ ghost use Rattle.retro_base.specs.Replay.{failure, IsValid, present, state_at};
 ghost use Rattle.retro_base.specs.Answers.{answer_of, content};
 ghost use Rattle.retro_base.specs.Questions.{suits};
 ghost use Rattle.retro_base.specs.Edits.{add, cut};
-ghost use Rattle.retro_base.specs.Bridges.{IsChange};
+ghost use Rattle.retro_base.specs.Changes.{IsChange};
 ghost use Rattle.retro_base.specs.Timeline.{IsFresh, IsReplayable};
 
 use crate::{Answer, Change, Kind, Listing, NoMemory, Op, Question, Row};
@@ -70,7 +70,7 @@ pub trait Retro {
         ensures row { IfOk result (λ taken. slice_get (rows self.old) place ≡ Some taken.0) }
         ensures rows { OnOk result (rows self.new ≡ remove (rows self.old) place) }
         ensures replayable { OnOk result (IsReplayable (kind self.new) (rows self.new)) }
-        ensures change { IfOk result (λ taken. IsChange (kind self.old) (rows self.old) (cut place) taken.1) }
+        ensures change { IfOk result (λ taken. IsChange (kind self.old) (rows self.old) (cut place taken.0) taken.1) }
         ensures err { OnErr result (rows self.new ≡ rows self.old) };
 
     /// The answer to a question about the present.

@@ -5,7 +5,7 @@ use crate::Op;
 pub struct Row {
     /// From 1 to `MAX_NEXT` - 1.
     pub number: u32,
-    /// The moment, in the user's own unit.
+    /// When it is performed, in the user's own unit.
     pub time: u64,
     /// What the row does.
     pub op: Op,
