@@ -14,13 +14,13 @@ use Rattle.retro_io.specs.Sink.{Appends, AppendsPrefixOf, AppendsProperPrefix}
 use Rattle.retro_io.specs.SinkLaws.{Appends-append, Appends-none, AppendsPrefixOf-from, AppendsPrefixOf-parts}
 use Rattle.retro_io.specs.Source.{GivesCount}
 use Rattle.workbench.specs.Bench.{Bench}
-use Rattle.workbench.specs.Reaction.{Reaction, reacts}
+use Rattle.workbench.specs.Reaction.{Reaction, reacts, reacts_to}
 use Rattle.retro_cli.specs.Output.{answers_to, output, has_refusal, refuses_one, up_to_last_feed}
 use Rattle.retro_cli.specs.declared.stop.Stop.{Stop}
 use Rattle.retro_cli.specs.declared.stop.Stop.TheVariants as stops
 use Rattle.retro_cli.specs.Stop.{stops_at_write}
 use Rattle.retro_cli.specs.Run.{AppendsAnswersOfFirst, AppendsAnswersOfTaken, AppendsFirstAnswers, AppendsOutput, AppendsOutputPart, AppendsOutputPrefix, MatchesRefusal}
-use Rattle.retro_cli.proofs.GoesOn.{GivenAs, GoesOn, gives, none_is_not_some, reacts_as, some_same}
+use Rattle.retro_cli.proofs.GoesOn.{GivenAs, GoesOn, gives, none_is_not_some, some_same}
 use Rattle.retro_cli.proofs.Reactions.{answers_to-none, before_last, output_after, output_from}
 use Rattle.retro_cli.proofs.WholeLines.{up_to-unbroken}
 
@@ -81,7 +81,7 @@ prefix_between first written written' so_far answer later all whole before part 
 -- and so it is of the output, at the answer to a line
 part_at_line : (bytes now after : List ℕ) (first : Option (List ℕ)) (bench : Bench) (refused : Bool) (mark : Mark) (long : Bool) (shown : List ℕ) (ended : Bool)
     (written written' : Option (List ℕ)) → GivenAs mark long → GivesNextOf mark shown ended (Some now) (Some after)
-    → GoesOn bytes first bench refused false (Some now) written → AppendsProperPrefix written (reacts_as bench long shown).answer written'
+    → GoesOn bytes first bench refused false (Some now) written → AppendsProperPrefix written (reacts_to bench shown long).answer written'
     → AppendsProperPrefix first (output bytes) written'
 part_at_line bytes now after first bench refused mark long shown ended written written' as_given next on part =
     let given = gives mark long shown ended now after as_given next in
@@ -94,7 +94,7 @@ part_at_line bytes now after first bench refused mark long shown ended written w
 pub part_in_line : (script first : Option (List ℕ)) (bench : Bench) (refused : Bool) (mark : Mark) (long : Bool) (shown : List ℕ) (ended : Bool)
     (rest rest' written written' : Option (List ℕ)) → GivenAs mark long → GivesNextOf mark shown ended rest rest'
     → ((bytes : List ℕ) → script ≡ Some bytes → GoesOn bytes first bench refused false rest written)
-    → AppendsProperPrefix written (reacts_as bench long shown).answer written' → AppendsOutputPart script first written'
+    → AppendsProperPrefix written (reacts_to bench shown long).answer written' → AppendsOutputPart script first written'
 part_in_line None first bench refused mark long shown ended rest rest' written written' as_given next on part = tt
 part_in_line (Some bytes) first bench refused mark long shown ended None rest' written written' as_given next on part =
     absurd (none_is_not_some (on bytes refl).rest_is)

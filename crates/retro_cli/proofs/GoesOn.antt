@@ -8,11 +8,9 @@ use Rattle.retro_io.specs.Lines.{lines, longest_line, StartsWith}
 use Rattle.retro_io.specs.Marks.{GivesNext, GivesNextOf}
 use Rattle.retro_io.specs.Sink.{Appends}
 use Rattle.retro_io.specs.SinkLaws.{Appends-append, Appends-none}
-use Rattle.script_grammar.specs.declared.command.LineError.TheVariants as errors
-use Rattle.script_grammar.specs.Command.{command, read}
 use Rattle.workbench.specs.Answers.{bench_after}
 use Rattle.workbench.specs.Bench.{Bench}
-use Rattle.workbench.specs.Reaction.{Reaction, reaction_to, reacts}
+use Rattle.workbench.specs.Reaction.{Reaction, reacts, reacts_to}
 use Rattle.retro_cli.specs.Output.{answers_to, refuses_one}
 use Rattle.retro_cli.proofs.Reactions.{answers_to-line, answers_to-none, bench_after-line, refuses_one-line, refuses_one-none}
 use Rattle.retro_cli.proofs.WholeLines.{AreWhole, are_whole-none, further}
@@ -83,34 +81,24 @@ GivenAs Whole long = long ≡ false
 GivenAs Long long = long ≡ true
 GivenAs End long = ⊥
 
--- the reaction to a line that was given with this flag
-abbrev pub reacts_as : Bench → Bool → List ℕ → Reaction
-reacts_as bench long shown = reaction_to bench (if long then Err errors.Long else command shown)
-
 -- the line that was given, of which this is shown
 pub record Gives (long : Bool) (shown : List ℕ) (ended : Bool) (now after : List ℕ) : Type 0 where
   pub line : List ℕ
-  pub reaction : (bench : Bench) → reacts bench line ≡ reacts_as bench long shown
+  pub reaction : (bench : Bench) → reacts bench line ≡ reacts_to bench shown long
   pub cut : lines now ≡ line ∷ lines after
   pub starts : StartsWith now line after ended
-
-read_short : (line : List ℕ) → length line ≤ longest_line → read line ≡ command line
-read_short line short = rw (le-ltb _ _ short) refl
-
-read_long : (line : List ℕ) → longest_line < length line → read line ≡ Err errors.Long
-read_long line long = rw (lt-ltb _ _ long) refl
 
 pub gives : (mark : Mark) (long : Bool) (shown : List ℕ) (ended : Bool) (now after : List ℕ) → GivenAs mark long → GivesNext mark shown ended now after
     → Gives long shown ended now after
 gives Whole long shown ended now after as_given next = record {
   line = shown;
-  reaction = λ bench. rw as_given (ap (reaction_to bench) (read_short shown next.0));
+  reaction = λ bench. rw as_given (ap (reacts_to bench shown) (le-ltb longest_line (length shown) next.0));
   cut = next.1;
   starts = next.2;
 }
 gives Long long shown ended now after as_given next = record {
   line = next.0;
-  reaction = λ bench. rw as_given (ap (reaction_to bench) (read_long next.0 next.2));
+  reaction = λ bench. rw as_given (ap (reacts_to bench next.0) (lt-ltb longest_line (length next.0) next.2));
   cut = next.3;
   starts = next.4;
 }
@@ -119,8 +107,8 @@ gives End long shown ended now after as_given next = absurd as_given
 pub goes_on_next : (mark : Mark) (long : Bool) (shown : List ℕ) (ended : Bool) (bytes : List ℕ) (first : Option (List ℕ)) (bench : Bench) (refused : Bool)
     (rest rest' written written' : Option (List ℕ)) → GivenAs mark long → GivesNextOf mark shown ended rest rest'
     → GoesOn bytes first bench refused false rest written
-    → Appends written (reacts_as bench long shown).answer written'
-    → GoesOn bytes first (reacts_as bench long shown).bench (refused || (reacts_as bench long shown).refused) ended rest' written'
+    → Appends written (reacts_to bench shown long).answer written'
+    → GoesOn bytes first (reacts_to bench shown long).bench (refused || (reacts_to bench shown long).refused) ended rest' written'
 goes_on_next mark long shown ended bytes first bench refused None rest' written written' as_given next on appended =
     absurd (none_is_not_some on.rest_is)
 goes_on_next mark long shown ended bytes first bench refused (Some now) None written written' as_given next on appended = absurd next

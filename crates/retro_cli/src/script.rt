@@ -5,12 +5,10 @@ ghost use Rattle.retro_io.specs.Sink.{Appends, AppendsProperPrefix};
 ghost use Rattle.retro_io.specs.Flushes.{EndsWithFlush, StaysUnflushed};
 ghost use Rattle.retro_io.specs.Source.{GivesCount};
 ghost use Rattle.retro_io.specs.LineReader.{taken, given, limit_of, has_failed, reference_of, rest_of, source_of};
-ghost use Rattle.script_grammar.specs.declared.command.LineError.TheVariants as errors;
-ghost use Rattle.script_grammar.specs.Command.{command};
 ghost use Rattle.retro_cli.specs.Output.{has_refusal};
 ghost use Rattle.retro_cli.specs.Run.{is_run, is_read_fault, is_write_fault, AppendsFirstAnswers, AppendsOutput, AppendsOutputPart, AppendsOutputPrefix, AppendsAnswersOfFirst, AppendsAnswersOfTaken, EndsBetweenLines, EndsWithoutFault, HasAnswered, MayBeTooLong, MatchesRefusal, status_of};
 ghost use Rattle.retro_cli.specs.Stop.{stops_at_read, stops_at_write};
-ghost use Rattle.workbench.specs.Reaction.{reaction_to};
+ghost use Rattle.workbench.specs.Reaction.{reacts_to};
 
 use crate::stop::Stop;
 use crate::{Status, Words};
@@ -30,10 +28,10 @@ fn answer_line<K: Sink>(
 ) -> Result<bool, Stop>
     requires within { length line.now ≤ longest_line }
     requires full { IsTrue long → length line.now ≡ longest_line }
-    ensures answered { IfOk result (λ refused. let reaction = reaction_to bench.old (if long then Err errors.Long else command line.now) in
+    ensures answered { IfOk result (λ refused. let reaction = reacts_to bench.old line.now long in
         (bench.new ≡ reaction.bench) × (refused ≡ reaction.refused)
         × Appends (K.written sink.old) reaction.answer (K.written sink.new)) }
-    ensures part { IsErrOf result Stop.WriteFault → (let reaction = reaction_to bench.old (if long then Err errors.Long else command line.now) in
+    ensures part { IsErrOf result Stop.WriteFault → (let reaction = reacts_to bench.old line.now long in
         AppendsProperPrefix (K.written sink.old) reaction.answer (K.written sink.new)) }
     ensures untouched { OnErr result (stops_at_write result ≡ false → sink.new ≡ sink.old) }
     ensures unflushed { OnOk result (StaysUnflushed ⟦<K as Sink>⟧ sink.old sink.new) }
