@@ -10,7 +10,7 @@ use Rattle.retro_io.specs.LineLaws.{unbroken-append}
 use Rattle.retro_io.specs.LineReader.{held_and_left}
 use Rattle.retro_io.specs.Lines.{lines, has_line_feed}
 use Rattle.retro_io.specs.Marks.{GivesNextOf}
-use Rattle.retro_io.specs.Sink.{Appends, AppendsPrefixOf, AppendsProperPrefix}
+use Rattle.retro_io.specs.Sink.{Appends, AppendsProperPrefix}
 use Rattle.retro_io.specs.SinkLaws.{Appends-append, Appends-none, AppendsPrefixOf-from, AppendsPrefixOf-parts}
 use Rattle.retro_io.specs.Source.{GivesCount}
 use Rattle.workbench.specs.Bench.{Bench}

@@ -1,5 +1,5 @@
 -- Why a run stops, and what the counts are then.
-use Rattle.std.proofs.Common.{◌≡◌, ℕ, Bool, true, false, ◌≤◌, ◌-◌, ◌+◌, Result, Ok, Err, List, length, drop, arith, refl, sym, ap, ◌∙◌, length-drop, Option, Some, None}
+use Rattle.std.proofs.Common.{◌≡◌, ℕ, Bool, true, false, ◌≤◌, ◌-◌, ◌+◌, Result, Ok, Err, List, drop, arith, refl, ap, ◌∙◌, length-drop, Option, Some, None}
 use Rattle.std.specs.Prelude.{OnErr}
 use Rattle.std.proofs.Math.Nat.{sub_self}
 use Rattle.std.proofs.lemmas.List.{drop-drop}
