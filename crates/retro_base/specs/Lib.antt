@@ -10,6 +10,8 @@ pub mod Timeline
 pub mod Questions
 pub mod Bridges
 pub mod Changes
+pub mod Weights
+pub mod BridgeLaws
 pub mod Counting
 pub mod Content
 pub mod Text

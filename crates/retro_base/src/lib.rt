@@ -15,6 +15,7 @@
 //! - Limits: `MAX_ROWS`, `MAX_NEXT`, which are those of `specs/Limits.antt`.
 #![tactic(auto)]
 
+mod bridge_laws;
 mod content;
 mod counting;
 mod kind;
@@ -32,6 +33,7 @@ mod row;
 mod steps;
 mod text;
 
+pub use bridge_laws::{dead_come_first, weights_count_the_dead};
 pub use kind::Kind;
 pub use limits::{MAX_NEXT, MAX_ROWS, limits_are_those_stated};
 pub use listing::Listing;

@@ -1,0 +1,9 @@
+-- The lemmas behind the laws on bridges.
+pub mod EntryOrder
+pub mod Entries
+pub mod Tests
+pub mod Moves
+pub mod DeadFirst
+pub mod Histories
+pub mod Carried
+pub mod Weighing
