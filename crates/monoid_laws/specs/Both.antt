@@ -1,6 +1,6 @@
 -- Two values of the same items, side by side.
 use Rattle.std.specs.Prelude.{List}
-use Rattle.monoid_laws.specs.Stretch.{measure_of}
+use Rattle.monoid_laws.specs.Measure.{measure_of}
 
 -- each part joined by its own join
 abbrev pub joined_both : {A B : Type 0} → (A → A → A) → (B → B → B) → A × B → A × B → A × B

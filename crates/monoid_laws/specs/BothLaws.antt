@@ -1,7 +1,7 @@
 -- Two monoids side by side are one.
 use Rattle.std.proofs.Common.{◌≡◌, ℕ, List, [], ◌∷◌, refl, ap}
 use Rattle.monoid_laws.specs.Laws.{MonoidLaws}
-use Rattle.monoid_laws.specs.Stretch.{measure_of}
+use Rattle.monoid_laws.specs.Measure.{measure_of}
 use Rattle.monoid_laws.specs.Both.{joined_both, both_of}
 
 same : {A B : Type 0} {a b : A} {c d : B} → a ≡ b → c ≡ d → (let v : A × B = (a, c) in v) ≡ (b, d)

@@ -4,7 +4,7 @@ use Rattle.std.specs.Prelude.{◌≡◌, ℕ, ◌+◌, ◌<◌, false, Option, S
 use Rattle.std.specs.declared.cmp.Ordering.{Ordering}
 use Rattle.std.specs.declared.cmp.Ordering.TheVariants.{Less, Equal, Greater}
 use Rattle.std.specs.Ordering.{is_gt}
-use Rattle.monoid_laws.specs.Stretch.{measure_of}
+use Rattle.monoid_laws.specs.Measure.{measure_of}
 
 -- how many items there are, and the first of the greatest elements with its offset
 pub record Extreme (E : Type 0) : Type 0 where
@@ -22,7 +22,7 @@ greater_of Less a b = b
 greater_of Equal a b = a
 greater_of Greater a b = a
 
--- the first of the greatest in an earlier and a later stretch
+-- the first of the greatest in an earlier and a later range
 abbrev pub first_greatest : {E : Type 0} → (E → E → Ordering) → Option (E × ℕ) → Option (E × ℕ) → Option (E × ℕ)
 first_greatest order None b = b
 first_greatest order (Some a) None = Some a

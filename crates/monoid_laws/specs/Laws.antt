@@ -1,4 +1,4 @@
--- What a monoid over stretches of items owes.
+-- What a monoid over ranges of items owes.
 use Rattle.std.specs.Prelude.{◌≡◌, ℕ, ◌+◌}
 
 -- a unit of no items, a join that adds them, and the three laws of a monoid

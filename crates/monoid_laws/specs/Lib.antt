@@ -4,8 +4,8 @@ pub mod CountLaws
 pub mod Extreme
 pub mod ExtremeLaws
 pub mod Laws
+pub mod Measure
 pub mod MeasureLaws
-pub mod Stretch
 pub mod Summed
 pub mod SummedLaws
 pub mod Walk

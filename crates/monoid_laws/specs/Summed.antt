@@ -1,4 +1,4 @@
--- The sum of a stretch of numbers.
+-- The sum of a range of numbers.
 use Rattle.std.specs.Prelude.{ℕ, ◌+◌, ◌*◌, ◌^◌, ◌≤◌, ℤ, pos, ◌+ℤ◌, nat_abs, List, [], ◌∷◌}
 
 -- how many numbers there are, and their sum

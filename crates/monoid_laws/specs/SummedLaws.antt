@@ -2,7 +2,7 @@
 use Rattle.std.proofs.Common.{◌≡◌, ℕ, ℤ, pos, ◌+ℤ◌, List, [], ◌∷◌, refl, ap, arith}
 use Rattle.std.proofs.lemmas.Int.{ints}
 use Rattle.monoid_laws.specs.Laws.{MonoidLaws}
-use Rattle.monoid_laws.specs.Stretch.{measure_of}
+use Rattle.monoid_laws.specs.Measure.{measure_of}
 use Rattle.monoid_laws.specs.Summed.{Summed, no_sum, one_sum, joined_sum, sum_of}
 
 abbrev summed : ℕ → ℤ → Summed

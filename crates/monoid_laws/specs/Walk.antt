@@ -2,7 +2,7 @@
 -- lowest point. Walks are a monoid (the bicyclic one), so no fact about them has to be kept.
 use Rattle.std.specs.Prelude.{◌≡◌, ℕ, ◌+◌, ◌-◌, ◌≤◌, ℤ, pos, negsuc, ◌-ℤ◌, neg_ℤ, ◌≤ℤ◌, List, take}
 use Rattle.monoid_laws.specs.Summed.{sum_of}
-use Rattle.monoid_laws.specs.Stretch.{measure_of}
+use Rattle.monoid_laws.specs.Measure.{measure_of}
 
 pub record Walk : Type 0 where
   pub items : ℕ

@@ -1,15 +1,15 @@
-//! Values of stretches of items that can be joined: the monoids over which balanced trees are built.
+//! Values of ranges of items that can be joined: the monoids over which balanced trees are built.
 //!
-//! A `Monoid` says what a stretch of items amounts to: how many they are, their sum, the least sum of
-//! a prefix, their greatest element. Two neighbouring stretches are joined without a look at their
-//! items, a stretch of no items changes nothing, and it does not matter which of three neighbours are
+//! A `Monoid` says what a range of items amounts to: how many they are, their sum, the least sum of
+//! a prefix, their greatest element. Two neighbouring ranges are joined without a look at their
+//! items, a range of no items changes nothing, and it does not matter which of three neighbours are
 //! joined first. These laws are part of the trait, and each implementation proves them, so that a tree
-//! which keeps one value a subtree answers for any stretch after a few joins.
+//! which keeps one value a subtree answers for any range after a few joins.
 //!
 //! Each value knows how many items it was made of. That number fits 32 bits, and bounds every other
 //! field, so that no sum wraps: joining asks for nothing else.
 //!
-//! | Type | What a stretch amounts to |
+//! | Type | What a range amounts to |
 //! |---|---|
 //! | `Count` | the number of its items |
 //! | `Sum` | the exact sum of 64-bit numbers |
@@ -18,7 +18,7 @@
 //! | `Both` | two values side by side |
 //!
 //! Contracts say what a value means by the list that it was made of: `measure_of` of
-//! specs/Stretch.antt joins the values of a list's items, and each reader says what it answers of it.
+//! specs/Measure.antt joins the values of a list's items, and each reader says what it answers of it.
 //! specs/MeasureLaws.antt has what the laws give of it, for the proofs of the layer above.
 #![tactic(auto)]
 

@@ -1,7 +1,7 @@
 ghost use Rattle.std.specs.Prelude.{◌≡◌, ℕ, ◌+◌, ◌^◌, ◌<◌};
 ghost use Rattle.monoid_laws.specs.Laws.{MonoidLaws};
 
-/// A value that a stretch of items makes, so that neighbouring stretches can be joined.
+/// A value that a range of items makes, so that neighbouring ranges can be joined.
 pub trait Monoid: Copy {
     /// How many items the value was made of.
     ghost items_of: { Self → ℕ };
@@ -9,7 +9,7 @@ pub trait Monoid: Copy {
     /// The value of no items.
     ghost unit_value: { Self };
 
-    /// The value of one stretch followed by another.
+    /// The value of one range followed by another.
     ghost joined: { Self → Self → Self };
 
     /// The value of no items.
@@ -31,7 +31,7 @@ pub trait Monoid: Copy {
 
 /// An item that a monoid measures.
 pub trait Measured: Copy {
-    /// What stretches of items make.
+    /// What ranges of items make.
     type Measure: Monoid;
 
     /// The value of the item alone.

@@ -1,7 +1,7 @@
 ghost use Rattle.std.specs.Prelude.{◌≡◌, ◌+◌, ℤ, List};
 ghost use Rattle.monoid_laws.specs.Summed.{Summed, no_sum, one_sum, joined_sum, sum_of};
 ghost use Rattle.monoid_laws.specs.SummedLaws.{sum_laws};
-ghost use Rattle.monoid_laws.specs.Stretch.{measure_of};
+ghost use Rattle.monoid_laws.specs.Measure.{measure_of};
 
 use crate::Monoid;
 use std::marker::Model;

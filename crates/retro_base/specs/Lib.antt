@@ -7,6 +7,9 @@ pub mod Answers
 pub mod Edits
 pub mod Places
 pub mod Timeline
+pub mod Order
+pub mod OrderLaws
+pub mod TimelineLaws
 pub mod Questions
 pub mod Bridges
 pub mod Changes
@@ -16,3 +19,6 @@ pub mod Counting
 pub mod Content
 pub mod Text
 pub mod LineLength
+pub mod Digits
+pub mod Visits
+pub mod VisitsLaws

@@ -13,8 +13,8 @@ module _ (p : ℕ → Bool) where
   parts xs = filter is_filled (slice_split p xs)
 
   -- what is behind the dividing bytes at the front
-  abbrev behind : List ℕ → List ℕ
-  behind xs = drop (prefix_len p xs) xs
+  abbrev after : List ℕ → List ℕ
+  after xs = drop (prefix_len p xs) xs
 
   -- the bytes before the first dividing byte, and those from it on
   abbrev first : List ℕ → List ℕ
@@ -41,29 +41,29 @@ module _ (p : ℕ → Bool) where
   parts_cut xs = let c = cut xs in rw (c.whole, c.tail) refl
 
   -- dividing bytes at the front make no part
-  parts_behind : (xs : List ℕ) → parts xs ≡ parts (behind xs)
-  parts_behind [] = refl
-  parts_behind (x ∷ xs) = elim (cases_Bool (p x)) [
-    | inl divides ↦ rw (divides, one-add) (parts_behind xs)
+  parts_after : (xs : List ℕ) → parts xs ≡ parts (after xs)
+  parts_after [] = refl
+  parts_after (x ∷ xs) = elim (cases_Bool (p x)) [
+    | inl divides ↦ rw (divides, one-add) (parts_after xs)
     | inr joins ↦ rw (joins, joins) refl
   ]
 
   -- where no part is in front, nothing is
-  nothing_behind : (xs : List ℕ) → is_filled (first (behind xs)) ≡ false → behind xs ≡ []
-  nothing_behind [] empty = refl
-  nothing_behind (x ∷ xs) empty = elim (cases_Bool (p x)) [
-    | inl divides ↦ rw (divides, one-add) (nothing_behind xs (rw (divides, one-add) at empty))
-    | inr joins ↦ let filled : is_filled (first (behind (x ∷ xs))) ≡ true = rw (joins, joins, one-add) refl in cc
+  nothing_after : (xs : List ℕ) → is_filled (first (after xs)) ≡ false → after xs ≡ []
+  nothing_after [] empty = refl
+  nothing_after (x ∷ xs) empty = elim (cases_Bool (p x)) [
+    | inl divides ↦ rw (divides, one-add) (nothing_after xs (rw (divides, one-add) at empty))
+    | inr joins ↦ let filled : is_filled (first (after (x ∷ xs))) ≡ true = rw (joins, joins, one-add) refl in cc
   ]
 
-  pub parts_filled : (xs : List ℕ) → is_filled (first (behind xs)) ≡ true → parts xs ≡ first (behind xs) ∷ parts (others (behind xs))
-  parts_filled xs filled = parts_behind xs ∙ parts_cut (behind xs) ∙ rw filled refl
+  pub parts_filled : (xs : List ℕ) → is_filled (first (after xs)) ≡ true → parts xs ≡ first (after xs) ∷ parts (others (after xs))
+  parts_filled xs filled = parts_after xs ∙ parts_cut (after xs) ∙ rw filled refl
 
-  pub parts_empty : (xs : List ℕ) → is_filled (first (behind xs)) ≡ false → parts xs ≡ []
-  parts_empty xs empty = parts_behind xs ∙ ap (λ ys. parts ys) (nothing_behind xs empty)
+  pub parts_empty : (xs : List ℕ) → is_filled (first (after xs)) ≡ false → parts xs ≡ []
+  parts_empty xs empty = parts_after xs ∙ ap (λ ys. parts ys) (nothing_after xs empty)
 
-  pub others_empty : (xs : List ℕ) → is_filled (first (behind xs)) ≡ false → parts (others (behind xs)) ≡ []
-  others_empty xs empty = rw (nothing_behind xs empty) refl
+  pub others_empty : (xs : List ℕ) → is_filled (first (after xs)) ≡ false → parts (others (after xs)) ≡ []
+  others_empty xs empty = rw (nothing_after xs empty) refl
 
   -- spaces alone make no part, and anything else does
   pub only_dividing : (xs : List ℕ) → list_all p xs ≡ is_nil (parts xs)
@@ -94,9 +94,9 @@ pub words_none : (line : List ℕ) → is_filled (first_word line) ≡ false →
 unfolding words
 words_none line empty = parts_empty is_space line empty
 
-pub words_none_behind : (line : List ℕ) → is_filled (first_word line) ≡ false → words (after_first_word line) ≡ []
+pub words_none_after : (line : List ℕ) → is_filled (first_word line) ≡ false → words (after_first_word line) ≡ []
 unfolding words
-words_none_behind line empty = others_empty is_space line empty
+words_none_after line empty = others_empty is_space line empty
 
 -- a word that was cut off a line, and what is behind it, by their places: `&line[start..].split_at(size)`
 pub record IsCutOff (line word rest : List ℕ) (start size : ℕ) : Type 0 where
@@ -120,7 +120,7 @@ pub cut_off_none : (line word rest : List ℕ) (start size : ℕ) → IsCutOff l
 cut_off_none line word rest start size cut none =
     let same : (word ≡ first_word line) × (rest ≡ after_first_word line) = cut_off_is line word rest start size cut in
     let empty : is_filled (first_word line) ≡ false = ap is_filled (sym same.0) ∙ filled_by_length word ∙ ap not none in
-    (words_none line empty, ap words same.1 ∙ words_none_behind line empty)
+    (words_none line empty, ap words same.1 ∙ words_none_after line empty)
 
 pub cut_off_some : (line word rest : List ℕ) (start size : ℕ) → IsCutOff line word rest start size → eqb (length word) 0 ≡ false → words line ≡ word ∷ words rest
 cut_off_some line word rest start size cut some =

@@ -88,9 +88,9 @@ row_number_zero : command (codes "q delete #0") ≡ Err Syntax
 unfolding command words is_name row_number_of
 row_number_zero = refl
 
-space_behind_hash : command (codes "q delete # 1") ≡ Err Syntax
+space_after_hash : command (codes "q delete # 1") ≡ Err Syntax
 unfolding command words is_name row_number_of
-space_behind_hash = refl
+space_after_hash = refl
 
 plus_sign : command (codes "q at 1 enq +5") ≡ Err Syntax
 unfolding command words is_name time_of value_of

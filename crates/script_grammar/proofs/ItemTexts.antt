@@ -24,9 +24,9 @@ one_more old out new items i item so_far at more =
 around : (items : List Item) (i : ℕ) (item : Item) → slice_get items i ≡ Some item → texts items ≡ texts (take i items) ++ (item_text item ++ texts (drop (i + 1) items))
 around items i item at =
     let within : i < length items = slice_get_within items i item at in
-    let behind : texts (drop i items) ≡ item_text item ++ texts (drop (i + 1) items) =
+    let after : texts (drop i items) ≡ item_text item ++ texts (drop (i + 1) items) =
     at_drop_more texts items i item within ∙ ap (λ x. texts (x ∷ drop (i + 1) items)) (get_or_from_slice_get items i item item at) in
-    ap texts (sym (take-append-drop i items)) ∙ flat_map-append item_text (take i items) (drop i items) ∙ ap (λ text. texts (take i items) ++ text) behind
+    ap texts (sym (take-append-drop i items)) ∙ flat_map-append item_text (take i items) (drop i items) ∙ ap (λ text. texts (take i items) ++ text) after
 
 -- a first part of the item's text makes a first part of the whole
 pub stopped : (old out new : List ℕ) (items : List Item) (i : ℕ) (item : Item) → out ≡ old ++ texts (take i items) → slice_get items i ≡ Some item → AppendsPrefix out new (item_text item) → AppendsPrefix old new (texts items)

@@ -1,5 +1,6 @@
 -- The numbers of the script, as words spell them.
 use Rattle.std.specs.Prelude.{ℕ, ◌+◌, ◌-◌, ◌*◌, ◌^◌, ◌==◌, ◌&&◌, nat_le, ℤ, pos, neg_ℤ, List, [], ◌∷◌, Option, Some, None, option_map, option_and_then, if◌then◌else◌}
+use Rattle.retro_base.specs.Limits.{next_limit}
 use Rattle.retro_base.specs.Name.{is_digit}
 
 -- the number whose digits are those of a number and then these
@@ -28,10 +29,10 @@ time_of word = option_and_then (up_to (2 ^ 64 - 1)) (natural_of word)
 unfoldable pub index_of : List ℕ → Option ℕ
 index_of word = option_and_then (up_to (2 ^ 64 - 1)) (natural_of word)
 
--- the number of a row: `#`, byte 35, and a natural from 1 to 2 ^ 24 - 1
+-- the number of a row: `#`, byte 35, and a natural from 1 to below the limit of numbers
 unfoldable pub row_number_of : List ℕ → Option ℕ
 row_number_of [] = None
-row_number_of (byte ∷ bytes) = if byte == 35 then option_and_then (between 1 (2 ^ 24 - 1)) (natural_of bytes) else None
+row_number_of (byte ∷ bytes) = if byte == 35 then option_and_then (between 1 (next_limit - 1)) (natural_of bytes) else None
 
 -- a value: an optional `-` and digits, from -2 ^ 63 up to 2 ^ 63 - 1
 unfoldable pub value_of : List ℕ → Option ℤ

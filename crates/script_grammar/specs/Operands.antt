@@ -10,11 +10,11 @@ alone what [] = Some what
 alone what (word ∷ rest) = None
 
 -- a value, and a second one if there are words behind it
-abbrev pub operands_behind : ℤ → List (List ℕ) → Option Operands
-operands_behind first [] = Some (Unary first)
-operands_behind first (word ∷ rest) = option_and_then (λ second. alone (Binary first second) rest) (value_of word)
+abbrev pub operands_after : ℤ → List (List ℕ) → Option Operands
+operands_after first [] = Some (Unary first)
+operands_after first (word ∷ rest) = option_and_then (λ second. alone (Binary first second) rest) (value_of word)
 
 -- no value, one or two, and no word behind them
 abbrev pub operands_of : List (List ℕ) → Option Operands
 operands_of [] = Some Bare
-operands_of (word ∷ rest) = option_and_then (λ first. operands_behind first rest) (value_of word)
+operands_of (word ∷ rest) = option_and_then (λ first. operands_after first rest) (value_of word)

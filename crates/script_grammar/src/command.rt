@@ -33,18 +33,18 @@ pub enum Command {
 /// A place in a timeline, between its rows.
 #[derive(Clone, Copy, Debug, PartialEq, Eq)]
 pub enum Spot {
-    /// Behind the rows up to this time.
+    /// After the rows up to this time.
     At { time: u64 },
     /// In front of the row with this number.
     Before { number: u32 },
-    /// Behind the row with this number.
+    /// After the row with this number.
     After { number: u32 },
 }
 
 /// When a question is asked.
 #[derive(Clone, Copy, Debug, PartialEq, Eq)]
 pub enum Moment {
-    /// Behind all rows.
+    /// After all rows.
     Now,
     /// At a place in the history.
     Then { spot: Spot },
@@ -62,8 +62,8 @@ pub enum Query {
 /// Why a line has no command.
 #[derive(Clone, Copy, Debug, PartialEq, Eq, Error)]
 pub enum LineError {
-    /// It has more than 4,096 bytes.
-    #[error("the line is longer than 4096 bytes")]
+    /// It has more bytes than a line may have.
+    #[error("the line is too long")]
     Long,
     /// It is in no form of the grammar.
     #[error("the line is in no form of the grammar")]

@@ -1,4 +1,5 @@
 ghost use Rattle.std.specs.Prelude.{◌≡◌, ◌≤◌, ◌∷◌, length, IsTrue, IfOk, Err, if◌then◌else◌};
+ghost use Rattle.retro_base.specs.Limits.{longest_line};
 ghost use Rattle.script_grammar.specs.Command.{about, begins_comment, command, command_of, delete_of, insert_of, kind_named, kind_of_word, new_of, StartsNoPq};
 
 use crate::ask::read_ask;
@@ -9,11 +10,12 @@ use crate::words::Words;
 use crate::{Command, LineError};
 use retro_base::{Kind, Name};
 
-/// The command of a line, of which at most 4,096 bytes are given: `long` says that it has more.
+/// The command of a line. Of a line that is too long its first bytes are given, as many as a line may
+/// have, and `long` says that it has more.
 #[tactic(auto, unfolding(crate::specs::Command::command))]
 pub fn read_line(line: &[u8], long: bool) -> Result<Command, LineError>
-    requires within { length line.now ≤ 4096 }
-    requires full { IsTrue long → length line.now ≡ 4096 }
+    requires within { length line.now ≤ longest_line }
+    requires full { IsTrue long → length line.now ≡ longest_line }
     ensures exact { result ≡ (if long then Err LineError.Long else command line.now) }
     ensures kind { IfOk result StartsNoPq }
 {

@@ -1,4 +1,5 @@
 ghost use Rattle.std.specs.Prelude.{◌≡◌, ◌+◌, ◌-◌, ◌*◌, ◌^◌, ◌≤◌, option_and_then};
+ghost use Rattle.retro_base.specs.Limits.{next_limit};
 ghost use Rattle.script_grammar.specs.Numbers.{between, index_of, natural_of, row_number_of, time_of, up_to, value_of};
 
 use retro_base::MAX_NEXT;
@@ -43,7 +44,7 @@ pub fn read_value(word: &[u8]) -> Option<i64>
 
 /// The number of a row, if a row can have it.
 fn row_number(number: u64) -> Option<u32>
-    ensures { result ≡ between 1 (2 ^ 24 - 1) number }
+    ensures { result ≡ between 1 (next_limit - 1) number }
 {
     if 1 <= number && number < u64::from(MAX_NEXT) {
         u32::try_from(number).ok()

@@ -1,5 +1,5 @@
 ghost use Rattle.std.specs.Prelude.{◌≡◌};
-ghost use Rattle.script_grammar.specs.Operands.{operands_behind, operands_of};
+ghost use Rattle.script_grammar.specs.Operands.{operands_after, operands_of};
 
 use crate::numbers::read_value;
 use crate::words::Words;
@@ -21,12 +21,12 @@ pub fn read_operands(mut words: Words) -> Option<Operands>
 {
     match words.next_word() {
         None => Some(Operands::Bare),
-        Some(word) => read_operands_behind(read_value(word)?, words),
+        Some(word) => read_operands_after(read_value(word)?, words),
     }
 }
 
-fn read_operands_behind(first: i64, mut words: Words) -> Option<Operands>
-    ensures { result ≡ operands_behind first words.entry }
+fn read_operands_after(first: i64, mut words: Words) -> Option<Operands>
+    ensures { result ≡ operands_after first words.entry }
 {
     match words.next_word() {
         None => Some(Operands::Unary { value: first }),

@@ -1,11 +1,11 @@
--- Measures joined behind another one.
+-- Measures joined after another one.
 use Rattle.std.proofs.Common.{◌≡◌, ℕ, ◌∷◌, ◌++◌, List, sym, ap, ◌∙◌}
 use Rattle.monoid_laws.specs.Laws.{MonoidLaws}
-use Rattle.monoid_laws.specs.Stretch.{measure_of}
+use Rattle.monoid_laws.specs.Measure.{measure_of}
 use Rattle.monoid_laws.specs.MeasureLaws.{measure_of-around}
 
 module _ {A M : Type 0} {items : M → ℕ} {unit : M} {join : M → M → M} (laws : MonoidLaws items unit join) (measured : A → M) where
-  -- a stretch, an item and a stretch behind a measure
+  -- a range, an item and a range after a measure
   pub join_around : (before : M) (xs ys : List A) (x : A) → join (join (join before (measure_of unit join measured xs)) (measured x)) (measure_of unit join measured ys) ≡ join before (measure_of unit join measured (xs ++ x ∷ ys))
   join_around before xs ys x =
       ap (λ m. join m (measure_of unit join measured ys)) (laws.assoc before (measure_of unit join measured xs) (measured x))
@@ -13,8 +13,8 @@ module _ {A M : Type 0} {items : M → ℕ} {unit : M} {join : M → M → M} (l
       ∙ ap (join before) (sym (measure_of-around laws measured xs ys x))
 
   -- the same before a measure
-  pub around_join : (xs ys : List A) (x : A) (behind : M) → join (measure_of unit join measured xs) (join (measured x) (join (measure_of unit join measured ys) behind)) ≡ join (measure_of unit join measured (xs ++ x ∷ ys)) behind
-  around_join xs ys x behind =
-      sym (laws.assoc (measure_of unit join measured xs) (measured x) (join (measure_of unit join measured ys) behind))
-      ∙ sym (laws.assoc (join (measure_of unit join measured xs) (measured x)) (measure_of unit join measured ys) behind)
-      ∙ ap (λ m. join m behind) (sym (measure_of-around laws measured xs ys x))
+  pub around_join : (xs ys : List A) (x : A) (after : M) → join (measure_of unit join measured xs) (join (measured x) (join (measure_of unit join measured ys) after)) ≡ join (measure_of unit join measured (xs ++ x ∷ ys)) after
+  around_join xs ys x after =
+      sym (laws.assoc (measure_of unit join measured xs) (measured x) (join (measure_of unit join measured ys) after))
+      ∙ sym (laws.assoc (join (measure_of unit join measured xs) (measured x)) (measure_of unit join measured ys) after)
+      ∙ ap (λ m. join m after) (sym (measure_of-around laws measured xs ys x))

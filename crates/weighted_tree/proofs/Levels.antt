@@ -3,10 +3,11 @@ use Rattle.std.proofs.Common.{◌≡◌, ℕ, zero, suc, ◌+◌, ◌*◌, ◌^�
 use Rattle.std.proofs.lemmas.Nat.{pow-add}
 use Rattle.weighted_tree.specs.Balance.{weight}
 use Rattle.weighted_tree.specs.Nodes.{IsRoot}
-use Rattle.weighted_tree.specs.declared.tree.Node.{Node}
-use Rattle.weighted_tree.specs.Digits.{digits}
-use Rattle.weighted_tree.specs.Visits.{IsWithinLevels, OneALevel, FourALevel, FewVisits}
-use Rattle.weighted_tree.proofs.DigitsBound.{below-digits, digits-monotone}
+use Rattle.weighted_tree.specs.declared.subtree.Node.{Node}
+use Rattle.retro_base.specs.Digits.{digits}
+use Rattle.retro_base.specs.Visits.{VisitsWithin}
+use Rattle.retro_base.specs.VisitsLaws.{below-digits, digits-monotone}
+use Rattle.weighted_tree.specs.Levels.{IsWithinLevels, OneALevel, FourALevel}
 
 triple : ℕ → ℕ
 triple zero = zero
@@ -27,7 +28,7 @@ pub levels-of_digits : (whole : ℕ) → IsWithinLevels whole (3 * digits whole)
 levels-of_digits whole = subst (IsWithinLevels whole) (triple-is (digits whole)) (three_levels (digits whole) whole (below-digits whole))
 
 -- four visits a level are twelve a digit
-pub few-by_levels : (whole length before after : ℕ) → whole ≤ length + 1 → before ≤ after → FourALevel whole before after → FewVisits length before after
+pub few-by_levels : (whole length before after : ℕ) → whole ≤ length + 1 → before ≤ after → FourALevel whole before after → VisitsWithin 12 length before after
 few-by_levels whole length before after light none_lost visits = record {
   none_lost = none_lost;
   few = omega (arith, visits (3 * digits whole) (levels-of_digits whole), digits-monotone whole (length + 1) light);

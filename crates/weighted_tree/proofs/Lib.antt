@@ -1,11 +1,11 @@
-pub mod DigitsBound
 pub mod Joins
 pub mod Levels
 pub mod Middles
 pub mod Places
 pub mod PlacesBack
+pub mod PrefixSums
 pub mod SearchBefore
-pub mod SearchBehind
+pub mod SearchAfter
 pub mod SearchFrom
 pub mod SearchUpTo
-pub mod Stretches
+pub mod Ranges

@@ -4,10 +4,10 @@ use Rattle.std.proofs.lemmas.Bool.{cases_lt, cases_Bool}
 use Rattle.weighted_tree.specs.Search.{IsFalling, HoldsNowhere, IsLastPlace}
 
 module _ (whole : ℕ → Bool) (to : ℕ) (falling : IsFalling whole to) where
-  -- where it does not hold, it does not hold behind
+  -- where it does not hold, it does not hold after
   pub not_later : (place : ℕ) → whole place ≡ false → (later : ℕ) → place ≤ later → later ≤ to → whole later ≡ false
-  not_later place failing later behind within = elim (cases_Bool (whole later)) [
-    | inl holding ↦ absurd (cc (falling later place behind within holding, failing))
+  not_later place failing later after within = elim (cases_Bool (whole later)) [
+    | inl holding ↦ absurd (cc (falling later place after within holding, failing))
     | inr none ↦ none
   ]
 
@@ -17,21 +17,21 @@ module _ (whole : ℕ → Bool) (to : ℕ) (falling : IsFalling whole to) where
     front_falling place earlier order below holding =
         same earlier (omega arith) ∙ falling place earlier order (omega arith) (sym (same place below) ∙ holding)
 
-    -- it does not hold behind the part
-    module _ (behind : (later : ℕ) → end < later → later ≤ to → whole later ≡ false) where
+    -- it does not hold after the part
+    module _ (after : (later : ℕ) → end < later → later ≤ to → whole later ≡ false) where
       pub front_last : (place : ℕ) → IsLastPlace part end place → IsLastPlace whole to place
       front_last place last = record {
         within = omega (arith, last.within);
         holds_there = sym (same place last.within) ∙ last.holds_there;
-        not_behind = λ later above below. elim (cases_lt end later) [
-          | inl outside ↦ behind later outside below
-          | inr inside ↦ sym (same later inside) ∙ last.not_behind later above inside
+        not_after = λ later above below. elim (cases_lt end later) [
+          | inl outside ↦ after later outside below
+          | inr inside ↦ sym (same later inside) ∙ last.not_after later above inside
         ];
       }
 
       pub front_nowhere : HoldsNowhere part 0 end → HoldsNowhere whole 0 to
       front_nowhere none later above below = elim (cases_lt end later) [
-        | inl outside ↦ behind later outside below
+        | inl outside ↦ after later outside below
         | inr inside ↦ sym (same later inside) ∙ none later above inside
       ]
 
@@ -48,7 +48,7 @@ module _ (whole : ℕ → Bool) (to : ℕ) (falling : IsFalling whole to) where
     back_last place last = record {
       within = omega (arith, last.within);
       holds_there = sym (same place last.within) ∙ last.holds_there;
-      not_behind = λ later above below. sym (back_at later (omega arith) below) ∙ last.not_behind (later - by) (omega arith) (omega arith);
+      not_after = λ later above below. sym (back_at later (omega arith) below) ∙ last.not_after (later - by) (omega arith) (omega arith);
     }
 
     pub back_none : HoldsNowhere part 0 end → (later : ℕ) → by ≤ later → later ≤ to → whole later ≡ false

@@ -1,12 +1,13 @@
 -- The first place from `from` on, put together from the two sides of a node.
 use Rattle.std.proofs.Common.{◌≡◌, ℕ, zero, suc, ◌+◌, ◌-◌, ◌<◌, ◌≤◌, List, [], ◌∷◌, ◌++◌, Bool, true, false, refl, sym, ap, ◌∙◌, arith, take, drop, length, length-append}
 use Rattle.monoid_laws.specs.Laws.{MonoidLaws}
-use Rattle.monoid_laws.specs.Stretch.{measure_of, stretch}
+use Rattle.monoid_laws.specs.Measure.{measure_of}
+use Rattle.std.specs.List.{slice_range}
 use Rattle.monoid_laws.specs.MeasureLaws.{measure_of-around}
 use Rattle.weighted_tree.specs.Search.{IsRising, HoldsNowhere, IsFirstPlace, from_place}
-use Rattle.weighted_tree.specs.SearchSteps.{behind_place}
+use Rattle.weighted_tree.specs.SearchSteps.{after_place}
 use Rattle.weighted_tree.proofs.Places.{not_earlier, front_rising, front_first, back_rising, back_first, back_nowhere}
-use Rattle.weighted_tree.proofs.Stretches.{drop-before, drop-behind, stretch-before, stretch-behind, stretch-around}
+use Rattle.weighted_tree.proofs.Ranges.{drop-before, drop-after, range-before, range-after, range-around}
 
 drop_none : {A : Type 0} (k : ℕ) → drop k (let none : List A = [] in none) ≡ []
 drop_none zero = refl
@@ -16,9 +17,9 @@ take_none : {A : Type 0} (k : ℕ) → take k (let none : List A = [] in none) �
 take_none zero = refl
 take_none (suc k) = refl
 
--- an empty list has empty stretches
-pub stretch_none : {A : Type 0} (from to : ℕ) → stretch (let none : List A = [] in none) from to ≡ []
-stretch_none from to = ap (take (to - from)) (drop_none from) ∙ take_none (to - from)
+-- an empty list has empty ranges
+pub range_none : {A : Type 0} (from to : ℕ) → slice_range (let none : List A = [] in none) from to ≡ []
+range_none from to = ap (take (to - from)) (drop_none from) ∙ take_none (to - from)
 
 take_all : {A : Type 0} (xs : List A) → take (length xs) xs ≡ xs
 take_all [] = refl
@@ -34,15 +35,15 @@ module _ {A M : Type 0} {count : M → ℕ} {unit : M} {join : M → M → M} (l
   abbrev middle : M
   middle = join (measure_of unit join measured (drop from left)) (measured x)
 
-  -- behind the middle item
+  -- after the middle item
   module _ (beyond : length left < from) where
     right_same : (place : ℕ) → from - length left - 1 ≤ place → place ≤ length right → from_place holds unit join measured right (from - length left - 1) place ≡ from_place holds unit join measured whole from (length left + 1 + place)
     right_same place above within =
-        ap (λ k. holds (measure_of unit join measured (stretch right (from - length left - 1) k))) (let same : place ≡ length left + 1 + place - length left - 1 = omega arith in same)
-        ∙ ap (λ items. holds (measure_of unit join measured items)) (sym (stretch-behind left right x from (length left + 1 + place) beyond))
+        ap (λ k. holds (measure_of unit join measured (slice_range right (from - length left - 1) k))) (let same : place ≡ length left + 1 + place - length left - 1 = omega arith in same)
+        ∙ ap (λ items. holds (measure_of unit join measured items)) (sym (range-after left right x from (length left + 1 + place) beyond))
 
     pub right_measure : measure_of unit join measured (drop (from - length left - 1) right) ≡ measure_of unit join measured (drop from whole)
-    right_measure = ap (measure_of unit join measured) (sym (drop-behind left right x from beyond))
+    right_measure = ap (measure_of unit join measured) (sym (drop-after left right x from beyond))
 
     module _ (rising : IsRising (from_place holds unit join measured whole from) from (length whole)) where
       pub right_rising : IsRising (from_place holds unit join measured right (from - length left - 1)) (from - length left - 1) (length right)
@@ -57,13 +58,13 @@ module _ {A M : Type 0} {count : M → ℕ} {unit : M} {join : M → M → M} (l
   -- before it
   module _ (within : from ≤ length left) where
     left_same : (place : ℕ) → from ≤ place → place ≤ length left → from_place holds unit join measured left from place ≡ from_place holds unit join measured whole from place
-    left_same place above below = ap (λ items. holds (measure_of unit join measured items)) (sym (stretch-before left right x from place above below))
+    left_same place above below = ap (λ items. holds (measure_of unit join measured items)) (sym (range-before left right x from place above below))
 
-    deep_same : (place : ℕ) → 0 ≤ place → place ≤ length right → behind_place holds unit join measured middle right place ≡ from_place holds unit join measured whole from (length left + 1 + place)
+    deep_same : (place : ℕ) → 0 ≤ place → place ≤ length right → after_place holds unit join measured middle right place ≡ from_place holds unit join measured whole from (length left + 1 + place)
     deep_same place above below =
         ap holds (sym (measure_of-around laws measured (drop from left) (take place right) x))
         ∙ ap (λ k. holds (measure_of unit join measured (drop from left ++ x ∷ take k right))) (let same : place ≡ length left + 1 + place - length left - 1 = omega arith in same)
-        ∙ ap (λ items. holds (measure_of unit join measured items)) (sym (stretch-around left right x from (length left + 1 + place) within (omega arith)))
+        ∙ ap (λ items. holds (measure_of unit join measured items)) (sym (range-around left right x from (length left + 1 + place) within (omega arith)))
 
     middle_same : holds middle ≡ from_place holds unit join measured whole from (length left + 1)
     middle_same =
@@ -90,7 +91,7 @@ module _ {A M : Type 0} {count : M → ℕ} {unit : M} {join : M → M → M} (l
       pub left_first : (place : ℕ) → IsFirstPlace (from_place holds unit join measured left from) from (length left) place → IsFirstPlace (from_place holds unit join measured whole from) from (length whole) place
       left_first place first = front_first _ from (length whole) rising _ (length left) (omega (arith, whole_length)) left_same place first
 
-      pub deep_rising : IsRising (behind_place holds unit join measured middle right) 0 (length right)
+      pub deep_rising : IsRising (after_place holds unit join measured middle right) 0 (length right)
       deep_rising = back_rising _ from (length whole) rising _ 0 (length left + 1) (length right) (omega arith) (omega (arith, whole_length)) deep_same
 
       -- it holds nowhere on the left
@@ -106,7 +107,7 @@ module _ {A M : Type 0} {count : M → ℕ} {unit : M} {join : M → M → M} (l
           not_before = before_middle;
         }
 
-        pub deep_first : (place : ℕ) → IsFirstPlace (behind_place holds unit join measured middle right) 0 (length right) place → IsFirstPlace (from_place holds unit join measured whole from) from (length whole) (length left + 1 + place)
+        pub deep_first : (place : ℕ) → IsFirstPlace (after_place holds unit join measured middle right) 0 (length right) place → IsFirstPlace (from_place holds unit join measured whole from) from (length whole) (length left + 1 + place)
         deep_first place first = back_first _ from (length whole) rising _ 0 (length left + 1) (length right) (omega arith) (omega (arith, whole_length)) deep_same place (λ earlier above below. before_middle earlier above (omega arith)) first
 
       pub all_nowhere : holds (join middle (measure_of unit join measured right)) ≡ false → HoldsNowhere (from_place holds unit join measured whole from) from (length whole)

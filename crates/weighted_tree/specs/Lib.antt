@@ -1,9 +1,9 @@
 pub mod Balance
-pub mod Digits
+pub mod Levels
 pub mod Nodes
 pub mod NodesFall
 pub mod Search
 pub mod SearchSteps
 pub mod Sides
-pub mod Visits
-pub use Rattle.monoid_laws.specs.Stretch
+pub use Rattle.monoid_laws.specs.Measure
+pub use Rattle.retro_base.specs.Visits

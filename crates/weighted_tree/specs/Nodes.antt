@@ -1,16 +1,16 @@
 -- What a link leads to.
 use Rattle.std.specs.Prelude.{◌≡◌, ℕ, ◌^◌, ◌<◌, List, [], ◌∷◌, ◌++◌, length}
-use Rattle.monoid_laws.specs.Stretch.{measure_of}
+use Rattle.monoid_laws.specs.Measure.{measure_of}
 use Rattle.weighted_tree.specs.Balance.{weight, IsBalanced}
-use Rattle.weighted_tree.specs.declared.tree.Link.{Link}
-use Rattle.weighted_tree.specs.declared.tree.Link.TheVariants.{Empty, Full}
-use Rattle.weighted_tree.specs.declared.tree.Node.{Node}
+use Rattle.weighted_tree.specs.declared.subtree.Link.{Link}
+use Rattle.weighted_tree.specs.declared.subtree.Link.TheVariants.{Empty, Full}
+use Rattle.weighted_tree.specs.declared.subtree.Node.{Node}
 
 -- the items below a node, in order
 abbrev pub node_items : {A M : Type 0} → Node A M → List A
 node_items node = node.left ++ node.item ∷ node.right
 
--- the items behind a link, in order
+-- the items that a link leads to, in order
 abbrev pub items_of : {A M : Type 0} → Link A M → List A
 items_of Empty = []
 items_of (Full size node measure) = node_items node.value

@@ -1,9 +1,9 @@
 -- Each side of a node has fewer items than the node.
 use Rattle.std.specs.Prelude.{◌≤◌, max, ◌∷◌, length}
 use Rattle.std.proofs.Common.{arith, length-append}
-use Rattle.weighted_tree.specs.declared.tree.Link.{Link}
-use Rattle.weighted_tree.specs.declared.tree.Link.TheVariants.{Empty, Full}
-use Rattle.weighted_tree.specs.declared.tree.Tree.TheDeep.{deep-Link}
+use Rattle.weighted_tree.specs.declared.subtree.Link.{Link}
+use Rattle.weighted_tree.specs.declared.subtree.Link.TheVariants.{Empty, Full}
+use Rattle.weighted_tree.specs.declared.subtree.Subtree.TheDeep.{deep-Link}
 use Rattle.monoid_laws.specs.declared.monoid.Measured as Measured
 use Rattle.monoid_laws.specs.declared.monoid.Monoid as Monoid
 use Rattle.weighted_tree.specs.Nodes.{items_of}

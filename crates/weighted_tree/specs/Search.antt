@@ -1,6 +1,7 @@
 -- The first and the last place at which a test holds.
 use Rattle.std.specs.Prelude.{◌≡◌, ℕ, ◌<◌, ◌≤◌, Bool, true, false, List, Option, MatchOption}
-use Rattle.monoid_laws.specs.Stretch.{measure_of, stretch}
+use Rattle.monoid_laws.specs.Measure.{measure_of}
+use Rattle.std.specs.List.{slice_range}
 use Rattle.std.specs.Fn.{Shared, FnReturnsAt}
 use Rattle.std.specs.Borrow.{Bor}
 
@@ -31,7 +32,7 @@ pub record IsFirstPlace (holds : ℕ → Bool) (from to place : ℕ) : Type 0 wh
 pub record IsLastPlace (holds : ℕ → Bool) (to place : ℕ) : Type 0 where
   pub within : place ≤ to
   pub holds_there : holds place ≡ true
-  pub not_behind : (later : ℕ) → place < later → later ≤ to → holds later ≡ false
+  pub not_after : (later : ℕ) → place < later → later ≤ to → holds later ≡ false
 
 -- that place, or none where it holds at none
 abbrev pub IsFirstOrNone : (ℕ → Bool) → ℕ → ℕ → Option ℕ → Type 0
@@ -42,8 +43,8 @@ IsLastOrNone holds to answer = MatchOption answer (HoldsNowhere holds 0 to) (IsL
 
 -- whether it holds of the measure from `from` to a place
 abbrev pub from_place : {A M : Type 0} → (M → Bool) → M → (M → M → M) → (A → M) → List A → ℕ → ℕ → Bool
-from_place holds unit join measured items from place = holds (measure_of unit join measured (stretch items from place))
+from_place holds unit join measured items from place = holds (measure_of unit join measured (slice_range items from place))
 
 -- whether it holds of the measure from a place to `to`
 abbrev pub up_to_place : {A M : Type 0} → (M → Bool) → M → (M → M → M) → (A → M) → List A → ℕ → ℕ → Bool
-up_to_place holds unit join measured items to place = holds (measure_of unit join measured (stretch items place to))
+up_to_place holds unit join measured items to place = holds (measure_of unit join measured (slice_range items place to))

@@ -1,8 +1,8 @@
 -- How far a search came.
 use Rattle.std.specs.Prelude.{◌≡◌, ℕ, ◌≤◌, Bool, List, take, drop}
 use Rattle.weighted_tree.specs.Search.{HoldsNowhere, IsFirstPlace, IsLastPlace}
-use Rattle.weighted_tree.specs.Visits.{OneALevel, FourALevel}
-use Rattle.monoid_laws.specs.Stretch.{measure_of}
+use Rattle.weighted_tree.specs.Levels.{OneALevel, FourALevel}
+use Rattle.monoid_laws.specs.Measure.{measure_of}
 use Rattle.weighted_tree.specs.declared.search.Search.{Search}
 use Rattle.weighted_tree.specs.declared.search.Search.TheVariants.{Found, Open}
 
@@ -27,9 +27,9 @@ VisitsOfSearch whole before after (Found place) = FourALevel whole before after
 VisitsOfSearch whole before after (Open measure) = OneALevel whole before after
 
 -- whether it holds of a measure joined with that of the items before a place
-abbrev pub behind_place : {A M : Type 0} → (M → Bool) → M → (M → M → M) → (A → M) → M → List A → ℕ → Bool
-behind_place holds unit join measured before items place = holds (join before (measure_of unit join measured (take place items)))
+abbrev pub after_place : {A M : Type 0} → (M → Bool) → M → (M → M → M) → (A → M) → M → List A → ℕ → Bool
+after_place holds unit join measured before items place = holds (join before (measure_of unit join measured (take place items)))
 
 -- whether it holds of the measure of the items from a place on, joined with another one
 abbrev pub before_place : {A M : Type 0} → (M → Bool) → M → (M → M → M) → (A → M) → List A → M → ℕ → Bool
-before_place holds unit join measured items behind place = holds (join (measure_of unit join measured (drop place items)) behind)
+before_place holds unit join measured items after place = holds (join (measure_of unit join measured (drop place items)) after)

@@ -1,6 +1,6 @@
 -- A node seen from one of its sides.
 use Rattle.std.specs.Prelude.{List}
-use Rattle.weighted_tree.specs.declared.tree.Node.{Node}
+use Rattle.weighted_tree.specs.declared.subtree.Node.{Node}
 use Rattle.weighted_tree.specs.declared.node.Side.{Side}
 use Rattle.weighted_tree.specs.declared.node.Side.TheVariants.{Left, Right}
 

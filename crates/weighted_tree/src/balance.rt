@@ -3,16 +3,15 @@ ghost use Rattle.weighted_tree.specs.Balance.{weight, IsNearlyBalanced, IsTooHea
 ghost use Rattle.weighted_tree.specs.Nodes.{node_items};
 ghost use Rattle.weighted_tree.specs.Sides.{other, side_of};
 
-use crate::Tree;
 use crate::node::Side;
-use crate::tree::Node;
+use crate::subtree::{Node, Subtree};
 use monoid_laws::Measured;
 use retro_base::Steps;
 use std::sync::ledger::Ledger;
 
-impl<T: Measured> Tree<T> {
+impl<T: Measured> Subtree<T> {
     /// The tree of a node of which one side gained or lost an item since it was in balance.
-    pub(crate) fn balanced<L: Ledger>(node: Box<Node<T>>, steps: &mut Steps<L>) -> Tree<T>
+    pub(crate) fn balanced<L: Ledger>(node: Box<Node<T>>, steps: &mut Steps<L>) -> Subtree<T>
         requires nearly { IsNearlyBalanced (weight node.value.left) (weight node.value.right) }
         requires fits { length (node_items node.value) < 2 ^ 32 }
         ensures items { result ≡ node_items node.value }
@@ -25,7 +24,7 @@ impl<T: Measured> Tree<T> {
         } else if right > 3 * left {
             rotated(Side::Right, node, steps)
         } else {
-            Tree::of_root(node)
+            Subtree::of_root(node)
         }
     }
 }
@@ -36,7 +35,7 @@ fn rotated<T: Measured, L: Ledger>(
     side: Side,
     mut node: Box<Node<T>>,
     steps: &mut Steps<L>,
-) -> Tree<T>
+) -> Subtree<T>
     requires heavy { IsTooHeavy (weight (side_of side node.value)) (weight (side_of (other side) node.value)) }
     requires fits { length (node_items node.value) < 2 ^ 32 }
     ensures items { result ≡ node_items node.value }
@@ -49,15 +48,15 @@ fn rotated<T: Measured, L: Ledger>(
     };
     if child.weight(far) < 2 * child.weight(side) {
         node.put(side, child.take(far));
-        child.put(far, Tree::of_root(node));
-        return Tree::of_root(child);
+        child.put(far, Subtree::of_root(node));
+        return Subtree::of_root(child);
     }
     let Some(mut inner) = child.take(far).into_root(steps) else {
         unreachable!()
     };
     child.put(far, inner.take(side));
     node.put(side, inner.take(far));
-    inner.put(side, Tree::of_root(child));
-    inner.put(far, Tree::of_root(node));
-    Tree::of_root(inner)
+    inner.put(side, Subtree::of_root(child));
+    inner.put(far, Subtree::of_root(node));
+    Subtree::of_root(inner)
 }

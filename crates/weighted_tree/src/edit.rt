@@ -1,79 +1,54 @@
-ghost use Rattle.std.specs.Prelude.{◌≡◌, ℕ, ◌+◌, ◌*◌, ◌^◌, ◌<◌, ◌≤◌, [], ◌∷◌, ◌++◌, length, slice_get, slice_set, Some, OnOk, OnErr};
+ghost use Rattle.std.specs.Prelude.{◌≡◌, ℕ, ◌+◌, ◌*◌, ◌^◌, ◌<◌, ◌≤◌, [], ◌∷◌, ◌++◌, length, slice_get, slice_set, Some};
 ghost use Rattle.std.specs.List.{insert, remove};
 ghost use Rattle.weighted_tree.specs.Balance.{weight, IsBalanced};
-ghost use Rattle.weighted_tree.specs.Visits.{IsWithinLevels, FourALevel, FewVisits};
+ghost use Rattle.weighted_tree.specs.Levels.{IsWithinLevels, FourALevel};
 
-use crate::Tree;
 use crate::node::Side;
-use crate::tree::Node;
+use crate::subtree::{Node, Subtree};
 use monoid_laws::Measured;
-use retro_base::{NoMemory, Steps};
-use std::alloc::Global;
+use retro_base::Steps;
 use std::mem;
 use std::sync::ledger::Ledger;
 
-impl<T: Measured> Tree<T> {
-    /// Puts an item at a place; those from there on move one place on.
-    pub fn insert<L: Ledger>(
+impl<T: Measured> Subtree<T> {
+    /// Puts a node without sides in at a place; the items from there on move one place on.
+    pub(crate) fn insert_below<L: Ledger>(
         &mut self,
-        alloc: Global,
         place: u32,
-        item: T,
+        fresh: Box<Node<T>>,
         steps: &mut Steps<L>,
-    ) -> Result<(), NoMemory>
-        requires within { place ≤ length self.old }
-        requires room { length self.old < 2 ^ 31 }
-        ensures ok { OnOk result (self.new ≡ insert self.old place item) }
-        ensures err { OnErr result (self.new ≡ self.old) }
-        ensures visits { FewVisits (length self.new) steps.old steps.new }
-    {
-        let node = Box::new(alloc, Node::alone(item))?;
-        self.hang(place, node, steps);
-        Ok(())
-    }
-
-    /// Hangs a node without sides at a place.
-    fn hang<L: Ledger>(&mut self, place: u32, fresh: Box<Node<T>>, steps: &mut Steps<L>)
+    )
         requires within { place ≤ length self.old }
         requires fits { length self.old + 1 < 2 ^ 32 }
         requires before { fresh.value.left ≡ [] }
-        requires behind { fresh.value.right ≡ [] }
+        requires after { fresh.value.right ≡ [] }
         ensures items { self.new ≡ insert self.old place fresh.value.item }
         ensures none_lost { steps.old ≤ steps.new }
+        ensures some { 0 < length self.old → steps.old + 1 ≤ steps.new }
         ensures visits { FourALevel (weight self.old) steps.old steps.new }
     {
-        let Some(mut node) = mem::replace(self, Tree::new()).into_root(steps) else {
-            *self = Tree::of_root(fresh);
+        let Some(mut node) = mem::replace(self, Subtree::new()).into_root(steps) else {
+            *self = Subtree::of_root(fresh);
             return;
         };
         let before = node.left.len();
         if place <= before {
-            node.left.hang(place, fresh, steps);
+            node.left.insert_below(place, fresh, steps);
         } else {
-            node.right.hang(place - before - 1, fresh, steps);
+            node.right.insert_below(place - before - 1, fresh, steps);
         }
-        *self = Tree::balanced(node, steps);
+        *self = Subtree::balanced(node, steps);
     }
 
-    /// Takes out the item at a place; those behind it move one place back.
-    pub fn remove<L: Ledger>(&mut self, place: u32, steps: &mut Steps<L>) -> T
-        requires within { place < length self.old }
-        ensures item { slice_get self.old place ≡ Some result }
-        ensures items { self.new ≡ remove self.old place }
-        ensures some { steps.old + 1 ≤ steps.new }
-        ensures visits { FewVisits (length self.old) steps.old steps.new }
-    {
-        self.take_out(place, steps)
-    }
-
-    fn take_out<L: Ledger>(&mut self, place: u32, steps: &mut Steps<L>) -> T
+    /// Removes the item at a place, and gives it; those after it move one place back.
+    pub(crate) fn remove_below<L: Ledger>(&mut self, place: u32, steps: &mut Steps<L>) -> T
         requires within { place < length self.old }
         ensures item { slice_get self.old place ≡ Some result }
         ensures items { self.new ≡ remove self.old place }
         ensures some { steps.old + 1 ≤ steps.new }
         ensures visits { FourALevel (weight self.old) steps.old steps.new }
     {
-        let Some(mut node) = mem::replace(self, Tree::new()).into_root(steps) else {
+        let Some(mut node) = mem::replace(self, Subtree::new()).into_root(steps) else {
             unreachable!()
         };
         let before = node.left.len();
@@ -82,11 +57,11 @@ impl<T: Measured> Tree<T> {
             return node.item;
         }
         let item = if place < before {
-            node.left.take_out(place, steps)
+            node.left.remove_below(place, steps)
         } else {
-            node.right.take_out(place - before - 1, steps)
+            node.right.remove_below(place - before - 1, steps)
         };
-        *self = Tree::balanced(node, steps);
+        *self = Subtree::balanced(node, steps);
         item
     }
 
@@ -97,7 +72,7 @@ impl<T: Measured> Tree<T> {
         ensures none_lost { steps.old ≤ steps.new }
         ensures visits { FourALevel (weight self.old) steps.old steps.new }
     {
-        let Some(mut node) = mem::replace(self, Tree::new()).into_root(steps) else {
+        let Some(mut node) = mem::replace(self, Subtree::new()).into_root(steps) else {
             unreachable!()
         };
         if node.left.len() == 0 {
@@ -105,50 +80,45 @@ impl<T: Measured> Tree<T> {
             return node;
         }
         let first = node.left.take_first(steps);
-        *self = Tree::balanced(node, steps);
+        *self = Subtree::balanced(node, steps);
         first
     }
 
     /// Puts another item at a place, and gives the one that was there.
-    pub fn replace<L: Ledger>(&mut self, place: u32, item: T, steps: &mut Steps<L>) -> T
-        requires within { place < length self.old }
-        ensures item { slice_get self.old place ≡ Some result }
-        ensures items { self.new ≡ slice_set self.old place item }
-        ensures some { steps.old + 1 ≤ steps.new }
-        ensures visits { FewVisits (length self.old) steps.old steps.new }
-    {
-        self.exchange(place, item, steps)
-    }
-
-    fn exchange<L: Ledger>(&mut self, place: u32, item: T, steps: &mut Steps<L>) -> T
+    pub(crate) fn replace_below<L: Ledger>(
+        &mut self,
+        place: u32,
+        item: T,
+        steps: &mut Steps<L>,
+    ) -> T
         requires within { place < length self.old }
         ensures item { slice_get self.old place ≡ Some result }
         ensures items { self.new ≡ slice_set self.old place item }
         ensures some { steps.old + 1 ≤ steps.new }
         ensures visits { FourALevel (weight self.old) steps.old steps.new }
     {
-        let Some(mut node) = mem::replace(self, Tree::new()).into_root(steps) else {
+        let Some(mut node) = mem::replace(self, Subtree::new()).into_root(steps) else {
             unreachable!()
         };
         let before = node.left.len();
         let old = if place < before {
-            node.left.exchange(place, item, steps)
+            node.left.replace_below(place, item, steps)
         } else if place > before {
-            node.right.exchange(place - before - 1, item, steps)
+            node.right.replace_below(place - before - 1, item, steps)
         } else {
             mem::replace(&mut node.item, item)
         };
-        *self = Tree::of_root(node);
+        *self = Subtree::of_root(node);
         old
     }
 }
 
 /// The two sides of a node whose item was taken out.
 fn merged<T: Measured, L: Ledger>(
-    left: Tree<T>,
-    mut right: Tree<T>,
+    left: Subtree<T>,
+    mut right: Subtree<T>,
     steps: &mut Steps<L>,
-) -> Tree<T>
+) -> Subtree<T>
     requires balanced { IsBalanced (weight left) (weight right) }
     requires fits { length left + length right + 1 < 2 ^ 32 }
     ensures items { result ≡ left ++ right }
@@ -161,5 +131,5 @@ fn merged<T: Measured, L: Ledger>(
     let mut node = right.take_first(steps);
     node.put(Side::Left, left);
     node.put(Side::Right, right);
-    Tree::balanced(node, steps)
+    Subtree::balanced(node, steps)
 }

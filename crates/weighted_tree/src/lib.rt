@@ -1,9 +1,9 @@
-//! A list that is measured: any stretch of it, after a few joins.
+//! A list that is measured: any range of it, after a few joins.
 //!
 //! `Tree<T>` is a list of items, and contracts see nothing else of it. Beside what a list does it tells
-//! what a stretch of its items measures, for any monoid that the items are measured by, and finds the
+//! what a range of its items measures, for any monoid that the items are measured by, and finds the
 //! first or the last place at which a test of that measure turns. Where every step is at the end and no
-//! stretch is asked for, a `Vec` serves better.
+//! range is asked for, a `Vec` serves better.
 //!
 //! A node holds an item between two subtrees. An empty subtree is no box, so an item takes one
 //! allocation; the link to a subtree keeps its size and its measure, so that a node knows both without a
@@ -21,11 +21,12 @@
 //! | `copy` | each once |
 //!
 //! Each visit is a step on the counter that the caller hands in, which contracts alone see. `insert` and
-//! `copy` take memory, and leave the tree as it was where there is none; no other call takes any.
+//! `copy` take memory from the allocator that the tree was made with, and leave the tree as it was where
+//! there is none; no other call takes any.
 //!
 //! The proofs rest on the laws of the monoid alone. What the layer above may rely on: the clauses of
-//! `Tree`, in the words of lists; `measure_of` and `stretch` for what a stretch measures; `FewVisits` and
-//! `digits` for the cost.
+//! `Tree`, in the words of lists; `measure_of` and `slice_range` for what a range measures; `VisitsWithin` of
+//! `retro_base` for the cost.
 #![tactic(auto)]
 
 mod balance;
@@ -34,6 +35,7 @@ mod edit;
 mod node;
 mod read;
 mod search;
+mod subtree;
 mod tree;
 
 pub use tree::Tree;

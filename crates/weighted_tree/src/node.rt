@@ -1,11 +1,10 @@
 ghost use Rattle.std.specs.Prelude.{◌≡◌, ◌+◌, ◌^◌, ◌<◌, [], length};
-ghost use Rattle.monoid_laws.specs.Stretch.{measure_of};
+ghost use Rattle.monoid_laws.specs.Measure.{measure_of};
 ghost use Rattle.weighted_tree.specs.Balance.{weight};
 ghost use Rattle.weighted_tree.specs.Nodes.{node_items};
 ghost use Rattle.weighted_tree.specs.Sides.{other, side_of, with_side};
 
-use crate::Tree;
-use crate::tree::Node;
+use crate::subtree::{Node, Subtree};
 use monoid_laws::{Measured, Monoid};
 use std::mem;
 
@@ -35,9 +34,9 @@ impl<T: Measured> Node<T> {
         ensures right { result.right ≡ [] }
     {
         Node {
-            left: Tree::new(),
+            left: Subtree::new(),
             item,
-            right: Tree::new(),
+            right: Subtree::new(),
         }
     }
 
@@ -57,12 +56,12 @@ impl<T: Measured> Node<T> {
         self.around(self.left.whole(), self.right.whole())
     }
 
-    /// The measure of the item between what stands before and behind it.
-    pub(crate) fn around(&self, before: T::Measure, behind: T::Measure) -> T::Measure
-        requires fits { T.Measure.items_of before + 1 + T.Measure.items_of behind < 2 ^ 32 }
-        ensures { result ≡ T.Measure.joined (T.Measure.joined before (T.measured self.now.item)) behind }
+    /// The measure of the item between what stands before and after it.
+    pub(crate) fn around(&self, before: T::Measure, after: T::Measure) -> T::Measure
+        requires fits { T.Measure.items_of before + 1 + T.Measure.items_of after < 2 ^ 32 }
+        ensures { result ≡ T.Measure.joined (T.Measure.joined before (T.measured self.now.item)) after }
     {
-        before.join(self.item.measure()).join(behind)
+        before.join(self.item.measure()).join(after)
     }
 
     /// The weight of a side.
@@ -76,18 +75,18 @@ impl<T: Measured> Node<T> {
     }
 
     /// Takes a side off.
-    pub(crate) fn take(&mut self, side: Side) -> Tree<T>
+    pub(crate) fn take(&mut self, side: Side) -> Subtree<T>
         ensures taken { result ≡ side_of side self.old }
         ensures rest { self.new ≡ with_side side [] self.old }
     {
         match side {
-            Side::Left => mem::replace(&mut self.left, Tree::new()),
-            Side::Right => mem::replace(&mut self.right, Tree::new()),
+            Side::Left => mem::replace(&mut self.left, Subtree::new()),
+            Side::Right => mem::replace(&mut self.right, Subtree::new()),
         }
     }
 
     /// Puts a subtree on a side.
-    pub(crate) fn put(&mut self, side: Side, subtree: Tree<T>)
+    pub(crate) fn put(&mut self, side: Side, subtree: Subtree<T>)
         ensures { self.new ≡ with_side side subtree self.old }
     {
         match side {

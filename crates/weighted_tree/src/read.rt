@@ -1,25 +1,17 @@
 ghost use Rattle.std.specs.Prelude.{◌≡◌, ◌+◌, ◌<◌, ◌≤◌, take, drop, length, slice_get, Some};
-ghost use Rattle.monoid_laws.specs.Stretch.{measure_of, stretch};
+ghost use Rattle.monoid_laws.specs.Measure.{measure_of};
+ghost use Rattle.std.specs.List.{slice_range};
 ghost use Rattle.weighted_tree.specs.Balance.{weight};
-ghost use Rattle.weighted_tree.specs.Visits.{OneALevel, FourALevel, FewVisits};
+ghost use Rattle.weighted_tree.specs.Levels.{OneALevel, FourALevel};
 
-use crate::Tree;
+use crate::subtree::Subtree;
 use monoid_laws::{Measured, Monoid};
 use retro_base::Steps;
 use std::sync::ledger::Ledger;
 
-impl<T: Measured> Tree<T> {
+impl<T: Measured> Subtree<T> {
     /// The item at a place.
-    pub fn get<L: Ledger>(&self, place: u32, steps: &mut Steps<L>) -> T
-        requires within { place < length self.now }
-        ensures item { slice_get self.now place ≡ Some result }
-        ensures some { steps.old + 1 ≤ steps.new }
-        ensures visits { FewVisits (length self.now) steps.old steps.new }
-    {
-        self.item_at(place, steps)
-    }
-
-    fn item_at<L: Ledger>(&self, place: u32, steps: &mut Steps<L>) -> T
+    pub(crate) fn item_at<L: Ledger>(&self, place: u32, steps: &mut Steps<L>) -> T
         requires within { place < length self.now }
         ensures item { slice_get self.now place ≡ Some result }
         ensures some { steps.old + 1 ≤ steps.new }
@@ -39,20 +31,10 @@ impl<T: Measured> Tree<T> {
     }
 
     /// The measure of the items from `from` to before `to`.
-    pub fn measure<L: Ledger>(&self, from: u32, to: u32, steps: &mut Steps<L>) -> T::Measure
+    pub(crate) fn between<L: Ledger>(&self, from: u32, to: u32, steps: &mut Steps<L>) -> T::Measure
         requires order { from ≤ to }
         requires within { to ≤ length self.now }
-        ensures value { result ≡ measure_of T.Measure.unit_value T.Measure.joined T.measured (stretch self.now from to) }
-        ensures some { from < to → steps.old + 1 ≤ steps.new }
-        ensures visits { FewVisits (length self.now) steps.old steps.new }
-    {
-        self.between(from, to, steps)
-    }
-
-    fn between<L: Ledger>(&self, from: u32, to: u32, steps: &mut Steps<L>) -> T::Measure
-        requires order { from ≤ to }
-        requires within { to ≤ length self.now }
-        ensures value { result ≡ measure_of T.Measure.unit_value T.Measure.joined T.measured (stretch self.now from to) }
+        ensures value { result ≡ measure_of T.Measure.unit_value T.Measure.joined T.measured (slice_range self.now from to) }
         ensures none_lost { steps.old ≤ steps.new }
         ensures some { from < to → steps.old + 1 ≤ steps.new }
         ensures visits { FourALevel (weight self.now) steps.old steps.new }

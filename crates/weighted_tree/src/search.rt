@@ -1,45 +1,26 @@
-ghost use Rattle.std.specs.Prelude.{◌≡◌, Bool, true, false, ◌+◌, ◌^◌, ◌<◌, ◌≤◌, take, drop, length, IfSome};
-ghost use Rattle.monoid_laws.specs.Stretch.{measure_of};
+ghost use Rattle.std.specs.Prelude.{◌≡◌, Bool, true, false, ◌+◌, ◌^◌, ◌<◌, ◌≤◌, take, drop, length};
+ghost use Rattle.monoid_laws.specs.Measure.{measure_of};
 ghost use Rattle.weighted_tree.specs.Balance.{weight};
-ghost use Rattle.weighted_tree.specs.Search.{Tests, IsRising, IsFalling, IsFirstPlace, IsLastPlace, IsFirstOrNone, IsLastOrNone, from_place, up_to_place};
-ghost use Rattle.weighted_tree.specs.SearchSteps.{Finds, FindsLast, ComesTo, VisitsOfSearch, behind_place, before_place};
-ghost use Rattle.weighted_tree.specs.Visits.{OneALevel, FewVisits};
+ghost use Rattle.weighted_tree.specs.Search.{Tests, IsRising, IsFalling, IsFirstPlace, IsLastPlace, from_place, up_to_place};
+ghost use Rattle.weighted_tree.specs.SearchSteps.{Finds, FindsLast, ComesTo, VisitsOfSearch, after_place, before_place};
+ghost use Rattle.weighted_tree.specs.Levels.{OneALevel};
 
-use crate::Tree;
+use crate::subtree::Subtree;
 use monoid_laws::{Measured, Monoid};
 use retro_base::Steps;
 use std::sync::ledger::Ledger;
 
 /// How far a search came.
-enum Search<M> {
+pub(crate) enum Search<M> {
     /// To the first place at which the test holds.
     Found(u32),
     /// To the end: the test holds nowhere. This is the measure up to there.
     Open(M),
 }
 
-impl<T: Measured> Tree<T> {
-    /// The least place q, not before `from`, such that the test holds of the measure from `from` to q.
-    pub fn first_place<F: Fn(&T::Measure) -> bool, L: Ledger>(
-        &self,
-        from: u32,
-        test: F,
-        steps: &mut Steps<L>,
-    ) -> Option<u32>
-        requires within { from ≤ length self.now }
-        requires callable { F.IsAlwaysCallable test }
-        ensures first { (holds : T.Measure → Bool) → Tests F.Fn test holds → IsRising (from_place holds T.Measure.unit_value T.Measure.joined T.measured self.now from) from (length self.now) → IsFirstOrNone (from_place holds T.Measure.unit_value T.Measure.joined T.measured self.now from) from (length self.now) result }
-        ensures within { IfSome result (λ place. (from ≤ place) × (place ≤ length self.now)) }
-        ensures some { from < length self.now → steps.old + 1 ≤ steps.new }
-        ensures visits { FewVisits (length self.now) steps.old steps.new }
-    {
-        match self.first_from(from, &test, steps) {
-            Search::Found(place) => Some(place),
-            Search::Open(_) => None,
-        }
-    }
-
-    fn first_from<F: Fn(&T::Measure) -> bool, L: Ledger>(
+impl<T: Measured> Subtree<T> {
+    /// The least place, not before `from`, such that the test holds of the measure from `from` to it.
+    pub(crate) fn first_from<F: Fn(&T::Measure) -> bool, L: Ledger>(
         &self,
         from: u32,
         test: &F,
@@ -78,7 +59,7 @@ impl<T: Measured> Tree<T> {
         }
         let all = middle.join(node.right.whole());
         if passes(test, &all) {
-            Search::Found(before + 1 + node.right.first_behind(middle, test, steps))
+            Search::Found(before + 1 + node.right.first_after(middle, test, steps))
         } else {
             Search::Open(all)
         }
@@ -86,7 +67,7 @@ impl<T: Measured> Tree<T> {
 
     /// The least place such that the test holds of `before` joined with the measure up to it, where it
     /// holds at the end and not at the start.
-    fn first_behind<F: Fn(&T::Measure) -> bool, L: Ledger>(
+    fn first_after<F: Fn(&T::Measure) -> bool, L: Ledger>(
         &self,
         before: T::Measure,
         test: &F,
@@ -94,7 +75,7 @@ impl<T: Measured> Tree<T> {
     ) -> u32
         requires fits { T.Measure.items_of before + length self.now < 2 ^ 32 }
         requires callable { F.IsAlwaysCallable test.now }
-        ensures first { (holds : T.Measure → Bool) → Tests F.Fn test.now holds → holds before ≡ false → holds (T.Measure.joined before (measure_of T.Measure.unit_value T.Measure.joined T.measured self.now)) ≡ true → IsRising (behind_place holds T.Measure.unit_value T.Measure.joined T.measured before self.now) 0 (length self.now) → IsFirstPlace (behind_place holds T.Measure.unit_value T.Measure.joined T.measured before self.now) 0 (length self.now) result }
+        ensures first { (holds : T.Measure → Bool) → Tests F.Fn test.now holds → holds before ≡ false → holds (T.Measure.joined before (measure_of T.Measure.unit_value T.Measure.joined T.measured self.now)) ≡ true → IsRising (after_place holds T.Measure.unit_value T.Measure.joined T.measured before self.now) 0 (length self.now) → IsFirstPlace (after_place holds T.Measure.unit_value T.Measure.joined T.measured before self.now) 0 (length self.now) result }
         ensures within { result ≤ length self.now }
         ensures none_lost { steps.old ≤ steps.new }
         ensures visits { OneALevel (weight self.now) steps.old steps.new }
@@ -104,37 +85,18 @@ impl<T: Measured> Tree<T> {
         };
         let left = before.join(node.left.whole());
         if passes(test, &left) {
-            return node.left.first_behind(before, test, steps);
+            return node.left.first_after(before, test, steps);
         }
         let place = node.left.len() + 1;
         let middle = left.join(node.item.measure());
         if passes(test, &middle) {
             return place;
         }
-        place + node.right.first_behind(middle, test, steps)
+        place + node.right.first_after(middle, test, steps)
     }
 
-    /// The greatest place q, not behind `to`, such that the test holds of the measure from q to `to`.
-    pub fn last_place<F: Fn(&T::Measure) -> bool, L: Ledger>(
-        &self,
-        to: u32,
-        test: F,
-        steps: &mut Steps<L>,
-    ) -> Option<u32>
-        requires within { to ≤ length self.now }
-        requires callable { F.IsAlwaysCallable test }
-        ensures last { (holds : T.Measure → Bool) → Tests F.Fn test holds → IsFalling (up_to_place holds T.Measure.unit_value T.Measure.joined T.measured self.now to) to → IsLastOrNone (up_to_place holds T.Measure.unit_value T.Measure.joined T.measured self.now to) to result }
-        ensures within { IfSome result (λ place. place ≤ to) }
-        ensures some { 0 < to → steps.old + 1 ≤ steps.new }
-        ensures visits { FewVisits (length self.now) steps.old steps.new }
-    {
-        match self.last_up_to(to, &test, steps) {
-            Search::Found(place) => Some(place),
-            Search::Open(_) => None,
-        }
-    }
-
-    fn last_up_to<F: Fn(&T::Measure) -> bool, L: Ledger>(
+    /// The greatest place, not after `to`, such that the test holds of the measure from it to `to`.
+    pub(crate) fn last_up_to<F: Fn(&T::Measure) -> bool, L: Ledger>(
         &self,
         to: u32,
         test: &F,
@@ -179,17 +141,17 @@ impl<T: Measured> Tree<T> {
         }
     }
 
-    /// The greatest place such that the test holds of the measure from it on joined with `behind`, where
+    /// The greatest place such that the test holds of the measure from it on joined with `after`, where
     /// it holds at the start and not at the end.
     fn last_before<F: Fn(&T::Measure) -> bool, L: Ledger>(
         &self,
-        behind: T::Measure,
+        after: T::Measure,
         test: &F,
         steps: &mut Steps<L>,
     ) -> u32
-        requires fits { length self.now + T.Measure.items_of behind < 2 ^ 32 }
+        requires fits { length self.now + T.Measure.items_of after < 2 ^ 32 }
         requires callable { F.IsAlwaysCallable test.now }
-        ensures last { (holds : T.Measure → Bool) → Tests F.Fn test.now holds → holds behind ≡ false → holds (T.Measure.joined (measure_of T.Measure.unit_value T.Measure.joined T.measured self.now) behind) ≡ true → IsFalling (before_place holds T.Measure.unit_value T.Measure.joined T.measured self.now behind) (length self.now) → IsLastPlace (before_place holds T.Measure.unit_value T.Measure.joined T.measured self.now behind) (length self.now) result }
+        ensures last { (holds : T.Measure → Bool) → Tests F.Fn test.now holds → holds after ≡ false → holds (T.Measure.joined (measure_of T.Measure.unit_value T.Measure.joined T.measured self.now) after) ≡ true → IsFalling (before_place holds T.Measure.unit_value T.Measure.joined T.measured self.now after) (length self.now) → IsLastPlace (before_place holds T.Measure.unit_value T.Measure.joined T.measured self.now after) (length self.now) result }
         ensures within { result ≤ length self.now }
         ensures none_lost { steps.old ≤ steps.new }
         ensures visits { OneALevel (weight self.now) steps.old steps.new }
@@ -198,9 +160,9 @@ impl<T: Measured> Tree<T> {
             return 0;
         };
         let before = node.left.len();
-        let right = node.right.whole().join(behind);
+        let right = node.right.whole().join(after);
         if passes(test, &right) {
-            return before + 1 + node.right.last_before(behind, test, steps);
+            return before + 1 + node.right.last_before(after, test, steps);
         }
         let middle = node.item.measure().join(right);
         if passes(test, &middle) {

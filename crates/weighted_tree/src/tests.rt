@@ -1,4 +1,9 @@
-ghost use Rattle.std.specs.Prelude.{◌≡◌, ◌<◌, length};
+ghost use Rattle.std.specs.Prelude.{◌≡◌, ◌+◌, ◌^◌, ◌<◌, ◌≤◌, ◌≤ℤ◌, pos, [], map, take, length};
+ghost use Rattle.std.specs.List.{All};
+ghost use Rattle.std.specs.Int.Signed.{le_z};
+ghost use Rattle.monoid_laws.specs.Summed.{sum_of};
+ghost use Rattle.retro_base.specs.Visits.{VisitsWithin};
+ghost use Rattle.weighted_tree.specs.Search.{IsFirstOrNone};
 
 use crate::Tree;
 use monoid_laws::{Measured, Monoid, Sum};
@@ -30,14 +35,14 @@ impl Measured for Amount {
 
 /// The list 5, -2, 7 by three inserts.
 fn five_and_seven<L: Ledger>(rt: &impl Abort, alloc: Global, steps: &mut Steps<L>) -> Tree<Amount> {
-    let mut tree = Tree::new();
-    tree.insert(alloc, 0, Amount { value: 5 }, steps)
+    let mut tree = Tree::new(alloc);
+    tree.insert(0, Amount { value: 5 }, steps)
         .expect(rt, "memory");
     assert_eq!(rt; tree.len(), 1);
-    tree.insert(alloc, 1, Amount { value: 7 }, steps)
+    tree.insert(1, Amount { value: 7 }, steps)
         .expect(rt, "memory");
     assert_eq!(rt; tree.len(), 2);
-    tree.insert(alloc, 1, Amount { value: -2 }, steps)
+    tree.insert(1, Amount { value: -2 }, steps)
         .expect(rt, "memory");
     tree
 }
@@ -91,7 +96,7 @@ fn answers<L: Ledger>(rt: &impl Abort, alloc: Global, blank: Blank)
 {
     let mut steps = Steps::<L>::new(blank);
     let mut tree = five_and_seven(rt, alloc, &mut steps);
-    let copy = tree.copy(alloc, &mut steps).expect(rt, "memory");
+    let copy = tree.copy(&mut steps).expect(rt, "memory");
     asked(rt, &tree, &copy, &mut steps);
     edited(rt, &mut tree, &mut steps);
 }
@@ -101,29 +106,55 @@ fn answers_as_a_list(rt: HostRuntime) {
     answers::<Brand>(&rt, rt.alloc(), Blank::new(1));
 }
 
-/// A thousand items, each put at the front.
-fn fill<L: Ledger>(rt: &impl Abort, alloc: Global, tree: &mut Tree<Amount>, steps: &mut Steps<L>) {
-    for value in 0..1000 {
-        if tree.len() < 1000 {
-            tree.insert(alloc, 0, Amount { value }, steps)
-                .expect(rt, "memory");
-        }
-    }
-    assert_eq!(rt; tree.len(), 1000);
-    assert_eq!(rt; tree.measure(0, 3, steps).sum(), 2994);
+/// The least number of amounts, from the first on, that add up to `goal` or more.
+fn first_reaching<L: Ledger>(tree: &Tree<Amount>, goal: i128, steps: &mut Steps<L>) -> Option<u32>
+    requires { All (λ amount. pos 0 ≤ℤ amount.value) tree.now }
+    ensures { IsFirstOrNone (λ place. le_z goal (sum_of (map (λ amount. amount.value) (take place tree.now)))) 0 (length tree.now) result }
+{
+    tree.first_place(0, |sum: &Sum| goal <= sum.sum(), steps)
 }
 
-fn thousand<L: Ledger>(rt: &impl Abort, alloc: Global, blank: Blank)
+/// One more amount at the front, after no more visits than are stated.
+fn insert_first<L: Ledger>(
+    rt: &impl Abort,
+    tree: &mut Tree<Amount>,
+    value: i64,
+    steps: &mut Steps<L>,
+)
+    requires { length tree.old < 2 ^ 31 }
+    ensures length { length tree.new ≡ length tree.old + 1 }
+    ensures visits { VisitsWithin 12 (length tree.new) steps.old steps.new }
+{
+    tree.insert(0, Amount { value }, steps).expect(rt, "memory");
+}
+
+/// Two thousand amounts: 11 digits, and so at most 132 visits an insertion.
+fn fill<L: Ledger>(rt: &impl Abort, tree: &mut Tree<Amount>, steps: &mut Steps<L>)
+    requires { tree.old ≡ [] }
+    ensures length { length tree.new ≡ 2000 }
+    ensures visits { steps.new ≤ steps.old + 264000 }
+{
+    for count in 0..2000u32 {
+        insert_first(rt, tree, i64::from(count), steps);
+    }
+}
+
+fn two_thousand<L: Ledger>(rt: &impl Abort, alloc: Global, blank: Blank)
     requires name { blank.name ≡ L.name }
     requires parts { blank.parts ≡ L.parts }
     requires shared { 0 < blank.parts }
 {
     let mut steps = Steps::<L>::new(blank);
-    let mut tree = Tree::new();
-    fill(rt, alloc, &mut tree, &mut steps);
+    let mut tree = Tree::new(alloc);
+    fill(rt, &mut tree, &mut steps);
+    let copy = tree.copy(&mut steps).expect(rt, "memory");
+    insert_first(rt, &mut tree, 7, &mut steps);
+    assert_eq!(rt; (copy.len(), tree.len()), (2000, 2001));
+    assert_eq!(rt; tree.measure(0, 3, &mut steps).sum(), 4004);
+    assert_eq!(rt; copy.measure(0, 3, &mut steps).sum(), 5994);
 }
 
 #[test]
 fn grows_at_the_front(rt: HostRuntime) {
-    thousand::<Brand>(&rt, rt.alloc(), Blank::new(1));
+    two_thousand::<Brand>(&rt, rt.alloc(), Blank::new(1));
 }

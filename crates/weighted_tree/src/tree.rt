@@ -1,134 +1,163 @@
-ghost use Rattle.std.specs.Prelude.{◌≡◌, ◌+◌, ◌^◌, ◌<◌, [], length, MatchOption};
-ghost use Rattle.monoid_laws.specs.Stretch.{measure_of};
-ghost use Rattle.weighted_tree.specs.Balance.{weight};
-ghost use Rattle.weighted_tree.specs.Nodes.{node_items, HasBalance, IsRoot};
+ghost use Rattle.std.specs.Prelude.{◌≡◌, Bool, ◌+◌, ◌^◌, ◌<◌, ◌≤◌, [], length, slice_get, slice_set, Some, IfSome, IfOk, OnOk, OnErr};
+ghost use Rattle.std.specs.List.{insert, remove, slice_range};
+ghost use Rattle.monoid_laws.specs.Measure.{measure_of};
+ghost use Rattle.retro_base.specs.Visits.{VisitsWithin};
+ghost use Rattle.weighted_tree.specs.Search.{Tests, IsRising, IsFalling, IsFirstOrNone, IsLastOrNone, from_place, up_to_place};
 
-use monoid_laws::{Measured, Monoid};
-use retro_base::Steps;
+use crate::search::Search;
+use crate::subtree::{Node, Subtree};
+use monoid_laws::Measured;
+use retro_base::{NoMemory, Steps};
+use std::alloc::Global;
 use std::marker::Model;
 use std::sync::ledger::Ledger;
 
-/// A list whose stretches are measured.
-#[cycle(tree)]
+/// A list whose ranges are measured.
 #[derive(Drop)]
 pub struct Tree<T: Measured> {
-    link: Link<T>,
-}
-
-// What a node has to know of a subtree without reading its root. Fields lie in memory as they stand here,
-// and the box fills the gap before a measure that is aligned to 16 bytes.
-#[cycle(tree)]
-#[derive(Drop)]
-enum Link<T: Measured> {
-    Empty,
-    Full {
-        size: u32,
-        node: Box<Node<T>>,
-        measure: T::Measure,
-    },
-}
-
-/// An item with what stands before and behind it in its subtree.
-#[cycle(tree)]
-#[derive(Drop)]
-pub(crate) struct Node<T: Measured> {
-    pub(crate) left: Tree<T>,
-    pub(crate) item: T,
-    pub(crate) right: Tree<T>,
+    root: Subtree<T>,
+    alloc: Global,
 }
 
 impl<T: Measured> Model for Tree<T> {
-    ghost use Rattle.std.specs.Prelude.{List, length};
+    ghost use Rattle.std.specs.Prelude.{List};
 
     ghost Value = { List T };
 
-    ghost use Rattle.weighted_tree.specs.Nodes.{items_of, IsSound};
-
-    ghost view = { λ t. items_of t.link };
-
-    ghost invariant = { λ t. IsSound T.Measure.unit_value T.Measure.joined T.measured t.link };
-
-    ghost size = { length };
-
-    ghost use Rattle.weighted_tree.specs.NodesFall.{depth_le-length-items};
-
-    ghost size_decreases = { λ t h. depth_le-length-items T.Measured T.Measure.Monoid t.link };
+    ghost view = { λ t. t.root };
 }
 
 impl<T: Measured> Tree<T> {
-    /// An empty tree.
-    pub fn new() -> Tree<T>
+    /// An empty tree, whose nodes will take their memory from `alloc`.
+    pub fn new(alloc: Global) -> Tree<T>
         ensures { result ≡ [] }
     {
-        Tree { link: Link::Empty }
+        Tree {
+            root: Subtree::new(),
+            alloc,
+        }
     }
 
     /// How many items there are.
     pub fn len(&self) -> u32
         ensures { result ≡ length self.now }
     {
-        match &self.link {
-            Link::Empty => 0,
-            Link::Full { size, .. } => *size,
+        self.root.len()
+    }
+
+    /// The item at a place.
+    pub fn get<L: Ledger>(&self, place: u32, steps: &mut Steps<L>) -> T
+        requires within { place < length self.now }
+        ensures item { slice_get self.now place ≡ Some result }
+        ensures some { steps.old + 1 ≤ steps.new }
+        ensures visits { VisitsWithin 12 (length self.now) steps.old steps.new }
+    {
+        self.root.item_at(place, steps)
+    }
+
+    /// Puts an item in at a place; those from there on move one place on.
+    pub fn insert<L: Ledger>(
+        &mut self,
+        place: u32,
+        item: T,
+        steps: &mut Steps<L>,
+    ) -> Result<(), NoMemory>
+        requires within { place ≤ length self.old }
+        requires room { length self.old < 2 ^ 31 }
+        ensures ok { OnOk result (self.new ≡ insert self.old place item) }
+        ensures err { OnErr result (self.new ≡ self.old) }
+        ensures some { OnOk result (0 < length self.old → steps.old + 1 ≤ steps.new) }
+        ensures visits { VisitsWithin 12 (length self.new) steps.old steps.new }
+    {
+        let node = Box::new(self.alloc, Node::alone(item))?;
+        self.root.insert_below(place, node, steps);
+        Ok(())
+    }
+
+    /// Removes the item at a place, and gives it; those after it move one place back.
+    pub fn remove<L: Ledger>(&mut self, place: u32, steps: &mut Steps<L>) -> T
+        requires within { place < length self.old }
+        ensures item { slice_get self.old place ≡ Some result }
+        ensures items { self.new ≡ remove self.old place }
+        ensures some { steps.old + 1 ≤ steps.new }
+        ensures visits { VisitsWithin 12 (length self.old) steps.old steps.new }
+    {
+        self.root.remove_below(place, steps)
+    }
+
+    /// Puts another item at a place, and gives the one that was there.
+    pub fn replace<L: Ledger>(&mut self, place: u32, item: T, steps: &mut Steps<L>) -> T
+        requires within { place < length self.old }
+        ensures item { slice_get self.old place ≡ Some result }
+        ensures items { self.new ≡ slice_set self.old place item }
+        ensures some { steps.old + 1 ≤ steps.new }
+        ensures visits { VisitsWithin 12 (length self.old) steps.old steps.new }
+    {
+        self.root.replace_below(place, item, steps)
+    }
+
+    /// The measure of the items from `from` to before `to`.
+    pub fn measure<L: Ledger>(&self, from: u32, to: u32, steps: &mut Steps<L>) -> T::Measure
+        requires order { from ≤ to }
+        requires within { to ≤ length self.now }
+        ensures value { result ≡ measure_of T.Measure.unit_value T.Measure.joined T.measured (slice_range self.now from to) }
+        ensures some { from < to → steps.old + 1 ≤ steps.new }
+        ensures visits { VisitsWithin 12 (length self.now) steps.old steps.new }
+    {
+        self.root.between(from, to, steps)
+    }
+
+    /// The least place q, not before `from`, such that the test holds of the measure from `from` to q.
+    pub fn first_place<F: Fn(&T::Measure) -> bool, L: Ledger>(
+        &self,
+        from: u32,
+        test: F,
+        steps: &mut Steps<L>,
+    ) -> Option<u32>
+        requires within { from ≤ length self.now }
+        requires callable { F.IsAlwaysCallable test }
+        ensures first { (holds : T.Measure → Bool) → Tests F.Fn test holds → IsRising (from_place holds T.Measure.unit_value T.Measure.joined T.measured self.now from) from (length self.now) → IsFirstOrNone (from_place holds T.Measure.unit_value T.Measure.joined T.measured self.now from) from (length self.now) result }
+        ensures within { IfSome result (λ place. (from ≤ place) × (place ≤ length self.now)) }
+        ensures some { from < length self.now → steps.old + 1 ≤ steps.new }
+        ensures visits { VisitsWithin 12 (length self.now) steps.old steps.new }
+    {
+        match self.root.first_from(from, &test, steps) {
+            Search::Found(place) => Some(place),
+            Search::Open(_) => None,
         }
     }
 
-    /// The number of the items and one.
-    pub(crate) fn weight(&self) -> u64
-        ensures { result ≡ weight self.now }
+    /// The greatest place q, not after `to`, such that the test holds of the measure from q to `to`.
+    pub fn last_place<F: Fn(&T::Measure) -> bool, L: Ledger>(
+        &self,
+        to: u32,
+        test: F,
+        steps: &mut Steps<L>,
+    ) -> Option<u32>
+        requires within { to ≤ length self.now }
+        requires callable { F.IsAlwaysCallable test }
+        ensures last { (holds : T.Measure → Bool) → Tests F.Fn test holds → IsFalling (up_to_place holds T.Measure.unit_value T.Measure.joined T.measured self.now to) to → IsLastOrNone (up_to_place holds T.Measure.unit_value T.Measure.joined T.measured self.now to) to result }
+        ensures within { IfSome result (λ place. place ≤ to) }
+        ensures some { 0 < to → steps.old + 1 ≤ steps.new }
+        ensures visits { VisitsWithin 12 (length self.now) steps.old steps.new }
     {
-        self.len() as u64 + 1
-    }
-
-    /// The measure of all items.
-    pub(crate) fn whole(&self) -> T::Measure
-        ensures value { result ≡ measure_of T.Measure.unit_value T.Measure.joined T.measured self.now }
-        ensures items { T.Measure.items_of result ≡ length self.now }
-    {
-        match &self.link {
-            Link::Empty => T::Measure::unit(),
-            Link::Full { measure, .. } => *measure,
+        match self.root.last_up_to(to, &test, steps) {
+            Search::Found(place) => Some(place),
+            Search::Open(_) => None,
         }
     }
 
-    /// Visits the root.
-    pub(crate) fn root<L: Ledger>(&self, steps: &mut Steps<L>) -> Option<&Node<T>>
-        ensures { MatchOption result ((self.now ≡ []) × (steps.new ≡ steps.old)) (λ node. IsRoot self.now node.now × (steps.new ≡ steps.old + 1)) }
+    /// A tree of the same items.
+    pub fn copy<L: Ledger>(&self, steps: &mut Steps<L>) -> Result<Tree<T>, NoMemory>
+        ensures items { IfOk result (λ copy. copy ≡ self.now) }
+        ensures none_lost { steps.old ≤ steps.new }
+        ensures ok_visits { OnOk result (steps.new ≡ steps.old + length self.now) }
+        ensures err_visits { OnErr result (steps.new ≤ steps.old + length self.now) }
     {
-        match &self.link {
-            Link::Empty => None,
-            Link::Full { node, .. } => {
-                steps.tick();
-                Some(node)
-            }
-        }
-    }
-
-    /// Visits the root, and takes it out of its link.
-    pub(crate) fn into_root<L: Ledger>(self, steps: &mut Steps<L>) -> Option<Box<Node<T>>>
-        ensures { MatchOption result ((self ≡ []) × (steps.new ≡ steps.old)) (λ node. IsRoot self node.value × (steps.new ≡ steps.old + 1)) }
-    {
-        match self.link {
-            Link::Empty => None,
-            Link::Full { node, .. } => {
-                steps.tick();
-                Some(node)
-            }
-        }
-    }
-
-    /// The tree of a node that is in balance. The node was visited when it was changed.
-    pub(crate) fn of_root(node: Box<Node<T>>) -> Tree<T>
-        requires balanced { HasBalance node.value }
-        requires fits { length (node_items node.value) < 2 ^ 32 }
-        ensures { result ≡ node_items node.value }
-    {
-        Tree {
-            link: Link::Full {
-                size: node.size(),
-                measure: node.measure(),
-                node,
-            },
-        }
+        let root = self.root.copy(self.alloc, steps)?;
+        Ok(Tree {
+            root,
+            alloc: self.alloc,
+        })
     }
 }

@@ -1,5 +1,3 @@
-pub mod Order
-pub mod Timelines
 pub mod Named
-pub mod Turns
+pub mod TimelineEffects
 pub mod Refusals

@@ -1,4 +1,4 @@
--- The timeline that has a name, and what the bench makes of its turn.
+-- The timeline that has a name, and the effect on a bench of what becomes of it.
 use Rattle.std.proofs.Common.{◌≡◌, ℕ, zero, suc, ◌+◌, ◌<◌, nat_le, true, false, List, [], ◌∷◌, ◌++◌, length, get_or, set, position, refl, sym, ◌∙◌, ap, arith, Some, None, Result, Ok, Err, IfOk}
 use Rattle.std.specs.List.{position_from}
 use Rattle.std.proofs.lemmas.List.Quantifiers.{position-Some}
@@ -8,63 +8,63 @@ use Rattle.retro_base.specs.Limits.{most_timelines}
 use Rattle.workbench.specs.declared.outcome.Outcome.{Outcome}
 use Rattle.workbench.specs.declared.outcome.Outcome.TheVariants.{Accepted, Refused}
 use Rattle.workbench.specs.declared.outcome.Refusal.TheVariants as refusals
-use Rattle.workbench.specs.Bench.{Timeline, fresh, is_named, has_timeline}
-use Rattle.workbench.specs.Reaction.{leaves, behind, starts, on_named}
-use Rattle.workbench.specs.Turns.{Turn, stays}
+use Rattle.workbench.specs.Bench.{NamedTimeline, fresh, is_named, has_timeline}
+use Rattle.workbench.specs.Reaction.{leaves, with_first, starts, on_named}
+use Rattle.workbench.specs.TimelineEffects.{TimelineEffect, unchanged}
 
 some_is_not_none : {X : Type 0} {x : X} → Some x ≡ None → ⊥
 some_is_not_none e = cc
 
-pub starts_full : (bench : List Timeline) (name : List ℕ) (kind : Kind) → has_timeline name bench ≡ false → nat_le most_timelines (length bench) ≡ true
+pub starts_full : (bench : List NamedTimeline) (name : List ℕ) (kind : Kind) → has_timeline name bench ≡ false → nat_le most_timelines (length bench) ≡ true
     → starts bench name kind ≡ leaves bench (Refused refusals.Timelines)
 starts_full bench name kind free full = rw (free, full) refl
 
-pub starts_anew : (bench : List Timeline) (name : List ℕ) (kind : Kind) → has_timeline name bench ≡ false → nat_le most_timelines (length bench) ≡ false
+pub starts_anew : (bench : List NamedTimeline) (name : List ℕ) (kind : Kind) → has_timeline name bench ≡ false → nat_le most_timelines (length bench) ≡ false
     → starts bench name kind ≡ record { bench = bench ++ fresh name kind ∷ []; outcome = Accepted }
 starts_anew bench name kind free room = rw (free, room) refl
 
--- the timeline at the index takes its turn, where it is the first one of the name
-on_named_at : (name : List ℕ) (turn : Timeline → Turn) (bench : List Timeline) (index : ℕ) (d : Timeline) → index < length bench
+-- the effect on the timeline at the index, where it is the first one of the name
+on_named_at : (name : List ℕ) (effect : NamedTimeline → TimelineEffect) (bench : List NamedTimeline) (index : ℕ) (d : NamedTimeline) → index < length bench
     → is_named name (get_or bench index d) ≡ true → ((k : ℕ) → k < index → is_named name (get_or bench k d) ≡ false)
-    → on_named name turn bench ≡ record { bench = set bench index (turn (get_or bench index d)).timeline; outcome = (turn (get_or bench index d)).outcome }
-on_named_at name turn [] index d below is others = absurd (omega arith)
-on_named_at name turn (first ∷ bench) zero d below is others = rw is refl
-on_named_at name turn (first ∷ bench) (suc index) d below is others =
-    rw (others 0 (omega arith)) (ap (behind first) (on_named_at name turn bench index d (omega arith) is (λ k less. others (suc k) (omega arith))))
+    → on_named name effect bench ≡ record { bench = set bench index (effect (get_or bench index d)).timeline; outcome = (effect (get_or bench index d)).outcome }
+on_named_at name effect [] index d below is others = absurd (omega arith)
+on_named_at name effect (first ∷ bench) zero d below is others = rw is refl
+on_named_at name effect (first ∷ bench) (suc index) d below is others =
+    rw (others 0 (omega arith)) (ap (with_first first) (on_named_at name effect bench index d (omega arith) is (λ k less. others (suc k) (omega arith))))
 
-on_named_found : (name : List ℕ) (turn : Timeline → Turn) (bench : List Timeline) (index : ℕ) (d : Timeline) → position (is_named name) bench ≡ Some index
-    → on_named name turn bench ≡ record { bench = set bench index (turn (get_or bench index d)).timeline; outcome = (turn (get_or bench index d)).outcome }
-on_named_found name turn bench index d at =
+on_named_found : (name : List ℕ) (effect : NamedTimeline → TimelineEffect) (bench : List NamedTimeline) (index : ℕ) (d : NamedTimeline) → position (is_named name) bench ≡ Some index
+    → on_named name effect bench ≡ record { bench = set bench index (effect (get_or bench index d)).timeline; outcome = (effect (get_or bench index d)).outcome }
+on_named_found name effect bench index d at =
     let first = position-Some (is_named name) bench index d at in
-    on_named_at name turn bench index d first.0 first.1 first.2
+    on_named_at name effect bench index d first.0 first.1 first.2
 
--- the bench behind the turn of the timeline that was found
-pub turned : {E : Type 0} (result : Result Outcome E) (name : List ℕ) (turn : Timeline → Turn) (bench : List Timeline) (index : ℕ) (named after : Timeline)
+-- the bench after the effect on the timeline that was found
+pub changed : {E : Type 0} (result : Result Outcome E) (name : List ℕ) (effect : NamedTimeline → TimelineEffect) (bench : List NamedTimeline) (index : ℕ) (named after : NamedTimeline)
     → Some index ≡ position (is_named name) bench → named ≡ get_or bench index named
-    → IfOk result (λ outcome. turn named ≡ record { timeline = after; outcome = outcome })
-    → IfOk result (λ outcome. on_named name turn bench ≡ record { bench = set bench index after; outcome = outcome })
-turned (Ok outcome) name turn bench index named after at there took =
-    on_named_found name turn bench index named (sym at) ∙ rw (← there, took) refl
-turned (Err e) name turn bench index named after at there took = tt
+    → IfOk result (λ outcome. effect named ≡ record { timeline = after; outcome = outcome })
+    → IfOk result (λ outcome. on_named name effect bench ≡ record { bench = set bench index after; outcome = outcome })
+changed (Ok outcome) name effect bench index named after at there took =
+    on_named_found name effect bench index named (sym at) ∙ rw (← there, took) refl
+changed (Err e) name effect bench index named after at there took = tt
 
--- the bench behind a question to the timeline that was found
-pub asked : {E : Type 0} (result : Result Outcome E) (name : List ℕ) (told : Timeline → Outcome) (bench : List Timeline) (index : ℕ) (named after : Timeline)
-    → Some index ≡ position (is_named name) bench → named ≡ get_or bench index named → after ≡ named → IfOk result (λ outcome. outcome ≡ told named)
-    → IfOk result (λ outcome. on_named name (λ timeline. stays timeline (told timeline)) bench ≡ record { bench = set bench index after; outcome = outcome })
-asked (Ok outcome) name told bench index named after at there same answer =
-    turned {E = Unit {0}} (Ok outcome) name (λ timeline. stays timeline (told timeline)) bench index named after at there (rw (same, answer) refl)
-asked (Err e) name told bench index named after at there same answer = tt
+-- the bench after a question to the timeline that was found
+pub asked : {E : Type 0} (result : Result Outcome E) (name : List ℕ) (answer_at : NamedTimeline → Outcome) (bench : List NamedTimeline) (index : ℕ) (named after : NamedTimeline)
+    → Some index ≡ position (is_named name) bench → named ≡ get_or bench index named → after ≡ named → IfOk result (λ outcome. outcome ≡ answer_at named)
+    → IfOk result (λ outcome. on_named name (λ timeline. unchanged timeline (answer_at timeline)) bench ≡ record { bench = set bench index after; outcome = outcome })
+asked (Ok outcome) name answer_at bench index named after at there same answer =
+    changed {E = Unit {0}} (Ok outcome) name (λ timeline. unchanged timeline (answer_at timeline)) bench index named after at there (rw (same, answer) refl)
+asked (Err e) name answer_at bench index named after at there same answer = tt
 
 -- no timeline has the name
-nowhere_from : (name : List ℕ) (turn : Timeline → Turn) (bench : List Timeline) (from : ℕ) → position_from (is_named name) from bench ≡ None
-    → on_named name turn bench ≡ leaves bench (Refused (refusals.NoTimeline name))
-nowhere_from name turn [] from nowhere = refl
-nowhere_from name turn (first ∷ bench) from nowhere =
-    elim (is_named name first) as (λ b. is_named name first ≡ b → on_named name turn (first ∷ bench) ≡ leaves (first ∷ bench) (Refused (refusals.NoTimeline name))) [
+nowhere_from : (name : List ℕ) (effect : NamedTimeline → TimelineEffect) (bench : List NamedTimeline) (from : ℕ) → position_from (is_named name) from bench ≡ None
+    → on_named name effect bench ≡ leaves bench (Refused (refusals.NoTimeline name))
+nowhere_from name effect [] from nowhere = refl
+nowhere_from name effect (first ∷ bench) from nowhere =
+    elim (is_named name first) as (λ b. is_named name first ≡ b → on_named name effect (first ∷ bench) ≡ leaves (first ∷ bench) (Refused (refusals.NoTimeline name))) [
       | true ↦ λ e. absurd (some_is_not_none (rw e at nowhere))
-      | false ↦ λ e. rw e (ap (behind first) (nowhere_from name turn bench (from + 1) (rw e at nowhere)))
+      | false ↦ λ e. rw e (ap (with_first first) (nowhere_from name effect bench (from + 1) (rw e at nowhere)))
     ] refl
 
-pub on_named_nowhere : (name : List ℕ) (turn : Timeline → Turn) (bench : List Timeline) → None ≡ position (is_named name) bench
-    → on_named name turn bench ≡ leaves bench (Refused (refusals.NoTimeline name))
-on_named_nowhere name turn bench nowhere = nowhere_from name turn bench 0 (sym (position_from-zero (is_named name) bench) ∙ sym nowhere)
+pub on_named_nowhere : (name : List ℕ) (effect : NamedTimeline → TimelineEffect) (bench : List NamedTimeline) → None ≡ position (is_named name) bench
+    → on_named name effect bench ≡ leaves bench (Refused (refusals.NoTimeline name))
+on_named_nowhere name effect bench nowhere = nowhere_from name effect bench 0 (sym (position_from-zero (is_named name) bench) ∙ sym nowhere)

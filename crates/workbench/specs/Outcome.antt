@@ -1,8 +1,9 @@
 -- What a line is answered.
 use Rattle.std.specs.Prelude.{ℕ, Bool, true, false, List, [], ◌∷◌, ◌++◌, codes, decimal}
+use Rattle.retro_base.specs.Limits.{most_timelines}
 use Rattle.script_grammar.specs.AnswerText.{answer_text, listing_text}
 use Rattle.workbench.specs.declared.outcome.Outcome.{Outcome}
-use Rattle.workbench.specs.declared.outcome.Outcome.TheVariants.{Silent, Accepted, Put, Told, Listed, Refused}
+use Rattle.workbench.specs.declared.outcome.Outcome.TheVariants.{Silent, Accepted, Inserted, Answered, Listed, Refused}
 use Rattle.workbench.specs.declared.outcome.Refusal.{Refusal}
 use Rattle.workbench.specs.declared.outcome.Refusal.TheVariants.{Long, Syntax, NoTimeline, NameTaken, Timelines, Kind, NoRow, Full, Numbers, At}
 
@@ -12,7 +13,7 @@ refusal_text Long = codes "refused long"
 refusal_text Syntax = codes "refused syntax"
 refusal_text (NoTimeline name) = codes "refused no timeline " ++ name
 refusal_text NameTaken = codes "refused name taken"
-refusal_text Timelines = codes "refused timelines 8"
+refusal_text Timelines = codes "refused timelines " ++ decimal most_timelines
 refusal_text Kind = codes "refused kind"
 refusal_text (NoRow number) = codes "refused no row #" ++ decimal number
 refusal_text Full = codes "refused full"
@@ -27,8 +28,8 @@ as_line text = text ++ 10 ∷ []
 abbrev pub reply_text : Outcome → List ℕ
 reply_text Silent = []
 reply_text Accepted = as_line (codes "ok")
-reply_text (Put number) = as_line (codes "ok #" ++ decimal number)
-reply_text (Told answer) = as_line (answer_text answer)
+reply_text (Inserted number) = as_line (codes "ok #" ++ decimal number)
+reply_text (Answered answer) = as_line (answer_text answer)
 reply_text (Listed listing) = as_line (listing_text listing)
 reply_text (Refused refusal) = as_line (refusal_text refusal)
 
@@ -36,7 +37,7 @@ reply_text (Refused refusal) = as_line (refusal_text refusal)
 abbrev pub is_refusal : Outcome → Bool
 is_refusal Silent = false
 is_refusal Accepted = false
-is_refusal (Put number) = false
-is_refusal (Told answer) = false
+is_refusal (Inserted number) = false
+is_refusal (Answered answer) = false
 is_refusal (Listed listing) = false
 is_refusal (Refused refusal) = true

@@ -6,14 +6,15 @@ use Rattle.script_grammar.specs.declared.command.Command.{Command}
 use Rattle.script_grammar.specs.declared.command.Command.TheVariants.{Nothing, New, Insert, Delete, Ask}
 use Rattle.script_grammar.specs.declared.command.LineError.{LineError}
 use Rattle.script_grammar.specs.declared.command.LineError.TheVariants as errors
-use Rattle.script_grammar.specs.Command.{read}
+use Rattle.retro_base.specs.LineLength.{is_long}
+use Rattle.script_grammar.specs.Command.{command}
 use Rattle.workbench.specs.declared.outcome.Outcome.{Outcome}
 use Rattle.workbench.specs.declared.outcome.Outcome.TheVariants.{Silent, Accepted, Refused}
 use Rattle.workbench.specs.declared.outcome.Refusal.TheVariants as refusals
 use Rattle.retro_base.specs.Limits.{most_timelines}
-use Rattle.workbench.specs.Bench.{Timeline, Bench, fresh, is_named, has_timeline}
+use Rattle.workbench.specs.Bench.{NamedTimeline, Bench, fresh, is_named, has_timeline}
 use Rattle.workbench.specs.Outcome.{reply_text, is_refusal}
-use Rattle.workbench.specs.Turns.{Turn, stays, puts, deletes, tells}
+use Rattle.workbench.specs.TimelineEffects.{TimelineEffect, unchanged, inserts, deletes, answers}
 
 -- what the bench makes of a line: itself afterwards, and the outcome
 pub record Effect : Type 0 where
@@ -32,15 +33,15 @@ starts bench name kind =
     else record { bench = bench ++ fresh name kind ∷ []; outcome = Accepted })
 
 -- the effect on a bench that has one more timeline in front
-abbrev pub behind : Timeline → Effect → Effect
-behind timeline effect = record { bench = timeline ∷ effect.bench; outcome = effect.outcome }
+abbrev pub with_first : NamedTimeline → Effect → Effect
+with_first timeline effect = record { bench = timeline ∷ effect.bench; outcome = effect.outcome }
 
--- the timeline of this name takes its turn, and the others stay
-abbrev pub on_named : List ℕ → (Timeline → Turn) → Bench → Effect
-on_named name turn [] = leaves [] (Refused (refusals.NoTimeline name))
-on_named name turn (timeline ∷ others) =
-    if is_named name timeline then record { bench = (turn timeline).timeline ∷ others; outcome = (turn timeline).outcome }
-    else behind timeline (on_named name turn others)
+-- the effect on the timeline of this name; the others stay
+abbrev pub on_named : List ℕ → (NamedTimeline → TimelineEffect) → Bench → Effect
+on_named name effect [] = leaves [] (Refused (refusals.NoTimeline name))
+on_named name effect (timeline ∷ others) =
+    if is_named name timeline then record { bench = (effect timeline).timeline ∷ others; outcome = (effect timeline).outcome }
+    else with_first timeline (on_named name effect others)
 
 -- what is made of a command, or of a line that has none
 abbrev pub obeys : Bench → Result Command LineError → Effect
@@ -48,9 +49,9 @@ obeys bench (Err errors.Long) = leaves bench (Refused refusals.Long)
 obeys bench (Err errors.Syntax) = leaves bench (Refused refusals.Syntax)
 obeys bench (Ok Nothing) = leaves bench Silent
 obeys bench (Ok (New name kind)) = starts bench name kind
-obeys bench (Ok (Insert name spot op)) = on_named name (λ timeline. puts timeline spot op) bench
+obeys bench (Ok (Insert name spot op)) = on_named name (λ timeline. inserts timeline spot op) bench
 obeys bench (Ok (Delete name number)) = on_named name (λ timeline. deletes timeline number) bench
-obeys bench (Ok (Ask name moment query)) = on_named name (λ timeline. stays timeline (tells timeline moment query)) bench
+obeys bench (Ok (Ask name moment query)) = on_named name (λ timeline. unchanged timeline (answers timeline moment query)) bench
 
 -- the reaction to a line: the bench afterwards, the lines that answer it, and whether they are a refusal
 pub record Reaction : Type 0 where
@@ -62,10 +63,10 @@ pub record Reaction : Type 0 where
 abbrev pub reaction_of : Effect → Reaction
 reaction_of effect = record { bench = effect.bench; answer = reply_text effect.outcome; refused = is_refusal effect.outcome }
 
--- the reaction to the command of a line
-abbrev pub reaction_to : Bench → Result Command LineError → Reaction
-reaction_to bench line = reaction_of (obeys bench line)
+-- the reaction to a line: to its bytes, or where it is long to that alone
+abbrev pub reacts_to : Bench → List ℕ → Bool → Reaction
+reacts_to bench bytes long = reaction_of (obeys bench (if long then Err errors.Long else command bytes))
 
--- the reaction to a line
+-- the reaction to a whole line of the input
 abbrev pub reacts : Bench → List ℕ → Reaction
-reacts bench line = reaction_to bench (read line)
+reacts bench line = reacts_to bench line (is_long line)

@@ -1,14 +1,13 @@
-ghost use Rattle.std.specs.Prelude.{◌≡◌, ◌≢◌, ◌≤◌, [], length, nat_le, position, Ok, Err, IsTrue, IfOk, OnErr, true, if◌then◌else◌};
+ghost use Rattle.std.specs.Prelude.{◌≡◌, ◌≢◌, ◌≤◌, ◌⊎◌, [], length, nat_le, position, Ok, IsTrue, IfOk, OnErr, true};
 ghost use Rattle.retro_base.specs.declared.kind.Kind.TheVariants.{Pq};
-ghost use Rattle.script_grammar.specs.declared.command.LineError.TheVariants as errors;
-ghost use Rattle.script_grammar.specs.Command.{command, StartsNoPq};
-ghost use Rattle.retro_base.specs.Limits.{most_timelines};
+ghost use Rattle.script_grammar.specs.Command.{StartsNoPq};
+ghost use Rattle.retro_base.specs.Limits.{longest_line, most_timelines};
 ghost use Rattle.workbench.specs.Bench.{has_timeline, is_named};
-ghost use Rattle.workbench.specs.Reaction.{obeys, on_named, reaction_to, starts};
-ghost use Rattle.workbench.specs.Turns.{deletes, puts, stays, tells};
+ghost use Rattle.workbench.specs.Reaction.{obeys, on_named, reacts_to, starts};
+ghost use Rattle.workbench.specs.TimelineEffects.{answers, deletes, inserts, unchanged};
 
+use crate::named_timeline::NamedTimeline;
 use crate::outcome::{Outcome, Refusal};
-use crate::timeline::Timeline;
 use retro_base::{Kind, Name, NoMemory, Op, Text};
 use script_grammar::{Command, LineError, Moment, Query, Spot, read_line};
 use std::alloc::Global;
@@ -30,7 +29,7 @@ pub struct Reply {
 #[derive(Drop)]
 pub struct Bench {
     alloc: Global,
-    timelines: Vec<Timeline>,
+    timelines: Vec<NamedTimeline>,
 }
 
 impl Model for Bench {
@@ -52,14 +51,15 @@ impl Bench {
         }
     }
 
-    /// Does what a line asks for, of which at most 4,096 bytes are given: `long` says that it has more.
-    /// After `NoMemory` the line may have been done, and its answer is lost.
+    /// Does what a line asks for. Of a line that is too long its first bytes are given, as many as a line may
+    /// have, and `long` says that it has more. After `NoMemory` the line is done or not, and its answer is lost.
     pub fn line(&mut self, line: &[u8], long: bool) -> Result<Reply, NoMemory>
-        requires within { length line.now ≤ 4096 }
-        requires full { IsTrue long → length line.now ≡ 4096 }
-        ensures reacts { IfOk result (λ reply. let reaction = reaction_to self.old (if long then Err errors.Long else command line.now) in
-            (self.new ≡ reaction.bench) × (reply.text ≡ reaction.answer) × (reply.refused ≡ reaction.refused)) }
+        requires within { length line.now ≤ longest_line }
+        requires full { IsTrue long → length line.now ≡ longest_line }
+        ensures reacts { IfOk result (λ reply. reacts_to self.old line.now long
+            ≡ record { bench = self.new; answer = reply.text; refused = reply.refused }) }
         ensures keeps { IfOk result (λ reply. reply.refused ≡ true → self.new ≡ self.old) }
+        ensures err { OnErr result ((self.new ≡ self.old) ⊎ (self.new ≡ (reacts_to self.old line.now long).bench)) }
     {
         let outcome = self.obey(read_line(line, long))?;
         let mut text = Text::new(self.alloc);
@@ -70,7 +70,8 @@ impl Bench {
         })
     }
 
-    /// Does what a line asks for. After a refusal and after `NoMemory` all is as before.
+    /// Does what a command asks for, or refuses a line that has none. After a refusal and after `NoMemory`
+    /// all is as before.
     fn obey(&mut self, line: Result<Command, LineError>) -> Result<Outcome, NoMemory>
         requires { IfOk line StartsNoPq }
         ensures ok { IfOk result (λ outcome. obeys self.old line ≡ record { bench = self.new; outcome = outcome }) }
@@ -83,6 +84,7 @@ impl Bench {
         }
     }
 
+    /// Does what a command asks for, by its form.
     fn perform(&mut self, command: &Command) -> Result<Outcome, NoMemory>
         requires { StartsNoPq command.now }
         ensures ok { IfOk result (λ outcome. obeys self.old (Ok command.now) ≡ record { bench = self.new; outcome = outcome }) }
@@ -91,7 +93,7 @@ impl Bench {
         match command {
             Command::Nothing => Ok(Outcome::Silent),
             Command::New { name, kind } => self.start(*name, *kind),
-            Command::Insert { name, spot, op } => self.put(*name, *spot, *op),
+            Command::Insert { name, spot, op } => self.insert(*name, *spot, *op),
             Command::Delete { name, number } => self.delete(*name, *number),
             Command::Ask {
                 name,
@@ -101,6 +103,7 @@ impl Bench {
         }
     }
 
+    /// Starts a timeline without rows, where the name is free and there is room for one more.
     fn start(&mut self, name: Name, kind: Kind) -> Result<Outcome, NoMemory>
         requires { kind ≢ Pq }
         ensures ok { IfOk result (λ outcome. starts self.old name kind ≡ record { bench = self.new; outcome = outcome }) }
@@ -112,20 +115,23 @@ impl Bench {
         if self.is_full() {
             return Ok(Outcome::refused(Refusal::Timelines));
         }
-        self.timelines.push(Timeline::new(self.alloc, name, kind))?;
+        self.timelines
+            .push(NamedTimeline::new(self.alloc, name, kind))?;
         Ok(Outcome::Accepted)
     }
 
-    fn put(&mut self, name: Name, spot: Spot, op: Op) -> Result<Outcome, NoMemory>
-        ensures ok { IfOk result (λ outcome. on_named name (λ timeline. puts timeline spot op) self.old ≡ record { bench = self.new; outcome = outcome }) }
+    /// Puts a row into the timeline of this name.
+    fn insert(&mut self, name: Name, spot: Spot, op: Op) -> Result<Outcome, NoMemory>
+        ensures ok { IfOk result (λ outcome. on_named name (λ timeline. inserts timeline spot op) self.old ≡ record { bench = self.new; outcome = outcome }) }
         ensures err { OnErr result (self.new ≡ self.old) }
     {
         match self.index_of(name) {
-            Some(index) => self.timelines[index].put(spot, op),
+            Some(index) => self.timelines[index].insert(spot, op),
             None => Ok(Outcome::refused(Refusal::NoTimeline { name })),
         }
     }
 
+    /// Takes a row out of the timeline of this name.
     fn delete(&mut self, name: Name, number: u32) -> Result<Outcome, NoMemory>
         ensures ok { IfOk result (λ outcome. on_named name (λ timeline. deletes timeline number) self.old ≡ record { bench = self.new; outcome = outcome }) }
         ensures err { OnErr result (self.new ≡ self.old) }
@@ -136,8 +142,9 @@ impl Bench {
         }
     }
 
+    /// Asks the timeline of this name. Nothing changes.
     fn ask(&mut self, name: Name, moment: Moment, query: Query) -> Result<Outcome, NoMemory>
-        ensures ok { IfOk result (λ outcome. on_named name (λ timeline. stays timeline (tells timeline moment query)) self.old ≡ record { bench = self.new; outcome = outcome }) }
+        ensures ok { IfOk result (λ outcome. on_named name (λ timeline. unchanged timeline (answers timeline moment query)) self.old ≡ record { bench = self.new; outcome = outcome }) }
         ensures err { OnErr result (self.new ≡ self.old) }
     {
         match self.index_of(name) {

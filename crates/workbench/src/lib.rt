@@ -8,8 +8,10 @@
 #![tactic(auto)]
 
 mod bench;
+mod named_timeline;
 mod outcome;
-mod seat;
-mod timeline;
+mod position;
+#[cfg(test)]
+mod tests;
 
 pub use bench::{Bench, MAX_TIMELINES, Reply};

@@ -2,6 +2,7 @@ ghost use Rattle.std.specs.Prelude.{◌≡◌, ◌++◌, OnOk};
 ghost use Rattle.workbench.specs.Outcome.{is_refusal, refusal_text, reply_text};
 ghost use Rattle.workbench.specs.declared.outcome.Outcome.TheVariants as outcomes;
 
+use crate::bench::MAX_TIMELINES;
 use retro_base::{Answer, Listing, Name, NoMemory, Text};
 use script_grammar::{print_answer, print_listing};
 
@@ -12,10 +13,10 @@ pub(crate) enum Outcome {
     Silent,
     /// It is done.
     Accepted,
-    /// A row was put in, and drew this number.
-    Put { number: u32 },
+    /// A row was inserted, and drew this number.
+    Inserted { number: u32 },
     /// A question was answered.
-    Told { answer: Answer },
+    Answered { answer: Answer },
     /// The whole content was asked for.
     Listed { listing: Listing },
     /// The line was refused, and changed nothing.
@@ -25,7 +26,7 @@ pub(crate) enum Outcome {
 /// Why a line was refused.
 #[derive(Clone, Copy, Debug, PartialEq, Eq)]
 pub(crate) enum Refusal {
-    /// It has more than 4,096 bytes.
+    /// It has more bytes than a line may have.
     Long,
     /// It is in no form of the grammar.
     Syntax,
@@ -69,11 +70,11 @@ impl Outcome {
         match self {
             Outcome::Silent => return Ok(()),
             Outcome::Accepted => out.push_all(b"ok")?,
-            Outcome::Put { number } => {
+            Outcome::Inserted { number } => {
                 out.push_all(b"ok #")?;
                 out.push_number(*number)?;
             }
-            Outcome::Told { answer } => print_answer(*answer, out)?,
+            Outcome::Answered { answer } => print_answer(*answer, out)?,
             Outcome::Listed { listing } => print_listing(listing, out)?,
             Outcome::Refused { refusal } => refusal.print(out)?,
         }
@@ -94,7 +95,10 @@ impl Refusal {
                 out.push_all(name.bytes())?;
             }
             Refusal::NameTaken => out.push_all(b"refused name taken")?,
-            Refusal::Timelines => out.push_all(b"refused timelines 8")?,
+            Refusal::Timelines => {
+                out.push_all(b"refused timelines ")?;
+                out.push_number(MAX_TIMELINES)?;
+            }
             Refusal::Kind => out.push_all(b"refused kind")?,
             Refusal::NoRow { number } => {
                 out.push_all(b"refused no row #")?;

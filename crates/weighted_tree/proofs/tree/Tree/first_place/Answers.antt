@@ -1,9 +1,13 @@
-use Rattle.std.proofs.Common.{arith}
+use Rattle.std.proofs.Common.{arith, ap, length}
 use Rattle.weighted_tree.proofs.Levels.{few-by_levels, few_of_one}
 use Rattle.weighted_tree.proofs.tree.Tree.first_place.Goals as goal
 
 pub returns-in-Found-clause-visits : goal.returns-in-Found-clause-visits
-returns-in-Found-clause-visits g c = few-by_levels _ _ _ _ (omega arith) c.first_from.ensures.none_lost c.in-Found.ensures.visits
+returns-in-Found-clause-visits g c =
+    let same = ap length c.self.view_is in
+    few-by_levels _ _ _ _ (omega arith) c.first_from.ensures.none_lost c.in-Found.ensures.visits
 
 pub returns-clause-visits : goal.returns-clause-visits
-returns-clause-visits g c = few-by_levels _ _ _ _ (omega arith) c.first_from.ensures.none_lost (few_of_one _ _ _ c.in-Open.ensures.visits)
+returns-clause-visits g c =
+    let same = ap length c.self.view_is in
+    few-by_levels _ _ _ _ (omega arith) c.first_from.ensures.none_lost (few_of_one _ _ _ c.in-Open.ensures.visits)

@@ -1,6 +1,8 @@
-use Rattle.std.proofs.Common.{arith}
+use Rattle.std.proofs.Common.{arith, ap, length}
 use Rattle.weighted_tree.proofs.Levels.{few-by_levels}
 use Rattle.weighted_tree.proofs.tree.Tree.measure.Goals as goal
 
 pub returns-clause-visits : goal.returns-clause-visits
-returns-clause-visits g c = few-by_levels _ _ _ _ (omega arith) c.between.ensures.none_lost c.between.ensures.visits
+returns-clause-visits g c =
+    let same = ap length c.self.view_is in
+    few-by_levels _ _ _ _ (omega arith) c.between.ensures.none_lost c.between.ensures.visits

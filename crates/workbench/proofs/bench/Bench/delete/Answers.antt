@@ -1,11 +1,11 @@
-use Rattle.workbench.specs.Turns.{deletes}
-use Rattle.workbench.proofs.Named.{turned, on_named_nowhere}
+use Rattle.workbench.specs.TimelineEffects.{deletes}
+use Rattle.workbench.proofs.Named.{changed, on_named_nowhere}
 use Rattle.workbench.proofs.bench.Bench.delete.Goals as goal
 
 pub returns-in-Some-clause-ok : goal.returns-in-Some-clause-ok
 returns-in-Some-clause-ok c =
     rw (← c.self.view_is)
-    (turned c.delete.result c.args.name (λ timeline. deletes timeline c.args.number) c.self.inside.timelines.items c.in-Some.index c.index_mut.result.now c.delete.new.self
+    (changed c.delete.result c.args.name (λ timeline. deletes timeline c.args.number) c.self.inside.timelines.items c.in-Some.index c.index_mut.result.now c.delete.new.self
     (rw (← c.self.view_is) at c.in-Some.ensures) c.index_mut.ensures.value c.delete.ensures.ok)
 
 pub returns-in-None-clause-ok : goal.returns-in-None-clause-ok

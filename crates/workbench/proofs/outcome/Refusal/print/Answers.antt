@@ -4,8 +4,8 @@ use Rattle.workbench.proofs.outcome.Refusal.print.Goals as goal
 pub returns-in_ok-push_all-in-NameTaken : goal.returns-in_ok-push_all-in-NameTaken
 returns-in_ok-push_all-in-NameTaken c = rw c.in-NameTaken.is c.in_ok-push_all-in-NameTaken.ensures.ok
 
-pub returns-in_ok-push_all-in-Timelines : goal.returns-in_ok-push_all-in-Timelines
-returns-in_ok-push_all-in-Timelines c = rw c.in-Timelines.is c.in_ok-push_all-in-Timelines.ensures.ok
+pub returns-in_ok-push_number-in-Timelines : goal.returns-in_ok-push_number-in-Timelines
+returns-in_ok-push_number-in-Timelines c = rw (c.in-Timelines.is, c.in_ok-push_number-in-Timelines.ensures.ok, c.in_ok-push_all-in-Timelines.ensures.ok) (append_assoc c.args.out.now _ _)
 
 pub returns-in_ok-push_all-in-Kind : goal.returns-in_ok-push_all-in-Kind
 returns-in_ok-push_all-in-Kind c = rw c.in-Kind.is c.in_ok-push_all-in-Kind.ensures.ok

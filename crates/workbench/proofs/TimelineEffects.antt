@@ -1,0 +1,129 @@
+-- What a timeline makes of an edit and of a question, case by case.
+use Rattle.std.proofs.Common.{◌≡◌, ℕ, true, false, List, length, slice_get, refl, sym, ◌∙◌, ap, subst, Option, Some, None}
+use Rattle.std.specs.Prelude.{option_map, option_and_then}
+use Rattle.std.specs.List.{remove}
+use Rattle.std.proofs.Math.Seq.{take-length}
+use Rattle.retro_base.specs.declared.op.Op.{Op}
+use Rattle.retro_base.specs.declared.question.Question.{Question}
+use Rattle.retro_base.specs.declared.row.Row.{Row}
+use Rattle.retro_base.specs.Edits.{cut}
+use Rattle.retro_base.specs.Kind.{kind_of, same_kind}
+use Rattle.retro_base.specs.Replay.{failure, present, state_at}
+use Rattle.retro_base.specs.Answers.{answer_of, content}
+use Rattle.retro_base.specs.Questions.{suits}
+use Rattle.retro_base.specs.Places.{place_of_time, place_of_row}
+use Rattle.retro_base.specs.Timeline.{TimesNeverFall}
+use Rattle.script_grammar.specs.declared.command.Spot.{Spot}
+use Rattle.script_grammar.specs.declared.command.Spot.TheVariants.{At, Before, After}
+use Rattle.script_grammar.specs.declared.command.Moment.TheVariants.{Now, Then}
+use Rattle.script_grammar.specs.declared.command.Query.TheVariants.{One, All}
+use Rattle.workbench.specs.declared.outcome.Outcome.TheVariants.{Accepted, Answered, Listed, Refused}
+use Rattle.workbench.specs.declared.outcome.Refusal.TheVariants as refusals
+use Rattle.workbench.specs.declared.position.Position.{Position}
+use Rattle.workbench.specs.Bench.{NamedTimeline}
+use Rattle.retro_base.specs.Order.{Fits}
+use Rattle.workbench.specs.TimelineEffects.{refuses, row_named, position_before, next_position, position_of, inserts_there, after_edit, inserts, deletes, answers}
+use Rattle.retro_base.specs.OrderLaws.{time_fits, fits_before, fits_after}
+
+pub inserts_other_kind : (t : NamedTimeline) (spot : Spot) (op : Op) → same_kind (kind_of op) t.kind ≡ false → inserts t spot op ≡ refuses t refusals.Kind
+unfolding inserts
+inserts_other_kind t spot op other = rw other refl
+
+pub inserts_nowhere : (t : NamedTimeline) (spot : Spot) (op : Op) → same_kind (kind_of op) t.kind ≡ true → position_of spot t.rows ≡ None
+    → inserts t spot op ≡ refuses t (refusals.NoRow (row_named spot))
+unfolding inserts
+inserts_nowhere t spot op same nowhere = rw (same, nowhere) refl
+
+pub inserts_at_position : (t : NamedTimeline) (spot : Spot) (op : Op) (position : Position) → same_kind (kind_of op) t.kind ≡ true → position_of spot t.rows ≡ Some position
+    → inserts t spot op ≡ inserts_there t op position
+unfolding inserts
+inserts_at_position t spot op position same there = rw (same, there) refl
+
+pub deletes_nothing : (t : NamedTimeline) (number : ℕ) → place_of_row number t.rows ≡ None → deletes t number ≡ refuses t (refusals.NoRow number)
+unfolding deletes
+deletes_nothing t number nowhere = rw nowhere refl
+
+pub deletes_fails : (t : NamedTimeline) (number place index : ℕ) (failing : Row) → place_of_row number t.rows ≡ Some place
+    → failure t.kind (remove t.rows place) ≡ Some index → slice_get (remove t.rows place) index ≡ Some failing
+    → deletes t number ≡ refuses t (refusals.At failing.number failing.time)
+unfolding deletes
+deletes_fails t number place index failing there fails at = rw (there, fails, at) refl
+
+pub deletes_accepted : (t : NamedTimeline) (number place : ℕ) → place_of_row number t.rows ≡ Some place → failure t.kind (remove t.rows place) ≡ None
+    → deletes t number ≡ record { timeline = after_edit t (cut place) t.next; outcome = Accepted }
+unfolding deletes
+deletes_accepted t number place there stands = rw (there, stands) refl
+
+pub answers_unsuited : (t : NamedTimeline) (moment : Rattle.script_grammar.specs.declared.command.Moment.Moment) (question : Question) → suits question t.kind ≡ false
+    → answers t moment (One question) ≡ Refused refusals.Kind
+unfolding answers
+answers_unsuited t moment question unsuited = rw unsuited refl
+
+pub answers_now : (t : NamedTimeline) (question : Question) → suits question t.kind ≡ true → answers t Now (One question) ≡ Answered (answer_of (present t.kind t.rows) question)
+unfolding answers
+answers_now t question suited = rw (suited, take-length t.rows) refl
+
+pub answers_nowhere : (t : NamedTimeline) (spot : Spot) (question : Question) → suits question t.kind ≡ true → position_of spot t.rows ≡ None
+    → answers t (Then spot) (One question) ≡ Refused (refusals.NoRow (row_named spot))
+unfolding answers
+answers_nowhere t spot question suited nowhere = rw (suited, nowhere) refl
+
+pub answers_there : (t : NamedTimeline) (spot : Spot) (question : Question) (position : Position) → suits question t.kind ≡ true → position_of spot t.rows ≡ Some position
+    → answers t (Then spot) (One question) ≡ Answered (answer_of (state_at t.kind t.rows position.place) question)
+unfolding answers
+answers_there t spot question position suited there = rw (suited, there) refl
+
+pub lists_now : (t : NamedTimeline) → answers t Now All ≡ Listed (content (state_at t.kind t.rows (length t.rows)))
+unfolding answers
+lists_now t = refl
+
+pub lists_nowhere : (t : NamedTimeline) (spot : Spot) → position_of spot t.rows ≡ None → answers t (Then spot) All ≡ Refused (refusals.NoRow (row_named spot))
+unfolding answers
+lists_nowhere t spot nowhere = rw nowhere refl
+
+pub lists_there : (t : NamedTimeline) (spot : Spot) (position : Position) → position_of spot t.rows ≡ Some position
+    → answers t (Then spot) All ≡ Listed (content (state_at t.kind t.rows position.place))
+unfolding answers
+lists_there t spot position there = rw there refl
+
+-- a row that a position is in front of
+record InFrontOf (rows : List Row) (position : Position) : Type 0 where
+  row : Row
+  there : slice_get rows position.place ≡ Some row
+  same_time : row.time ≡ position.time
+
+abbrev position_at : ℕ → Row → Position
+position_at place row = record { place = place; time = row.time }
+
+found_in_front : (rows : List Row) (place : ℕ) (found : Option Row) (position : Position) → slice_get rows place ≡ found
+    → option_map (position_at place) found ≡ Some position → InFrontOf rows position
+found_in_front rows place None position at is = absurd (cc)
+found_in_front rows place (Some row) position at is =
+    let same : position_at place row ≡ position = cc in
+    record { row = row; there = ap (λ (s : Position). slice_get rows s.place) (sym same) ∙ at; same_time = ap (λ (s : Position). s.time) same }
+
+in_front : (rows : List Row) (found : Option ℕ) (position : Position) → option_and_then (λ place. option_map (position_at place) (slice_get rows place)) found ≡ Some position
+    → InFrontOf rows position
+in_front rows None position is = absurd (cc)
+in_front rows (Some place) position is = found_in_front rows place (slice_get rows place) position refl is
+
+position_before_fits : (rows : List Row) (position : Position) → TimesNeverFall rows → InFrontOf rows position → Fits rows position.place position.time
+position_before_fits rows position never front = rw front.same_time at (fits_before rows position.place front.row never front.there)
+
+position_after_fits : (rows : List Row) (before : Option Position) (position : Position) → TimesNeverFall rows → ((s : Position) → before ≡ Some s → InFrontOf rows s)
+    → option_map next_position before ≡ Some position → Fits rows position.place position.time
+position_after_fits rows None position never front is = absurd (cc)
+position_after_fits rows (Some s) position never front is =
+    let same : next_position s ≡ position = cc in
+    let here = front s refl in
+    let fits : Fits rows (next_position s).place (next_position s).time = rw here.same_time at (fits_after rows s.place here.row never here.there) in
+    subst (λ (s : Position). Fits rows s.place s.time) same fits
+
+-- the position of a spot fits
+pub position_fits : (spot : Spot) (rows : List Row) (position : Position) → TimesNeverFall rows → position_of spot rows ≡ Some position → Fits rows position.place position.time
+position_fits (At time) rows position never is =
+    let same : ◌≡◌ {A = Position} (record { place = place_of_time time rows; time = time }) position = cc in
+    subst (λ (s : Position). Fits rows s.place s.time) same (time_fits time rows never)
+position_fits (Before number) rows position never is = position_before_fits rows position never (in_front rows (place_of_row number rows) position is)
+position_fits (After number) rows position never is =
+    position_after_fits rows (position_before number rows) position never (λ s e. in_front rows (place_of_row number rows) s e) is

@@ -1,0 +1,130 @@
+-- What one timeline makes of an edit and of a question.
+use Rattle.std.specs.Prelude.{ℕ, suc, ◌+◌, nat_le, List, length, slice_get, if◌then◌else◌}
+use Rattle.std.specs.Prelude.{Option, Some, None, option_map, option_and_then}
+use Rattle.retro_base.specs.declared.op.Op.{Op}
+use Rattle.retro_base.specs.declared.row.Row.{Row}
+use Rattle.retro_base.specs.Limits.{most_rows, next_limit}
+use Rattle.retro_base.specs.Kind.{kind_of, same_kind}
+use Rattle.retro_base.specs.Replay.{failure, state_at}
+use Rattle.retro_base.specs.Answers.{answer_of, content}
+use Rattle.retro_base.specs.Questions.{suits}
+use Rattle.retro_base.specs.Edits.{Edit, add, cut, edited}
+use Rattle.retro_base.specs.Places.{place_of_time, place_of_row}
+use Rattle.script_grammar.specs.declared.command.Spot.{Spot}
+use Rattle.script_grammar.specs.declared.command.Spot.TheVariants as spots
+use Rattle.script_grammar.specs.declared.command.Moment.{Moment}
+use Rattle.script_grammar.specs.declared.command.Moment.TheVariants.{Now, Then}
+use Rattle.script_grammar.specs.declared.command.Query.{Query}
+use Rattle.script_grammar.specs.declared.command.Query.TheVariants.{One, All}
+use Rattle.workbench.specs.declared.outcome.Outcome.{Outcome}
+use Rattle.workbench.specs.declared.outcome.Outcome.TheVariants.{Accepted, Inserted, Answered, Listed, Refused}
+use Rattle.workbench.specs.declared.outcome.Refusal.{Refusal}
+use Rattle.workbench.specs.declared.outcome.Refusal.TheVariants as refusals
+use Rattle.workbench.specs.declared.position.Position.{Position}
+use Rattle.workbench.specs.Bench.{NamedTimeline}
+
+-- the position in front of the row with this number, which has that row's time
+abbrev pub position_before : ℕ → List Row → Option Position
+position_before number rows =
+    option_and_then (λ place. option_map (λ (row : Row). record { place = place; time = row.time }) (slice_get rows place)) (place_of_row number rows)
+
+-- the position one place further
+abbrev pub next_position : Position → Position
+next_position position = record { place = suc position.place; time = position.time }
+
+-- the position of a spot, if there is one
+abbrev pub position_of : Spot → List Row → Option Position
+position_of (spots.At time) rows = Some (record { place = place_of_time time rows; time = time })
+position_of (spots.Before number) rows = position_before number rows
+position_of (spots.After number) rows = option_map next_position (position_before number rows)
+
+-- the row that a spot names
+abbrev pub row_named : Spot → ℕ
+row_named (spots.At time) = 0
+row_named (spots.Before number) = number
+row_named (spots.After number) = number
+
+-- what a timeline makes of a line: itself afterwards, and the outcome
+pub record TimelineEffect : Type 0 where
+  pub timeline : NamedTimeline
+  pub outcome : Outcome
+
+-- an outcome that leaves the timeline as it was
+abbrev pub unchanged : NamedTimeline → Outcome → TimelineEffect
+unchanged timeline outcome = record { timeline = timeline; outcome = outcome }
+
+-- a refusal, which leaves it so too
+abbrev pub refuses : NamedTimeline → Refusal → TimelineEffect
+refuses timeline refusal = unchanged timeline (Refused refusal)
+
+-- the refusal that names a row: where rows cannot be performed, one of them is the first that cannot
+abbrev pub refusal_at : Option Row → Refusal
+refusal_at None = refusals.At 0 0
+refusal_at (Some row) = refusals.At row.number row.time
+
+-- an edit is accepted where the edited rows replay whole; else it is refused, and the first row that fails is named
+abbrev pub accepted_or_refused : NamedTimeline → NamedTimeline → Outcome → Option ℕ → TimelineEffect
+accepted_or_refused timeline after outcome None = record { timeline = after; outcome = outcome }
+accepted_or_refused timeline after outcome (Some index) = refuses timeline (refusal_at (slice_get after.rows index))
+
+-- the timeline after an edit, with the number that it draws next
+abbrev pub after_edit : NamedTimeline → Edit → ℕ → NamedTimeline
+after_edit timeline edit next = record timeline { rows = edited timeline.rows edit; next = next }
+
+-- what becomes of an edit
+abbrev pub edits : NamedTimeline → Edit → ℕ → Outcome → TimelineEffect
+edits timeline edit next outcome =
+    accepted_or_refused timeline (after_edit timeline edit next) outcome (failure timeline.kind (edited timeline.rows edit))
+
+-- the row of an operation at a position, which draws the timeline's next number
+abbrev pub new_row : NamedTimeline → Position → Op → Row
+new_row timeline position op = record { number = timeline.next; time = position.time; op = op }
+
+-- a row at a position: there has to be room for it, and a number
+abbrev pub inserts_there : NamedTimeline → Op → Position → TimelineEffect
+inserts_there timeline op position =
+    if nat_le most_rows (length timeline.rows) then refuses timeline refusals.Full
+    else (if nat_le next_limit timeline.next then refuses timeline refusals.Numbers
+    else edits timeline (add position.place (new_row timeline position op)) (timeline.next + 1) (Inserted timeline.next))
+
+-- a row at a position, if the spot has one
+abbrev pub inserts_at : NamedTimeline → ℕ → Op → Option Position → TimelineEffect
+inserts_at timeline number op None = refuses timeline (refusals.NoRow number)
+inserts_at timeline number op (Some position) = inserts_there timeline op position
+
+-- `NAME at T OP`, `NAME before #N OP`, `NAME after #N OP`
+unfoldable pub inserts : NamedTimeline → Spot → Op → TimelineEffect
+inserts timeline spot op =
+    if same_kind (kind_of op) timeline.kind then inserts_at timeline (row_named spot) op (position_of spot timeline.rows)
+    else refuses timeline refusals.Kind
+
+-- the edit that takes the row with this number out, if there is one
+abbrev pub cut_of : ℕ → List Row → Option Edit
+cut_of number rows = option_map cut (place_of_row number rows)
+
+-- a row is taken out, if there is one
+abbrev pub deletes_by : NamedTimeline → ℕ → Option Edit → TimelineEffect
+deletes_by timeline number None = refuses timeline (refusals.NoRow number)
+deletes_by timeline number (Some edit) = edits timeline edit timeline.next Accepted
+
+-- `NAME delete #N`
+unfoldable pub deletes : NamedTimeline → ℕ → TimelineEffect
+deletes timeline number = deletes_by timeline number (cut_of number timeline.rows)
+
+-- what is answered at a place, if the moment has one
+abbrev pub answers_at : (ℕ → Outcome) → ℕ → Option Position → Outcome
+answers_at answer_at number None = Refused (refusals.NoRow number)
+answers_at answer_at number (Some position) = answer_at position.place
+
+-- what is answered at a moment: after all rows, or at a spot
+abbrev pub answers_then : NamedTimeline → (ℕ → Outcome) → Moment → Outcome
+answers_then timeline answer_at Now = answer_at (length timeline.rows)
+answers_then timeline answer_at (Then spot) = answers_at answer_at (row_named spot) (position_of spot timeline.rows)
+
+-- `NAME ask Q`, now or at a spot
+unfoldable pub answers : NamedTimeline → Moment → Query → Outcome
+answers timeline moment (One question) =
+    if suits question timeline.kind
+    then answers_then timeline (λ place. Answered (answer_of (state_at timeline.kind timeline.rows place) question)) moment
+    else Refused refusals.Kind
+answers timeline moment All = answers_then timeline (λ place. Listed (content (state_at timeline.kind timeline.rows place))) moment
