@@ -7,3 +7,9 @@ pub mod DeadFirst
 pub mod Histories
 pub mod Carried
 pub mod Weighing
+pub mod Junctions
+pub mod Behind
+pub mod EditJunctions
+pub mod EditsCarry
+pub mod Kept
+pub mod Later

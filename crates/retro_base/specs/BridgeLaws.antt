@@ -1,19 +1,11 @@
 -- Laws on bridges. Each is the contract of a function of `src/bridge_laws.rt`, which has no body.
 use Rattle.std.specs.Prelude.{◌≡◌, ◌↔◌, ℕ, pos, ◌≤ℤ◌, true, List, Contains}
-use Rattle.retro_base.specs.declared.kind.Kind.TheVariants.{Pq}
 use Rattle.retro_base.specs.declared.row.Entry.{Entry}
 use Rattle.retro_base.specs.declared.row.Row.{Row}
 use Rattle.retro_base.specs.State.{comes_before}
-use Rattle.retro_base.specs.Replay.{IsValid}
-use Rattle.retro_base.specs.Timeline.{HaveOwnNumbers, AreOfKind}
 use Rattle.retro_base.specs.Bridges.{entries_at, survivors, IsBridge}
 use Rattle.retro_base.specs.Weights.{sum_of_weights, dead_at}
-
--- rows of a priority queue, with numbers of their own, that replay whole
-pub record IsPqHistory (rows : List Row) : Type 0 where
-  pub of_kind : AreOfKind Pq rows
-  pub own_numbers : HaveOwnNumbers rows
-  pub valid : IsValid Pq rows
+use Rattle.retro_base.specs.Carried.{IsPqHistory}
 
 -- the weights up to a place add up to the number of entries that are held there and do not survive
 abbrev pub WeightsCountTheDead : Type 0

@@ -15,6 +15,8 @@ pub mod Bridges
 pub mod Changes
 pub mod Weights
 pub mod BridgeLaws
+pub mod Carried
+pub mod CarriedLaws
 pub mod Counting
 pub mod Content
 pub mod Text

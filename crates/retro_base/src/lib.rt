@@ -33,7 +33,9 @@ mod row;
 mod steps;
 mod text;
 
-pub use bridge_laws::{dead_come_first, weights_count_the_dead};
+pub use bridge_laws::{
+    carried_entry_changes_at_takes, dead_come_first, one_entry_is_carried, weights_count_the_dead,
+};
 pub use kind::Kind;
 pub use limits::{MAX_NEXT, MAX_ROWS, limits_are_those_stated};
 pub use listing::Listing;

@@ -56,7 +56,7 @@ carried_exchanged : (c x : Entry) (moves : List (Option Entry)) (held end : List
 carried_exchanged c x moves held end above before next = record {
   last = next.last;
   leads = subst (λ l. Leads (None ∷ moves) l (with_entry next.last end)) (sym (with_first c x held before))
-    (subst (λ l. Leads moves l (with_entry next.last end)) (with_above x held above) next.leads);
+      (subst (λ l. Leads moves l (with_entry next.last end)) (with_above x held above) next.leads);
   absent = next.absent;
   least = at_most_further c x next.last before next.least;
   greatest = λ y origin died. elim origin [

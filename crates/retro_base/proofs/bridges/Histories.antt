@@ -18,7 +18,7 @@ use Rattle.retro_base.specs.Replay.{fold_rows, run, one_later, failure, IsValid}
 use Rattle.retro_base.specs.Timeline.{IsFresh, HaveOwnNumbers, AreOfKind}
 use Rattle.retro_base.specs.Bridges.{entries_of, entries_at, survivors}
 use Rattle.retro_base.specs.Weights.{added_as, added_by}
-use Rattle.retro_base.specs.BridgeLaws.{IsPqHistory}
+use Rattle.retro_base.specs.Carried.{IsPqHistory}
 use Rattle.retro_base.proofs.Folds.{fold_rows-nil, fold_rows-some, fold_rows-none, one_later-ok, not_both}
 use Rattle.retro_base.proofs.bridges.Entries.{In}
 use Rattle.retro_base.proofs.bridges.Moves.{Leads, FailsAt, Adds, AddEachOnce, Ready, leads_both, leads_parts, one_end, ready_later}
@@ -79,7 +79,7 @@ outcome (row ∷ rows) held of_kind =
     (λ next. outcome rows next of_kind.1)
 
 -- moves that lead to an end do not fail, and moves fail at one index
-never_both : (moves : List (Option Entry)) (held end : List Entry) (index : ℕ) → Leads moves held end → FailsAt moves held index → ⊥
+pub never_both : (moves : List (Option Entry)) (held end : List Entry) (index : ℕ) → Leads moves held end → FailsAt moves held index → ⊥
 never_both [] held end index leads fails = fails
 never_both (Some e ∷ moves) held end zero leads fails = fails
 never_both (Some e ∷ moves) held end (suc index) leads fails = never_both moves (with_entry e held) end index leads fails
@@ -128,6 +128,10 @@ leads_survivors rows end of_kind leads = ap (λ r. entries_of (result_unwrap_or 
 
 pub leads_valid : (rows : List Row) (end : List Entry) → AreOfKind Pq rows → Leads (moves_of rows) [] end → IsValid Pq rows
 leads_valid rows end of_kind leads = ap result_err (leads_run rows [] end of_kind leads)
+
+pub moves_length : (rows : List Row) → length (moves_of rows) ≡ length rows
+moves_length [] = refl
+moves_length (row ∷ rows) = ap suc (moves_length rows)
 
 pub moves_append : (a b : List Row) → moves_of (a ++ b) ≡ moves_of a ++ moves_of b
 moves_append [] b = refl

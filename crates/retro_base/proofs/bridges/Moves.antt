@@ -1,7 +1,7 @@
 -- What the rows of a priority queue do to its entries, as moves: a row adds an entry, or takes the least one.
 --
 --     add c, add a, take, add b    leads from nothing to  b c
-use Rattle.std.proofs.Common.{◌≡◌, ◌≢◌, ℕ, zero, suc, ◌+◌, ◌<◌, ◌≤◌, List, [], ◌∷◌, ◌++◌, length, take, drop, ◌⊎◌, inl, inr, refl, ap, sym, ◌∙◌, arith, Option, Some, None}
+use Rattle.std.proofs.Common.{◌≡◌, ◌≢◌, ℕ, zero, suc, ◌+◌, ◌<◌, ◌≤◌, List, [], ◌∷◌, ◌++◌, length, take, drop, ◌⊎◌, inl, inr, refl, ap, sym, ◌∙◌, arith, subst, zero-add, Option, Some, None}
 use Rattle.retro_base.specs.declared.row.Entry.{Entry}
 use Rattle.retro_base.specs.State.{comes_before, with_entry}
 use Rattle.retro_base.proofs.bridges.EntryOrder.{before_irreflexive}
@@ -62,6 +62,17 @@ ready_taken x moves held ready = record {
   apart = λ y inside. ready.apart y (inr inside);
 }
 
+-- the same with one entry more that is not added
+pub ready_with : (c : Entry) (moves : List (Option Entry)) (held : List Entry) → Ready held moves → ¬ In c held → ¬ Adds c moves → Ready (with_entry c held) moves
+ready_with c moves held ready absent never = record {
+  rising = rising_with c held ready.rising absent;
+  once = ready.once;
+  apart = λ x inside added. elim (in_with c x held inside) [
+    | inl same ↦ never (subst (λ y. Adds y moves) same added)
+    | inr there ↦ ready.apart x there added
+  ];
+}
+
 -- moves in two parts
 pub leads_both : (a b : List (Option Entry)) (held middle end : List Entry) → Leads a held middle → Leads b middle end → Leads (a ++ b) held end
 leads_both [] b held middle end first second = rw first second
@@ -74,6 +85,16 @@ leads_parts [] b held end leads = (held, refl, leads)
 leads_parts (Some e ∷ a) b held end leads = leads_parts a b (with_entry e held) end leads
 leads_parts (None ∷ a) b [] end leads = absurd leads
 leads_parts (None ∷ a) b (x ∷ held) end leads = leads_parts a b held end leads
+
+-- moves that fail behind others fail so much later
+pub fails_later : (a b : List (Option Entry)) (held middle : List Entry) (n index : ℕ) → Leads a held middle → FailsAt b middle n
+    → index ≡ length a + n → FailsAt (a ++ b) held index
+fails_later [] b held middle n index first fails at = subst (FailsAt b held) (sym (at ∙ zero-add n)) (subst (λ l. FailsAt b l n) (sym first) fails)
+fails_later (Some e ∷ a) b held middle n zero first fails at = absurd (omega arith)
+fails_later (Some e ∷ a) b held middle n (suc index) first fails at = fails_later a b (with_entry e held) middle n index first fails (omega arith)
+fails_later (None ∷ a) b [] middle n index first fails at = absurd first
+fails_later (None ∷ a) b (x ∷ held) middle n zero first fails at = absurd (omega arith)
+fails_later (None ∷ a) b (x ∷ held) middle n (suc index) first fails at = fails_later a b held middle n index first fails (omega arith)
 
 -- moves lead to one end
 pub one_end : (moves : List (Option Entry)) (held a b : List Entry) → Leads moves held a → Leads moves held b → a ≡ b
@@ -95,6 +116,28 @@ adds_both x (Some e ∷ a) b h = elim h [
   | inr further ↦ elim (adds_both x a b further) [ inl first ↦ inl (inr first) | inr second ↦ inr second ]
 ]
 adds_both x (None ∷ a) b h = adds_both x a b h
+
+pub adds_first : (x : Entry) (a b : List (Option Entry)) → Adds x a → Adds x (a ++ b)
+adds_first x [] b h = absurd h
+adds_first x (Some e ∷ a) b h = elim h [ inl same ↦ inl same | inr further ↦ inr (adds_first x a b further) ]
+adds_first x (None ∷ a) b h = adds_first x a b h
+
+pub adds_second : (x : Entry) (a b : List (Option Entry)) → Adds x b → Adds x (a ++ b)
+adds_second x [] b h = h
+adds_second x (Some e ∷ a) b h = inr (adds_second x a b h)
+adds_second x (None ∷ a) b h = adds_second x a b h
+
+once_first : (a b : List (Option Entry)) → AddEachOnce (a ++ b) → AddEachOnce a
+once_first [] b once = tt
+once_first (Some e ∷ a) b once = ((λ added. once.0 (adds_first e a b added)), once_first a b once.1)
+once_first (None ∷ a) b once = once_first a b once
+
+pub ready_first : (a b : List (Option Entry)) (held : List Entry) → Ready held (a ++ b) → Ready held a
+ready_first a b held ready = record {
+  rising = ready.rising;
+  once = once_first a b ready.once;
+  apart = λ x inside added. ready.apart x inside (adds_first x a b added);
+}
 
 -- what is held was held or was added
 pub came_from : (x : Entry) (moves : List (Option Entry)) (held end : List Entry) → Leads moves held end → In x end → In x held ⊎ Adds x moves

@@ -13,7 +13,7 @@ use Rattle.retro_base.specs.declared.row.Row.{Row}
 use Rattle.retro_base.specs.State.{comes_before, with_entry}
 use Rattle.retro_base.specs.Bridges.{entries_at, survivors, IsBridge, is_among}
 use Rattle.retro_base.specs.Weights.{added_by, weight_as, sum_of_weights, dead_at}
-use Rattle.retro_base.specs.BridgeLaws.{IsPqHistory}
+use Rattle.retro_base.specs.Carried.{IsPqHistory}
 use Rattle.retro_base.proofs.bridges.Entries.{In, contains_in, in_contains}
 use Rattle.retro_base.proofs.bridges.Tests.{in_is_among, is_among_in, not_among}
 use Rattle.retro_base.proofs.bridges.Moves.{Leads, Ready, ready_added, ready_taken, taken_for_good, leads_both}
@@ -59,7 +59,7 @@ weigh alive sum rows = fold (λ sum row. sum +ℤ weight_as alive (added_by row)
 -- the sum over some rows, where the others lead on to the survivors
 weighed_by : (m : Option Entry) (alive : List Entry) (rows : List Row) (others : List (Option Entry)) (held end : List Entry) (z : ℤ)
     → ((before : List Entry) (y : ℤ) → Ready before (moves_of rows ++ others) → Leads (moves_of rows) before end
-        → weigh alive y rows +ℤ pos (dead_of alive before) ≡ y +ℤ pos (dead_of alive end))
+    → weigh alive y rows +ℤ pos (dead_of alive before) ≡ y +ℤ pos (dead_of alive end))
     → Ready held (m ∷ (moves_of rows ++ others)) → Leads (m ∷ moves_of rows) held end → Leads others end alive
     → weigh alive (z +ℤ weight_as alive m) rows +ℤ pos (dead_of alive held) ≡ z +ℤ pos (dead_of alive end)
 weighed_by (Some e) alive rows others held end z rest ready leads on =
@@ -85,7 +85,7 @@ pub weights_count : (rows : List Row) (place : ℕ) → IsPqHistory rows → sum
 weights_count rows place history =
     let parts = history_at rows place history in
     let sum = weighed (survivors rows) (take place rows) (moves_of (drop place rows)) [] (entries_at rows place) (pos 0)
-        (whole_ready rows place history) parts.first parts.second in
+    (whole_ready rows place history) parts.first parts.second in
     from_nothing _ _ sum
 
 pub sum_not_negative : (rows : List Row) (place : ℕ) → IsPqHistory rows → pos 0 ≤ℤ sum_of_weights rows place
@@ -111,6 +111,7 @@ zero_of z n e f = omega (arith, ints)
 
 pub bridge_is_zero : (rows : List Row) (place : ℕ) → IsPqHistory rows → IsBridge rows place ↔ (sum_of_weights rows place ≡ pos 0)
 bridge_is_zero rows place history =
-    let count = weights_count rows place history in
-    (λ bridge. count ∙ ap (λ n. pos n) (none_dead (survivors rows) (entries_at rows place) bridge),
-     λ zero. all_alive (survivors rows) (entries_at rows place) (zero_of _ _ count zero))
+    let count = weights_count rows place history in (
+      λ bridge. count ∙ ap (λ n. pos n) (none_dead (survivors rows) (entries_at rows place) bridge),
+      λ zero. all_alive (survivors rows) (entries_at rows place) (zero_of _ _ count zero),
+    )
