@@ -13,3 +13,10 @@ pub mod EditJunctions
 pub mod EditsCarry
 pub mod Kept
 pub mod Later
+pub mod Chain
+pub mod Gained
+pub mod Lost
+pub mod Losing
+pub mod LossTable
+pub mod StatedBridges
+pub mod OneChange

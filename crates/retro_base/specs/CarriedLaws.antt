@@ -1,9 +1,9 @@
 -- Laws on the entry that an edit carries along. Each is the contract of a function of `src/bridge_laws.rt`.
-use Rattle.std.specs.Prelude.{◌≡◌, ℕ, ◌+◌, suc, ◌≤◌, true, false, List, length, slice_get, Option, Some}
+use Rattle.std.specs.Prelude.{◌≡◌, ℕ, ◌+◌, suc, ◌≤◌, true, false, List, length, slice_get, Some}
 use Rattle.retro_base.specs.declared.kind.Kind.TheVariants.{Pq}
 use Rattle.retro_base.specs.declared.row.Entry.{Entry}
 use Rattle.retro_base.specs.declared.row.Row.{Row}
-use Rattle.retro_base.specs.Edits.{Edit, edited, IsAccepted}
+use Rattle.retro_base.specs.Edits.{Edit, IsAccepted}
 use Rattle.retro_base.specs.Bridges.{IsBridge}
 use Rattle.retro_base.specs.Weights.{added_by}
 use Rattle.retro_base.specs.Carried.{IsPqEdit, old_start, gives, Carries, ChangesBy}

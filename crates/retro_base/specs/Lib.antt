@@ -17,6 +17,9 @@ pub mod Weights
 pub mod BridgeLaws
 pub mod Carried
 pub mod CarriedLaws
+pub mod BridgeTable
+pub mod BridgeTableLaws
+pub mod ChangeLaws
 pub mod Counting
 pub mod Content
 pub mod Text

@@ -1,3 +1,5 @@
+ghost use Rattle.retro_base.specs.ChangeLaws.{OneBridgeIsStated, OneChangeOfPq, OneChangeOfOthers};
+ghost use Rattle.retro_base.specs.BridgeTableLaws.{AddedEntryGains, CutTakeGains, AddedTakeLoses, CutDeadLoses, CutSurvivorLoses};
 ghost use Rattle.retro_base.specs.CarriedLaws.{GivingIsAccepted, OneIsCarried, PresentsDifferByOne, AddingCarriesOn, MissingStaysFromBridge};
 ghost use Rattle.retro_base.specs.BridgeLaws.{WeightsCountTheDead, SumsAreNeverNegative, BridgesAreZeros, DeadComeFirst};
 
@@ -27,4 +29,28 @@ pub fn one_entry_is_carried()
 pub fn carried_entry_changes_at_takes()
     ensures adding { AddingCarriesOn }
     ensures missing { MissingStaysFromBridge }
+{}
+
+/// A law: the greatest dead entry from the last bridge on is gained where a row that takes is cut; so
+/// it is where an entry is added, unless the new one is greater.
+pub fn greatest_from_bridge_is_gained()
+    ensures added_entry { AddedEntryGains }
+    ensures cut_take { CutTakeGains }
+{}
+
+/// A law: the least survivor from before the first bridge is lost where a row that takes is added, and
+/// where one is cut whose entry is dead; where there is none the edit is refused. One that survives is
+/// lost where its row is cut.
+pub fn least_before_bridge_is_lost()
+    ensures added_take { AddedTakeLoses }
+    ensures cut_dead { CutDeadLoses }
+    ensures cut_survivor { CutSurvivorLoses }
+{}
+
+/// A law: an edit states one bridge, and an accepted edit has one change. The functions of the
+/// definitions name them.
+pub fn one_change_is_named()
+    ensures bridge { OneBridgeIsStated }
+    ensures of_pq { OneChangeOfPq }
+    ensures of_others { OneChangeOfOthers }
 {}

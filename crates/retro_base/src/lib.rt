@@ -34,7 +34,8 @@ mod steps;
 mod text;
 
 pub use bridge_laws::{
-    carried_entry_changes_at_takes, dead_come_first, one_entry_is_carried, weights_count_the_dead,
+    carried_entry_changes_at_takes, dead_come_first, greatest_from_bridge_is_gained,
+    least_before_bridge_is_lost, one_change_is_named, one_entry_is_carried, weights_count_the_dead,
 };
 pub use kind::Kind;
 pub use limits::{MAX_NEXT, MAX_ROWS, limits_are_those_stated};

@@ -3,8 +3,7 @@
 --
 --     poor   held          then  a b        then  a b
 --     rich   held and c    then  a b c      then  a b d
-use Rattle.std.proofs.Common.{◌≡◌, ◌≢◌, ℕ, zero, suc, ◌+◌, List, [], ◌∷◌, ◌++◌, length, take, drop, append_assoc, ◌⊎◌, inl, inr, refl, ap, sym, ◌∙◌, arith, subst, Option, Some, None}
-use Rattle.std.specs.Prelude.{Contains}
+use Rattle.std.proofs.Common.{◌≡◌, ℕ, ◌+◌, List, [], ◌++◌, length, take, drop, append_assoc, ap, sym, ◌∙◌, subst}
 use Rattle.std.proofs.Math.Seq.{take-append-add}
 use Rattle.std.proofs.lemmas.List.{take-append-drop}
 use Rattle.retro_base.specs.declared.kind.Kind.TheVariants.{Pq}
@@ -17,7 +16,7 @@ use Rattle.retro_base.specs.Timeline.{AreOfKind}
 use Rattle.retro_base.specs.Bridges.{entries_at, survivors}
 use Rattle.retro_base.specs.Changes.{Joins}
 use Rattle.retro_base.proofs.bridges.Entries.{In, contains_in}
-use Rattle.retro_base.proofs.bridges.Moves.{Leads, Adds, Ready, leads_both, leads_parts, one_end, ready_later, ready_first, adds_first}
+use Rattle.retro_base.proofs.bridges.Moves.{Leads, Adds, Ready, leads_both, leads_parts, one_end, ready_first, adds_first}
 use Rattle.retro_base.proofs.bridges.Histories.{moves_of, moves_append, leads_survivors, leads_valid, valid_leads}
 use Rattle.retro_base.proofs.bridges.Junctions.{Junction, all_front}
 use Rattle.retro_base.proofs.bridges.Carried.{Carried, carried}

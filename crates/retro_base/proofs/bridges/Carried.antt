@@ -3,12 +3,12 @@
 --
 --     c e      take, add a  lead to  a e     c is taken from the longer one,
 --     c d e    take, add a  lead to  a d e   c more before, d more at the end
-use Rattle.std.proofs.Common.{◌≡◌, ◌≢◌, List, [], ◌∷◌, Bool, true, false, ◌⊎◌, inl, inr, refl, ap, sym, ◌∙◌, subst, Option, Some, None}
+use Rattle.std.proofs.Common.{◌≡◌, ◌≢◌, List, [], ◌∷◌, true, false, ◌⊎◌, inl, inr, refl, ap, sym, ◌∙◌, subst, Option, Some, None}
 use Rattle.retro_base.specs.declared.row.Entry.{Entry}
 use Rattle.retro_base.specs.State.{comes_before, with_entry}
-use Rattle.retro_base.proofs.bridges.EntryOrder.{before_irreflexive, before_transitive, before_or_after, before_one_way}
+use Rattle.retro_base.proofs.bridges.EntryOrder.{before_irreflexive, before_transitive, before_or_after}
 use Rattle.retro_base.proofs.bridges.Entries.{In, Above, first_once, with_in, in_with, with_first, with_later, with_above, with_swapped}
-use Rattle.retro_base.proofs.bridges.Moves.{Leads, Adds, Ready, ready_added, ready_taken, taken_for_good}
+use Rattle.retro_base.proofs.bridges.Moves.{Leads, Adds, Ready, ready_added, ready_taken}
 
 -- no entry of these comes behind this one
 abbrev pub AtMost : Entry → Entry → Type 0
@@ -23,7 +23,7 @@ pub record Carried (carried : Entry) (moves : List (Option Entry)) (held end : L
   pub greatest : (x : Entry) → In x held ⊎ Adds x moves → ¬ In x end → AtMost x last
   pub among : (last ≡ carried) ⊎ (In last held ⊎ Adds last moves)
 
-at_most_further : (a b c : Entry) → comes_before a b ≡ true → AtMost b c → AtMost a c
+pub at_most_further : (a b c : Entry) → comes_before a b ≡ true → AtMost b c → AtMost a c
 at_most_further a b c before most = elim (comes_before c a) as (λ t. comes_before c a ≡ t → t ≡ false) [
   | true ↦ λ wrong. sym (before_transitive c a b wrong before) ∙ most
   | false ↦ λ right. refl

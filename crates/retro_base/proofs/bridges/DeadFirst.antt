@@ -2,7 +2,7 @@
 -- is taken while both are held comes before it.
 --
 --     a c e g    held at a place,  e g  at the end:  a and c come before e and g
-use Rattle.std.proofs.Common.{◌≡◌, ◌≢◌, List, [], ◌∷◌, true, false, ◌⊎◌, inl, inr, refl, sym, ◌∙◌, Option, Some, None}
+use Rattle.std.proofs.Common.{◌≡◌, List, [], ◌∷◌, true, inl, inr, Option, Some, None}
 use Rattle.retro_base.specs.declared.row.Entry.{Entry}
 use Rattle.retro_base.specs.State.{comes_before, with_entry}
 use Rattle.retro_base.proofs.bridges.Entries.{In, above_in, with_in}

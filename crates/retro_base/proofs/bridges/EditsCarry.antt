@@ -1,13 +1,13 @@
 -- What an edit carries: behind an edit that gives the new states have one entry more, and behind any other accepted edit
 -- the old states have one more.
-use Rattle.std.proofs.Common.{◌≡◌, ◌≢◌, ℕ, zero, suc, ◌+◌, ◌≤◌, Bool, true, false, List, [], ◌∷◌, length, length-append, drop, arith, ◌⊎◌, inl, inr, refl, ap, sym, ◌∙◌, subst, Option, Some, None}
+use Rattle.std.proofs.Common.{◌≡◌, ℕ, suc, ◌+◌, ◌≤◌, Bool, true, false, List, [], ◌∷◌, length, length-append, drop, arith, inl, inr, refl, ap, sym, subst, Some}
 use Rattle.std.specs.Prelude.{slice_get, Contains}
 use Rattle.std.specs.List.{AllByRecursion}
 use Rattle.retro_base.specs.Weights.{added_by}
 use Rattle.retro_base.specs.declared.kind.Kind.TheVariants.{Pq}
 use Rattle.retro_base.specs.declared.row.Entry.{Entry}
 use Rattle.retro_base.specs.declared.row.Row.{Row}
-use Rattle.retro_base.specs.Edits.{Edit, add, cut, edited, IsAccepted}
+use Rattle.retro_base.specs.Edits.{Edit, edited, IsAccepted}
 use Rattle.retro_base.specs.Bridges.{entries_at, survivors, IsBridge}
 use Rattle.retro_base.specs.Changes.{Joins}
 use Rattle.retro_base.specs.Carried.{IsPqEdit, gives, Differ, Carries, ChangesBy, old_start, new_start}
@@ -16,7 +16,7 @@ use Rattle.retro_base.proofs.bridges.Behind.{carried_behind, one_more_behind, ca
 use Rattle.retro_base.proofs.bridges.Entries.{In, contains_in, with_in}
 use Rattle.retro_base.proofs.bridges.Kept.{kept_behind}
 use Rattle.retro_base.proofs.bridges.Later.{adding_later, row_behind, one_joins, junction_later}
-use Rattle.retro_base.proofs.bridges.EditJunctions.{Giving, Taking, FindsNothing, giving, taking}
+use Rattle.retro_base.proofs.bridges.EditJunctions.{Taking, giving, taking}
 
 pub giving_accepted : (rows : List Row) (edit : Edit) → IsPqEdit rows edit → gives edit ≡ true → IsAccepted Pq rows edit
 giving_accepted rows edit possible gain =

@@ -1,7 +1,7 @@
 -- Lists of entries in rising order, which one more entry keeps in order. Membership is by recursion here.
 --
 --     a c d  with b  is  a b c d
-use Rattle.std.proofs.Common.{◌≡◌, ◌≢◌, ℕ, zero, suc, ◌<◌, Bool, true, false, List, [], ◌∷◌, length, ◌⊎◌, inl, inr, refl, ap, sym, ◌∙◌, arith, cond, subst}
+use Rattle.std.proofs.Common.{◌≡◌, ◌≢◌, zero, suc, ◌<◌, Bool, true, false, List, [], ◌∷◌, length, ◌⊎◌, inl, inr, refl, ap, sym, ◌∙◌, arith, cond}
 use Rattle.std.specs.Prelude.{Contains, slice_index_or}
 use Rattle.std.specs.List.{AllByRecursion}
 use Rattle.retro_base.specs.declared.row.Entry.{Entry}

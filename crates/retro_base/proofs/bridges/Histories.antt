@@ -2,8 +2,7 @@
 -- place.
 --
 --     ins 4, ins 2, delmin    are the moves    add 4, add 2, take
-use Rattle.std.proofs.Common.{◌≡◌, ◌≢◌, ℕ, ℤ, zero, suc, ◌+◌, ◌<◌, ◌≤◌, List, [], ◌∷◌, ◌++◌, length, take, drop, map, ◌⊎◌, inl, inr, refl, ap, sym, ◌∙◌, arith, subst, Option, Some, None, Result, Ok, Err}
-use Rattle.std.specs.List.{AllByRecursion}
+use Rattle.std.proofs.Common.{◌≡◌, ℕ, zero, suc, List, [], ◌∷◌, ◌++◌, length, take, drop, map, ◌⊎◌, inl, inr, refl, ap, sym, ◌∙◌, subst, Option, Some, None, Result, Ok, Err}
 use Rattle.std.specs.Option.{option_map}
 use Rattle.std.specs.Result.{result_err, result_unwrap_or}
 use Rattle.std.proofs.lemmas.List.{take-append-drop}
@@ -14,14 +13,13 @@ use Rattle.retro_base.specs.declared.row.Entry.{Entry}
 use Rattle.retro_base.specs.declared.row.Row.{Row}
 use Rattle.retro_base.specs.Kind.{kind_of}
 use Rattle.retro_base.specs.State.{entries, perform, step, empty, with_entry, without_first}
-use Rattle.retro_base.specs.Replay.{fold_rows, run, one_later, failure, IsValid}
+use Rattle.retro_base.specs.Replay.{run, one_later, IsValid}
 use Rattle.retro_base.specs.Timeline.{IsFresh, HaveOwnNumbers, AreOfKind}
 use Rattle.retro_base.specs.Bridges.{entries_of, entries_at, survivors}
 use Rattle.retro_base.specs.Weights.{added_as, added_by}
 use Rattle.retro_base.specs.Carried.{IsPqHistory}
-use Rattle.retro_base.proofs.Folds.{fold_rows-nil, fold_rows-some, fold_rows-none, one_later-ok, not_both}
-use Rattle.retro_base.proofs.bridges.Entries.{In}
-use Rattle.retro_base.proofs.bridges.Moves.{Leads, FailsAt, Adds, AddEachOnce, Ready, leads_both, leads_parts, one_end, ready_later}
+use Rattle.retro_base.proofs.Folds.{fold_rows-nil, fold_rows-some, fold_rows-none}
+use Rattle.retro_base.proofs.bridges.Moves.{Leads, FailsAt, Adds, AddEachOnce, Ready, leads_parts, one_end, ready_later}
 
 abbrev pub moves_of : List Row → List (Option Entry)
 moves_of rows = map added_by rows

@@ -3,22 +3,20 @@
 --
 --     before | ins 4 | after         held and 4
 --     before         | after         held
-use Rattle.std.proofs.Common.{◌≡◌, ◌≢◌, ℕ, zero, suc, ◌+◌, List, [], ◌∷◌, ◌++◌, length, take, drop, append_assoc, length-append, ◌⊎◌, inl, inr, refl, ap, sym, ◌∙◌, arith, subst, Option, Some, None}
+use Rattle.std.proofs.Common.{◌≡◌, ◌≢◌, ℕ, suc, List, [], ◌∷◌, ◌++◌, length, append_assoc, length-append, inl, inr, refl, ap, sym, ◌∙◌, arith, subst, Option, Some, None}
 use Rattle.std.specs.List.{AllByRecursion}
-use Rattle.std.proofs.Math.Seq.{take-append-add}
 use Rattle.retro_base.specs.declared.kind.Kind.TheVariants.{Pq}
 use Rattle.retro_base.specs.declared.row.Entry.{Entry}
 use Rattle.retro_base.specs.declared.row.Row.{Row}
 use Rattle.retro_base.specs.State.{with_entry}
 use Rattle.retro_base.specs.Kind.{kind_of}
-use Rattle.retro_base.specs.Replay.{IsValid}
 use Rattle.retro_base.specs.Timeline.{IsFresh, AreOfKind}
-use Rattle.retro_base.specs.Bridges.{entries_at, survivors}
+use Rattle.retro_base.specs.Bridges.{survivors}
 use Rattle.retro_base.specs.Weights.{added_by}
 use Rattle.retro_base.specs.Carried.{IsPqHistory}
-use Rattle.retro_base.proofs.bridges.Entries.{In, Above, first_once, with_above}
-use Rattle.retro_base.proofs.bridges.Moves.{Leads, Adds, AddEachOnce, Ready, leads_both, came_from, new_here}
-use Rattle.retro_base.proofs.bridges.Histories.{moves_of, moves_append, added_number, fresh_adds, Parts, history_parts}
+use Rattle.retro_base.proofs.bridges.Entries.{In, first_once, with_above}
+use Rattle.retro_base.proofs.bridges.Moves.{Leads, Adds, Ready, leads_both, came_from, new_here}
+use Rattle.retro_base.proofs.bridges.Histories.{moves_of, moves_append, added_number, fresh_adds, history_parts}
 
 -- a row between other rows: what is held before it, and what its move and the ones behind it can count on
 pub record Seam (before : List Row) (row : Row) (after : List Row) : Type 0 where

@@ -3,8 +3,7 @@
 --
 --     poor   held          then  a b
 --     rich   held and c    then  a b c      c survives
-use Rattle.std.proofs.Common.{◌≡◌, ◌≢◌, ℕ, zero, suc, ◌+◌, ◌≤◌, Bool, true, false, List, [], ◌∷◌, ◌++◌, length, take, drop, append_assoc, length-append, length-take, ◌⊎◌, inl, inr, refl, ap, sym, ◌∙◌, arith, subst, Option, Some, None}
-use Rattle.std.proofs.lemmas.List.{take-append-drop}
+use Rattle.std.proofs.Common.{◌≡◌, ◌≢◌, ℕ, ◌+◌, Bool, true, false, List, [], ◌∷◌, take, drop, inl, inr, refl, ap, sym, ◌∙◌, subst, Option, Some, None}
 use Rattle.retro_base.specs.declared.kind.Kind.TheVariants.{Pq}
 use Rattle.retro_base.specs.declared.row.Entry.{Entry}
 use Rattle.retro_base.specs.declared.row.Row.{Row}
@@ -13,7 +12,7 @@ use Rattle.retro_base.specs.Replay.{IsValid}
 use Rattle.retro_base.specs.Bridges.{entries_at, survivors}
 use Rattle.retro_base.specs.Changes.{Joins}
 use Rattle.retro_base.proofs.bridges.Entries.{In, with_in, in_with, with_first, with_later, with_swapped}
-use Rattle.retro_base.proofs.bridges.Moves.{Leads, Adds, Ready, ready_added, ready_taken, ready_with, ready_later, taken_for_good, came_from, leads_both, adds_second}
+use Rattle.retro_base.proofs.bridges.Moves.{Leads, Adds, Ready, ready_added, ready_taken, ready_with, taken_for_good, came_from, leads_both, adds_second}
 use Rattle.retro_base.proofs.bridges.Histories.{moves_of, moves_append, leads_survivors, leads_valid}
 use Rattle.retro_base.proofs.bridges.Junctions.{Junction}
 use Rattle.retro_base.proofs.bridges.Behind.{Behind, behind, all_behind, entries_behind, moves_split, joins, ready_up_to}

@@ -2,9 +2,9 @@
 -- A row that adds leaves the carried entry as it is.
 --
 --     held and c | take ...    and then    rest and d | ...
-use Rattle.std.proofs.Common.{◌≡◌, ◌≢◌, ℕ, zero, suc, ◌+◌, ◌<◌, ◌≤◌, List, [], ◌∷◌, ◌++◌, length, take, drop, append_assoc, length-append, length-take, ◌⊎◌, inl, inr, refl, ap, sym, ◌∙◌, arith, subst, zero-add, Option, Some, None}
+use Rattle.std.proofs.Common.{◌≡◌, ℕ, zero, suc, ◌+◌, ◌<◌, ◌≤◌, List, [], ◌∷◌, ◌++◌, length, take, drop, append_assoc, length-append, length-take, inl, inr, refl, ap, sym, ◌∙◌, arith, subst, zero-add, Option, Some}
 use Rattle.std.specs.Prelude.{slice_get}
-use Rattle.std.proofs.Math.Seq.{drop-append-add, drop-cons}
+use Rattle.std.proofs.Math.Seq.{drop-cons}
 use Rattle.std.proofs.lemmas.List.{take-append-drop}
 use Rattle.std.proofs.lemmas.Option.{get_or_from_slice_get, slice_get_within}
 use Rattle.retro_base.specs.declared.kind.Kind.TheVariants.{Pq}
@@ -12,15 +12,15 @@ use Rattle.retro_base.specs.declared.row.Entry.{Entry}
 use Rattle.retro_base.specs.declared.row.Row.{Row}
 use Rattle.retro_base.specs.State.{with_entry}
 use Rattle.retro_base.specs.Replay.{IsValid}
-use Rattle.retro_base.specs.Bridges.{entries_at, survivors}
+use Rattle.retro_base.specs.Bridges.{entries_at}
 use Rattle.retro_base.specs.Changes.{Joins}
 use Rattle.retro_base.specs.Weights.{added_by}
-use Rattle.retro_base.proofs.bridges.Entries.{In, with_in, in_with, in_contains, with_swapped}
-use Rattle.retro_base.proofs.bridges.Moves.{Leads, Adds, Ready, ready_with, ready_later, leads_both, came_from}
+use Rattle.retro_base.proofs.bridges.Entries.{In, with_in, in_with, in_contains}
+use Rattle.retro_base.proofs.bridges.Moves.{Leads, Adds, Ready, ready_with, ready_later, leads_both}
 use Rattle.retro_base.proofs.bridges.Histories.{moves_of, moves_append}
 use Rattle.retro_base.proofs.bridges.Junctions.{Junction}
 use Rattle.retro_base.proofs.bridges.Carried.{Carried}
-use Rattle.retro_base.proofs.bridges.Behind.{entries_behind, moves_split, joins, carried_behind, one_more_behind, poor_behind}
+use Rattle.retro_base.proofs.bridges.Behind.{moves_split, carried_behind, one_more_behind, poor_behind}
 
 -- the entry more is one alone
 pub one_joins : (x y : Entry) (less more : List Entry) → Joins x less more → more ≡ with_entry y less → x ≡ y
@@ -51,10 +51,33 @@ leads_later : (front after : List Row) (more : ℕ) (held next : List Entry) →
 leads_later front after more held next first on =
     subst (λ l. Leads l [] next) (sym (moves_append front (take more after))) (leads_both (moves_of front) (moves_of (take more after)) [] held next first on)
 
-ready_behind : (after : List Row) (more : ℕ) (held next : List Entry) → Ready held (moves_of after) → Leads (moves_of (take more after)) held next
+pub ready_behind : (after : List Row) (more : ℕ) (held next : List Entry) → Ready held (moves_of after) → Leads (moves_of (take more after)) held next
     → Ready next (moves_of (drop more after))
 ready_behind after more held next ready on =
     ready_later (moves_of (take more after)) (moves_of (drop more after)) held next (subst (Ready held) (moves_split more after) ready) on
+
+-- by any entries that the two lists lead to
+pub junction_between : (entry : Entry) (held : List Entry) (after poor rich : List Row) (poor_place rich_place : ℕ)
+    → Junction entry held after poor rich poor_place rich_place → (more : ℕ) → more ≤ length after → (last : Entry) (next : List Entry)
+    → Leads (moves_of (take more after)) held next → Leads (moves_of (take more after)) (with_entry entry held) (with_entry last next) → ¬ In last next
+    → Junction last next (drop more after) poor rich (poor_place + more) (rich_place + more)
+junction_between entry held after poor rich poor_place rich_place j more within last next poor_on rich_on absent =
+    let ready = ready_behind after more (with_entry entry held) (with_entry last next) (ready_with entry (moves_of after) held j.ready j.absent j.never) rich_on in
+    record {
+      poor_front = j.poor_front ++ take more after;
+      rich_front = j.rich_front ++ take more after;
+      poor_is = front_later poor j.poor_front after more j.poor_is;
+      rich_is = front_later rich j.rich_front after more j.rich_is;
+      poor_length = length_later j.poor_front after poor_place more j.poor_length within;
+      rich_length = length_later j.rich_front after rich_place more j.rich_length within;
+      poor_leads = leads_later j.poor_front after more held next j.poor_leads poor_on;
+      rich_leads = leads_later j.rich_front after more (with_entry entry held) (with_entry last next) j.rich_leads rich_on;
+      poor_kind = j.poor_kind;
+      rich_kind = j.rich_kind;
+      ready = ready_behind after more held next j.ready poor_on;
+      absent = absent;
+      never = ready.apart last (with_in last last next (inl refl));
+    }
 
 module _ (entry : Entry) (held : List Entry) (after poor rich : List Row) (poor_place rich_place : ℕ)
     (j : Junction entry held after poor rich poor_place rich_place) (valid : IsValid Pq poor) (more : ℕ) (within : more ≤ length after) where
@@ -63,24 +86,8 @@ module _ (entry : Entry) (held : List Entry) (after poor rich : List Row) (poor_
 
   pub junction_later : Junction carried_there.last (entries_at poor (poor_place + more)) (drop more after) poor rich (poor_place + more) (rich_place + more)
   junction_later =
-      let there = poor_behind entry held after poor rich poor_place rich_place j valid more in
-      let ready = ready_behind after more (with_entry entry held) (with_entry carried_there.last (entries_at poor (poor_place + more)))
-      (ready_with entry (moves_of after) held j.ready j.absent j.never) carried_there.leads in
-      record {
-        poor_front = j.poor_front ++ take more after;
-        rich_front = j.rich_front ++ take more after;
-        poor_is = front_later poor j.poor_front after more j.poor_is;
-        rich_is = front_later rich j.rich_front after more j.rich_is;
-        poor_length = length_later j.poor_front after poor_place more j.poor_length within;
-        rich_length = length_later j.rich_front after rich_place more j.rich_length within;
-        poor_leads = leads_later j.poor_front after more held _ j.poor_leads there.up_to;
-        rich_leads = leads_later j.rich_front after more (with_entry entry held) _ j.rich_leads carried_there.leads;
-        poor_kind = j.poor_kind;
-        rich_kind = j.rich_kind;
-        ready = ready_behind after more held _ j.ready there.up_to;
-        absent = carried_there.absent;
-        never = ready.apart carried_there.last (with_in carried_there.last carried_there.last (entries_at poor (poor_place + more)) (inl refl));
-      }
+      junction_between entry held after poor rich poor_place rich_place j more within carried_there.last (entries_at poor (poor_place + more))
+      (poor_behind entry held after poor rich poor_place rich_place j valid more).up_to carried_there.leads carried_there.absent
 
 -- one row that adds
 same_carried : (c e : Entry) (moves : List (Option Entry)) (held next : List Entry) → moves ≡ Some e ∷ [] → Leads moves held next

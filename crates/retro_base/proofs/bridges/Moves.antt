@@ -1,11 +1,10 @@
 -- What the rows of a priority queue do to its entries, as moves: a row adds an entry, or takes the least one.
 --
 --     add c, add a, take, add b    leads from nothing to  b c
-use Rattle.std.proofs.Common.{◌≡◌, ◌≢◌, ℕ, zero, suc, ◌+◌, ◌<◌, ◌≤◌, List, [], ◌∷◌, ◌++◌, length, take, drop, ◌⊎◌, inl, inr, refl, ap, sym, ◌∙◌, arith, subst, zero-add, Option, Some, None}
+use Rattle.std.proofs.Common.{◌≡◌, ℕ, zero, suc, ◌+◌, List, [], ◌∷◌, ◌++◌, length, ◌⊎◌, inl, inr, refl, sym, ◌∙◌, arith, subst, zero-add, Option, Some, None}
 use Rattle.retro_base.specs.declared.row.Entry.{Entry}
-use Rattle.retro_base.specs.State.{comes_before, with_entry}
-use Rattle.retro_base.proofs.bridges.EntryOrder.{before_irreflexive}
-use Rattle.retro_base.proofs.bridges.Entries.{In, Above, Rising, above_in, first_once, with_in, in_with, rising_with}
+use Rattle.retro_base.specs.State.{with_entry}
+use Rattle.retro_base.proofs.bridges.Entries.{In, Rising, first_once, in_with, rising_with}
 
 -- these moves lead from the first entries to the second ones
 abbrev pub Leads : List (Option Entry) → List Entry → List Entry → Type 0

@@ -1,10 +1,10 @@
 -- The tests say what they mean: an entry is among some entries, and a place is a bridge.
-use Rattle.std.proofs.Common.{◌≡◌, ℕ, Bool, true, false, ◌&&◌, ◌||◌, List, [], ◌∷◌, ◌⊎◌, inl, inr, refl, sym, ◌∙◌}
+use Rattle.std.proofs.Common.{◌≡◌, ℕ, Bool, true, false, ◌&&◌, ◌||◌, List, [], ◌∷◌, inl, inr, refl}
 use Rattle.std.specs.Prelude.{Contains}
 use Rattle.std.specs.List.{AllByRecursion, list_all}
 use Rattle.retro_base.specs.declared.row.Entry.{Entry}
 use Rattle.retro_base.specs.declared.row.Row.{Row}
-use Rattle.retro_base.specs.Bridges.{entries_at, survivors, survives, IsBridge, is_bridge, is_among, same_entry}
+use Rattle.retro_base.specs.Bridges.{entries_at, survivors, IsBridge, is_bridge, is_among, same_entry}
 use Rattle.retro_base.proofs.bridges.EntryOrder.{same_entry-refl, same_entry-same}
 use Rattle.retro_base.proofs.bridges.Entries.{In, contains_in, in_contains}
 

@@ -3,7 +3,7 @@
 --
 --     ins 4, ins 2, delmin, delmin, ins 3        weights  1  1 -1 -1  0
 --     sums  0 1 2 1 0 0                          bridges  |        |  |
-use Rattle.std.proofs.Common.{◌≡◌, ℕ, ℤ, pos, negsuc, ◌+◌, ◌+ℤ◌, not, Bool, true, false, List, [], ◌∷◌, ◌++◌, take, drop, refl, ap, sym, ◌∙◌, arith, subst, cond, Option, Some, None}
+use Rattle.std.proofs.Common.{◌≡◌, ℕ, ℤ, pos, negsuc, ◌+◌, ◌+ℤ◌, not, true, false, List, [], ◌∷◌, ◌++◌, take, drop, refl, ap, sym, ◌∙◌, arith, cond, Option, Some, None}
 use Rattle.std.specs.Prelude.{◌↔◌, ◌≤ℤ◌, count_by, Contains}
 use Rattle.std.specs.List.{fold, AllByRecursion}
 use Rattle.std.proofs.lemmas.Int.{ints}
