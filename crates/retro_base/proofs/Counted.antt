@@ -16,7 +16,7 @@ use Rattle.retro_base.specs.Timeline.{AreOfKind}
 use Rattle.retro_base.specs.Counting.{quantity_of, quantity_after, counted}
 use Rattle.retro_base.proofs.CountedLines.{IsLine, line_quantity, line_failure, line_few}
 use Rattle.retro_base.proofs.CountedKeys.{all_keys, one_key, passed_in, passed_out, key_of_row, pairs_few}
-use Rattle.retro_base.proofs.Replayable.{all_with, all_without}
+use Rattle.retro_base.specs.OrderLaws.{all_with, all_without}
 use Rattle.retro_base.proofs.SortedPairs.{sorted_nil}
 
 all_lines : (kind : Kind) (rows : List Row) → IsLine kind → AreOfKind kind rows → AllByRecursion (λ row. IsLine (kind_of row.op)) rows

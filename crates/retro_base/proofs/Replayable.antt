@@ -14,19 +14,8 @@ use Rattle.retro_base.specs.State.{step, empty}
 use Rattle.retro_base.specs.Edits.{Edit}
 use Rattle.retro_base.specs.Changes.{IsChange}
 use Rattle.retro_base.specs.Timeline.{Structure, IsFresh, HaveOwnNumbers, IsReplayable}
+use Rattle.retro_base.specs.OrderLaws.{all_with, all_without, own_numbers_with, own_numbers_without}
 use Rattle.retro_base.proofs.Folds.{front_possible}
-
--- what holds of all elements and of one more holds of all after it is put in
-pub all_with : {X : Type 0} (P : X → Type 0) (xs : List X) (place : ℕ) (x : X) → AllByRecursion P xs → P x → AllByRecursion P (insert xs place x)
-all_with P xs zero x all here = (here, all)
-all_with P [] (suc place) x all here = (here, tt)
-all_with P (y ∷ ys) (suc place) x all here = (all.0, all_with P ys place x all.1 here)
-
-own_numbers_with : (rows : List Row) (place : ℕ) (row : Row) → HaveOwnNumbers rows → IsFresh row.number rows → HaveOwnNumbers (insert rows place row)
-own_numbers_with rows zero row own fresh = (fresh, own)
-own_numbers_with [] (suc place) row own fresh = (tt, tt)
-own_numbers_with (first ∷ rows) (suc place) row own fresh =
-    (all_with (λ r. r.number ≢ first.number) rows place row own.0 (λ same. fresh.0 (sym same)), own_numbers_with rows place row own.1 fresh.1)
 
 pub empty_replayable : (kind : Kind) → IsReplayable kind []
 unfolding fold_rows
@@ -61,24 +50,12 @@ replayable_seen_at_end now kind rows place row seen replayable room within fresh
     let at_end : insert rows place row ≡ rows ++ row ∷ [] = rw end (insert_end rows row) in
     rw at_end at (replayable_seen_with now kind rows place row seen replayable room within fresh of_kind valid)
 
--- what holds of all elements holds of all that are left, and of those before a place
-pub all_without : {X : Type 0} (P : X → Type 0) (xs : List X) (place : ℕ) → AllByRecursion P xs → AllByRecursion P (remove xs place)
-all_without P [] zero all = tt
-all_without P [] (suc place) all = tt
-all_without P (x ∷ xs) zero all = all.1
-all_without P (x ∷ xs) (suc place) all = (all.0, all_without P xs place all.1)
-
+-- what holds of all elements holds of those before a place
 pub all_before : {X : Type 0} (P : X → Type 0) (xs : List X) (place : ℕ) → AllByRecursion P xs → AllByRecursion P (take place xs)
 all_before P [] zero all = tt
 all_before P [] (suc place) all = tt
 all_before P (x ∷ xs) zero all = tt
 all_before P (x ∷ xs) (suc place) all = (all.0, all_before P xs place all.1)
-
-own_numbers_without : (rows : List Row) (place : ℕ) → HaveOwnNumbers rows → HaveOwnNumbers (remove rows place)
-own_numbers_without [] zero own = tt
-own_numbers_without [] (suc place) own = tt
-own_numbers_without (row ∷ rows) zero own = own.1
-own_numbers_without (row ∷ rows) (suc place) own = (all_without (λ r. r.number ≢ row.number) rows place own.0, own_numbers_without rows place own.1)
 
 length_without : {X : Type 0} (xs : List X) (place : ℕ) → length (remove xs place) ≤ length xs
 length_without [] zero = omega arith

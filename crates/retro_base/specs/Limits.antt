@@ -24,3 +24,7 @@ most_timelines = 8
 -- the bytes of an input
 abbrev pub most_bytes : ℕ
 most_bytes = 2 ^ 30
+
+-- the steps of a timeline that can be undone
+abbrev pub most_steps : ℕ
+most_steps = 1024

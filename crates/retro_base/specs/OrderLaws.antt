@@ -1,12 +1,12 @@
 -- A row that is put in where its time fits keeps the times from falling, and so does a row that is taken out; and where a time fits.
-use Rattle.std.proofs.Common.{◌≡◌, ℕ, zero, suc, ◌+◌, ◌<◌, ◌≤◌, true, false, cond, List, [], ◌∷◌, slice_get, refl, ◌∙◌, ap, arith, Some}
+use Rattle.std.proofs.Common.{◌≡◌, ◌≢◌, ℕ, zero, suc, ◌+◌, ◌<◌, ◌≤◌, true, false, cond, List, [], ◌∷◌, slice_get, refl, sym, ◌∙◌, ap, arith, Some}
 use Rattle.std.specs.List.{insert, remove, AllByRecursion}
 use Rattle.std.proofs.Math.Dec.{leb}
 use Rattle.std.proofs.lemmas.Bool.{leb-true, leb-false, lt-leb}
 use Rattle.std.proofs.lemmas.List.Sums.{sum_by-cons}
 use Rattle.retro_base.specs.declared.row.Row.{Row}
 use Rattle.retro_base.specs.Places.{place_of_time}
-use Rattle.retro_base.specs.Timeline.{TimesNeverFall}
+use Rattle.retro_base.specs.Timeline.{TimesNeverFall, IsFresh, HaveOwnNumbers}
 use Rattle.retro_base.specs.Order.{Fits}
 
 -- a fact about all rows that follows from another
@@ -91,3 +91,16 @@ fits_after (first ∷ rows) zero row never there =
     let same_time : first.time ≡ row.time = first_time first row there in (omega (arith, same_time), rw same_time at never.0)
 fits_after (first ∷ rows) (suc place) row never there =
     (all_at (λ r. first.time ≤ r.time) rows place row never.0 there, fits_after rows place row never.1 there)
+
+-- numbers of their own are so still where a fresh one comes, and where one goes
+pub own_numbers_with : (rows : List Row) (place : ℕ) (row : Row) → HaveOwnNumbers rows → IsFresh row.number rows → HaveOwnNumbers (insert rows place row)
+own_numbers_with rows zero row own fresh = (fresh, own)
+own_numbers_with [] (suc place) row own fresh = (tt, tt)
+own_numbers_with (first ∷ rows) (suc place) row own fresh =
+    (all_with (λ r. r.number ≢ first.number) rows place row own.0 (λ same. fresh.0 (sym same)), own_numbers_with rows place row own.1 fresh.1)
+
+pub own_numbers_without : (rows : List Row) (place : ℕ) → HaveOwnNumbers rows → HaveOwnNumbers (remove rows place)
+own_numbers_without [] zero own = tt
+own_numbers_without [] (suc place) own = tt
+own_numbers_without (row ∷ rows) zero own = own.1
+own_numbers_without (row ∷ rows) (suc place) own = (all_without (λ r. r.number ≢ row.number) rows place own.0, own_numbers_without rows place own.1)

@@ -1,5 +1,5 @@
 -- A node seen from one of its sides.
-use Rattle.std.specs.Prelude.{List}
+use Rattle.std.specs.Prelude.{List, reverse}
 use Rattle.weighted_tree.specs.declared.subtree.Node.{Node}
 use Rattle.weighted_tree.specs.declared.node.Side.{Side}
 use Rattle.weighted_tree.specs.declared.node.Side.TheVariants.{Left, Right}
@@ -17,3 +17,13 @@ side_of Right node = node.right
 abbrev pub with_side : {A M : Type 0} → Side → List A → Node A M → Node A M
 with_side Left items node = record node { left = items }
 with_side Right items node = record node { right = items }
+
+-- a list as it stands from a side
+abbrev pub seen_from : {A : Type 0} → Side → List A → List A
+seen_from Left items = items
+seen_from Right items = reverse items
+
+-- a measure joined with the one beyond it, seen from a side
+abbrev pub join_from : {M : Type 0} → Side → (M → M → M) → M → M → M
+join_from Left join near far = join near far
+join_from Right join near far = join far near

@@ -1,0 +1,25 @@
+-- Rows stay in order where one comes whose time fits, and where one goes.
+use Rattle.std.proofs.Common.{ℕ, ◌<◌, ◌≤◌, List, length, arith}
+use Rattle.std.specs.List.{insert, remove}
+use Rattle.std.proofs.lemmas.List.Edits.{length-insert, length-remove}
+use Rattle.retro_base.specs.declared.row.Row.{Row}
+use Rattle.retro_base.specs.Limits.{most_rows}
+use Rattle.retro_base.specs.Order.{Fits}
+use Rattle.retro_base.specs.OrderLaws.{times_with, times_without, own_numbers_with, own_numbers_without}
+use Rattle.retro_base.specs.Timeline.{IsFresh}
+use Rattle.order_timeline.specs.Rows.{IsOrdered}
+
+pub ordered_with : (rows : List Row) (place : ℕ) (row : Row) → IsOrdered rows → place ≤ length rows → length rows < most_rows
+    → IsFresh row.number rows → Fits rows place row.time → IsOrdered (insert rows place row)
+ordered_with rows place row ordered within room fresh fits = record {
+  few = omega (arith, length-insert rows place row within);
+  in_order = times_with rows place row ordered.in_order fits;
+  own_numbers = own_numbers_with rows place row ordered.own_numbers fresh;
+}
+
+pub ordered_without : (rows : List Row) (place : ℕ) → IsOrdered rows → place < length rows → IsOrdered (remove rows place)
+ordered_without rows place ordered within = record {
+  few = omega (arith, length-remove rows place within, ordered.few);
+  in_order = times_without rows place ordered.in_order;
+  own_numbers = own_numbers_without rows place ordered.own_numbers;
+}

@@ -1,0 +1,3 @@
+pub use Rattle.retro_base.specs.Places
+pub use Rattle.retro_base.specs.Order
+pub mod Rows
