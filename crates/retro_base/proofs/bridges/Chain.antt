@@ -5,26 +5,11 @@
 use Rattle.std.proofs.Common.{◌≡◌, ℕ, zero, suc, ◌<◌, true, false, List, [], ◌∷◌, take, ◌⊎◌, inl, inr, refl, sym, ◌∙◌, arith, subst, Option, Some, None}
 use Rattle.retro_base.specs.declared.row.Entry.{Entry}
 use Rattle.retro_base.specs.State.{with_entry}
+use Rattle.retro_base.proofs.bridges.Bridging.{AllIn, some_dead}
 use Rattle.retro_base.proofs.bridges.EntryOrder.{before_irreflexive, before_or_after, same_or_other}
 use Rattle.retro_base.proofs.bridges.Entries.{In, in_or_not, above_in, with_in}
 use Rattle.retro_base.proofs.bridges.Moves.{Leads, Adds, Ready, ready_added, ready_taken}
 use Rattle.retro_base.proofs.bridges.Carried.{AtMost, at_most_further}
-use Rattle.retro_base.proofs.bridges.DeadFirst.{AllIn}
-
--- not all of these are among the survivors: one is dead
-pub some_dead : (alive held : List Entry) → ¬ AllIn alive held → (dead : Entry) × In dead held × ¬ In dead alive
-some_dead alive [] some = absurd (some tt)
-some_dead alive (x ∷ held) some = elim (in_or_not x alive) [
-  | inl lives ↦ let later = some_dead alive held (λ all. some (lives, all)) in (later.0, inr later.1, later.2)
-  | inr died ↦ (x, inl refl, died)
-]
-
-pub all_or_some : (alive held : List Entry) → AllIn alive held ⊎ (¬ AllIn alive held)
-all_or_some alive [] = inl tt
-all_or_some alive (x ∷ held) = elim (in_or_not x alive) [
-  | inl lives ↦ elim (all_or_some alive held) [ inl all ↦ inl (lives, all) | inr some ↦ inr (λ all. some all.1) ]
-  | inr died ↦ inr (λ all. died all.0)
-]
 
 -- no bridge behind the first place, up to so many moves
 abbrev pub NoneBehind : ℕ → List (Option Entry) → List Entry → List Entry → Type 0

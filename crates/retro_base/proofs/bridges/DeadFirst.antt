@@ -24,8 +24,3 @@ dead_first (None ∷ moves) (x ∷ held) end dead alive ready leads there here d
         | inr further ↦ dead_first moves held end dead alive (ready_taken x moves held ready) leads further later died lives
       ]
     ]
-
--- all of these entries are among the others, or one is not
-abbrev pub AllIn : List Entry → List Entry → Type 0
-AllIn end [] = Unit {0}
-AllIn end (x ∷ held) = In x end × AllIn end held

@@ -11,6 +11,7 @@ use Rattle.retro_base.specs.Edits.{Edit, edited, IsAccepted}
 use Rattle.retro_base.specs.Bridges.{entries_at, survivors, IsBridge}
 use Rattle.retro_base.specs.Changes.{Joins}
 use Rattle.retro_base.specs.Carried.{IsPqEdit, gives, Differ, Carries, ChangesBy, old_start, new_start}
+use Rattle.retro_base.proofs.bridges.Bridging.{all_in, bridge_all}
 use Rattle.retro_base.proofs.bridges.Histories.{valid_leads, never_both, moves_of}
 use Rattle.retro_base.proofs.bridges.Behind.{carried_behind, one_more_behind, carried_to_end, one_more_survives, rich_valid}
 use Rattle.retro_base.proofs.bridges.Entries.{In, contains_in, with_in}
@@ -85,13 +86,6 @@ adding_carries_on rows edit more row added entry possible accepted at adds join 
     adding_by rows edit more row added entry possible accepted at adds (gives edit) refl join
 
 -- from a bridge on the missing entry stays the same
-all_inside : (alive held : List Entry) (x : Entry) → AllByRecursion (Contains alive) held → In x held → In x alive
-all_inside alive [] x all inside = absurd inside
-all_inside alive (y ∷ held) x all inside = elim inside [
-  | inl same ↦ subst (λ z. In z alive) (sym same) (contains_in alive y all.0)
-  | inr there ↦ all_inside alive held x all.1 there
-]
-
 missing_by : (rows : List Row) (edit : Edit) (more further : ℕ) (entry : Entry) → IsPqEdit rows edit → IsAccepted Pq rows edit → gives edit ≡ false
     → old_start edit + more ≤ length rows → IsBridge rows (old_start edit + more)
     → Joins entry (entries_at (edited rows edit) (new_start edit + more)) (entries_at rows (old_start edit + more))
@@ -103,7 +97,7 @@ missing_by rows edit more further entry possible accepted loss within bridge joi
     let there = carried_behind t.entry t.held t.after (edited rows edit) rows (new_start edit) (old_start edit) j accepted more in
     let joined = one_more_behind t.entry t.held t.after (edited rows edit) rows (new_start edit) (old_start edit) j accepted more in
     let same : there.last ≡ entry = sym (one_joins entry there.last _ _ join joined.joined) in
-    let lives : In there.last (survivors rows) = all_inside (survivors rows) (entries_at rows (old_start edit + more)) there.last bridge
+    let lives : In there.last (survivors rows) = all_in (survivors rows) (entries_at rows (old_start edit + more)) there.last (bridge_all (survivors rows) (entries_at rows (old_start edit + more)) bridge)
     (subst (In there.last) (sym joined.joined) (with_in there.last there.last (entries_at (edited rows edit) (new_start edit + more)) (inl refl))) in
     let kept = kept_behind there.last _ (drop more t.after) (edited rows edit) rows (new_start edit + more) (old_start edit + more)
     (junction_later t.entry t.held t.after (edited rows edit) rows (new_start edit) (old_start edit) j accepted more inside) possible.history.valid lives further in

@@ -15,46 +15,16 @@ use Rattle.retro_base.specs.Changes.{Joins, Gains}
 use Rattle.retro_base.specs.Weights.{added_by}
 use Rattle.retro_base.specs.Carried.{IsPqHistory, IsPqEdit}
 use Rattle.retro_base.specs.BridgeTable.{added, IsDeadFrom, IsGreatest}
+use Rattle.retro_base.proofs.bridges.Bridging.{AllIn, all_in, bridge_all, all_bridge}
+use Rattle.retro_base.proofs.bridges.Added.{added_adds, adds_added}
 use Rattle.retro_base.proofs.bridges.Entries.{In, contains_in, in_contains}
 use Rattle.retro_base.proofs.bridges.Moves.{Leads, Adds, came_from, adds_first, adds_second, adds_both}
 use Rattle.retro_base.proofs.bridges.Histories.{moves_of, history_at}
 use Rattle.retro_base.proofs.bridges.Behind.{behind, entries_behind, moves_split, carried_to_end, one_more_survives}
 use Rattle.retro_base.proofs.bridges.Carried.{AtMost}
-use Rattle.retro_base.proofs.bridges.DeadFirst.{AllIn}
 use Rattle.retro_base.proofs.bridges.Chain.{NoneBehind, outlived, at_most_trans, at_most_both}
 use Rattle.retro_base.proofs.bridges.Later.{one_joins, row_at}
 use Rattle.retro_base.proofs.bridges.EditJunctions.{join_added_entry, join_cut_take, cut_take_holds}
-
--- the entries that rows add, as moves
-pub added_adds : (rows : List Row) (x : Entry) → In x (added rows) → Adds x (moves_of rows)
-added_adds [] x inside = absurd inside
-added_adds (row ∷ rows) x inside = elim (added_by row) as (λ m. In x (cons_option m (added rows)) → Adds x (m ∷ moves_of rows)) [
-  | Some e ↦ λ here. elim here [ inl same ↦ inl same | inr later ↦ inr (added_adds rows x later) ]
-  | None ↦ λ later. added_adds rows x later
-] inside
-
-pub adds_added : (rows : List Row) (x : Entry) → Adds x (moves_of rows) → In x (added rows)
-adds_added [] x adds = absurd adds
-adds_added (row ∷ rows) x adds = elim (added_by row) as (λ m. Adds x (m ∷ moves_of rows) → In x (cons_option m (added rows))) [
-  | Some e ↦ λ here. elim here [ inl same ↦ inl same | inr later ↦ inr (adds_added rows x later) ]
-  | None ↦ λ later. adds_added rows x later
-] adds
-
--- bridges, in terms of what is held
-pub bridge_all : (alive held : List Entry) → AllByRecursion (Contains alive) held → AllIn alive held
-bridge_all alive [] all = tt
-bridge_all alive (x ∷ held) all = (contains_in alive x all.0, bridge_all alive held all.1)
-
-pub all_bridge : (alive held : List Entry) → AllIn alive held → AllByRecursion (Contains alive) held
-all_bridge alive [] all = tt
-all_bridge alive (x ∷ held) all = (in_contains alive x all.0, all_bridge alive held all.1)
-
-pub all_in : (alive held : List Entry) (x : Entry) → AllIn alive held → In x held → In x alive
-all_in alive [] x all inside = absurd inside
-all_in alive (y ∷ held) x all inside = elim inside [
-  | inl same ↦ subst (λ z. In z alive) (sym same) all.0
-  | inr there ↦ all_in alive held x all.1 there
-]
 
 -- between a bridge and a place behind it
 pub record Between (rows : List Row) (bridge place : ℕ) : Type 0 where

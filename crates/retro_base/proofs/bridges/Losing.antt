@@ -12,15 +12,14 @@ use Rattle.retro_base.specs.Timeline.{AreOfKind}
 use Rattle.retro_base.specs.Bridges.{entries_at, survivors, IsFirstBridge}
 use Rattle.retro_base.specs.Changes.{Joins}
 use Rattle.retro_base.specs.Weights.{added_by}
+use Rattle.retro_base.proofs.bridges.Bridging.{AllIn, all_in, bridge_all, all_bridge}
 use Rattle.retro_base.proofs.bridges.Entries.{In, first_once, with_above}
 use Rattle.retro_base.proofs.bridges.Moves.{Leads, FailsAt, Ready, ready_with, fails_later}
 use Rattle.retro_base.proofs.bridges.Histories.{moves_of, moves_append, moves_length, fails_run}
 use Rattle.retro_base.proofs.bridges.Junctions.{Junction}
 use Rattle.retro_base.proofs.bridges.Behind.{behind, all_behind, entries_behind}
-use Rattle.retro_base.proofs.bridges.DeadFirst.{AllIn}
 use Rattle.retro_base.proofs.bridges.Kept.{poor_valid, kept_to_end}
 use Rattle.retro_base.proofs.bridges.Later.{junction_between, ready_behind}
-use Rattle.retro_base.proofs.bridges.Gained.{all_in, bridge_all, all_bridge}
 use Rattle.retro_base.proofs.bridges.Lost.{Missing, lost}
 
 -- the rows without it: they replay whole and miss the least entry of the bridge, or the bridge holds none and they fail

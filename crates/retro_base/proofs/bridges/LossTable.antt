@@ -13,15 +13,15 @@ use Rattle.retro_base.specs.Weights.{added_by}
 use Rattle.retro_base.specs.Carried.{IsPqHistory, IsPqEdit}
 use Rattle.retro_base.specs.BridgeTable.{added, IsSurvivorBefore, IsLeast}
 use Rattle.retro_base.specs.BridgeTableLaws.{LosesAt}
+use Rattle.retro_base.proofs.bridges.Bridging.{AllIn, all_in, bridge_all, all_bridge, all_or_some}
+use Rattle.retro_base.proofs.bridges.Added.{added_adds, adds_added}
 use Rattle.retro_base.proofs.bridges.EntryOrder.{before_irreflexive, before_one_way}
 use Rattle.retro_base.proofs.bridges.Entries.{In, in_or_not, above_in, contains_in, in_contains}
 use Rattle.retro_base.proofs.bridges.Moves.{Leads, Adds, AddEachOnce, Ready, came_from, adds_second}
 use Rattle.retro_base.proofs.bridges.Histories.{moves_of, history_at, whole_ready, fails_run}
-use Rattle.retro_base.proofs.bridges.DeadFirst.{AllIn}
-use Rattle.retro_base.proofs.bridges.Chain.{at_most_both, all_or_some}
+use Rattle.retro_base.proofs.bridges.Chain.{at_most_both}
 use Rattle.retro_base.proofs.bridges.Kept.{poor_valid, kept_to_end}
 use Rattle.retro_base.proofs.bridges.Later.{one_joins}
-use Rattle.retro_base.proofs.bridges.Gained.{added_adds, adds_added, all_in, bridge_all, all_bridge}
 use Rattle.retro_base.proofs.bridges.Lost.{first_dead}
 use Rattle.retro_base.proofs.bridges.Losing.{Losing, losing_dead}
 use Rattle.retro_base.proofs.bridges.EditJunctions.{join_added_take, join_cut_entry, added_take_fails}

@@ -6,12 +6,11 @@
 use Rattle.std.proofs.Common.{◌≡◌, ◌≢◌, ℕ, zero, suc, ◌<◌, true, false, List, [], ◌∷◌, take, ◌⊎◌, inl, inr, refl, ap, sym, ◌∙◌, arith, subst, Option, Some, None}
 use Rattle.retro_base.specs.declared.row.Entry.{Entry}
 use Rattle.retro_base.specs.State.{comes_before, with_entry}
+use Rattle.retro_base.proofs.bridges.Bridging.{AllIn, all_in, some_dead}
 use Rattle.retro_base.proofs.bridges.EntryOrder.{before_one_way}
 use Rattle.retro_base.proofs.bridges.Entries.{In, above_in, first_once, with_in, in_with, with_first, with_later, with_above, with_swapped}
 use Rattle.retro_base.proofs.bridges.Moves.{Leads, FailsAt, Adds, Ready, ready_added, ready_taken}
-use Rattle.retro_base.proofs.bridges.DeadFirst.{AllIn, dead_first}
-use Rattle.retro_base.proofs.bridges.Chain.{some_dead}
-use Rattle.retro_base.proofs.bridges.Gained.{all_in}
+use Rattle.retro_base.proofs.bridges.DeadFirst.{dead_first}
 
 -- where not all are survivors the first one is dead
 pub first_dead : (x : Entry) (moves : List (Option Entry)) (held alive : List Entry) → Ready (x ∷ held) moves → Leads moves (x ∷ held) alive
