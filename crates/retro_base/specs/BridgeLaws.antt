@@ -1,4 +1,13 @@
--- Laws on bridges. Each is the contract of a function of `src/bridge_laws.rt`, which has no body.
+-- Laws on bridges; each is the contract of a function of `src/bridge_laws.rt`, which has no body. A row that adds a dead entry
+-- puts one on a heap, a row that takes takes one off, and a survivor counts for nothing: so the weights up to a place count the
+-- dead that are held there, and it is a bridge where they are none. Elsewhere the dead lie before the survivors, since the least
+-- entry is taken first and a survivor never is.
+--
+--     rows        ins 4    ins 2    delmin   delmin   ins 3
+--     weights       1        1        -1       -1       0
+--     sums       0       1        2        1        0       0
+--     held       .       4       2 4       4        .       3
+--     bridges    |                                  |       |
 use Rattle.std.specs.Prelude.{◌≡◌, ◌↔◌, ℕ, pos, ◌≤ℤ◌, true, List, Contains}
 use Rattle.retro_base.specs.declared.row.Entry.{Entry}
 use Rattle.retro_base.specs.declared.row.Row.{Row}

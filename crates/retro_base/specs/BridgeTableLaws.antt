@@ -1,5 +1,14 @@
--- The table of changes, line by line: which entry an edit gains or loses, and where it is accepted. Each is the contract of a
--- function of `src/bridge_laws.rt`.
+-- The table of changes, line by line; each is the contract of a function of `src/bridge_laws.rt`. An entry that comes in is
+-- exchanged for each greater one that is taken behind it, and no dead entry reaches over a bridge: so the greatest dead one from
+-- the bridge on is gained. An entry that goes is made up for by the next one where it would be taken, until a bridge is reached:
+-- so the least survivor from before it is lost, or nothing is left to be taken.
+--
+--     edit at place p         bridge b             entry                                           refused
+--     add an ins              the last up to p     gain the greatest of it and the dead from b on   never
+--     cut a delmin            the last up to p     gain the greatest dead one from b on             never
+--     add a delmin            the first from p     lose the least survivor from before b            at b
+--     cut an ins, dead        the first behind p   lose the least survivor from before b            at b - 2
+--     cut an ins, survivor    none                 lose it                                          never
 use Rattle.std.specs.Prelude.{◌≡◌, ◌↔◌, ◌⊎◌, ℕ, suc, ◌-◌, List, Contains, Some, None}
 use Rattle.retro_base.specs.declared.kind.Kind.TheVariants.{Pq}
 use Rattle.retro_base.specs.declared.row.Entry.{Entry}

@@ -1,4 +1,11 @@
--- Laws on the entry that an edit carries along. Each is the contract of a function of `src/bridge_laws.rt`.
+-- Laws on the entry that an edit carries along; each is the contract of a function of `src/bridge_laws.rt`. Behind an edit both
+-- lists have the same rows, and their states differ by one entry. Where a row takes this entry from the one list, it takes the
+-- next one from the other, and the states differ by that one from then on.
+--
+--     rows              ins 4    ins 6    delmin
+--     held          .        4       4 6       6
+--     with ins 2    2       2 4     2 4 6     4 6        put in at the beginning
+--     carried       2        2        2        4         so the 4 is gained
 use Rattle.std.specs.Prelude.{◌≡◌, ℕ, ◌+◌, suc, ◌≤◌, true, false, List, length, slice_get, Some}
 use Rattle.retro_base.specs.declared.kind.Kind.TheVariants.{Pq}
 use Rattle.retro_base.specs.declared.row.Entry.{Entry}
@@ -31,4 +38,5 @@ AddingCarriesOn = (rows : List Row) (edit : Edit) (more : ℕ) (row : Row) (adde
 -- an entry that is missing at a bridge is the one that is missing from there on
 abbrev pub MissingStaysFromBridge : Type 0
 MissingStaysFromBridge = (rows : List Row) (edit : Edit) (more further : ℕ) (entry : Entry) → IsPqEdit rows edit → IsAccepted Pq rows edit
-    → gives edit ≡ false → old_start edit + more ≤ length rows → IsBridge rows (old_start edit + more) → Carries rows edit more entry → Carries rows edit (more + further) entry
+    → gives edit ≡ false → old_start edit + more ≤ length rows → IsBridge rows (old_start edit + more)
+    → Carries rows edit more entry → Carries rows edit (more + further) entry

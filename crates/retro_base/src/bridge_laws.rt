@@ -1,7 +1,7 @@
-ghost use Rattle.retro_base.specs.ChangeLaws.{OneBridgeIsStated, OneChangeOfPq, OneChangeOfOthers};
-ghost use Rattle.retro_base.specs.BridgeTableLaws.{AddedEntryGains, CutTakeGains, AddedTakeLoses, CutDeadLoses, CutSurvivorLoses};
-ghost use Rattle.retro_base.specs.CarriedLaws.{GivingIsAccepted, OneIsCarried, PresentsDifferByOne, AddingCarriesOn, MissingStaysFromBridge};
 ghost use Rattle.retro_base.specs.BridgeLaws.{WeightsCountTheDead, SumsAreNeverNegative, BridgesAreZeros, DeadComeFirst};
+ghost use Rattle.retro_base.specs.CarriedLaws.{GivingIsAccepted, OneIsCarried, PresentsDifferByOne, AddingCarriesOn, MissingStaysFromBridge};
+ghost use Rattle.retro_base.specs.BridgeTableLaws.{AddedEntryGains, CutTakeGains, AddedTakeLoses, CutDeadLoses, CutSurvivorLoses};
+ghost use Rattle.retro_base.specs.ChangeLaws.{OneBridgeIsStated, OneChangeOfPq, OneChangeOfOthers};
 
 /// A law: the weights up to a place count the entries that are held there and do not survive. So the
 /// sum is never below 0, and a place is a bridge exactly where it is 0.

@@ -12,6 +12,7 @@
 //! - Rows: `Kind`, `Op`, `Row`, `Entry`, `Change`. Questions: `Question`, `Answer`, `Item`, `Listing`.
 //! - Structures: `Retro`, `PlainList`.
 //! - Texts: `Name`, `Text`. Costs: `Steps`. Memory: `NoMemory`.
+//! - Laws on the bridges of a priority queue: the functions of `bridge_laws.rt`, which have no body.
 //! - Limits: `MAX_ROWS`, `MAX_NEXT`, which are those of `specs/Limits.antt`.
 #![tactic(auto)]
 
