@@ -27,7 +27,7 @@ fn main(rt: HostRuntime) -> ExitCode {
     ExitCode::from(code)
 }
 
-/// The words behind the program's name, or the exit status where they cannot be had.
+/// The words after the program's name, or the exit status where they cannot be had.
 fn words_of(rt: &(impl Env + AllocGlobal)) -> Result<Words, u8> {
     let mut words = Words::new(rt.alloc());
     for word in env::args(rt).map_err(refusal_of)?.skip(1) {

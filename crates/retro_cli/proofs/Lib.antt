@@ -1,1 +1,5 @@
-pub mod Scripts
+pub mod Ends
+pub mod GoesOn
+pub mod Reactions
+pub mod Stops
+pub mod WholeLines

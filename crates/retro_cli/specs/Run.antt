@@ -2,13 +2,12 @@
 use Rattle.std.specs.Prelude.{◌≡◌, ℕ, Bool, true, false, ◌<◌, List, [], ◌∷◌, ◌++◌, length, take, codes}
 use Rattle.std.specs.Prelude.{Option, Some, None}
 use Rattle.std.specs.Str.{bytes_eq}
+use Rattle.retro_base.specs.Limits.{most_bytes}
 use Rattle.retro_io.specs.Lines.{lines}
-use Rattle.retro_io.specs.Sink.{Appends}
-use Rattle.workbench.specs.Answers.{answers_to}
-use Rattle.retro_cli.specs.declared.script.TheConstants.{MAX_BYTES}
+use Rattle.retro_io.specs.Sink.{Appends, AppendsPrefixOf, AppendsProperPrefix}
 use Rattle.retro_cli.specs.declared.status.Status.{Status}
 use Rattle.retro_cli.specs.declared.status.Status.TheVariants as statuses
-use Rattle.retro_cli.specs.Output.{output, has_refusal, up_to_last_feed}
+use Rattle.retro_cli.specs.Output.{answers_to, output, has_refusal, up_to_last_feed}
 
 -- the words of the command line are the one word `run`
 abbrev pub is_run : List (List ℕ) → Bool
@@ -22,6 +21,16 @@ HasAnswered statuses.Done = Unit {0}
 HasAnswered statuses.Refused = Unit {0}
 HasAnswered status = ⊥
 
+-- a read failed
+abbrev pub is_read_fault : Status → Bool
+is_read_fault statuses.ReadFault = true
+is_read_fault status = false
+
+-- a write or a flush failed
+abbrev pub is_write_fault : Status → Bool
+is_write_fault statuses.WriteFault = true
+is_write_fault status = false
+
 -- the status of a script that was answered, by whether one of its lines was refused
 abbrev pub status_of : Bool → Status
 status_of false = statuses.Done
@@ -32,46 +41,48 @@ abbrev pub AppendsOutput : Option (List ℕ) → Option (List ℕ) → Option (L
 AppendsOutput None before after = Unit {0}
 AppendsOutput (Some bytes) before after = Appends before (output bytes) after
 
--- a front of these bytes was appended, where the sink tells what was written
-pub record AppendsFront (before : Option (List ℕ)) (bytes : List ℕ) (after : Option (List ℕ)) : Type 0 where
-  pub front : List ℕ
-  pub back : List ℕ
-  pub whole : bytes ≡ front ++ back
-  pub appended : Appends before front after
+-- a prefix of the output was appended, where the source tells the script and the sink what was written
+abbrev pub AppendsOutputPrefix : Option (List ℕ) → Option (List ℕ) → Option (List ℕ) → Type 0
+AppendsOutputPrefix None before after = Unit {0}
+AppendsOutputPrefix (Some bytes) before after = AppendsPrefixOf before (output bytes) after
 
--- the same of the output of the script, where the source tells the script
-abbrev pub AppendsOutputFront : Option (List ℕ) → Option (List ℕ) → Option (List ℕ) → Type 0
-AppendsOutputFront None before after = Unit {0}
-AppendsOutputFront (Some bytes) before after = AppendsFront before (output bytes) after
+-- the same of a prefix that is not the whole output
+abbrev pub AppendsOutputPart : Option (List ℕ) → Option (List ℕ) → Option (List ℕ) → Type 0
+AppendsOutputPart None before after = Unit {0}
+AppendsOutputPart (Some bytes) before after = AppendsProperPrefix before (output bytes) after
 
 -- the whole answers to some first lines of the script were appended
 pub record AppendsAnswersTo (bytes : List ℕ) (before after : Option (List ℕ)) : Type 0 where
   pub answered : List (List ℕ)
   pub unanswered : List (List ℕ)
   pub cut : lines bytes ≡ answered ++ unanswered
-  pub appended : Appends before (answers_to [] answered) after
+  pub appended : Appends before (answers_to answered) after
 
 -- the same where the source tells the script
 abbrev pub AppendsFirstAnswers : Option (List ℕ) → Option (List ℕ) → Option (List ℕ) → Type 0
 AppendsFirstAnswers None before after = Unit {0}
 AppendsFirstAnswers (Some bytes) before after = AppendsAnswersTo bytes before after
 
--- exactly the output of the bytes that were taken, up to their last line feed, was appended
-pub record AppendsTaken (bytes rest : List ℕ) (before after : Option (List ℕ)) : Type 0 where
+-- the answers to all lines of some bytes up to their last line feed, which ends a line
+abbrev pub whole_answers : List ℕ → List ℕ
+whole_answers bytes = answers_to (lines (up_to_last_feed bytes))
+
+-- exactly the answers to the lines whose line feed was taken were appended
+pub record AppendsAnswersToTaken (bytes rest : List ℕ) (before after : Option (List ℕ)) : Type 0 where
   pub taken : List ℕ
   pub cut : bytes ≡ taken ++ rest
-  pub appended : Appends before (output (up_to_last_feed taken)) after
+  pub appended : Appends before (whole_answers taken) after
 
 -- the same where the source tells the script and what is left of it
-abbrev pub AppendsOutputOfTaken : Option (List ℕ) → Option (List ℕ) → Option (List ℕ) → Option (List ℕ) → Type 0
-AppendsOutputOfTaken None left before after = Unit {0}
-AppendsOutputOfTaken (Some bytes) None before after = ⊥
-AppendsOutputOfTaken (Some bytes) (Some rest) before after = AppendsTaken bytes rest before after
+abbrev pub AppendsAnswersOfTaken : Option (List ℕ) → Option (List ℕ) → Option (List ℕ) → Option (List ℕ) → Type 0
+AppendsAnswersOfTaken None left before after = Unit {0}
+AppendsAnswersOfTaken (Some bytes) None before after = ⊥
+AppendsAnswersOfTaken (Some bytes) (Some rest) before after = AppendsAnswersToTaken bytes rest before after
 
--- exactly the output of so many first bytes of the script, up to their last line feed, was appended, where the source tells the script
-abbrev pub AppendsOutputOfFirst : Option (List ℕ) → ℕ → Option (List ℕ) → Option (List ℕ) → Type 0
-AppendsOutputOfFirst None count before after = Unit {0}
-AppendsOutputOfFirst (Some bytes) count before after = Appends before (output (up_to_last_feed (take count bytes))) after
+-- exactly the answers to the lines whose line feed is among so many first bytes were appended, where the source tells the script
+abbrev pub AppendsAnswersOfFirst : Option (List ℕ) → ℕ → Option (List ℕ) → Option (List ℕ) → Type 0
+AppendsAnswersOfFirst None count before after = Unit {0}
+AppendsAnswersOfFirst (Some bytes) count before after = Appends before (whole_answers (take count bytes)) after
 
 -- the run ended early, for another cause than a write that failed
 abbrev pub EndsBetweenLines : Status → Type 0
@@ -81,14 +92,14 @@ EndsBetweenLines statuses.TooLong = Unit {0}
 EndsBetweenLines status = ⊥
 
 -- whether a line of the script was refused, where the source tells the script
-abbrev pub TellsRefusal : Option (List ℕ) → Bool → Type 0
-TellsRefusal None refused = Unit {0}
-TellsRefusal (Some bytes) refused = refused ≡ has_refusal bytes
+abbrev pub MatchesRefusal : Option (List ℕ) → Bool → Type 0
+MatchesRefusal None refused = Unit {0}
+MatchesRefusal (Some bytes) refused = refused ≡ has_refusal bytes
 
 -- an input may be longer than the program reads, where the source tells no bytes or so many
 abbrev pub MayBeTooLong : Option (List ℕ) → Type 0
 MayBeTooLong None = Unit {0}
-MayBeTooLong (Some bytes) = MAX_BYTES < length bytes
+MayBeTooLong (Some bytes) = most_bytes < length bytes
 
 -- how a run may end that has words it knows and meets no fault: answered, short of memory, or at an input that may be too long
 abbrev pub EndsWithoutFault : Option (List ℕ) → Status → Type 0

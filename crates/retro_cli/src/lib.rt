@@ -18,7 +18,7 @@ mod status;
 mod stop;
 mod words;
 
-pub use script::{MAX_BYTES, run};
+pub use script::run;
 pub use status::Status;
 pub use words::Words;
 

@@ -1,23 +1,23 @@
-ghost use Rattle.std.specs.Prelude.{◌≡◌, ◌+◌, ◌-◌, ◌<◌, ◌↔◌, ◌≤◌, true, false, Err, IsTrue, IfOk, IfSome, OnErr, OnOk, IsErrOf, if◌then◌else◌, length};
-ghost use Rattle.retro_io.specs.Faults.{Rose, count_after, last_count};
-ghost use Rattle.retro_io.specs.Sink.{Appends};
+ghost use Rattle.std.specs.Prelude.{◌≡◌, ◌+◌, ◌-◌, ◌<◌, ◌↔◌, ◌≤◌, ◌⊎◌, true, false, Err, IsTrue, IfOk, IfSome, OnErr, OnOk, IsErrOf, if◌then◌else◌, length};
+ghost use Rattle.retro_base.specs.Limits.{longest_line, most_bytes};
+ghost use Rattle.retro_io.specs.Faults.{Counts, Rose, count_after, last_count};
+ghost use Rattle.retro_io.specs.Sink.{Appends, AppendsProperPrefix};
+ghost use Rattle.retro_io.specs.Flushes.{EndsWithFlush, StaysUnflushed};
 ghost use Rattle.retro_io.specs.Source.{GivesCount};
 ghost use Rattle.retro_io.specs.LineReader.{taken, given, limit_of, has_failed, reference_of, rest_of, source_of};
-ghost use Rattle.script_grammar.specs.declared.command.LineError.TheVariants as errors;
-ghost use Rattle.script_grammar.specs.Command.{command};
-ghost use Rattle.retro_cli.specs.declared.script.TheConstants.{MAX_BYTES};
 ghost use Rattle.retro_cli.specs.Output.{has_refusal};
-ghost use Rattle.retro_cli.specs.Run.{is_run, AppendsFirstAnswers, AppendsFront, AppendsOutput, AppendsOutputFront, AppendsOutputOfFirst, AppendsOutputOfTaken, EndsBetweenLines, EndsWithoutFault, HasAnswered, MayBeTooLong, TellsRefusal, status_of};
-ghost use Rattle.workbench.specs.Reaction.{reaction_to};
+ghost use Rattle.retro_cli.specs.Run.{is_run, is_read_fault, is_write_fault, AppendsFirstAnswers, AppendsOutput, AppendsOutputPart, AppendsOutputPrefix, AppendsAnswersOfFirst, AppendsAnswersOfTaken, EndsBetweenLines, EndsWithoutFault, HasAnswered, MayBeTooLong, MatchesRefusal, status_of};
+ghost use Rattle.retro_cli.specs.Stop.{stops_at_read, stops_at_write};
+ghost use Rattle.workbench.specs.Reaction.{reacts_to};
 
 use crate::stop::Stop;
 use crate::{Status, Words};
-use retro_io::{LineBuffer, LineReader, Mark, Sink, Source, put_all};
+use retro_io::{Failed, LineBuffer, LineReader, Mark, Sink, Source, put_all};
 use std::alloc::Global;
 use workbench::Bench;
 
 /// The most bytes of an input.
-pub const MAX_BYTES: u64 = 1 << 30;
+const MAX_BYTES: u64 = 1 << 30;
 
 /// Does what one line asks for, and writes the answer.
 fn answer_line<K: Sink>(
@@ -26,16 +26,16 @@ fn answer_line<K: Sink>(
     bench: &mut Bench,
     sink: &mut K,
 ) -> Result<bool, Stop>
-    requires within { length line.now ≤ 4096 }
-    requires full { IsTrue long → length line.now ≡ 4096 }
-    ensures answered { IfOk result (λ refused. let reaction = reaction_to bench.old (if long then Err errors.Long else command line.now) in
+    requires within { length line.now ≤ longest_line }
+    requires full { IsTrue long → length line.now ≡ longest_line }
+    ensures answered { IfOk result (λ refused. let reaction = reacts_to bench.old line.now long in
         (bench.new ≡ reaction.bench) × (refused ≡ reaction.refused)
         × Appends (K.written sink.old) reaction.answer (K.written sink.new)) }
-    ensures front { OnErr result (let reaction = reaction_to bench.old (if long then Err errors.Long else command line.now) in
-        AppendsFront (K.written sink.old) reaction.answer (K.written sink.new)) }
-    ensures whole { OnErr result ((IsErrOf result Stop.WriteFault → ⊥) → K.written sink.new ≡ K.written sink.old) }
-    ensures kept_count { K.faults sink.old ≤ K.faults sink.new }
-    ensures fault { IsErrOf result Stop.WriteFault → Rose (K.faults sink.old) (K.faults sink.new) }
+    ensures part { IsErrOf result Stop.WriteFault → (let reaction = reacts_to bench.old line.now long in
+        AppendsProperPrefix (K.written sink.old) reaction.answer (K.written sink.new)) }
+    ensures untouched { OnErr result (stops_at_write result ≡ false → sink.new ≡ sink.old) }
+    ensures unflushed { OnOk result (StaysUnflushed ⟦<K as Sink>⟧ sink.old sink.new) }
+    ensures sink_faults { Counts (stops_at_write result) (K.faults sink.old) (K.faults sink.new) }
     ensures reads_nothing { (IsErrOf result Stop.ReadFault → ⊥) × (IsErrOf result Stop.TooLong → ⊥) }
 {
     let reply = bench.line(line, long)?;
@@ -59,18 +59,18 @@ fn answer_lines<S: Source, K: Sink>(
     ensures left { GivesCount (S.left (source_of reader.old)) (taken reader.new - taken reader.old) (S.left (source_of reader.new)) }
     ensures ended { OnOk result (S.ended (source_of reader.new) ≡ true) }
     ensures answered { OnOk result (AppendsOutput (rest_of reader.old) (K.written sink.old) (K.written sink.new)) }
-    ensures front { AppendsOutputFront (rest_of reader.old) (K.written sink.old) (K.written sink.new) }
-    ensures whole { OnErr result ((IsErrOf result Stop.WriteFault → ⊥) →
+    ensures prefix { AppendsOutputPrefix (rest_of reader.old) (K.written sink.old) (K.written sink.new) }
+    ensures part { IsErrOf result Stop.WriteFault → AppendsOutputPart (rest_of reader.old) (K.written sink.old) (K.written sink.new) }
+    ensures whole { OnErr result (stops_at_write result ≡ false →
         AppendsFirstAnswers (rest_of reader.old) (K.written sink.old) (K.written sink.new)) }
     ensures taken_answers { IsErrOf result Stop.ReadFault →
-        AppendsOutputOfTaken (rest_of reader.old) (S.left (source_of reader.new)) (K.written sink.old) (K.written sink.new) }
+        AppendsAnswersOfTaken (rest_of reader.old) (S.left (source_of reader.new)) (K.written sink.old) (K.written sink.new) }
     ensures first_answers { IsErrOf result Stop.TooLong →
-        AppendsOutputOfFirst (rest_of reader.old) (limit_of reader.old - given reader.old) (K.written sink.old) (K.written sink.new) }
-    ensures refusal { IfOk result (TellsRefusal (rest_of reader.old)) }
-    ensures source_count { S.faults (source_of reader.old) ≤ S.faults (source_of reader.new) }
-    ensures sink_count { K.faults sink.old ≤ K.faults sink.new }
-    ensures read_fault { IsErrOf result Stop.ReadFault → Rose (S.faults (source_of reader.old)) (S.faults (source_of reader.new)) }
-    ensures write_fault { IsErrOf result Stop.WriteFault → Rose (K.faults sink.old) (K.faults sink.new) }
+        AppendsAnswersOfFirst (rest_of reader.old) (limit_of reader.old - given reader.old) (K.written sink.old) (K.written sink.new) }
+    ensures unflushed { stops_at_write result ≡ false → StaysUnflushed ⟦<K as Sink>⟧ sink.old sink.new }
+    ensures refusal { IfOk result (MatchesRefusal (rest_of reader.old)) }
+    ensures source_faults { Counts (stops_at_read result) (S.faults (source_of reader.old)) (S.faults (source_of reader.new)) }
+    ensures sink_faults { Counts (stops_at_write result) (K.faults sink.old) (K.faults sink.new) }
     ensures too_long { IsErrOf result Stop.TooLong ↔ (taken reader.new ≡ limit_of reader.new + 1) }
 {
     let mut bench = Bench::new(alloc);
@@ -89,19 +89,22 @@ fn answer_lines<S: Source, K: Sink>(
 fn run_script<S: Source, K: Sink>(alloc: Global, source: &mut S, sink: &mut K) -> Result<bool, Stop>
     ensures ended { OnOk result ((S.ended source.new ≡ true) × (K.flushed sink.new ≡ true)) }
     ensures answered { OnOk result (AppendsOutput (S.left source.old) (K.written sink.old) (K.written sink.new)) }
-    ensures front { AppendsOutputFront (S.left source.old) (K.written sink.old) (K.written sink.new) }
-    ensures whole { OnErr result ((IsErrOf result Stop.WriteFault → ⊥) →
+    ensures flush { OnOk result (EndsWithFlush ⟦<K as Sink>⟧ sink.old true sink.new) }
+    ensures prefix { AppendsOutputPrefix (S.left source.old) (K.written sink.old) (K.written sink.new) }
+    ensures part { IsErrOf result Stop.WriteFault → AppendsOutputPart (S.left source.old) (K.written sink.old) (K.written sink.new)
+        ⊎ (AppendsOutput (S.left source.old) (K.written sink.old) (K.written sink.new)
+        × EndsWithFlush ⟦<K as Sink>⟧ sink.old false sink.new) }
+    ensures whole { OnErr result (stops_at_write result ≡ false →
         AppendsFirstAnswers (S.left source.old) (K.written sink.old) (K.written sink.new)) }
     ensures taken_answers { IsErrOf result Stop.ReadFault →
-        AppendsOutputOfTaken (S.left source.old) (S.left source.new) (K.written sink.old) (K.written sink.new) }
+        AppendsAnswersOfTaken (S.left source.old) (S.left source.new) (K.written sink.old) (K.written sink.new) }
     ensures first_answers { IsErrOf result Stop.TooLong →
-        AppendsOutputOfFirst (S.left source.old) MAX_BYTES (K.written sink.old) (K.written sink.new) }
-    ensures refusal { IfOk result (TellsRefusal (S.left source.old)) }
-    ensures source_count { S.faults source.old ≤ S.faults source.new }
-    ensures sink_count { K.faults sink.old ≤ K.faults sink.new }
-    ensures read_fault { IsErrOf result Stop.ReadFault → Rose (S.faults source.old) (S.faults source.new) }
-    ensures write_fault { IsErrOf result Stop.WriteFault → Rose (K.faults sink.old) (K.faults sink.new) }
-    ensures too_long { S.taken source.new < last_count → (IsErrOf result Stop.TooLong ↔ (MAX_BYTES < S.taken source.new - S.taken source.old)) }
+        AppendsAnswersOfFirst (S.left source.old) most_bytes (K.written sink.old) (K.written sink.new) }
+    ensures unflushed { OnErr result (stops_at_write result ≡ false → StaysUnflushed ⟦<K as Sink>⟧ sink.old sink.new) }
+    ensures refusal { IfOk result (MatchesRefusal (S.left source.old)) }
+    ensures source_faults { Counts (stops_at_read result) (S.faults source.old) (S.faults source.new) }
+    ensures sink_faults { Counts (stops_at_write result) (K.faults sink.old) (K.faults sink.new) }
+    ensures too_long { S.taken source.new < last_count → (IsErrOf result Stop.TooLong ↔ (most_bytes < S.taken source.new - S.taken source.old)) }
     ensures longer { IsErrOf result Stop.TooLong → MayBeTooLong (S.left source.old) }
 {
     let buffer = LineBuffer::new(alloc)?;
@@ -109,8 +112,10 @@ fn run_script<S: Source, K: Sink>(alloc: Global, source: &mut S, sink: &mut K) -
     let answered = answer_lines(alloc, &mut reader, sink);
     let _source = reader.into_inner();
     let refused = answered?;
-    sink.flush().map_err(|_| Stop::WriteFault)?;
-    Ok(refused)
+    match sink.flush() {
+        Ok(()) => Ok(refused),
+        Err(Failed) => Err(Stop::WriteFault),
+    }
 }
 
 /// Runs the program: with the one word `run` it reads a script from the source and writes the answer to
@@ -120,29 +125,33 @@ pub fn run<S: Source, K: Sink>(alloc: Global, words: &Words, source: &mut S, sin
     ensures ended { HasAnswered result → (S.ended source.new ≡ true) × (K.flushed sink.new ≡ true) }
     ensures answered { HasAnswered result → AppendsOutput (S.left source.old) (K.written sink.old) (K.written sink.new) }
     ensures refusal { HasAnswered result → IfSome (S.left source.old) (λ bytes. result ≡ status_of (has_refusal bytes)) }
-    // At every status, what was appended is a front of the output. Where the run ended between two lines, it is the whole
-    // answers to some first lines: at a failed read to all whose line feed was taken, at a script that is too long to all
-    // that end within the bytes that it may have.
-    ensures front { AppendsOutputFront (S.left source.old) (K.written sink.old) (K.written sink.new) }
+    ensures flush { HasAnswered result → EndsWithFlush ⟦<K as Sink>⟧ sink.old true sink.new }
+    // At every status, what was appended is a prefix of the output: all of it at a flush that failed, and less at a write
+    // that failed. Where the run ended between two lines, it is the whole answers to some first lines, and they were not
+    // flushed: at a failed read to all lines whose line feed was taken, at a script that is too long to all that end within
+    // the bytes that it may have.
+    ensures prefix { AppendsOutputPrefix (S.left source.old) (K.written sink.old) (K.written sink.new) }
+    ensures part { result ≡ Status.WriteFault → AppendsOutputPart (S.left source.old) (K.written sink.old) (K.written sink.new)
+        ⊎ (AppendsOutput (S.left source.old) (K.written sink.old) (K.written sink.new)
+        × EndsWithFlush ⟦<K as Sink>⟧ sink.old false sink.new) }
+    ensures unflushed { EndsBetweenLines result → StaysUnflushed ⟦<K as Sink>⟧ sink.old sink.new }
     ensures whole { EndsBetweenLines result → AppendsFirstAnswers (S.left source.old) (K.written sink.old) (K.written sink.new) }
     ensures taken_answers { result ≡ Status.ReadFault →
-        AppendsOutputOfTaken (S.left source.old) (S.left source.new) (K.written sink.old) (K.written sink.new) }
+        AppendsAnswersOfTaken (S.left source.old) (S.left source.new) (K.written sink.old) (K.written sink.new) }
     ensures first_answers { result ≡ Status.TooLong →
-        AppendsOutputOfFirst (S.left source.old) MAX_BYTES (K.written sink.old) (K.written sink.new) }
+        AppendsAnswersOfFirst (S.left source.old) most_bytes (K.written sink.old) (K.written sink.new) }
     // When each other status comes.
     ensures words { (result ≡ Status.Words) ↔ (is_run words.now ≡ false) }
     ensures untouched { result ≡ Status.Words → (source.new ≡ source.old) × (sink.new ≡ sink.old) }
-    ensures read_fault { result ≡ Status.ReadFault → Rose (S.faults source.old) (S.faults source.new) }
-    ensures write_fault { result ≡ Status.WriteFault → Rose (K.faults sink.old) (K.faults sink.new) }
     ensures too_long { S.taken source.new < last_count →
-        ((result ≡ Status.TooLong) ↔ (MAX_BYTES < S.taken source.new - S.taken source.old)) }
+        ((result ≡ Status.TooLong) ↔ (most_bytes < S.taken source.new - S.taken source.old)) }
     // Completeness: without a fault there is no other end than an answered script, want of memory, or a script that is too long.
     ensures complete { is_run words.now ≡ true
         → (Rose (S.faults source.old) (S.faults source.new) → ⊥) → (Rose (K.faults sink.old) (K.faults sink.new) → ⊥)
         → EndsWithoutFault (S.left source.old) result }
-    // The counts of faults never fall.
-    ensures source_count { S.faults source.old ≤ S.faults source.new }
-    ensures sink_count { K.faults sink.old ≤ K.faults sink.new }
+    // The source's count of faults rises at a failed read, the sink's at a failed write or flush, and else both stay.
+    ensures source_faults { Counts (is_read_fault result) (S.faults source.old) (S.faults source.new) }
+    ensures sink_faults { Counts (is_write_fault result) (K.faults sink.old) (K.faults sink.new) }
 {
     if !is_run(words) {
         return Status::Words;

@@ -1,6 +1,9 @@
+ghost use Rattle.std.specs.Prelude.{◌≤◌, None};
+ghost use Rattle.retro_io.specs.Faults.{last_count};
+
 use super::*;
 use retro_base::NoMemory;
-use retro_io::{MemorySink, MemorySource};
+use retro_io::{Failed, MemorySink, MemorySource, Sink, WholeSource};
 use std::alloc::Global;
 
 /// The calls of a source that fail, and those of a sink.
@@ -62,7 +65,7 @@ fn scripts_get_their_answers(rt: HostRuntime) -> Result<(), NoMemory> {
             b"ok\nok #1\nok #2\nok #3\n= 2\nok #4\n= 2 9\n",
             Status::Done,
         ),
-        // Rows of one time: behind all of them, before one, after one.
+        // Rows of one time: after all of them, before one, after one.
         (
             b"new q queue\nq at 5 enq 1\nq at 5 enq 2\nq before #1 enq 3\nq ask at 5 all\n\
               q ask before #1 all\nq ask after #1 size\nq ask at 4 all\n",
@@ -273,5 +276,92 @@ fn a_fault_leaves_the_answers_before_it(rt: HostRuntime) -> Result<(), NoMemory>
         b"ok\nok #1\nok #2\n= 5\nok #3\n= 7\nok #4\n= 5\n".as_slice()
     );
     assert_eq!(rt; status, Status::ReadFault);
+    Ok(())
+}
+
+/// A sink that takes all, and of which the first flush fails and no later one.
+#[derive(Drop)]
+struct FirstFlushFails {
+    flushes: u64,
+    flushed: bool,
+    faults: u64,
+    ghost counted: { faults ≤ last_count },
+}
+
+impl Sink for FirstFlushFails {
+    ghost written = { λ _. None };
+
+    ghost flushed = { λ s. s.flushed };
+
+    ghost faults = { λ s. s.faults };
+
+    ghost writes = { λ _ _ _ _. Unit {0} };
+
+    ghost flushes = { λ _ _ _. Unit {0} };
+
+    fn write(&mut self, piece: &[u8]) -> Result<usize, Failed> {
+        self.flushed = false;
+        Ok(piece.len())
+    }
+
+    fn flush(&mut self) -> Result<(), Failed> {
+        self.flushes = self.flushes.saturating_add(1);
+        self.flushed = self.flushes > 1;
+        if self.flushed {
+            return Ok(());
+        }
+        self.faults = self.faults.saturating_add(1);
+        Err(Failed)
+    }
+}
+
+#[test]
+fn a_flush_that_fails_is_not_tried_again(rt: HostRuntime) -> Result<(), NoMemory> {
+    let mut words = Words::new(rt.alloc());
+    words.push(b"run")?;
+    let mut source = WholeSource::new(rt.alloc(), b"new q queue\nq ask size\n")?;
+    let mut sink = FirstFlushFails {
+        flushes: 0,
+        flushed: false,
+        faults: 0,
+    };
+    let status = run(rt.alloc(), &words, &mut source, &mut sink);
+    assert_eq!(rt; status, Status::WriteFault);
+    assert_eq!(rt; sink.flushes, 1);
+    Ok(())
+}
+
+#[test]
+fn a_long_content_is_one_answer(rt: HostRuntime) -> Result<(), NoMemory> {
+    let mut script = Vec::from_slice(rt.alloc(), b"new q queue\n")?;
+    let mut listing = Vec::from_slice(rt.alloc(), b"=")?;
+    for _ in 0..1000 {
+        script.extend_from_slice(b"q at 1 enq -9223372036854775808\n")?;
+        listing.extend_from_slice(b" -9223372036854775808")?;
+    }
+    script.extend_from_slice(b"q ask all\n")?;
+    listing.push(b'\n')?;
+    let (status, sink) = run_over(rt.alloc(), &[b"run"], script.as_slice(), 512, &NONE_FAILS)?;
+    assert!(rt; sink.written().ends_with(listing.as_slice()));
+    assert_eq!(rt; status, Status::Done);
+    Ok(())
+}
+
+#[test]
+fn a_script_of_a_megabyte_is_answered(rt: HostRuntime) -> Result<(), NoMemory> {
+    let mut script = Vec::from_slice(rt.alloc(), b"new q queue\n")?;
+    for _ in 0..32_768 {
+        script.extend_from_slice(b"; a line that is passed over...\n")?;
+    }
+    script.extend_from_slice(b"q ask size\n")?;
+    let (status, sink) = run_over(
+        rt.alloc(),
+        &[b"run"],
+        script.as_slice(),
+        65_536,
+        &NONE_FAILS,
+    )?;
+    assert_eq!(rt; sink.written(), b"ok\n= 0\n".as_slice());
+    assert_eq!(rt; status, Status::Done);
     Ok(())
 }

@@ -4,7 +4,7 @@ use retro_base::NoMemory;
 use std::alloc::Global;
 use std::marker::Model;
 
-/// The words of a command line, behind the program's name. Contracts see them as a list of words, each
+/// The words of a command line, after the program's name. Contracts see them as a list of words, each
 /// a list of bytes.
 #[derive(Drop)]
 pub struct Words {

@@ -7,14 +7,14 @@ use Rattle.retro_io.specs.Source.{Gives}
 use Rattle.retro_io.specs.DueReads.{Offers, ReadOnce, ReadsDue, WereDue, WereDueOf, closes, given_by}
 use Rattle.retro_io.proofs.ReadLemmas.{Took-then}
 
--- behind a read that gave a byte another one may follow
+-- after a read that gave a byte another one may follow
 goes_on : {E : Type 0} (answer : Result (List ℕ) E) → 0 < length (given_by answer) → closes answer ≡ false
 goes_on (Ok []) some = absurd (omega (arith, some))
 goes_on (Ok (b ∷ bs)) some = refl
 goes_on (Err fault) some = absurd (omega (arith, some))
 
 module _ {S E : Type 0} (reads : S → ℕ → Result (List ℕ) E → S → Type 0) where
-  -- a read of what is left up to the limit, or of the one byte behind it
+  -- a read of what is left up to the limit, or of the one byte after it
   pub ReadOnce-limit : (left most : ℕ) (before after : S) (got : List ℕ) → most ≡ max left 1
       → ReadOnce reads most before got after → ReadOnce reads left before got after
   ReadOnce-limit left most before after got is once = record {
@@ -64,11 +64,11 @@ module _ {S E : Type 0} (reads : S → ℕ → Result (List ℕ) E → S → Typ
       (ap has_line_feed (sym (append_assoc held got more)) ∙ unbroken)
       (subst (λ n. Offers n room) (omega (arith, length-append got more)) offers) read)
 
-  pub WereDue-then : (left rest : ℕ) (held behind : List ℕ) (closed : Bool) (before middle after : S) (got more : List ℕ)
-      → rest ≡ left - length got → behind ≡ held ++ got
-      → ReadsDue reads left held closed before got false middle → WereDue reads rest behind false middle more after
+  pub WereDue-then : (left rest : ℕ) (held later : List ℕ) (closed : Bool) (before middle after : S) (got more : List ℕ)
+      → rest ≡ left - length got → later ≡ held ++ got
+      → ReadsDue reads left held closed before got false middle → WereDue reads rest later false middle more after
       → WereDue reads left held closed before (got ++ more) after
-  WereDue-then left rest held behind closed before middle after got more less same p due = record {
+  WereDue-then left rest held later closed before middle after got more less same p due = record {
     closes = due.closes;
     due = ReadsDue-then left held closed before middle got p more due.closes after
         (subst (λ n. ReadsDue reads n (held ++ got) false middle more due.closes after) less

@@ -8,17 +8,17 @@ use Rattle.std.proofs.lemmas.List.Edits.{between_more}
 use Rattle.retro_io.specs.LineLaws.{both_false, unbroken-append}
 use Rattle.retro_io.specs.Lines.{line_feed, carriage_return, onto_first, pieces, without_return, lines, has_line_feed}
 
-pub unbroken-front : (xs ys : List ℕ) → has_line_feed (xs ++ ys) ≡ false → has_line_feed xs ≡ false
-unbroken-front [] ys p = refl
-unbroken-front (x ∷ xs) ys p =
+pub unbroken-prefix : (xs ys : List ℕ) → has_line_feed (xs ++ ys) ≡ false → has_line_feed xs ≡ false
+unbroken-prefix [] ys p = refl
+unbroken-prefix (x ∷ xs) ys p =
     let parts = both_false (x == line_feed) (has_line_feed (xs ++ ys)) p in
-    rw (parts.0) (unbroken-front xs ys parts.1)
+    rw (parts.0) (unbroken-prefix xs ys parts.1)
 
 pub unbroken-take : (count : ℕ) (xs : List ℕ) → has_line_feed xs ≡ false → has_line_feed (take count xs) ≡ false
 unbroken-take count xs p =
-    unbroken-front (take count xs) (drop count xs) (ap has_line_feed (take-append-drop count xs) ∙ p)
+    unbroken-prefix (take count xs) (drop count xs) (ap has_line_feed (take-append-drop count xs) ∙ p)
 
--- the front of the sum of two lengths
+-- the prefix of the sum of two lengths
 pub take_sum : (from at : ℕ) (xs : List ℕ) → from ≤ length xs → take (from + at) xs ≡ take from xs ++ take at (drop from xs)
 take_sum from at xs h =
     sym (take-append-drop from (take (from + at) xs))
@@ -56,7 +56,7 @@ without_return-kept [] b h = rw h refl
 without_return-kept (x ∷ []) b h = ap (λ bs. x ∷ bs) (without_return-kept [] b h)
 without_return-kept (x ∷ y ∷ piece) b h = ap (λ bs. x ∷ bs) (without_return-kept (y ∷ piece) b h)
 
--- where a search behind the first bytes, which have no line feed, found the first line feed
+-- where a search after the first bytes, which have no line feed, found the first line feed
 module _ (held : List ℕ) (from : ℕ) (within : from ≤ length held) (clear : has_line_feed (take from held) ≡ false)
     (searched : List ℕ) (is : searched ≡ drop from held) where
   pub unbroken_all : ((k : ℕ) → k < length searched → get_or searched k 0 ≢ line_feed) → has_line_feed held ≡ false
@@ -85,7 +85,7 @@ module _ (held : List ℕ) (from : ℕ) (within : from ≤ length held) (clear :
       sym (take-append-drop (from + at) held)
       ∙ ap (λ ys. take (from + at) held ++ ys) (drop_more held (from + at) 0 inside ∙ ap (λ b. b ∷ drop (from + at + 1) held) byte)
 
--- a stretch that is not empty ends with its last byte
+-- a range that is not empty ends with its last byte
 range_last : (xs : List ℕ) (start end : ℕ) → start < end → end ≤ length xs
     → slice_range xs start end ≡ slice_range xs start (end - 1) ++ get_or xs (end - 1) 0 ∷ []
 range_last xs start end h k =

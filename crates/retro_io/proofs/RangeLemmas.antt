@@ -1,4 +1,4 @@
--- Lemmas on a stretch of a list, `slice_range xs start end`.
+-- Lemmas on a range of a list, `slice_range xs start end`.
 use Rattle.std.proofs.Common.{◌≡◌, ℕ, ◌+◌, ◌-◌, ◌≤◌, List, ◌++◌, length, take, drop, sym, ap, ◌∙◌, arith}
 use Rattle.std.specs.List.{slice_range}
 use Rattle.std.proofs.lemmas.List.{take-take, drop-take, drop-drop, take_at, length-take-le, length-drop}
@@ -12,26 +12,26 @@ length-range xs start end h k =
 pub items_after : (count : ℕ) (new old : List ℕ) → length new ≡ count → take count (new ++ drop (length new) old) ≡ new
 items_after count new old h = take_at new (drop (length new) old) count h
 
--- the bytes held are a stretch of the buffer
+-- the bytes held are a range of the buffer
 module _ (held xs : List ℕ) (start end : ℕ) (same : slice_range xs start end ≡ held) (order : start ≤ end) (within : end ≤ length xs) where
   pub held_length : length held ≡ end - start
   held_length = sym (ap length same) ∙ length-range xs start end order within
 
-  pub held_front : (count : ℕ) → count ≤ length held → slice_range xs start (start + count) ≡ take count held
-  held_front count h =
+  pub held_prefix : (count : ℕ) → count ≤ length held → slice_range xs start (start + count) ≡ take count held
+  held_prefix count h =
       let short : count ≤ end - start = omega (arith, held_length) in
       let width : start + count - start ≡ count = omega arith in
       ap (λ n. take n (drop start xs)) width ∙ sym (take-take count (end - start) (drop start xs) short) ∙ ap (take count) same
 
-  pub held_behind : (count : ℕ) → count ≤ length held → slice_range xs (start + count) end ≡ drop count held
-  held_behind count h =
+  pub held_after : (count : ℕ) → count ≤ length held → slice_range xs (start + count) end ≡ drop count held
+  held_after count h =
       let parts : count + (end - (start + count)) ≡ end - start = omega (arith, held_length) in
       ap (λ ys. take (end - (start + count)) ys) (sym (drop-drop count start xs))
       ∙ sym (drop-take count (end - (start + count)) (drop start xs))
       ∙ ap (λ n. drop count (take n (drop start xs))) parts
       ∙ ap (drop count) same
 
--- what a read put behind the bytes held
+-- what a read put after the bytes held
 pub read_part : (xs : List ℕ) (held count : ℕ) → drop held (slice_range xs 0 (held + count)) ≡ take count (drop held xs)
 read_part xs held count =
     let width : held + count - 0 ≡ held + count = omega arith in

@@ -9,7 +9,7 @@ use Rattle.retro_io.specs.declared.mark.ReadError.TheVariants.{ReadFault, TooLon
 use Rattle.std.specs.Prelude.{IfOk, IsTrue}
 use Rattle.retro_io.specs.Faults.{count_after}
 use Rattle.retro_io.specs.LineReader.{held_and_left}
-use Rattle.retro_io.specs.Lines.{lines, longest, line_feed, has_line_feed, without_return, StartsWith}
+use Rattle.retro_io.specs.Lines.{lines, longest_line, line_feed, has_line_feed, without_return, StartsWith}
 use Rattle.retro_io.specs.Marks.{Shows, GivesNext, GivesNextOf, Measures, gives_line}
 use Rattle.retro_io.specs.Reads.{Took, GivesPiece, GivesFirst, MakesOf}
 use Rattle.retro_io.specs.Source.{Gives, bytes_left}
@@ -85,10 +85,10 @@ MakesOf-error TooLong shown ended held after xs (y ∷ []) u none one = (xs, y, 
 MakesOf-error TooLong shown ended held after xs (y ∷ z ∷ ys) u none one = absurd (omega (arith, one refl))
 
 -- what is shown of a line that is long for certain
-pub Shows-long : (shown piece front : List ℕ) → longest + 1 < length piece → shown ≡ take longest front → take longest front ≡ take longest piece
+pub Shows-long : (shown piece first : List ℕ) → longest_line + 1 < length piece → shown ≡ take longest_line first → take longest_line first ≡ take longest_line piece
     → Shows Long shown (without_return piece)
-Shows-long shown piece front h s f =
-    (s ∙ f ∙ sym (take-without_return longest piece (omega arith)), omega (arith, length-without_return piece))
+Shows-long shown piece first h s f =
+    (s ∙ f ∙ sym (take-without_return longest_line piece (omega arith)), omega (arith, length-without_return piece))
 
 -- a count after so many more, and then again so many
 pub count_after-twice : (count first second : ℕ) → count_after (count_after count first) second ≡ count_after count (first + second)
@@ -101,14 +101,14 @@ GivesFirst-piece Long shown ended bytes after p = p
 GivesFirst-piece End shown ended bytes after p = absurd p.shows
 
 -- the piece ends among the bytes that came last
-pub cut_behind : (held xs ys front after : List ℕ) → ys ≡ front ++ line_feed ∷ after
-    → held ++ (xs ++ ys) ≡ (held ++ (xs ++ front)) ++ line_feed ∷ after
-cut_behind held xs ys front after e =
+pub cut_after : (held xs ys prefix after : List ℕ) → ys ≡ prefix ++ line_feed ∷ after
+    → held ++ (xs ++ ys) ≡ (held ++ (xs ++ prefix)) ++ line_feed ∷ after
+cut_after held xs ys prefix after e =
     ap (λ l. held ++ (xs ++ l)) e
-    ∙ ap (λ l. held ++ l) (sym (append_assoc xs front (line_feed ∷ after)))
-    ∙ sym (append_assoc held (xs ++ front) (line_feed ∷ after))
+    ∙ ap (λ l. held ++ l) (sym (append_assoc xs prefix (line_feed ∷ after)))
+    ∙ sym (append_assoc held (xs ++ prefix) (line_feed ∷ after))
 
--- the bytes held are those held before, and what came behind them
+-- the bytes held are those held before, and what came after them
 pub grown : (held before now xs : List ℕ) → before ≡ held ++ xs → take (length before) now ≡ before
     → now ≡ held ++ (xs ++ drop (length before) now)
 grown held before now xs e kept =
@@ -116,8 +116,8 @@ grown held before now xs e kept =
     ∙ ap (λ l. l ++ drop (length before) now) (kept ∙ e)
     ∙ append_assoc held xs (drop (length before) now)
 
-pub length-behind : (before now : List ℕ) (count : ℕ) → length now ≡ length before + count → length (drop (length before) now) ≡ count
-length-behind before now count h = omega (arith, length-drop (length before) now)
+pub length-after : (before now : List ℕ) (count : ℕ) → length now ≡ length before + count → length (drop (length before) now) ≡ count
+length-after before now count h = omega (arith, length-drop (length before) now)
 
 -- what follows the bytes that were taken follows the line too
 module _ (shown : List ℕ) (ended : Bool) (bytes after more : List ℕ) (at_end : ended ≡ true → more ≡ []) where
@@ -221,7 +221,7 @@ progress_of_call (Err error) shown ended held after a b taken_before taken_after
 -- what is shown of a line has the length that its mark says
 pub measures_shown : (mark : Mark) (shown line : List ℕ) → Shows mark shown line → Measures mark shown
 measures_shown Whole shown line shows = omega (arith, ap length shows.0, shows.1)
-measures_shown Long shown line shows = omega (arith, ap length shows.0, length-take longest line, shows.1)
+measures_shown Long shown line shows = omega (arith, ap length shows.0, length-take longest_line line, shows.1)
 measures_shown End shown line shows = tt
 
 -- .. and so it has after a call that read

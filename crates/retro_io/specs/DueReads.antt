@@ -11,7 +11,7 @@ abbrev pub given_by : {E : Type 0} → Result (List ℕ) E → List ℕ
 given_by (Ok bytes) = bytes
 given_by (Err fault) = []
 
--- behind this answer no read follows: the end, or a fault
+-- after this answer no read follows: the end, or a fault
 abbrev pub closes : {E : Type 0} → Result (List ℕ) E → Bool
 closes (Ok []) = true
 closes (Ok (b ∷ bs)) = false

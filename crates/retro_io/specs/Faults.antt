@@ -1,5 +1,5 @@
--- A count that stands still at the last value of 64 bits, and what it means that a count of faults rose.
-use Rattle.std.specs.Prelude.{◌≡◌, ℕ, ◌+◌, ◌-◌, ◌^◌, ◌<◌, ◌⊎◌, min, max, Result, Ok, Err}
+-- A count that stands still at the last value of 64 bits, and what a call does to a count of faults.
+use Rattle.std.specs.Prelude.{◌≡◌, ℕ, Bool, true, false, ◌+◌, ◌-◌, ◌^◌, ◌≤◌, ◌<◌, ◌⊎◌, min, max, Result, Ok, Err}
 
 -- the last value of a count
 abbrev pub last_count : ℕ
@@ -13,7 +13,12 @@ count_after count more = max count (min (count + more) last_count)
 abbrev pub Rose : ℕ → ℕ → Type 0
 Rose before after = (before < after) ⊎ (after ≡ last_count)
 
--- a count of faults behind a call: one that fails counts
+-- what a call does to a count of faults: one that fails raises it, and any other leaves it as it was
+abbrev pub Counts : Bool → ℕ → ℕ → Type 0
+Counts true before after = (before ≤ after) × Rose before after
+Counts false before after = after ≡ before
+
+-- a count of faults after a call: one that fails counts
 abbrev pub faults_after : {V E : Type 0} → ℕ → Result V E → ℕ
 faults_after before (Ok value) = before
 faults_after before (Err failed) = count_after before 1

@@ -1,4 +1,4 @@
--- What the source and the sink over std do with the bytes of their reader and their writer, where std's own contract tells them.
+-- What the source and the sink over std do with the bytes of their reader and their writer, where std's own contract knows them.
 use Rattle.std.specs.Prelude.{◌≡◌, ℕ, ◌<◌, List, [], Option, Result, MatchResult}
 use Rattle.std.specs.Io.KnownBytes.{Consumes, IsAtEnd, Keeps}
 use Rattle.retro_io.specs.declared.std_source.StdSource.{StdSource}

@@ -1,5 +1,7 @@
 pub mod DueReads
 pub mod Faults
+pub mod Flushes
+pub mod FlushLaws
 pub mod Known
 pub mod LineBuffer
 pub mod LineLaws

@@ -8,7 +8,7 @@ pub both_false : (test other : Bool) → cond test true other ≡ false → (tes
 both_false true other h = absurd (cc)
 both_false false other h = (refl, h)
 
--- two stretches without a line feed
+-- two lists without a line feed
 pub unbroken-append : (xs ys : List ℕ) → has_line_feed xs ≡ false → has_line_feed ys ≡ false → has_line_feed (xs ++ ys) ≡ false
 unbroken-append [] ys p q = q
 unbroken-append (x ∷ xs) ys p q =

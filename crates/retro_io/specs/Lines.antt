@@ -1,6 +1,6 @@
 -- The lines of a list of bytes.
 use Rattle.std.specs.Prelude.{◌≡◌, ℕ, Bool, true, false, ◌==◌, ◌⊎◌, List, [], ◌∷◌, ◌++◌, map, if◌then◌else◌}
-pub use Rattle.retro_base.specs.LineLength.{longest, is_long}
+pub use Rattle.retro_base.specs.Limits.{longest_line}
 
 -- the byte that ends a line
 abbrev pub line_feed : ℕ
@@ -15,7 +15,7 @@ abbrev pub onto_first : ℕ → List (List ℕ) → List (List ℕ)
 onto_first b [] = (b ∷ []) ∷ []
 onto_first b (piece ∷ more) = (b ∷ piece) ∷ more
 
--- the bytes are cut behind each line feed, which is no part of its piece; a last piece that is not empty needs none
+-- the bytes are cut after each line feed, which is no part of its piece; a last piece that is not empty needs none
 abbrev pub pieces : List ℕ → List (List ℕ)
 pieces [] = []
 pieces (b ∷ bs) = if b == line_feed then [] ∷ pieces bs else onto_first b (pieces bs)

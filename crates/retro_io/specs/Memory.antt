@@ -1,5 +1,5 @@
 -- What the sources and the sink in memory are seen as, and what their calls do.
-use Rattle.std.specs.Prelude.{◌≡◌, ℕ, ◌-◌, Bool, ◌==◌, ◌||◌, nat_le, min, List, length, take, Result, Ok, is_err, IfOk}
+use Rattle.std.specs.Prelude.{◌≡◌, ℕ, ◌-◌, Bool, true, ◌==◌, ◌||◌, nat_le, min, List, length, take, Result, Ok, is_err, IfOk, IsOk}
 use Rattle.std.specs.List.{list_any}
 use Rattle.retro_io.specs.Faults.{count_after, faults_after}
 
@@ -48,3 +48,7 @@ WritesRoomed before piece answer after =
     × (after.calls ≡ count_after before.calls 1)
     × (after.faults ≡ faults_after before.faults answer)
     × (after.room ≡ before.room) × (after.piece ≡ before.piece) × (after.failing ≡ before.failing)
+
+-- a flush never fails, and changes nothing but that the sink is flushed
+abbrev pub FlushesRoomed : {E : Type 0} → Roomed → Result (Unit {0}) E → Roomed → Type 0
+FlushesRoomed before answer after = IsOk answer × (after ≡ record before { flushed = true })

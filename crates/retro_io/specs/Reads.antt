@@ -30,7 +30,7 @@ GivesFirst End shown ended bytes after = (bytes ≡ []) × (after ≡ []) × (en
 
 -- the bytes have no line feed, but perhaps at their very end
 abbrev pub IsUnbrokenBeforeLast : List ℕ → Type 0
-IsUnbrokenBeforeLast bytes = (front : List ℕ) × (last : ℕ) × (bytes ≡ front ++ last ∷ []) × (has_line_feed front ≡ false)
+IsUnbrokenBeforeLast bytes = (prefix : List ℕ) × (last : ℕ) × (bytes ≡ prefix ++ last ∷ []) × (has_line_feed prefix ≡ false)
 
 -- what a call made of the bytes held and of those that it got
 abbrev pub MakesOf : Result Mark ReadError → List ℕ → Bool → List ℕ → List ℕ → List ℕ → Type 0

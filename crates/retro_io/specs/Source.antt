@@ -7,13 +7,13 @@ abbrev pub bytes_left : Option (List ℕ) → List ℕ
 bytes_left None = []
 bytes_left (Some bytes) = bytes
 
--- these bytes were taken from the front of the bytes left, where the source tells them
+-- these bytes were taken from the first of the bytes left, where the source tells them
 abbrev pub Gives : Option (List ℕ) → List ℕ → Option (List ℕ) → Type 0
-Gives None front after = after ≡ None
-Gives (Some bytes) front None = ⊥
-Gives (Some bytes) front (Some rest) = bytes ≡ front ++ rest
+Gives None first after = after ≡ None
+Gives (Some bytes) first None = ⊥
+Gives (Some bytes) first (Some rest) = bytes ≡ first ++ rest
 
--- so many bytes were taken from the front of the bytes left, where the source tells them
+-- so many bytes were taken from the first of the bytes left, where the source tells them
 abbrev pub GivesCount : Option (List ℕ) → ℕ → Option (List ℕ) → Type 0
 GivesCount None count after = after ≡ None
 GivesCount (Some bytes) count after = (count ≤ length bytes) × (after ≡ Some (drop count bytes))
@@ -33,7 +33,7 @@ abbrev pub taken_after : {E : Type 0} → ℕ → Result ℕ E → ℕ
 taken_after before (Ok count) = count_after before count
 taken_after before (Err failed) = before
 
--- the answer of a read, with the bytes that it gave in the front of the buffer
+-- the answer of a read, with the bytes that it gave at the start of the buffer
 abbrev pub bytes_given : {E : Type 0} → Result ℕ E → List ℕ → Result (List ℕ) E
 bytes_given (Ok count) buffer = Ok (take count buffer)
 bytes_given (Err failed) buffer = Err failed

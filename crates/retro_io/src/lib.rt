@@ -3,8 +3,8 @@
 //! A [`Source`] gives bytes in pieces of any size, and a [`Sink`] takes them in pieces of any size; both may fail. A
 //! [`LineReader`] makes lines of what a source gives, and [`put_all`] writes a list of bytes whole. The layer above may
 //! rely on this: whatever the pieces, the lines read are the lines of the bytes taken, as `lines` in `specs/Lines.antt`
-//! defines them, and the bytes written are those that were to be written, or a front of them at a fault. Each write is
-//! handed all that is left, and no read offers a needlessly small buffer. A fault is told only where the source's or the
+//! defines them, and the bytes written are those that were to be written, or a prefix of them at a fault. Each write is
+//! handed all that is left, and no read offers a needlessly small buffer. A fault is answered only where the source's or the
 //! sink's own count of faults rose.
 //!
 //! The reader holds its bytes in one buffer of a fixed size, which is reserved when the reader is made. Each byte is

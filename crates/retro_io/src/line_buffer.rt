@@ -1,8 +1,8 @@
-ghost use Rattle.std.specs.Prelude.{◌≡◌, ◌+◌, ◌-◌, ◌≢◌, ◌≤◌, ◌<◌, ℕ, [], ◌∷◌, ◌++◌, true, false, length, take, drop, slice_index, Result, IfOk, OnErr, MatchResult, MatchOption};
+ghost use Rattle.std.specs.Prelude.{◌≡◌, ◌+◌, ◌-◌, ◌≢◌, ◌≤◌, ◌<◌, ℕ, [], ◌∷◌, ◌++◌, true, false, length, take, drop, slice_index, Result, is_err, IfOk, MatchResult, MatchOption};
 ghost use Rattle.std.specs.List.{slice_range};
 ghost use Rattle.retro_io.specs.DueReads.{ReadOnce};
-ghost use Rattle.retro_io.specs.Faults.{Rose};
-ghost use Rattle.retro_io.specs.Lines.{has_line_feed, longest, line_feed, without_return};
+ghost use Rattle.retro_io.specs.Faults.{Counts};
+ghost use Rattle.retro_io.specs.Lines.{has_line_feed, longest_line, line_feed, without_return};
 ghost use Rattle.retro_io.specs.Marks.{Shows};
 ghost use Rattle.retro_io.specs.Source.{Gives, bytes_given, bytes_left, taken_after};
 
@@ -17,7 +17,7 @@ pub(crate) const LONGEST: usize = 4096;
 /// How many bytes the buffer has: room for what is kept of a line, and for a large read.
 const CAPACITY: usize = 65536;
 
-/// The bytes that were read and not given yet, in a stretch of a buffer of a fixed size, and the line
+/// The bytes that were read and not given yet, in a range of a buffer of a fixed size, and the line
 /// that was given last, in front of them.
 #[derive(Drop)]
 pub struct LineBuffer {
@@ -109,9 +109,9 @@ impl LineBuffer {
 
     /// Gives a long line of which the first bytes are held, and drops the first `given` bytes held.
     pub(crate) fn give_long(&mut self, given: usize)
-        requires long { longest ≤ given }
+        requires long { longest_line ≤ given }
         requires given { given ≤ length self.old.held }
-        ensures shown { self.new.shown ≡ take longest self.old.held }
+        ensures shown { self.new.shown ≡ take longest_line self.old.held }
         ensures held { self.new.held ≡ drop given self.old.held }
     {
         self.line_start = self.start;
@@ -120,15 +120,15 @@ impl LineBuffer {
     }
 
     /// Keeps what is shown of a long line, and drops the other bytes held.
-    pub(crate) fn keep_front(&mut self)
-        requires { longest ≤ length self.old.held }
-        ensures held { self.new.held ≡ take longest self.old.held }
-        ensures length { length self.new.held ≡ longest }
+    pub(crate) fn keep_prefix(&mut self)
+        requires { longest_line ≤ length self.old.held }
+        ensures held { self.new.held ≡ take longest_line self.old.held }
+        ensures length { length self.new.held ≡ longest_line }
     {
         self.end = self.start + LONGEST;
     }
 
-    /// Reads at most `most` bytes behind those held.
+    /// Reads at most `most` bytes after those held.
     pub(crate) fn fill_from<S: Source>(
         &mut self,
         source: &mut S,
@@ -147,8 +147,7 @@ impl LineBuffer {
         ensures at_end { IfOk result (λ count. count ≡ 0 → (bytes_left (S.left source.new) ≡ []) × (S.ended source.new ≡ true)) }
         ensures taken { S.taken source.new ≡ taken_after (S.taken source.old) result }
         ensures reads { ReadOnce S.reads most source.old (drop (length self.old.held) self.new.held) source.new }
-        ensures kept_count { S.faults source.old ≤ S.faults source.new }
-        ensures failed { OnErr result (Rose (S.faults source.old) (S.faults source.new)) }
+        ensures counts { Counts (is_err result) (S.faults source.old) (S.faults source.new) }
     {
         move_to_front(&mut self.bytes, self.start, self.end);
         self.end -= self.start;
@@ -218,8 +217,7 @@ fn read_into<S: Source>(
     ensures at_end { IfOk result (λ count. count ≡ 0 → (bytes_left (S.left source.new) ≡ []) × (S.ended source.new ≡ true)) }
     ensures taken { S.taken source.new ≡ taken_after (S.taken source.old) result }
     ensures reads { S.reads source.old (upto - from) (bytes_given result (drop from bytes.new)) source.new }
-    ensures kept_count { S.faults source.old ≤ S.faults source.new }
-    ensures failed { OnErr result (Rose (S.faults source.old) (S.faults source.new)) }
+    ensures counts { Counts (is_err result) (S.faults source.old) (S.faults source.new) }
 {
     source.read(&mut bytes[from..upto])
 }

@@ -1,8 +1,8 @@
 ghost use Rattle.std.specs.Prelude.{◌≡◌, ◌+◌, ◌-◌, ◌^◌, ◌≤◌, ◌<◌, ◌↔◌, [], true, false, length, take, drop, Result, Ok, IfOk, IfSome, OnErr, IsErrOf, IsTrue, is_err};
 ghost use Rattle.retro_io.specs.DueReads.{ReadOnce, WereDue, WereDueOf};
-ghost use Rattle.retro_io.specs.Faults.{Rose, count_after};
-ghost use Rattle.retro_io.specs.Lines.{has_line_feed, longest};
-ghost use Rattle.retro_io.specs.Marks.{GivesNextOf, Measures, gives_line};
+ghost use Rattle.retro_io.specs.Faults.{Counts, count_after};
+ghost use Rattle.retro_io.specs.Lines.{has_line_feed, longest_line};
+ghost use Rattle.retro_io.specs.Marks.{GivesNextOf, Measures, gives_line, is_fault};
 ghost use Rattle.retro_io.specs.Reads.{GivesFirst, MakesOf, Took};
 ghost use Rattle.retro_io.specs.Source.{Gives, GivesCount, bytes_left};
 
@@ -86,7 +86,7 @@ impl<'a, S: Source> LineReader<'a, S> {
         source
     }
 
-    /// What the reader shows of the line that it gave in the last call: of a long one its first 4,096 bytes. Where the last
+    /// What the reader shows of the line that it gave in the last call: of a long one as much as a line may have. Where the last
     /// call gave no line, what it shows means nothing.
     pub fn line(&self) -> &[u8]
         ensures { result.now ≡ line_of self.now }
@@ -108,7 +108,7 @@ impl<'a, S: Source> LineReader<'a, S> {
         ensures source_taken { S.taken (source_of self.new)
             ≡ count_after (S.taken (source_of self.old)) (taken self.new - taken self.old) }
         ensures source_left { GivesCount (S.left (source_of self.old)) (taken self.new - taken self.old) (S.left (source_of self.new)) }
-        ensures source_faults { S.faults (source_of self.old) ≤ S.faults (source_of self.new) }
+        ensures source_faults { Counts (is_fault result) (S.faults (source_of self.old)) (S.faults (source_of self.new)) }
         // The lines given are those of the bytes.
         ensures lines { IfOk result (λ mark. GivesNextOf mark (line_of self.new) (has_ended self.new) (rest_of self.old) (rest_of self.new)) }
         ensures shown { IfOk result (λ mark. Measures mark (line_of self.new)) }
@@ -123,7 +123,6 @@ impl<'a, S: Source> LineReader<'a, S> {
             (source_of self.old) (taken self.new - taken self.old) (source_of self.new) }
         // An error comes only where no whole line was held.
         ensures unbroken { OnErr result (has_line_feed (held self.old) ≡ false) }
-        ensures fault { IsErrOf result ReadError.ReadFault → Rose (S.faults (source_of self.old)) (S.faults (source_of self.new)) }
         ensures fault_unbroken { IsErrOf result ReadError.ReadFault → IfSome (S.left (source_of self.old))
             (λ bytes. has_line_feed (take (taken self.new - taken self.old) bytes) ≡ false) }
         ensures too_long { IsErrOf result ReadError.TooLong ↔ (taken self.new ≡ limit_of self.new + 1) }
@@ -150,11 +149,10 @@ impl<'a, S: Source> LineReader<'a, S> {
         ensures taken { taken self.old ≤ taken self.new }
         ensures source_taken { S.taken (source_of self.new)
             ≡ count_after (S.taken (source_of self.old)) (taken self.new - taken self.old) }
-        ensures source_faults { S.faults (source_of self.old) ≤ S.faults (source_of self.new) }
+        ensures source_faults { Counts (is_fault result) (S.faults (source_of self.old)) (S.faults (source_of self.new)) }
         ensures took { Took (S.left (source_of self.old)) (S.left (source_of self.new)) (taken self.new - taken self.old)
             (λ got. MakesOf result (line_of self.new) (has_ended self.new) (held self.old) (held self.new) got
             × WereDue S.reads (limit_of self.old - taken self.old) (held self.old) false (source_of self.old) got (source_of self.new)) }
-        ensures fault { IsErrOf result ReadError.ReadFault → Rose (S.faults (source_of self.old)) (S.faults (source_of self.new)) }
         ensures too_long { IsErrOf result ReadError.TooLong ↔ (taken self.new ≡ limit_of self.new + 1) }
     {
         while self.buffer.len() <= LONGEST + 1 {
@@ -174,22 +172,21 @@ impl<'a, S: Source> LineReader<'a, S> {
         requires failed { has_failed self.old ≡ false }
         requires ended { has_ended self.old ≡ false }
         requires unbroken { has_line_feed (held self.old) ≡ false }
-        requires long { longest + 1 < length (held self.old) }
+        requires long { longest_line + 1 < length (held self.old) }
         ensures reference { reference_of self.new ≡ reference_of self.old }
         ensures limit { limit_of self.new ≡ limit_of self.old }
         ensures failed { has_failed self.new ≡ is_err result }
         ensures taken { taken self.old ≤ taken self.new }
         ensures source_taken { S.taken (source_of self.new)
             ≡ count_after (S.taken (source_of self.old)) (taken self.new - taken self.old) }
-        ensures source_faults { S.faults (source_of self.old) ≤ S.faults (source_of self.new) }
+        ensures source_faults { Counts (is_fault result) (S.faults (source_of self.old)) (S.faults (source_of self.new)) }
         ensures took { Took (S.left (source_of self.old)) (S.left (source_of self.new)) (taken self.new - taken self.old)
             (λ got. MakesOf result (line_of self.new) (has_ended self.new) (held self.old) (held self.new) got
             × WereDue S.reads (limit_of self.old - taken self.old) (held self.old) false (source_of self.old) got (source_of self.new)) }
-        ensures fault { IsErrOf result ReadError.ReadFault → Rose (S.faults (source_of self.old)) (S.faults (source_of self.new)) }
         ensures too_long { IsErrOf result ReadError.TooLong ↔ (taken self.new ≡ limit_of self.new + 1) }
     {
         loop {
-            self.buffer.keep_front();
+            self.buffer.keep_prefix();
             if self.fill()? == 0 {
                 self.buffer.give_long(LONGEST);
                 self.ended = true;
@@ -225,8 +222,8 @@ impl<'a, S: Source> LineReader<'a, S> {
         }
     }
 
-    /// Reads behind the bytes held: up to the limit, or the one byte that shows that there are more. The buffer offers far
-    /// more than 16 bytes behind those that it keeps of a line.
+    /// Reads after the bytes held: up to the limit, or the one byte that shows that there are more. The buffer offers far
+    /// more than 16 bytes after those that it keeps of a line.
     fn fill(&mut self) -> Result<usize, ReadError>
         requires failed { has_failed self.old ≡ false }
         requires ended { has_ended self.old ≡ false }
@@ -239,7 +236,7 @@ impl<'a, S: Source> LineReader<'a, S> {
         ensures taken { taken self.old ≤ taken self.new }
         ensures source_taken { S.taken (source_of self.new)
             ≡ count_after (S.taken (source_of self.old)) (taken self.new - taken self.old) }
-        ensures source_faults { S.faults (source_of self.old) ≤ S.faults (source_of self.new) }
+        ensures source_faults { Counts (is_fault result) (S.faults (source_of self.old)) (S.faults (source_of self.new)) }
         ensures reads { ReadOnce S.reads (limit_of self.old - taken self.old)
             (source_of self.old) (drop (length (held self.old)) (held self.new)) (source_of self.new) }
         ensures kept { take (length (held self.old)) (held self.new) ≡ held self.old }
@@ -247,8 +244,7 @@ impl<'a, S: Source> LineReader<'a, S> {
         ensures gives { Gives (S.left (source_of self.old)) (drop (length (held self.old)) (held self.new)) (S.left (source_of self.new)) }
         ensures at_end { IfOk result (λ count. count ≡ 0 →
             (bytes_left (S.left (source_of self.new)) ≡ []) × (S.ended (source_of self.new) ≡ true)) }
-        ensures fault { IsErrOf result ReadError.ReadFault →
-            (taken self.new ≡ taken self.old) × Rose (S.faults (source_of self.old)) (S.faults (source_of self.new)) }
+        ensures fault { IsErrOf result ReadError.ReadFault → taken self.new ≡ taken self.old }
         ensures too_long { IsErrOf result ReadError.TooLong ↔ (taken self.new ≡ limit_of self.new + 1) }
         ensures last { IsErrOf result ReadError.TooLong → taken self.old ≡ limit_of self.old }
     {

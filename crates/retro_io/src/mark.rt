@@ -3,9 +3,9 @@ use thiserror::Error;
 /// What the reader came to.
 #[derive(Clone, Copy, Debug, PartialEq, Eq)]
 pub enum Mark {
-    /// A line of at most 4,096 bytes.
+    /// A line that is not long.
     Whole,
-    /// A longer line, of which the first 4,096 bytes are shown.
+    /// A long line, of which only as much is shown as a line may have.
     Long,
     /// There is no further line.
     End,

@@ -1,6 +1,6 @@
-ghost use Rattle.std.specs.Prelude.{◌≡◌, ◌≤◌, ◌<◌, ◌==◌, ◌-◌, ◌||◌, [], true, false, length, take, min, Some, is_ok, IfOk, IsOk, OnErr, OnOk, MatchResult};
-ghost use Rattle.retro_io.specs.Faults.{Rose, last_count};
-ghost use Rattle.retro_io.specs.Memory.{WritesRoomed};
+ghost use Rattle.std.specs.Prelude.{◌≡◌, ◌≤◌, ◌<◌, ◌==◌, ◌-◌, ◌||◌, [], true, false, length, take, min, Some, is_ok, is_err, IfOk, MatchResult};
+ghost use Rattle.retro_io.specs.Faults.{Counts, last_count};
+ghost use Rattle.retro_io.specs.Memory.{FlushesRoomed, WritesRoomed};
 ghost use Rattle.retro_io.specs.Sink.{Appends};
 
 use crate::stock::is_among;
@@ -87,6 +87,8 @@ impl Sink for MemorySink {
 
     ghost writes = { WritesRoomed };
 
+    ghost flushes = { FlushesRoomed };
+
     /// Fails exactly where the number of the call is among those chosen or the room is full, and takes a piece at the most,
     /// and no more than there is room for.
     fn write(&mut self, piece: &[u8]) -> Result<usize, Failed>
@@ -97,9 +99,8 @@ impl Sink for MemorySink {
             (λ _. Some self.new.written ≡ Some self.old.written) }
         ensures flushed { self.new.flushed ≡ false }
         ensures does { WritesRoomed self.old piece.now result self.new }
-        ensures kept_count { self.old.faults ≤ self.new.faults }
+        ensures counts { Counts (is_err result) self.old.faults self.new.faults }
         ensures counted { self.new.faults ≤ last_count }
-        ensures failed { OnErr result (Rose self.old.faults self.new.faults) }
     {
         let room = self.room as usize - self.bytes.len();
         let fails = is_among(self.calls, &self.failing) || room == 0;
@@ -114,17 +115,13 @@ impl Sink for MemorySink {
         Ok(count)
     }
 
-    /// Always succeeds.
+    /// Always succeeds, and changes nothing else.
     fn flush(&mut self) -> Result<(), Failed>
         ensures written { Some self.new.written ≡ Some self.old.written }
         ensures flushed { self.new.flushed ≡ is_ok result }
-        ensures kept_count { self.old.faults ≤ self.new.faults }
+        ensures does { FlushesRoomed self.old result self.new }
+        ensures counts { Counts (is_err result) self.old.faults self.new.faults }
         ensures counted { self.new.faults ≤ last_count }
-        ensures failed { OnErr result (Rose self.old.faults self.new.faults) }
-        ensures same_count { OnOk result (self.new.faults ≡ self.old.faults) }
-        // It never fails, and changes nothing else.
-        ensures always { IsOk result }
-        ensures state { self.new ≡ record self.old { flushed = true } }
     {
         self.flushed = true;
         Ok(())

@@ -1,6 +1,6 @@
-ghost use Rattle.std.specs.Prelude.{◌≡◌, ℕ, Bool, false, List, Option, ◌≤◌, ◌<◌, length, take, Result, is_ok, IfOk, OnErr, OnOk, MatchResult};
-ghost use Rattle.retro_io.specs.Faults.{Rose, last_count};
-ghost use Rattle.retro_io.specs.Sink.{Appends, AppendsPart, HandsAll, HandsAllUntilFault};
+ghost use Rattle.std.specs.Prelude.{◌≡◌, ℕ, Bool, false, List, Option, ◌≤◌, ◌<◌, length, take, Result, is_ok, is_err, IfOk, MatchResult};
+ghost use Rattle.retro_io.specs.Faults.{Counts, last_count};
+ghost use Rattle.retro_io.specs.Sink.{Appends, AppendsProperPrefix, HandsAll, HandsAllUntilFault};
 ghost use Rattle.retro_io.specs.declared.source.Failed.{Failed};
 
 use crate::Failed;
@@ -17,10 +17,13 @@ pub trait Sink {
     ghost faults: { Self → ℕ };
 
     /// What a write may do: how the sink stood before it, the piece that it was handed, its answer, and how the sink stands
-    /// behind it.
+    /// after it.
     ghost writes: { Self → List ℕ → Result ℕ Failed → Self → Type 0 };
 
-    /// Appends a front of the piece, and says how many bytes it has: at least one, where the piece is not empty.
+    /// What a flush may do: how the sink stood before it, its answer, and how the sink stands after it.
+    ghost flushes: { Self → Result (Unit {0}) Failed → Self → Type 0 };
+
+    /// Appends a prefix of the piece, and says how many bytes it has: at least one, where the piece is not empty.
     /// Nothing is appended by a write that fails.
     fn write(&mut self, piece: &[u8]) -> Result<usize, Failed>
         ensures within { IfOk result (λ count. count ≤ length piece.now) }
@@ -30,21 +33,19 @@ pub trait Sink {
             (λ _. written self.new ≡ written self.old) }
         ensures flushed { flushed self.new ≡ false }
         ensures does { writes self.old piece.now result self.new }
-        ensures kept_count { faults self.old ≤ faults self.new }
-        ensures counted { faults self.new ≤ last_count }
-        ensures failed { OnErr result (Rose (faults self.old) (faults self.new)) };
+        ensures counts { Counts (is_err result) (faults self.old) (faults self.new) }
+        ensures counted { faults self.new ≤ last_count };
 
     /// Sees to it that what was written arrives.
     fn flush(&mut self) -> Result<(), Failed>
         ensures written { written self.new ≡ written self.old }
         ensures flushed { flushed self.new ≡ is_ok result }
-        ensures kept_count { faults self.old ≤ faults self.new }
-        ensures counted { faults self.new ≤ last_count }
-        ensures failed { OnErr result (Rose (faults self.old) (faults self.new)) }
-        ensures same_count { OnOk result (faults self.new ≡ faults self.old) };
+        ensures does { flushes self.old result self.new }
+        ensures counts { Counts (is_err result) (faults self.old) (faults self.new) }
+        ensures counted { faults self.new ≤ last_count };
 }
 
-/// A write failed, and only a front of the bytes was appended.
+/// A write failed, and not all of the bytes were appended.
 #[derive(Clone, Copy, Debug, PartialEq, Eq)]
 pub struct WriteFault;
 
@@ -52,14 +53,13 @@ pub struct WriteFault;
 pub fn put_all<K: Sink>(sink: &mut K, bytes: &[u8]) -> Result<(), WriteFault>
     ensures appended { MatchResult result
         (λ _. Appends (K.written sink.old) bytes.now (K.written sink.new))
-        (λ _. AppendsPart (K.written sink.old) bytes.now (K.written sink.new)) }
+        (λ _. AppendsProperPrefix (K.written sink.old) bytes.now (K.written sink.new)) }
     ensures handed { MatchResult result
         (λ _. HandsAll K.writes bytes.now sink.old (length bytes.now) sink.new)
         (λ _. HandsAllUntilFault K.writes bytes.now sink.old sink.new) }
     ensures flushed { 0 < length bytes.now → K.flushed sink.new ≡ false }
     ensures nothing { length bytes.now ≡ 0 → sink.new ≡ sink.old }
-    ensures kept_count { K.faults sink.old ≤ K.faults sink.new }
-    ensures failed { OnErr result (Rose (K.faults sink.old) (K.faults sink.new)) }
+    ensures counts { Counts (is_err result) (K.faults sink.old) (K.faults sink.new) }
 {
     let mut appended = 0;
     while appended < bytes.len() {

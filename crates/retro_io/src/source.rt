@@ -1,5 +1,5 @@
-ghost use Rattle.std.specs.Prelude.{◌≡◌, ℕ, Bool, List, Option, [], ◌≤◌, ◌<◌, length, take, Result, IfOk, OnErr, MatchResult};
-ghost use Rattle.retro_io.specs.Faults.{Rose, last_count};
+ghost use Rattle.std.specs.Prelude.{◌≡◌, ℕ, Bool, List, Option, [], ◌≤◌, ◌<◌, length, take, Result, is_err, IfOk, MatchResult};
+ghost use Rattle.retro_io.specs.Faults.{Counts, last_count};
 ghost use Rattle.retro_io.specs.Source.{Gives, bytes_given, bytes_left, ended_after, taken_after};
 ghost use Rattle.retro_io.specs.declared.source.Failed.{Failed};
 
@@ -22,10 +22,10 @@ pub trait Source {
     ghost faults: { Self → ℕ };
 
     /// What a read may do: how the source stood before it, how many bytes the buffer has that it was offered, the bytes that
-    /// it gave, and how the source stands behind it.
+    /// it gave, and how the source stands after it.
     ghost reads: { Self → ℕ → Result (List ℕ) Failed → Self → Type 0 };
 
-    /// Takes some of the next bytes into the front of the buffer, and says how many. None, where the buffer has room,
+    /// Takes some of the next bytes into the start of the buffer, and says how many. None, where the buffer has room,
     /// is the end. Nothing is taken by a read that fails.
     fn read(&mut self, buffer: &mut [u8]) -> Result<usize, Failed>
         ensures within { IfOk result (λ count. count ≤ length buffer.new) }
@@ -36,7 +36,6 @@ pub trait Source {
         ensures taken { taken self.new ≡ taken_after (taken self.old) result }
         ensures ended { ended self.new ≡ ended_after (ended self.old) result buffer.new }
         ensures does { reads self.old (length buffer.new) (bytes_given result buffer.new) self.new }
-        ensures kept_count { faults self.old ≤ faults self.new }
-        ensures counted { faults self.new ≤ last_count }
-        ensures failed { OnErr result (Rose (faults self.old) (faults self.new)) };
+        ensures counts { Counts (is_err result) (faults self.old) (faults self.new) }
+        ensures counted { faults self.new ≤ last_count };
 }

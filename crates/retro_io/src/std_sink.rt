@@ -1,12 +1,12 @@
-ghost use Rattle.std.specs.Prelude.{◌≡◌, ◌≤◌, false, None};
-ghost use Rattle.std.specs.Io.KnownBytes.{WriteAppends};
-ghost use Rattle.retro_io.specs.Faults.{Rose, count_after, faults_after, last_count};
+ghost use Rattle.std.specs.Prelude.{◌≡◌, ◌≤◌, true, false, None};
+ghost use Rattle.std.specs.Io.KnownBytes.{Keeps, WriteAppends};
+ghost use Rattle.retro_io.specs.Faults.{Counts, count_after, faults_after, last_count};
 
 use crate::{Failed, Sink};
 use std::io::Write;
 
 /// A sink over a writer of std. It tells nothing of what was written but what std's own contract knows of the writer
-/// (`writes`); each `Err` of the writer is a fault, and so is a write that takes nothing of a piece that is not empty.
+/// (`writes`, `flushes`); each `Err` of the writer is a fault, and so is a write that takes nothing of a piece that is not empty.
 #[derive(Drop)]
 pub struct StdSink<W> {
     writer: W,
@@ -33,10 +33,9 @@ impl<W: Write> StdSink<W> {
 
     /// Notes a fault.
     fn fail(&mut self) -> Failed
-        ensures rose { Rose self.old.faults self.new.faults }
+        ensures counts { Counts true self.old.faults self.new.faults }
         ensures count { self.new.faults ≡ count_after self.old.faults 1 }
         ensures writer { writer_of self.new ≡ writer_of self.old }
-        ensures kept_count { self.old.faults ≤ self.new.faults }
         ensures flushed { self.new.flushed ≡ self.old.flushed }
     {
         self.faults = self.faults.saturating_add(1);
@@ -55,6 +54,10 @@ impl<W: Write> Sink for StdSink<W> {
 
     ghost writes = { λ before piece answer after.
         WriteAppends (W.contents (writer_of before)) (W.contents (writer_of after)) answer piece
+        × (after.faults ≡ faults_after before.faults answer) };
+
+    ghost flushes = { λ before answer after.
+        Keeps (W.contents (writer_of before)) (W.contents (writer_of after))
         × (after.faults ≡ faults_after before.faults answer) };
 
     fn write(&mut self, piece: &[u8]) -> Result<usize, Failed> {

@@ -8,7 +8,7 @@ use std::alloc::Global;
 use std::io::{self, ErrorKind, Read, Write, pipe};
 use std::test::Fail;
 
-/// What a reader answers until the end or an error: a `W` or an `L` before each line, and a `|` behind it; then an `E`, or an
+/// What a reader answers until the end or an error: a `W` or an `L` before each line, and a `|` after it; then an `E`, or an
 /// `F` for a fault and a `T` for an input that is too long.
 fn answers<S: Source>(alloc: Global, source: &mut S, limit: u64) -> Result<Vec<u8>, Fail>
     requires { limit < 2 ^ 62 }
@@ -126,7 +126,7 @@ fn a_fault_ends_the_reading(rt: HostRuntime) -> Result<(), Fail> {
 }
 
 #[test]
-fn all_is_written_or_a_front(rt: HostRuntime) -> Result<(), Fail> {
+fn all_is_written_or_a_prefix(rt: HostRuntime) -> Result<(), Fail> {
     let table: [(u32, u32, &[u32], Result<(), WriteFault>, &[u8]); 5] = [
         (64, 1, &[], Ok(()), b"abcdef"),
         (64, 4, &[2], Ok(()), b"abcdef"),
@@ -189,5 +189,63 @@ fn broken_streams_fail(rt: HostRuntime) -> Result<(), Fail> {
     assert_eq!(rt; put_all(&mut sink, b""), Ok(()));
     assert_eq!(rt; put_all(&mut sink, b"a"), Err(WriteFault));
     assert_eq!(rt; sink.flush(), Err(Failed));
+    Ok(())
+}
+
+/// A stream whose first call of each kind fails, and which then gives what is asked for and takes what it is handed.
+#[derive(Drop)]
+struct FailsOnce {
+    read: bool,
+    written: bool,
+    flushed: bool,
+}
+
+impl FailsOnce {
+    fn new() -> FailsOnce {
+        FailsOnce {
+            read: false,
+            written: false,
+            flushed: false,
+        }
+    }
+}
+
+/// An error at the first call, which this notes.
+fn fail_once(before: &mut bool) -> io::Result<()> {
+    if *before {
+        return Ok(());
+    }
+    *before = true;
+    Err(ErrorKind::Interrupted.into())
+}
+
+impl Read for FailsOnce {
+    fn read(&mut self, buffer: &mut [u8]) -> io::Result<usize> {
+        fail_once(&mut self.read)?;
+        Ok(buffer.len())
+    }
+}
+
+impl Write for FailsOnce {
+    fn write(&mut self, piece: &[u8]) -> io::Result<usize> {
+        fail_once(&mut self.written)?;
+        Ok(piece.len())
+    }
+
+    fn flush(&mut self) -> io::Result<()> {
+        fail_once(&mut self.flushed)
+    }
+}
+
+#[test]
+fn a_call_that_fails_is_not_tried_again(rt: HostRuntime) -> Result<(), Fail> {
+    let mut source = StdSource::new(FailsOnce::new());
+    assert_eq!(rt; source.read(&mut [0; 16]), Err(Failed));
+    assert_eq!(rt; source.read(&mut [0; 16]), Ok(16));
+    let mut sink = StdSink::new(FailsOnce::new());
+    assert_eq!(rt; sink.write(b"abc"), Err(Failed));
+    assert_eq!(rt; sink.write(b"abc"), Ok(3));
+    assert_eq!(rt; sink.flush(), Err(Failed));
+    assert_eq!(rt; sink.flush(), Ok(()));
     Ok(())
 }

@@ -1,5 +1,5 @@
 -- What a timeline makes of an edit and of a question, case by case.
-use Rattle.std.proofs.Common.{◌≡◌, ℕ, true, false, List, length, slice_get, refl, sym, ◌∙◌, ap, subst, Option, Some, None}
+use Rattle.std.proofs.Common.{◌≡◌, ◌≢◌, ℕ, zero, suc, ◌<◌, ◌≤◌, true, false, List, [], ◌∷◌, arith, length, slice_get, refl, sym, ◌∙◌, ap, subst, Option, Some, None}
 use Rattle.std.specs.Prelude.{option_map, option_and_then}
 use Rattle.std.specs.List.{remove}
 use Rattle.std.proofs.Math.Seq.{take-length}
@@ -22,7 +22,7 @@ use Rattle.workbench.specs.declared.outcome.Refusal.TheVariants as refusals
 use Rattle.workbench.specs.declared.position.Position.{Position}
 use Rattle.workbench.specs.Bench.{NamedTimeline}
 use Rattle.retro_base.specs.Order.{Fits}
-use Rattle.workbench.specs.TimelineEffects.{refuses, row_named, position_before, next_position, position_of, inserts_there, after_edit, inserts, deletes, answers}
+use Rattle.workbench.specs.TimelineEffects.{TimelineEffect, accepted_or_refused, refuses, row_named, position_before, next_position, position_of, inserts_there, deletes_by, inserts, deletes, answers}
 use Rattle.retro_base.specs.OrderLaws.{time_fits, fits_before, fits_after}
 
 pub inserts_other_kind : (t : NamedTimeline) (spot : Spot) (op : Op) → same_kind (kind_of op) t.kind ≡ false → inserts t spot op ≡ refuses t refusals.Kind
@@ -43,16 +43,35 @@ pub deletes_nothing : (t : NamedTimeline) (number : ℕ) → place_of_row number
 unfolding deletes
 deletes_nothing t number nowhere = rw nowhere refl
 
-pub deletes_fails : (t : NamedTimeline) (number place index : ℕ) (failing : Row) → place_of_row number t.rows ≡ Some place
+-- an index without an element is past the end
+slice_get_none : {X : Type 0} (xs : List X) (i : ℕ) → slice_get xs i ≡ None → length xs ≤ i
+slice_get_none [] i none = omega arith
+slice_get_none (x ∷ xs) zero none = absurd (cc)
+slice_get_none (x ∷ xs) (suc i) none = omega (arith, slice_get_none xs i none)
+
+-- what becomes of the rows without the one at a place
+abbrev without : NamedTimeline → ℕ → TimelineEffect
+without t place = accepted_or_refused t (record t { rows = remove t.rows place }) Accepted (failure t.kind (remove t.rows place))
+
+deletes_found : (t : NamedTimeline) (number place : ℕ) (found : Option Row) → found ≢ None → deletes_by t number (option_map (cut place) found) ≡ without t place
+deletes_found t number place None there = absurd (there refl)
+deletes_found t number place (Some row) there = refl
+
+-- a row is deleted that stands at a place
+deletes_there : (t : NamedTimeline) (number place : ℕ) → place_of_row number t.rows ≡ Some place → place < length t.rows → deletes t number ≡ without t place
+unfolding deletes
+deletes_there t number place there within =
+    rw there (deletes_found t number place (slice_get t.rows place) (λ nowhere. absurd (omega (arith, slice_get_none t.rows place nowhere))))
+
+pub deletes_fails : (t : NamedTimeline) (number place index : ℕ) (failing : Row) → place_of_row number t.rows ≡ Some place → place < length t.rows
     → failure t.kind (remove t.rows place) ≡ Some index → slice_get (remove t.rows place) index ≡ Some failing
     → deletes t number ≡ refuses t (refusals.At failing.number failing.time)
-unfolding deletes
-deletes_fails t number place index failing there fails at = rw (there, fails, at) refl
+deletes_fails t number place index failing there within fails at = rw (deletes_there t number place there within, fails, at) refl
 
-pub deletes_accepted : (t : NamedTimeline) (number place : ℕ) → place_of_row number t.rows ≡ Some place → failure t.kind (remove t.rows place) ≡ None
-    → deletes t number ≡ record { timeline = after_edit t (cut place) t.next; outcome = Accepted }
-unfolding deletes
-deletes_accepted t number place there stands = rw (there, stands) refl
+pub deletes_accepted : (t : NamedTimeline) (number place : ℕ) → place_of_row number t.rows ≡ Some place → place < length t.rows
+    → failure t.kind (remove t.rows place) ≡ None
+    → deletes t number ≡ record { timeline = record t { rows = remove t.rows place }; outcome = Accepted }
+deletes_accepted t number place there within stands = rw (deletes_there t number place there within, stands) refl
 
 pub answers_unsuited : (t : NamedTimeline) (moment : Rattle.script_grammar.specs.declared.command.Moment.Moment) (question : Question) → suits question t.kind ≡ false
     → answers t moment (One question) ≡ Refused refusals.Kind

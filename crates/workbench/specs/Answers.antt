@@ -1,14 +1,18 @@
--- The answers to the lines of a script, each on the bench that the lines before it have left.
-use Rattle.std.specs.Prelude.{ℕ, Bool, false, ◌||◌, List, [], ◌∷◌, ◌++◌}
+-- The reactions to the lines of a script, each on the bench that the lines before it have left, and the answer of its close.
+use Rattle.std.specs.Prelude.{ℕ, List, [], ◌∷◌}
 use Rattle.workbench.specs.Bench.{Bench}
-use Rattle.workbench.specs.Reaction.{reacts}
+use Rattle.workbench.specs.Reaction.{Reaction, reacts}
 
--- the answers to lines, one behind the other
-unfoldable pub answers_to : Bench → List (List ℕ) → List ℕ
-answers_to bench [] = []
-answers_to bench (line ∷ more) = (reacts bench line).answer ++ answers_to (reacts bench line).bench more
+-- the reactions to lines, one for each
+unfoldable pub reactions : Bench → List (List ℕ) → List Reaction
+reactions bench [] = []
+reactions bench (line ∷ more) = reacts bench line ∷ reactions (reacts bench line).bench more
 
--- one of the lines is refused
-unfoldable pub refuses_one : Bench → List (List ℕ) → Bool
-refuses_one bench [] = false
-refuses_one bench (line ∷ more) = (reacts bench line).refused || refuses_one (reacts bench line).bench more
+-- the bench that lines leave
+unfoldable pub bench_after : Bench → List (List ℕ) → Bench
+bench_after bench [] = bench
+bench_after bench (line ∷ more) = bench_after (reacts bench line).bench more
+
+-- the answer of the close, after all lines: there is none
+abbrev pub closing : Bench → List ℕ
+closing bench = []

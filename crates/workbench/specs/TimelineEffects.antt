@@ -100,7 +100,7 @@ inserts timeline spot op =
 
 -- the edit that takes the row with this number out, if there is one
 abbrev pub cut_of : ℕ → List Row → Option Edit
-cut_of number rows = option_map cut (place_of_row number rows)
+cut_of number rows = option_and_then (λ place. option_map (cut place) (slice_get rows place)) (place_of_row number rows)
 
 -- a row is taken out, if there is one
 abbrev pub deletes_by : NamedTimeline → ℕ → Option Edit → TimelineEffect

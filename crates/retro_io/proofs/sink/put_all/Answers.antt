@@ -1,8 +1,9 @@
--- A write is handed the bytes behind those that were appended, and appends some of them.
-use Rattle.std.proofs.Common.{◌≡◌, ◌<◌, ◌-◌, Ok, Err, length, drop, take, ap, subst, refl, arith}
-use Rattle.std.proofs.lemmas.List.{take_rest, length-drop}
+-- A write is handed the bytes after those that were appended, and appends some of them.
+use Rattle.std.proofs.Common.{◌≡◌, ◌≤◌, ◌<◌, ◌-◌, ◌++◌, Ok, Err, length, drop, take, ap, sym, ◌∙◌, subst, refl, arith}
+use Rattle.std.proofs.lemmas.List.{take_rest, length-drop, take-append-drop, take-take}
+use Rattle.std.specs.Ffi.{without_last}
 use Rattle.retro_io.specs.Sink.{Appends, HandsAll}
-use Rattle.retro_io.specs.SinkLaws.{Appends-none}
+use Rattle.retro_io.specs.SinkLaws.{Appends-none, AppendsPrefixOf-from}
 use Rattle.retro_io.proofs.SinkLemmas.{Appends-more}
 use Rattle.retro_io.proofs.sink.put_all.Goals as goal
 
@@ -13,7 +14,7 @@ loop-appended-init g c = record {
   handed = HandsAll.start;
   untouched = λ _. refl;
   flushed = λ some. absurd (omega (arith, some));
-  faults = omega arith;
+  faults = refl;
 }
 
 pub loop-appended-preserved : goal.loop-appended-preserved
@@ -34,8 +35,20 @@ loop-appended-preserved g c =
           (subst (λ xs. g.K.Sink.writes c.loop-appended.sink xs (Ok count) c.write.new.self) piece c.in-Ok.ensures.does);
       untouched = λ none. absurd (omega arith);
       flushed = λ _. c.in-Ok.ensures.flushed;
-      faults = omega (arith, c.in-Ok.ensures.kept_count, c.loop-appended.invariant.faults);
+      faults = c.in-Ok.ensures.counts ∙ c.loop-appended.invariant.faults;
     }
+
+pub returns-in-Err-clause-appended : goal.returns-in-Err-clause-appended
+returns-in-Err-clause-appended g c =
+    let bytes = c.args.bytes.now in
+    let place = c.loop-appended.appended in
+    let short : place ≤ length bytes - 1 = omega arith in (
+      omega arith,
+      rw c.in-Err.ensures.appended
+          (AppendsPrefixOf-from _ _ (take place bytes) (drop place (without_last bytes)) _
+          (sym (take-append-drop place (without_last bytes)) ∙ ap (λ xs. xs ++ drop place (without_last bytes)) (take-take place (length bytes - 1) bytes short))
+          c.loop-appended.invariant.appends),
+    )
 
 pub returns-in-Err-clause-handed : goal.returns-in-Err-clause-handed
 returns-in-Err-clause-handed g c = record {

@@ -1,4 +1,4 @@
--- What the read put into the buffer stands behind the bytes held.
+-- What the read put into the buffer stands after the bytes held.
 use Rattle.std.proofs.Common.{◌≡◌, ◌+◌, ◌-◌, ◌++◌, Ok, length, drop, take, ap, sym, ◌∙◌, subst, arith}
 use Rattle.retro_io.specs.LineBuffer.{Buffered}
 use Rattle.retro_io.specs.Source.{Gives}
@@ -12,7 +12,7 @@ returns-clause-given g c =
     held_length _ c.self.inside.bytes.items _ c.self.inside.end (ap (λ (b : Buffered). b.held) c.self.view_is) (omega arith)
     (omega (arith, c.self.inside.bytes.ok.0)) in
     let moved = take c.self.inside.bytes.len (c.move_to_front.new.bytes ++ drop (length c.move_to_front.new.bytes) c.self.inside.bytes.items) in
-    subst (λ front. Gives (g.S.Source.left c.args.source.now) front (g.S.Source.left c.read_into.new.source))
+    subst (λ bytes. Gives (g.S.Source.left c.args.source.now) bytes (g.S.Source.left c.read_into.new.source))
     (sym (came c.args.self.now.held c.read_into.new.bytes moved c.self.inside.bytes.len held c.in_ok-count.count size
     (c.in_ok-count.ensures.len ∙ c.deref_mut-2.ensures.len)))
     c.in_ok-count.ensures.given

@@ -1,9 +1,10 @@
--- What is shown, and what is held behind it, are stretches of the buffer.
+-- What is shown, and what is held after it, are ranges of the buffer.
 use Rattle.std.proofs.Common.{◌≡◌, ◌≤◌, ◌+◌, ◌-◌, length, take, ap, sym, ◌∙◌, arith}
 use Rattle.std.specs.List.{slice_range}
+use Rattle.retro_io.specs.Lines.{longest_line}
 use Rattle.retro_io.specs.Lines.{without_return}
 use Rattle.retro_io.specs.LineBuffer.{Buffered}
-use Rattle.retro_io.proofs.RangeLemmas.{held_front, held_behind, held_length}
+use Rattle.retro_io.proofs.RangeLemmas.{held_prefix, held_after, held_length}
 use Rattle.retro_io.proofs.line_buffer.LineBuffer.give.Goals as goal
 
 pub returns-then-line-self-gt-LONGEST-clause-shown : goal.returns-then-line-self-gt-LONGEST-clause-shown
@@ -14,7 +15,7 @@ returns-then-line-self-gt-LONGEST-clause-shown c =
     let end = c.line_end-line.result in
     let same : items ≡ c.deref.result.now = sym c.deref.ensures.value in
     let piece : slice_range items start (start + c.args.piece) ≡ take c.args.piece held =
-    held_front held items start c.self.inside.end (ap (λ (b : Buffered). b.held) c.self.view_is) (omega arith)
+    held_prefix held items start c.self.inside.end (ap (λ (b : Buffered). b.held) c.self.view_is) (omega arith)
     (omega (arith, c.self.inside.bytes.ok.0)) c.args.piece (omega arith) in
     let line : slice_range items start end ≡ without_return (take c.args.piece held) =
     ap (λ xs. slice_range xs start end) same ∙ c.line_end-line.ensures.line
@@ -28,16 +29,16 @@ returns-then-line-self-gt-LONGEST-clause-shown c =
     ) in
     let size : length (without_return (take c.args.piece held)) ≡ end - start =
     held_length (without_return (take c.args.piece held)) items start end line (omega arith) within in (
-      held_front (without_return (take c.args.piece held)) items start end line (omega arith) within 4096 (omega (arith, size)),
+      held_prefix (without_return (take c.args.piece held)) items start end line (omega arith) within longest_line (omega (arith, size)),
       omega (arith, size),
     )
 
 pub returns-then-line-self-gt-LONGEST-clause-held : goal.returns-then-line-self-gt-LONGEST-clause-held
 returns-then-line-self-gt-LONGEST-clause-held c =
-    held_behind _ c.self.inside.bytes.items _ c.self.inside.end (ap (λ (b : Buffered). b.held) c.self.view_is) (omega arith)
+    held_after _ c.self.inside.bytes.items _ c.self.inside.end (ap (λ (b : Buffered). b.held) c.self.view_is) (omega arith)
     (omega (arith, c.self.inside.bytes.ok.0)) c.args.given (omega arith)
 
 pub returns-clause-held : goal.returns-clause-held
 returns-clause-held c =
-    held_behind _ c.self.inside.bytes.items _ c.self.inside.end (ap (λ (b : Buffered). b.held) c.self.view_is) (omega arith)
+    held_after _ c.self.inside.bytes.items _ c.self.inside.end (ap (λ (b : Buffered). b.held) c.self.view_is) (omega arith)
     (omega (arith, c.self.inside.bytes.ok.0)) c.args.given (omega arith)

@@ -1,9 +1,9 @@
--- The bytes searched are those held behind the first ones.
+-- The bytes searched are those held after the first ones.
 use Rattle.std.proofs.Common.{◌≡◌, ◌<◌, ◌+◌, length, drop, ap, ◌∙◌, arith, length-drop}
 use Rattle.std.specs.List.{slice_range}
 use Rattle.retro_io.specs.LineBuffer.{Buffered}
 use Rattle.retro_io.proofs.LineLemmas.{unbroken_all, unbroken_before, splits_at}
-use Rattle.retro_io.proofs.RangeLemmas.{held_behind}
+use Rattle.retro_io.proofs.RangeLemmas.{held_after}
 use Rattle.retro_io.proofs.line_buffer.LineBuffer.line_feed_from.Goals as goal
 use Rattle.retro_io.proofs.line_buffer.LineBuffer.line_feed_from.Goals.{After-first_line_feed}
 
@@ -12,7 +12,7 @@ searched : (c : After-first_line_feed)
     → slice_range c.deref.result.now (c.self.inside.start + c.args.from) c.self.inside.end ≡ drop c.args.from c.args.self.now.held
 searched c =
     ap (λ xs. slice_range xs (c.self.inside.start + c.args.from) c.self.inside.end) c.deref.ensures.value
-    ∙ held_behind _ c.self.inside.bytes.items _ c.self.inside.end (ap (λ (b : Buffered). b.held) c.self.view_is) (omega arith)
+    ∙ held_after _ c.self.inside.bytes.items _ c.self.inside.end (ap (λ (b : Buffered). b.held) c.self.view_is) (omega arith)
     (omega (arith, c.self.inside.bytes.ok.0)) c.args.from (omega arith)
 
 pub returns-in-Some : goal.returns-in-Some

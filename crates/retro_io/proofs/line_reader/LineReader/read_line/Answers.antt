@@ -10,7 +10,7 @@ use Rattle.retro_io.specs.Source.{Gives}
 use Rattle.retro_io.specs.Reads.{MakesOf, GivesFirst, GivesPiece}
 use Rattle.retro_io.proofs.LineLemmas.{unbroken-back}
 use Rattle.retro_io.proofs.DueLemmas.{Took-due, Took-due-on, WereDue-then}
-use Rattle.retro_io.proofs.ReadLemmas.{Took-none, Took-both, MakesOf-error, MakesOf-later, GivesFirst-of, GivesFirst-piece, grown, length-behind, count_after-twice}
+use Rattle.retro_io.proofs.ReadLemmas.{Took-none, Took-both, MakesOf-error, MakesOf-later, GivesFirst-of, GivesFirst-piece, grown, length-after, count_after-twice}
 use Rattle.retro_io.proofs.line_reader.LineReader.read_line.Goals as goal
 use Rattle.retro_io.proofs.line_reader.LineReader.read_line.Goals.{After-fill}
 use Rattle.retro_io.proofs.line_reader.LineReader.read_line.Given.{Over}
@@ -22,7 +22,7 @@ failing error = Err error
 -- how many bytes came
 size : (g : Over) (c : After-fill g)
     → length (drop (length c.loop-self.self.buffer.held) c.fill.new.self.buffer.held) ≡ c.fill.new.self.taken - c.loop-self.self.taken
-size g c = length-behind c.loop-self.self.buffer.held c.fill.new.self.buffer.held _ c.fill.ensures.length
+size g c = length-after c.loop-self.self.buffer.held c.fill.new.self.buffer.held _ c.fill.ensures.length
 
 -- none of the bytes held first and taken since ends a line
 held_unbroken : (g : Over) (c : After-fill g) (xs : List ℕ) → c.loop-self.self.buffer.held ≡ c.args.self.now.buffer.held ++ xs
@@ -39,7 +39,7 @@ loop-self-init g c = record {
   rises = omega arith;
   in_limit = c.args.self.now.in_limit c.requires.failed;
   source_taken = omega arith;
-  source_faults = omega arith;
+  source_faults = refl;
   took = Took-none _ _ _ (omega arith) (sym (append-nil c.args.self.now.buffer.held), ReadsDue.none);
 }
 
@@ -56,7 +56,7 @@ returns-in_err-fill-clause-took g c =
     c.loop-self.invariant.took c.fill.ensures.gives (omega (arith, count, c.fill.ensures.taken, c.loop-self.invariant.rises))
     (omega (arith, c.loop-self.invariant.limit, c.loop-self.invariant.rises)) (held_unbroken g (goal.at.returns-in_err-fill-clause-took g c).After-fill) c.fill.ensures.reads
     (λ xs e. MakesOf-error error _ _ _ _ xs came (unbroken-back held xs (ap has_line_feed (sym e) ∙ c.loop-self.invariant.unbroken))
-    (λ is. omega (arith, count, (c.in_err-fill.ensures.fault (ap failing is)).0))
+    (λ is. omega (arith, count, c.in_err-fill.ensures.fault (ap failing is)))
     (λ is. omega (arith, count, c.in_err-fill.ensures.last (ap failing is), c.in_err-fill.ensures.too_long.0 (ap failing is), c.fill.ensures.limit))))
 
 pub returns-then-branch-eq0-clause-took : goal.returns-then-branch-eq0-clause-took
@@ -125,7 +125,7 @@ loop-self-preserved g c =
       source_taken = c.fill.ensures.source_taken ∙ ap (λ n. count_after n (c.fill.new.self.taken - c.loop-self.self.taken)) c.loop-self.invariant.source_taken
           ∙ count_after-twice (g.S.Source.taken c.args.self.now.source.now) _ _
           ∙ ap (count_after (g.S.Source.taken c.args.self.now.source.now)) (omega (arith, c.fill.ensures.taken, c.loop-self.invariant.rises));
-      source_faults = omega (arith, c.fill.ensures.source_faults, c.loop-self.invariant.source_faults);
+      source_faults = c.in_ok-fill.ensures.source_faults ∙ c.loop-self.invariant.source_faults;
       took = Took-due-on g.S.Source.reads _ _ _ _ held _ _ _ _ _ _ (λ xs. before ≡ held ++ xs) (λ xs. now ≡ held ++ xs) came
           c.loop-self.invariant.took c.fill.ensures.gives (omega (arith, count, c.fill.ensures.taken, c.loop-self.invariant.rises))
           (omega (arith, c.loop-self.invariant.limit, c.loop-self.invariant.rises)) (held_unbroken g (goal.at.loop-self-preserved g c).After-fill) c.fill.ensures.reads

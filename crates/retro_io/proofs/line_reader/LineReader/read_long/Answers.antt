@@ -6,12 +6,12 @@ use Rattle.retro_io.specs.declared.mark.Mark.TheVariants.{Long}
 use Rattle.retro_io.specs.declared.mark.ReadError.{ReadError}
 use Rattle.retro_io.specs.DueReads.{ReadsDue}
 use Rattle.retro_io.specs.Faults.{count_after}
-use Rattle.retro_io.specs.Lines.{longest, line_feed, has_line_feed}
+use Rattle.retro_io.specs.Lines.{longest_line, line_feed, has_line_feed}
 use Rattle.retro_io.specs.Reads.{MakesOf}
 use Rattle.retro_io.specs.LineLaws.{unbroken-append}
 use Rattle.retro_io.proofs.LineLemmas.{unbroken-take, unbroken-drop}
 use Rattle.retro_io.proofs.DueLemmas.{Took-due, Took-due-on}
-use Rattle.retro_io.proofs.ReadLemmas.{Took-none, MakesOf-error, Shows-long, cut_behind, length-behind, count_after-twice}
+use Rattle.retro_io.proofs.ReadLemmas.{Took-none, MakesOf-error, Shows-long, cut_after, length-after, count_after-twice}
 use Rattle.retro_io.proofs.line_reader.LineReader.read_long.Goals as goal
 use Rattle.retro_io.proofs.line_reader.LineReader.read_long.Goals.{After-fill}
 use Rattle.retro_io.proofs.line_reader.LineReader.read_long.Given.{Over}
@@ -21,15 +21,15 @@ abbrev failing : ReadError → Result ℕ ReadError
 failing error = Err error
 
 -- the first bytes are still those of the line
-front : (g : Over) (c : After-fill g) → take longest c.fill.new.self.buffer.held ≡ take longest c.args.self.now.buffer.held
-front g c =
-    ap (λ n. take n c.fill.new.self.buffer.held) (sym c.keep_front.ensures.length)
-    ∙ c.fill.ensures.kept ∙ c.keep_front.ensures.held ∙ c.loop-self.invariant.front
+prefix : (g : Over) (c : After-fill g) → take longest_line c.fill.new.self.buffer.held ≡ take longest_line c.args.self.now.buffer.held
+prefix g c =
+    ap (λ n. take n c.fill.new.self.buffer.held) (sym c.keep_prefix.ensures.length)
+    ∙ c.fill.ensures.kept ∙ c.keep_prefix.ensures.held ∙ c.loop-self.invariant.prefix
 
 -- how many bytes came
 size : (g : Over) (c : After-fill g)
-    → length (drop (length c.keep_front.new.self.held) c.fill.new.self.buffer.held) ≡ c.fill.new.self.taken - c.loop-self.self.taken
-size g c = length-behind c.keep_front.new.self.held c.fill.new.self.buffer.held _ c.fill.ensures.length
+    → length (drop (length c.keep_prefix.new.self.held) c.fill.new.self.buffer.held) ≡ c.fill.new.self.taken - c.loop-self.self.taken
+size g c = length-after c.keep_prefix.new.self.held c.fill.new.self.buffer.held _ c.fill.ensures.length
 
 -- none of the bytes held first and taken since ends a line
 held_unbroken : (g : Over) (c : After-fill g) (xs : List ℕ) → has_line_feed xs ≡ false → has_line_feed (c.args.self.now.buffer.held ++ xs) ≡ false
@@ -42,18 +42,18 @@ loop-self-init g c = record {
   failed = c.requires.failed;
   ended = c.requires.ended;
   long = omega (arith, c.requires.long);
-  front = refl;
+  prefix = refl;
   rises = omega arith;
   in_limit = c.args.self.now.in_limit c.requires.failed;
   source_taken = omega arith;
-  source_faults = omega arith;
+  source_faults = refl;
   took = Took-none _ _ _ (omega arith) (refl, ReadsDue.none);
 }
 
 pub returns-in_err-fill-clause-took : goal.returns-in_err-fill-clause-took
 returns-in_err-fill-clause-took g c =
     let p = err_from_is_err_and c.from_residual.result c.from_residual.ensures.1 in
-    let came = drop (length c.keep_front.new.self.held) c.fill.new.self.buffer.held in
+    let came = drop (length c.keep_prefix.new.self.held) c.fill.new.self.buffer.held in
     let count = size g (goal.at.returns-in_err-fill-clause-took g c).After-fill in
     let error = c.in_err-fill.field-0.0 in
     rw (p.1, p.2)
@@ -62,25 +62,25 @@ returns-in_err-fill-clause-took g c =
     c.loop-self.invariant.took c.fill.ensures.gives (omega (arith, count, c.fill.ensures.taken, c.loop-self.invariant.rises))
     (omega (arith, c.loop-self.invariant.limit, c.loop-self.invariant.rises)) (held_unbroken g (goal.at.returns-in_err-fill-clause-took g c).After-fill) c.fill.ensures.reads
     (λ xs u. MakesOf-error error _ _ _ _ xs came u
-    (λ is. omega (arith, count, (c.in_err-fill.ensures.fault (ap failing is)).0))
+    (λ is. omega (arith, count, c.in_err-fill.ensures.fault (ap failing is)))
     (λ is. omega (arith, count, c.in_err-fill.ensures.last (ap failing is), c.in_err-fill.ensures.too_long.0 (ap failing is), c.fill.ensures.limit))))
 
 pub invariant_of-self-then-branch-eq0-clause-counted : goal.invariant_of-self-then-branch-eq0-clause-counted
 invariant_of-self-then-branch-eq0-clause-counted g c =
     let gone : c.give_long.new.self.held ≡ [] =
-    c.give_long.ensures.held ∙ drop_all 4096 c.fill.new.self.buffer.held
-    (omega (arith, c.fill.ensures.length, c.keep_front.ensures.length, c.in_ok-fill.ensures.count, c.if-branch-eq0.true)) in
+    c.give_long.ensures.held ∙ drop_all longest_line c.fill.new.self.buffer.held
+    (omega (arith, c.fill.ensures.length, c.keep_prefix.ensures.length, c.in_ok-fill.ensures.count, c.if-branch-eq0.true)) in
     omega (arith, ap length gone)
 
 pub invariant_of-self-then-branch-eq0-clause-all_given : goal.invariant_of-self-then-branch-eq0-clause-all_given
 invariant_of-self-then-branch-eq0-clause-all_given g c = λ _.
-    c.give_long.ensures.held ∙ drop_all 4096 c.fill.new.self.buffer.held
-    (omega (arith, c.fill.ensures.length, c.keep_front.ensures.length, c.in_ok-fill.ensures.count, c.if-branch-eq0.true))
+    c.give_long.ensures.held ∙ drop_all longest_line c.fill.new.self.buffer.held
+    (omega (arith, c.fill.ensures.length, c.keep_prefix.ensures.length, c.in_ok-fill.ensures.count, c.if-branch-eq0.true))
 
 pub returns-then-branch-eq0-clause-took : goal.returns-then-branch-eq0-clause-took
 returns-then-branch-eq0-clause-took g c =
     let held = c.args.self.now.buffer.held in
-    let came = drop (length c.keep_front.new.self.held) c.fill.new.self.buffer.held in
+    let came = drop (length c.keep_prefix.new.self.held) c.fill.new.self.buffer.held in
     let count = size g (goal.at.returns-then-branch-eq0-clause-took g c).After-fill in
     let none : length came ≡ 0 = omega (arith, count, c.in_ok-fill.ensures.count, c.if-branch-eq0.true) in
     let unbroken : has_line_feed came ≡ false = ap has_line_feed (nil_from_length came none) in
@@ -93,12 +93,12 @@ returns-then-branch-eq0-clause-took g c =
       unbroken = unbroken-append held (xs ++ came) c.requires.unbroken (unbroken-append xs came u unbroken);
       shows = Shows-long c.give_long.new.self.shown (held ++ (xs ++ came)) c.fill.new.self.buffer.held
           (omega (arith, length-append held (xs ++ came), c.requires.long)) c.give_long.ensures.shown
-          (front g (goal.at.returns-then-branch-eq0-clause-took g c).After-fill
-          ∙ sym (take-append-le longest held (xs ++ came) (omega (arith, c.requires.long))));
+          (prefix g (goal.at.returns-then-branch-eq0-clause-took g c).After-fill
+          ∙ sym (take-append-le longest_line held (xs ++ came) (omega (arith, c.requires.long))));
       cut = inr (
         refl,
-        c.give_long.ensures.held ∙ drop_all 4096 c.fill.new.self.buffer.held
-            (omega (arith, c.fill.ensures.length, c.keep_front.ensures.length, c.in_ok-fill.ensures.count, c.if-branch-eq0.true)),
+        c.give_long.ensures.held ∙ drop_all longest_line c.fill.new.self.buffer.held
+            (omega (arith, c.fill.ensures.length, c.keep_prefix.ensures.length, c.in_ok-fill.ensures.count, c.if-branch-eq0.true)),
         refl,
         omega (arith, length-append held (xs ++ came), c.requires.long),
       );
@@ -106,14 +106,14 @@ returns-then-branch-eq0-clause-took g c =
 
 pub line_feed_from-requires-clause-clear : goal.line_feed_from-requires-clause-clear
 line_feed_from-requires-clause-clear g c =
-    ap has_line_feed (front g (goal.at.line_feed_from-requires-clause-clear g c).After-fill)
-    ∙ unbroken-take longest c.args.self.now.buffer.held c.requires.unbroken
+    ap has_line_feed (prefix g (goal.at.line_feed_from-requires-clause-clear g c).After-fill)
+    ∙ unbroken-take longest_line c.args.self.now.buffer.held c.requires.unbroken
 
 pub returns-in-Some-clause-took : goal.returns-in-Some-clause-took
 returns-in-Some-clause-took g c =
     let held = c.args.self.now.buffer.held in
     let now = c.fill.new.self.buffer.held in
-    let kept = length c.keep_front.new.self.held in
+    let kept = length c.keep_prefix.new.self.held in
     let came = drop kept now in
     let count = size g (goal.at.returns-in-Some-clause-took g c).After-fill in
     let found = c.in-Some.ensures in
@@ -122,7 +122,7 @@ returns-in-Some-clause-took g c =
     let after = drop (at + 1) now in
     let short : length (take at now) ≡ at = length-take-le at now (omega (arith, found.1)) in
     let splits : came ≡ line ++ line_feed ∷ after =
-    ap (drop kept) found.3 ∙ drop-append-le kept (take at now) (line_feed ∷ after) (omega (arith, short, found.0, c.keep_front.ensures.length)) in
+    ap (drop kept) found.3 ∙ drop-append-le kept (take at now) (line_feed ∷ after) (omega (arith, short, found.0, c.keep_prefix.ensures.length)) in
     let unbroken : has_line_feed line ≡ false = unbroken-drop kept (take at now) found.2 in
     Took-due g.S.Source.reads _ _ _ _ held _ _ _ _ _ _ (λ xs. has_line_feed xs ≡ false)
     (MakesOf (Ok Long) c.give_long-in-Some.new.self.shown c.fill.new.self.ended held c.give_long-in-Some.new.self.held) came
@@ -133,16 +133,16 @@ returns-in-Some-clause-took g c =
       unbroken = unbroken-append held (xs ++ line) c.requires.unbroken (unbroken-append xs line u unbroken);
       shows = Shows-long c.give_long-in-Some.new.self.shown (held ++ (xs ++ line)) now
           (omega (arith, length-append held (xs ++ line), c.requires.long)) c.give_long-in-Some.ensures.shown
-          (front g (goal.at.returns-in-Some-clause-took g c).After-fill
-          ∙ sym (take-append-le longest held (xs ++ line) (omega (arith, c.requires.long))));
-      cut = inl (cut_behind held xs came line c.give_long-in-Some.new.self.held
+          (prefix g (goal.at.returns-in-Some-clause-took g c).After-fill
+          ∙ sym (take-append-le longest_line held (xs ++ line) (omega (arith, c.requires.long))));
+      cut = inl (cut_after held xs came line c.give_long-in-Some.new.self.held
           (splits ∙ ap (λ l. line ++ line_feed ∷ l) (sym c.give_long-in-Some.ensures.held)));
     })
 
 pub loop-self-preserved : goal.loop-self-preserved
 loop-self-preserved g c =
     let now = c.fill.new.self.buffer.held in
-    let kept = length c.keep_front.new.self.held in
+    let kept = length c.keep_prefix.new.self.held in
     let came = drop kept now in
     let at_fill = (goal.at.loop-self-preserved g c).After-fill in
     let count = size g at_fill in
@@ -151,14 +151,14 @@ loop-self-preserved g c =
       limit = c.fill.ensures.limit ∙ c.loop-self.invariant.limit;
       failed = c.in_ok-fill.ensures.failed;
       ended = c.fill.ensures.ended;
-      long = omega (arith, c.fill.ensures.length, c.keep_front.ensures.length);
-      front = front g at_fill;
+      long = omega (arith, c.fill.ensures.length, c.keep_prefix.ensures.length);
+      prefix = prefix g at_fill;
       rises = omega (arith, c.fill.ensures.taken, c.loop-self.invariant.rises);
       in_limit = c.fill.new.self.in_limit c.in_ok-fill.ensures.failed;
       source_taken = c.fill.ensures.source_taken ∙ ap (λ n. count_after n (c.fill.new.self.taken - c.loop-self.self.taken)) c.loop-self.invariant.source_taken
           ∙ count_after-twice (g.S.Source.taken c.args.self.now.source.now) _ _
           ∙ ap (count_after (g.S.Source.taken c.args.self.now.source.now)) (omega (arith, c.fill.ensures.taken, c.loop-self.invariant.rises));
-      source_faults = omega (arith, c.fill.ensures.source_faults, c.loop-self.invariant.source_faults);
+      source_faults = c.in_ok-fill.ensures.source_faults ∙ c.loop-self.invariant.source_faults;
       took = Took-due-on g.S.Source.reads _ _ _ _ c.args.self.now.buffer.held _ _ _ _ _ _ (λ xs. has_line_feed xs ≡ false) (λ xs. has_line_feed xs ≡ false) came
           c.loop-self.invariant.took c.fill.ensures.gives (omega (arith, count, c.fill.ensures.taken, c.loop-self.invariant.rises))
           (omega (arith, c.loop-self.invariant.limit, c.loop-self.invariant.rises)) (held_unbroken g at_fill) c.fill.ensures.reads

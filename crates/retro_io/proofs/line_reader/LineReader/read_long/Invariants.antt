@@ -2,7 +2,7 @@
 use Rattle.std.proofs.Common.{◌≡◌, ◌≤◌, ◌+◌, ◌-◌, false, length, take, List, ℕ}
 use Rattle.retro_io.specs.DueReads.{ReadsDue}
 use Rattle.retro_io.specs.Faults.{count_after}
-use Rattle.retro_io.specs.Lines.{longest, has_line_feed}
+use Rattle.retro_io.specs.Lines.{longest_line, has_line_feed}
 use Rattle.retro_io.specs.Reads.{Took}
 use Rattle.retro_io.proofs.line_reader.LineReader.read_long.Given as goal
 
@@ -12,12 +12,12 @@ invariant-loop-self g l = record {
   limit : l.self.limit ≡ l.initial.self.limit;
   failed : l.self.failed ≡ false;
   ended : l.self.ended ≡ false;
-  long : longest ≤ length l.self.buffer.held;
-  front : take longest l.self.buffer.held ≡ take longest l.initial.self.buffer.held;
+  long : longest_line ≤ length l.self.buffer.held;
+  prefix : take longest_line l.self.buffer.held ≡ take longest_line l.initial.self.buffer.held;
   rises : l.initial.self.taken ≤ l.self.taken;
   in_limit : l.self.taken ≤ l.self.limit;
   source_taken : g.S.Source.taken l.self.source.now ≡ count_after (g.S.Source.taken l.initial.self.source.now) (l.self.taken - l.initial.self.taken);
-  source_faults : g.S.Source.faults l.initial.self.source.now ≤ g.S.Source.faults l.self.source.now;
+  source_faults : g.S.Source.faults l.self.source.now ≡ g.S.Source.faults l.initial.self.source.now;
   took : Took (g.S.Source.left l.initial.self.source.now) (g.S.Source.left l.self.source.now) (l.self.taken - l.initial.self.taken)
       (λ (got : List ℕ). (has_line_feed got ≡ false)
       × ReadsDue g.S.Source.reads (l.initial.self.limit - l.initial.self.taken) l.initial.self.buffer.held false l.initial.self.source.now

@@ -1,4 +1,4 @@
--- The bytes copied are the front of those left.
+-- The bytes copied are the first of those left.
 use Rattle.std.proofs.Common.{◌≡◌, ◌-◌, ◌++◌, length, take, drop, sym, ap, ◌∙◌}
 use Rattle.std.proofs.lemmas.List.{take-append-drop, drop-drop, take_rest}
 use Rattle.retro_io.specs.Memory.{Stocked}

@@ -1,0 +1,196 @@
+-- What stands in the sink where a run ends.
+use Rattle.std.proofs.Common.{◌≡◌, ℕ, Bool, false, ◌≤◌, ◌<◌, ◌-◌, ◌+◌, List, [], ◌∷◌, ◌++◌, length, take, drop, arith, refl, sym, ap, ◌∙◌, subst, append_assoc, append-nil, length-append, length-drop, Option, Some, None, Result, Err}
+use Rattle.std.specs.Ffi.{without_last}
+use Rattle.std.specs.Prelude.{IfSome}
+use Rattle.std.proofs.Math.Seq.{take-append-add}
+use Rattle.std.proofs.lemmas.List.{take-append-drop}
+use Rattle.retro_io.specs.declared.mark.Mark.{Mark}
+use Rattle.retro_io.specs.declared.mark.Mark.TheVariants.{End}
+use Rattle.retro_io.specs.LineLaws.{unbroken-append}
+use Rattle.retro_io.specs.LineReader.{held_and_left}
+use Rattle.retro_io.specs.Lines.{lines, has_line_feed}
+use Rattle.retro_io.specs.Marks.{GivesNextOf}
+use Rattle.retro_io.specs.Sink.{Appends, AppendsProperPrefix}
+use Rattle.retro_io.specs.SinkLaws.{Appends-append, Appends-none, AppendsPrefixOf-from, AppendsPrefixOf-parts}
+use Rattle.retro_io.specs.Source.{GivesCount}
+use Rattle.workbench.specs.Bench.{Bench}
+use Rattle.workbench.specs.Reaction.{Reaction, reacts, reacts_to}
+use Rattle.retro_cli.specs.Output.{answers_to, output, has_refusal, refuses_one, up_to_last_feed}
+use Rattle.retro_cli.specs.declared.stop.Stop.{Stop}
+use Rattle.retro_cli.specs.declared.stop.Stop.TheVariants as stops
+use Rattle.retro_cli.specs.Stop.{stops_at_write}
+use Rattle.retro_cli.specs.Run.{AppendsAnswersOfFirst, AppendsAnswersOfTaken, AppendsFirstAnswers, AppendsOutput, AppendsOutputPart, AppendsOutputPrefix, MatchesRefusal}
+use Rattle.retro_cli.proofs.GoesOn.{GivenAs, GoesOn, gives, none_is_not_some, some_same}
+use Rattle.retro_cli.proofs.Reactions.{answers_to-none, before_last, output_after, output_from}
+use Rattle.retro_cli.proofs.WholeLines.{up_to-unbroken}
+
+-- a run that stopped so
+abbrev pub stop_at : Stop → Result Bool Stop
+stop_at stop = Err stop
+
+-- nothing was appended
+pub appends_no_answers : (script written : Option (List ℕ)) → AppendsFirstAnswers script written written
+appends_no_answers None written = tt
+appends_no_answers (Some bytes) written =
+    record { answered = []; unanswered = lines bytes; cut = refl; appended = rw answers_to-none (Appends-none written) }
+
+pub appends_no_output : (script written : Option (List ℕ)) → AppendsOutputPrefix script written written
+appends_no_output None written = tt
+appends_no_output (Some bytes) written = AppendsPrefixOf-from written (output bytes) [] (output bytes) written refl (Appends-none written)
+
+-- the answers so far are a prefix of the output
+pub prefix_so_far : (script first : Option (List ℕ)) (bench : Bench) (refused ended : Bool) (rest written : Option (List ℕ))
+    → ((bytes : List ℕ) → script ≡ Some bytes → GoesOn bytes first bench refused ended rest written) → AppendsOutputPrefix script first written
+prefix_so_far None first bench refused ended rest written on = tt
+prefix_so_far (Some bytes) first bench refused ended rest written on =
+    let here = on bytes refl in
+    AppendsPrefixOf-from first (output bytes) (answers_to here.given) _ written (output_after bytes here.given (lines here.left) here.cut) here.appended
+
+-- and they are the whole answers to the lines given
+pub first_answers : (script first : Option (List ℕ)) (bench : Bench) (refused ended : Bool) (rest written : Option (List ℕ))
+    → ((bytes : List ℕ) → script ≡ Some bytes → GoesOn bytes first bench refused ended rest written) → AppendsFirstAnswers script first written
+first_answers None first bench refused ended rest written on = tt
+first_answers (Some bytes) first bench refused ended rest written on =
+    let here = on bytes refl in
+    record { answered = here.given; unanswered = lines here.left; cut = here.cut; appended = here.appended }
+
+-- the whole output is a prefix of it
+pub prefix_of_all : (script before after : Option (List ℕ)) → AppendsOutput script before after → AppendsOutputPrefix script before after
+prefix_of_all None before after all = tt
+prefix_of_all (Some bytes) before after all = AppendsPrefixOf-from before (output bytes) (output bytes) [] after (sym (append-nil (output bytes))) all
+
+-- a prefix of an answer that is not all of it, after the answers so far, is one of all
+prefix_between : (first written written' : Option (List ℕ)) (so_far answer later all : List ℕ) → all ≡ (so_far ++ answer) ++ later
+    → Appends first so_far written → AppendsProperPrefix written answer written' → AppendsProperPrefix first all written'
+prefix_between first written written' so_far answer later all whole before part =
+    let parts = AppendsPrefixOf-parts written (without_last answer) written' part.1 in
+    let last = drop (length answer - 1) answer in
+    let answer_is : answer ≡ parts.0 ++ (parts.1 ++ last) =
+    sym (take-append-drop (length answer - 1) answer) ∙ ap (λ xs. xs ++ last) parts.2 ∙ append_assoc parts.0 parts.1 last in
+    let rest = (parts.1 ++ last) ++ later in
+    let all_is : all ≡ (so_far ++ parts.0) ++ rest =
+    whole ∙ ap (λ xs. (so_far ++ xs) ++ later) answer_is ∙ ap (λ xs. xs ++ later) (sym (append_assoc so_far parts.0 (parts.1 ++ last)))
+    ∙ append_assoc (so_far ++ parts.0) (parts.1 ++ last) later in
+    let one : 0 < length last = omega (arith, length-drop (length answer - 1) answer, part.0) in
+    let some : 0 < length rest = omega (arith, one, length-append parts.1 last, length-append (parts.1 ++ last) later) in (
+      omega (arith, ap length all_is, length-append (so_far ++ parts.0) rest, some),
+      AppendsPrefixOf-from first (without_last all) (so_far ++ parts.0) _ written' (before_last all (so_far ++ parts.0) rest all_is some)
+          (Appends-append first written written' so_far parts.0 before parts.3),
+    )
+
+-- and so it is of the output, at the answer to a line
+part_at_line : (bytes now after : List ℕ) (first : Option (List ℕ)) (bench : Bench) (refused : Bool) (mark : Mark) (long : Bool) (shown : List ℕ) (ended : Bool)
+    (written written' : Option (List ℕ)) → GivenAs mark long → GivesNextOf mark shown ended (Some now) (Some after)
+    → GoesOn bytes first bench refused false (Some now) written → AppendsProperPrefix written (reacts_to bench shown long).answer written'
+    → AppendsProperPrefix first (output bytes) written'
+part_at_line bytes now after first bench refused mark long shown ended written written' as_given next on part =
+    let given = gives mark long shown ended now after as_given next in
+    let same : now ≡ on.left = some_same (Some now) refl on.rest_is in
+    let cut : lines bytes ≡ on.given ++ given.line ∷ lines after = on.cut ∙ ap (λ xs. on.given ++ lines xs) (sym same) ∙ ap (λ ls. on.given ++ ls) given.cut in
+    let whole = output_from bytes on.given given.line (lines after) cut in
+    prefix_between first written written' (answers_to on.given) _ _ (output bytes) whole on.appended
+    (subst (λ (r : Reaction). AppendsProperPrefix written r.answer written') (sym (ap (λ b. reacts b given.line) on.bench_is ∙ given.reaction bench)) part)
+
+pub part_in_line : (script first : Option (List ℕ)) (bench : Bench) (refused : Bool) (mark : Mark) (long : Bool) (shown : List ℕ) (ended : Bool)
+    (rest rest' written written' : Option (List ℕ)) → GivenAs mark long → GivesNextOf mark shown ended rest rest'
+    → ((bytes : List ℕ) → script ≡ Some bytes → GoesOn bytes first bench refused false rest written)
+    → AppendsProperPrefix written (reacts_to bench shown long).answer written' → AppendsOutputPart script first written'
+part_in_line None first bench refused mark long shown ended rest rest' written written' as_given next on part = tt
+part_in_line (Some bytes) first bench refused mark long shown ended None rest' written written' as_given next on part =
+    absurd (none_is_not_some (on bytes refl).rest_is)
+part_in_line (Some bytes) first bench refused mark long shown ended (Some now) None written written' as_given next on part = absurd next
+part_in_line (Some bytes) first bench refused mark long shown ended (Some now) (Some after) written written' as_given next on part =
+    part_at_line bytes now after first bench refused mark long shown ended written written' as_given next (on bytes refl) part
+
+-- and such a prefix is one
+pub prefix_of_part : (script before after : Option (List ℕ)) → AppendsOutputPart script before after → AppendsOutputPrefix script before after
+prefix_of_part None before after part = tt
+prefix_of_part (Some bytes) before after part =
+    let parts = AppendsPrefixOf-parts before (without_last (output bytes)) after part.1 in
+    let last = drop (length (output bytes) - 1) (output bytes) in
+    AppendsPrefixOf-from before (output bytes) parts.0 (parts.1 ++ last) after
+    (sym (take-append-drop (length (output bytes) - 1) (output bytes)) ∙ ap (λ xs. xs ++ last) parts.2 ∙ append_assoc parts.0 parts.1 last) parts.3
+
+-- at an answer that was not written, with or without a fault
+pub prefix_at_stop : (stop : Stop) (script first written written' : Option (List ℕ)) → AppendsOutputPrefix script first written
+    → (stop_at stop ≡ stop_at stops.WriteFault → AppendsOutputPart script first written') → (stops_at_write (stop_at stop) ≡ false → written' ≡ written)
+    → AppendsOutputPrefix script first written'
+prefix_at_stop stops.WriteFault script first written written' so_far part same = prefix_of_part script first written' (part refl)
+prefix_at_stop stops.ReadFault script first written written' so_far part same = rw (same refl) so_far
+prefix_at_stop stops.NoMemory script first written written' so_far part same = rw (same refl) so_far
+prefix_at_stop stops.TooLong script first written written' so_far part same = rw (same refl) so_far
+
+nothing_left : (shown : List ℕ) (ended : Bool) (rest rest' : Option (List ℕ)) (left : List ℕ) → GivesNextOf End shown ended rest rest' → rest ≡ Some left → rest ≡ Some []
+nothing_left shown ended None rest' left next e = absurd (none_is_not_some e)
+nothing_left shown ended (Some now) None left next e = absurd next
+nothing_left shown ended (Some now) (Some after) left next e = ap (λ xs. Some xs) next.0
+
+-- at the end all is answered
+all_answered : (bytes : List ℕ) (first : Option (List ℕ)) (bench : Bench) (refused ended : Bool) (rest written : Option (List ℕ))
+    → GoesOn bytes first bench refused ended rest written → rest ≡ Some [] → Appends first (output bytes) written × (refused ≡ has_refusal bytes)
+all_answered bytes first bench refused ended rest written on e =
+    let none_left : on.left ≡ [] = some_same rest on.rest_is e in
+    let all : on.given ≡ lines bytes = sym (on.cut ∙ ap (λ xs. on.given ++ lines xs) none_left ∙ append-nil on.given) in (
+      subst (λ xs. Appends first xs written) (ap answers_to all ∙ sym (append-nil (answers_to (lines bytes)))) on.appended,
+      sym on.refusals ∙ ap refuses_one all,
+    )
+
+pub appends_output : (script first : Option (List ℕ)) (bench : Bench) (refused ended : Bool) (rest rest' written : Option (List ℕ)) (shown : List ℕ)
+    (has_ended : Bool) → ((bytes : List ℕ) → script ≡ Some bytes → GoesOn bytes first bench refused ended rest written)
+    → GivesNextOf End shown has_ended rest rest' → AppendsOutput script first written × MatchesRefusal script refused
+appends_output None first bench refused ended rest rest' written shown has_ended on next = (tt, tt)
+appends_output (Some bytes) first bench refused ended rest rest' written shown has_ended on next =
+    let here = on bytes refl in
+    all_answered bytes first bench refused ended rest written here (nothing_left shown has_ended rest rest' here.left next here.rest_is)
+
+-- at a read that failed all is answered whose line feed was taken
+pub answers_of_taken : (script first : Option (List ℕ)) (bench : Bench) (refused : Bool) (held : List ℕ) (source source' : Option (List ℕ)) (count : ℕ)
+    (written : Option (List ℕ)) → ((bytes : List ℕ) → script ≡ Some bytes → GoesOn bytes first bench refused false (held_and_left held source) written)
+    → has_line_feed held ≡ false → GivesCount source count source' → IfSome source (λ bs. has_line_feed (take count bs) ≡ false)
+    → AppendsAnswersOfTaken script source' first written
+answers_of_taken None first bench refused held source source' count written on unbroken gives_count unbroken' = tt
+answers_of_taken (Some bytes) first bench refused held None source' count written on unbroken gives_count unbroken' =
+    absurd (none_is_not_some (on bytes refl).rest_is)
+answers_of_taken (Some bytes) first bench refused held (Some src) source' count written on unbroken gives_count unbroken' =
+    let here = on bytes refl in
+    let came = held ++ take count src in
+    let left_is : here.left ≡ came ++ drop count src =
+    some_same (Some (held ++ src)) here.rest_is refl ∙ ap (λ xs. held ++ xs) (sym (take-append-drop count src)) ∙ sym (append_assoc held (take count src) (drop count src)) in
+    let given : lines (up_to_last_feed (here.past ++ came)) ≡ here.given =
+    up_to-unbroken here.past came here.given (here.whole refl) (unbroken-append held (take count src) unbroken unbroken') in
+    rw gives_count.1 record {
+      taken = here.past ++ came;
+      cut = here.past_is ∙ ap (λ xs. here.past ++ xs) left_is ∙ sym (append_assoc here.past came (drop count src));
+      appended = subst (λ ls. Appends first (answers_to ls) written) (sym given) here.appended;
+    }
+
+-- at a script that is too long all is answered that ends within the limit
+pub answers_of_first : (first : Option (List ℕ)) (bench : Bench) (refused : Bool) (held₀ held : List ℕ) (source₀ source : Option (List ℕ))
+    (taken₀ taken limit : ℕ) (written : Option (List ℕ))
+    → ((bytes : List ℕ) → held_and_left held₀ source₀ ≡ Some bytes → GoesOn bytes first bench refused false (held_and_left held source) written)
+    → has_line_feed held ≡ false → taken₀ ≤ taken → GivesCount source₀ (taken - taken₀) source
+    → length held₀ ≤ taken₀ → length held ≤ taken → taken ≤ limit → IfSome source (λ bs. has_line_feed (take (limit - taken) bs) ≡ false)
+    → AppendsAnswersOfFirst (held_and_left held₀ source₀) (limit - (taken₀ - length held₀)) first written
+answers_of_first first bench refused held₀ held None source taken₀ taken limit written on unbroken more gives_count within₀ within below unbroken' = tt
+answers_of_first first bench refused held₀ held (Some src₀) None taken₀ taken limit written on unbroken more gives_count within₀ within below unbroken' =
+    absurd (none_is_not_some gives_count.1)
+answers_of_first first bench refused held₀ held (Some src₀) (Some src) taken₀ taken limit written on unbroken more gives_count within₀ within below unbroken' =
+    let bytes = held₀ ++ src₀ in
+    let here = on bytes refl in
+    let last = take (limit - taken) src in
+    let left_is : here.left ≡ held ++ src = some_same (Some (held ++ src)) here.rest_is refl in
+    let src_is : src ≡ drop (taken - taken₀) src₀ = some_same (Some src) refl gives_count.1 in
+    let size : length held₀ + length src₀ ≡ length here.past + (length held + length src) =
+    sym (length-append held₀ src₀) ∙ ap length here.past_is ∙ length-append here.past here.left
+    ∙ ap (λ n. length here.past + n) (ap length left_is ∙ length-append held src) in
+    let size_left : length src ≡ length src₀ - (taken - taken₀) = ap length src_is ∙ length-drop (taken - taken₀) src₀ in
+    let count : limit - (taken₀ - length held₀) ≡ length (here.past ++ held) + (limit - taken) =
+    omega (arith, size, size_left, gives_count.0, within₀, within, below, more, length-append here.past held) in
+    let cut : bytes ≡ (here.past ++ held) ++ src =
+    here.past_is ∙ ap (λ xs. here.past ++ xs) left_is ∙ sym (append_assoc here.past held src) in
+    let prefix : take (limit - (taken₀ - length held₀)) bytes ≡ here.past ++ (held ++ last) =
+    ap (λ n. take n bytes) count ∙ ap (take (length (here.past ++ held) + (limit - taken))) cut
+    ∙ take-append-add (here.past ++ held) src (limit - taken) ∙ append_assoc here.past held last in
+    let given : lines (up_to_last_feed (here.past ++ (held ++ last))) ≡ here.given =
+    up_to-unbroken here.past (held ++ last) here.given (here.whole refl) (unbroken-append held last unbroken unbroken') in
+    subst (λ ls. Appends first (answers_to ls) written) (sym (ap (λ xs. lines (up_to_last_feed xs)) prefix ∙ given)) here.appended
