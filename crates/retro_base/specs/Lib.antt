@@ -14,6 +14,13 @@ pub mod TimelineLaws
 pub mod Questions
 pub mod Bridges
 pub mod Changes
+pub mod Weights
+pub mod BridgeLaws
+pub mod Carried
+pub mod CarriedLaws
+pub mod BridgeTable
+pub mod BridgeTableLaws
+pub mod ChangeLaws
 pub mod Counting
 pub mod Content
 pub mod Text
