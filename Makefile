@@ -1,13 +1,15 @@
-# The commands that a person has to know: run, build, test.
+# Every command that a person has to know.
 #
-#   make run     builds the program and answers a first script in front of you
-#   make build   leaves the program at build/retro, so that `build/retro run < FILE` works on any script
-#   make test    the gate: every proof, every edit that must fail, every test, every example
-#   make bench   times the program on generated scripts of each kind
+#   make run      builds the program and answers a first script in front of you; SCRIPT=FILE for another one
+#   make build    leaves the program at build/retro, so that `build/retro run < FILE` works on any script
+#   make install  puts it into bin below PREFIX, which is /usr/local where none is named
+#   make test     the gate: every proof, every edit that must fail, every test, every example
+#   make bench    times the program on generated scripts of each kind; needs Python 3
 
 SCRIPT ?= examples/late_job.script
+PREFIX ?= /usr/local
 
-.PHONY: run build test bench
+.PHONY: run build install test bench
 
 run: build
 	@echo
@@ -23,6 +25,11 @@ build:
 	@cd crates/retro && rt run -- run < /dev/null > ../../build/log 2>&1 || { tail -n 20 ../../build/log; exit 1; }
 	@cp crates/retro/out/retro build/retro
 	@echo "The program is build/retro"
+
+install: build
+	@mkdir -p "$(DESTDIR)$(PREFIX)/bin"
+	@cp build/retro "$(DESTDIR)$(PREFIX)/bin/retro"
+	@echo "The program is $(DESTDIR)$(PREFIX)/bin/retro"
 
 test:
 	@sh .ci/gate

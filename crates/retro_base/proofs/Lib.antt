@@ -9,3 +9,4 @@ pub mod SortedPairs
 pub mod CountedKeys
 pub mod Counted
 pub mod Replayable
+pub mod bridges

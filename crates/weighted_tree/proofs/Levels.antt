@@ -8,6 +8,11 @@ use Rattle.retro_base.specs.Digits.{digits}
 use Rattle.retro_base.specs.Visits.{VisitsWithin}
 use Rattle.retro_base.specs.VisitsLaws.{below-digits, digits-monotone}
 use Rattle.weighted_tree.specs.Levels.{IsWithinLevels, OneALevel, FourALevel}
+use Rattle.weighted_tree.specs.SearchSteps.{VisitsOfSearch}
+use Rattle.weighted_tree.specs.declared.node.Side.{Side}
+use Rattle.weighted_tree.specs.declared.search.Search.{Search}
+use Rattle.weighted_tree.specs.declared.search.Search.TheVariants.{Found, Open}
+use Rattle.weighted_tree.specs.Sides.{IsOpened}
 
 triple : ℕ → ℕ
 triple zero = zero
@@ -59,28 +64,47 @@ module _ {A M : Type 0} (items : List A) (node : Node A M) (start visited middle
   pub level_end : visited ≡ start + 1 → end ≤ visited + 3 → FourALevel (weight items) start end
   level_end visit up = level_here (weight items) start end (let whole = ap length root.items_are ∙ length-append node.left (node.item ∷ node.right) in omega arith) (omega arith)
 
--- with one visit a level
+-- one visit a level
+pub one_more : (whole side start visited end : ℕ) → visited ≡ start + 1 → 2 ≤ whole → 4 * side ≤ 3 * whole → OneALevel side visited end → OneALevel whole start end
+one_more whole side start visited end visit some light below zero within = absurd (omega arith)
+one_more whole side start visited end visit some light below (suc levels) within = omega (arith, below levels (within side light))
+
+-- down on one side, and then on the other
+pub two_more : (whole near far start visited middle end : ℕ) → visited ≡ start + 1 → 2 ≤ whole → 4 * near ≤ 3 * whole → 4 * far ≤ 3 * whole → OneALevel near visited middle → OneALevel far middle end → FourALevel whole start end
+two_more whole near far start visited middle end visit some light_near light_far first second zero within = absurd (omega arith)
+two_more whole near far start visited middle end visit some light_near light_far first second (suc levels) within = omega (arith, first levels (within near light_near), second levels (within far light_far))
+
 module _ {A M : Type 0} (items : List A) (node : Node A M) (start visited : ℕ) (root : IsRoot items node) (visit : visited ≡ start + 1) where
   sides : weight items ≡ weight node.left + weight node.right
   sides = omega (arith, ap length root.items_are, length-append node.left (node.item ∷ node.right))
 
   pub one_left : (end : ℕ) → OneALevel (weight node.left) visited end → OneALevel (weight items) start end
-  one_left end below zero within = absurd (omega (arith, sides))
-  one_left end below (suc levels) within = omega (arith, below levels (within (weight node.left) (omega (arith, sides, root.balanced))))
+  one_left end below = one_more (weight items) (weight node.left) start visited end visit (omega (arith, sides)) (omega (arith, sides, root.balanced)) below
 
   pub one_right : (end : ℕ) → OneALevel (weight node.right) visited end → OneALevel (weight items) start end
-  one_right end below zero within = absurd (omega (arith, sides))
-  one_right end below (suc levels) within = omega (arith, below levels (within (weight node.right) (omega (arith, sides, root.balanced))))
+  one_right end below = one_more (weight items) (weight node.right) start visited end visit (omega (arith, sides)) (omega (arith, sides, root.balanced)) below
 
   pub both_sides : (middle end : ℕ) → OneALevel (weight node.left) visited middle → OneALevel (weight node.right) middle end → FourALevel (weight items) start end
-  both_sides middle end left right zero within = absurd (omega (arith, sides))
-  both_sides middle end left right (suc levels) within =
-      omega (arith, left levels (within (weight node.left) (omega (arith, sides, root.balanced))), right levels (within (weight node.right) (omega (arith, sides, root.balanced))))
+  both_sides middle end left right = two_more (weight items) (weight node.left) (weight node.right) start visited middle end visit (omega (arith, sides)) (omega (arith, sides, root.balanced)) (omega (arith, sides, root.balanced)) left right
 
-  pub both_sides_back : (middle end : ℕ) → OneALevel (weight node.right) visited middle → OneALevel (weight node.left) middle end → FourALevel (weight items) start end
-  both_sides_back middle end right left zero within = absurd (omega (arith, sides))
-  both_sides_back middle end right left (suc levels) within =
-      omega (arith, left levels (within (weight node.left) (omega (arith, sides, root.balanced))), right levels (within (weight node.right) (omega (arith, sides, root.balanced))))
+-- of a root that is seen from a side
+module _ {A M : Type 0} {side : Side} {items near far : List A} {node : Node A M} (root : IsOpened side items near far node) (start visited : ℕ) (visit : visited ≡ start + 1) where
+  pub one_near : (end : ℕ) → OneALevel (weight near) visited end → OneALevel (weight items) start end
+  one_near end below = one_more (weight items) (weight near) start visited end visit (omega (arith, root.sizes)) (omega (arith, root.sizes, root.balanced)) below
+
+  pub one_far : (end : ℕ) → OneALevel (weight far) visited end → OneALevel (weight items) start end
+  one_far end below = one_more (weight items) (weight far) start visited end visit (omega (arith, root.sizes)) (omega (arith, root.sizes, root.balanced)) below
+
+  pub four_near : (end : ℕ) → FourALevel (weight near) visited end → FourALevel (weight items) start end
+  four_near end below = level_more (weight items) (weight near) start visited end end visit (omega (arith, root.sizes)) (omega (arith, root.sizes, root.balanced)) below (omega arith)
+
+  pub near_then_far : (middle end : ℕ) → OneALevel (weight near) visited middle → OneALevel (weight far) middle end → FourALevel (weight items) start end
+  near_then_far middle end first second = two_more (weight items) (weight near) (weight far) start visited middle end visit (omega (arith, root.sizes)) (omega (arith, root.sizes, root.balanced)) (omega (arith, root.sizes, root.balanced)) first second
+
+  -- whatever the search of the far side answers
+  pub search_far : (end : ℕ) (answer : Search M) → VisitsOfSearch (weight far) visited end answer → VisitsOfSearch (weight items) start end answer
+  search_far end (Found count) below = level_more (weight items) (weight far) start visited end end visit (omega (arith, root.sizes)) (omega (arith, root.sizes, root.balanced)) below (omega arith)
+  search_far end (Open measure) below = one_far end below
 
 -- one visit a level is no more than four
 pub few_of_one : (whole before after : ℕ) → OneALevel whole before after → FourALevel whole before after

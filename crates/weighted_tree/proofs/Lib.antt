@@ -1,11 +1,8 @@
+pub mod FoundPlaces
 pub mod Joins
 pub mod Levels
 pub mod Middles
-pub mod Places
-pub mod PlacesBack
 pub mod PrefixSums
-pub mod SearchBefore
-pub mod SearchAfter
-pub mod SearchFrom
-pub mod SearchUpTo
 pub mod Ranges
+pub mod SeenFrom
+pub mod Turns

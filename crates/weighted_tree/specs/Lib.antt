@@ -1,5 +1,6 @@
 pub mod Balance
 pub mod Levels
+pub mod Measures
 pub mod Nodes
 pub mod NodesFall
 pub mod Search

@@ -1,13 +1,11 @@
 -- The first and the last place at which a test holds.
-use Rattle.std.specs.Prelude.{◌≡◌, ℕ, ◌<◌, ◌≤◌, Bool, true, false, List, Option, MatchOption}
-use Rattle.monoid_laws.specs.Measure.{measure_of}
-use Rattle.std.specs.List.{slice_range}
+use Rattle.std.specs.Prelude.{◌≡◌, ℕ, ◌<◌, ◌≤◌, Bool, true, false, Option, MatchOption}
 use Rattle.std.specs.Fn.{Shared, FnReturnsAt}
 use Rattle.std.specs.Borrow.{Bor}
 
--- each call of a test at a measure answers what `holds` says of it
-abbrev pub Tests : {F M : Type 0} → Shared F (Bor M × Unit {0}) Bool → F → (M → Bool) → Type 0
-Tests {F} {M} calls test holds = (measure : M) (answer : Bool) → FnReturnsAt calls test measure answer → answer ≡ holds measure
+-- whatever the test answers of the measure at a place is what `holds` says of that place
+abbrev pub Tells : {F M : Type 0} → Shared F (Bor M × Unit {0}) Bool → F → (ℕ → M) → (ℕ → Bool) → ℕ → ℕ → Type 0
+Tells calls test measures holds from to = (place : ℕ) (answer : Bool) → from ≤ place → place ≤ to → FnReturnsAt calls test (measures place) answer → answer ≡ holds place
 
 -- where it holds at one place, it holds at each later one
 abbrev pub IsRising : (ℕ → Bool) → ℕ → ℕ → Type 0
@@ -41,10 +39,10 @@ IsFirstOrNone holds from to answer = MatchOption answer (HoldsNowhere holds from
 abbrev pub IsLastOrNone : (ℕ → Bool) → ℕ → Option ℕ → Type 0
 IsLastOrNone holds to answer = MatchOption answer (HoldsNowhere holds 0 to) (IsLastPlace holds to)
 
--- whether it holds of the measure from `from` to a place
-abbrev pub from_place : {A M : Type 0} → (M → Bool) → M → (M → M → M) → (A → M) → List A → ℕ → ℕ → Bool
-from_place holds unit join measured items from place = holds (measure_of unit join measured (slice_range items from place))
+-- the first place at which the test holds of the measure, where it rises
+abbrev pub FindsFirst : {F M : Type 0} → Shared F (Bor M × Unit {0}) Bool → F → (ℕ → M) → ℕ → ℕ → Option ℕ → Type 0
+FindsFirst calls test measures from to answer = (holds : ℕ → Bool) → Tells calls test measures holds from to → IsRising holds from to → IsFirstOrNone holds from to answer
 
--- whether it holds of the measure from a place to `to`
-abbrev pub up_to_place : {A M : Type 0} → (M → Bool) → M → (M → M → M) → (A → M) → List A → ℕ → ℕ → Bool
-up_to_place holds unit join measured items to place = holds (measure_of unit join measured (slice_range items place to))
+-- the last place at which it holds, where it falls
+abbrev pub FindsLast : {F M : Type 0} → Shared F (Bor M × Unit {0}) Bool → F → (ℕ → M) → ℕ → Option ℕ → Type 0
+FindsLast calls test measures to answer = (holds : ℕ → Bool) → Tells calls test measures holds 0 to → IsFalling holds to → IsLastOrNone holds to answer

@@ -1,35 +1,38 @@
--- How far a search came.
-use Rattle.std.specs.Prelude.{◌≡◌, ℕ, ◌≤◌, Bool, List, take, drop}
-use Rattle.weighted_tree.specs.Search.{HoldsNowhere, IsFirstPlace, IsLastPlace}
+-- How far a search came. It counts items from where it starts.
+use Rattle.std.specs.Prelude.{◌≡◌, ℕ, ◌+◌, ◌≤◌, Bool, true, false}
+use Rattle.std.specs.Fn.{Shared}
+use Rattle.std.specs.Borrow.{Bor}
+use Rattle.weighted_tree.specs.Search.{Tells}
 use Rattle.weighted_tree.specs.Levels.{OneALevel, FourALevel}
-use Rattle.monoid_laws.specs.Measure.{measure_of}
 use Rattle.weighted_tree.specs.declared.search.Search.{Search}
 use Rattle.weighted_tree.specs.declared.search.Search.TheVariants.{Found, Open}
 
--- a place was found, or the test holds at none
-abbrev pub Finds : {M : Type 0} → (ℕ → Bool) → ℕ → ℕ → Search M → Type 0
-Finds holds from to (Found place) = IsFirstPlace holds from to place
-Finds holds from to (Open measure) = HoldsNowhere holds from to
+-- it holds there, and not one item before
+pub record IsTurn (holds : ℕ → Bool) (place : ℕ) : Type 0 where
+  pub holds_there : holds place ≡ true
+  pub not_before : (before : ℕ) → before + 1 ≡ place → holds before ≡ false
 
--- the same of the last place
-abbrev pub FindsLast : {M : Type 0} → (ℕ → Bool) → ℕ → Search M → Type 0
-FindsLast holds to (Found place) = IsLastPlace holds to place
-FindsLast holds to (Open measure) = HoldsNowhere holds 0 to
+-- a turn was found, or the test does not hold at the end
+abbrev pub TurnsAt : {M : Type 0} → (ℕ → Bool) → ℕ → Search M → Type 0
+TurnsAt holds to (Found place) = IsTurn holds place
+TurnsAt holds to (Open measure) = holds to ≡ false
 
--- the place is one from `from` to `to`, or the measure is that of all
-abbrev pub ComesTo : {M : Type 0} → ℕ → ℕ → M → Search M → Type 0
-ComesTo from to all (Found place) = (from ≤ place) × (place ≤ to)
-ComesTo from to all (Open measure) = measure ≡ all
+-- the place is one of these, or the measure is that of all
+abbrev pub EndsAt : {M : Type 0} → (M → ℕ) → (ℕ → M) → ℕ → Search M → Type 0
+EndsAt items measures to (Found place) = place ≤ to
+EndsAt items measures to (Open measure) = (measure ≡ measures to) × (items measure ≡ to)
 
--- a search that came to the end visited one node a level, and went down once
+-- what a search answers of the places up to `to`
+pub record IsSought {F M : Type 0} (calls : Shared F (Bor M × Unit {0}) Bool) (test : F) (items : M → ℕ) (measures : ℕ → M) (to : ℕ) (answer : Search M) : Type 0 where
+  pub turn : (holds : ℕ → Bool) → Tells calls test measures holds 0 to → TurnsAt holds to answer
+  pub end : EndsAt items measures to answer
+
+-- the same, where the test holds at the end
+pub record IsTurnWithin {F M : Type 0} (calls : Shared F (Bor M × Unit {0}) Bool) (test : F) (measures : ℕ → M) (to place : ℕ) : Type 0 where
+  pub turn : (holds : ℕ → Bool) → Tells calls test measures holds 0 to → holds to ≡ true → IsTurn holds place
+  pub within : place ≤ to
+
+-- a search that came to the end visited one node a level, and else it went down once more
 abbrev pub VisitsOfSearch : {M : Type 0} → ℕ → ℕ → ℕ → Search M → Type 0
 VisitsOfSearch whole before after (Found place) = FourALevel whole before after
 VisitsOfSearch whole before after (Open measure) = OneALevel whole before after
-
--- whether it holds of a measure joined with that of the items before a place
-abbrev pub after_place : {A M : Type 0} → (M → Bool) → M → (M → M → M) → (A → M) → M → List A → ℕ → Bool
-after_place holds unit join measured before items place = holds (join before (measure_of unit join measured (take place items)))
-
--- whether it holds of the measure of the items from a place on, joined with another one
-abbrev pub before_place : {A M : Type 0} → (M → Bool) → M → (M → M → M) → (A → M) → List A → M → ℕ → Bool
-before_place holds unit join measured items after place = holds (join (measure_of unit join measured (drop place items)) after)

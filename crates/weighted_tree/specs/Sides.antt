@@ -1,5 +1,6 @@
 -- A node seen from one of its sides.
-use Rattle.std.specs.Prelude.{List}
+use Rattle.std.specs.Prelude.{◌≡◌, ◌+◌, List, ◌∷◌, ◌++◌, reverse, length}
+use Rattle.weighted_tree.specs.Balance.{weight, IsBalanced}
 use Rattle.weighted_tree.specs.declared.subtree.Node.{Node}
 use Rattle.weighted_tree.specs.declared.node.Side.{Side}
 use Rattle.weighted_tree.specs.declared.node.Side.TheVariants.{Left, Right}
@@ -17,3 +18,19 @@ side_of Right node = node.right
 abbrev pub with_side : {A M : Type 0} → Side → List A → Node A M → Node A M
 with_side Left items node = record node { left = items }
 with_side Right items node = record node { right = items }
+
+-- a list as it stands from a side
+abbrev pub seen_from : {A : Type 0} → Side → List A → List A
+seen_from Left items = items
+seen_from Right items = reverse items
+
+-- a measure joined with the one beyond it, seen from a side
+abbrev pub join_from : {M : Type 0} → Side → (M → M → M) → M → M → M
+join_from Left join near far = join near far
+join_from Right join near far = join far near
+
+-- a root seen from a side: what stands on that side, its item, and what stands on the other side
+pub record IsOpened {A M : Type 0} (side : Side) (items near far : List A) (node : Node A M) : Type 0 where
+  pub seen : seen_from side items ≡ seen_from side near ++ node.item ∷ seen_from side far
+  pub sizes : length items ≡ length near + 1 + length far
+  pub balanced : IsBalanced (weight near) (weight far)

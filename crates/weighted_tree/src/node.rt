@@ -1,8 +1,8 @@
-ghost use Rattle.std.specs.Prelude.{◌≡◌, ◌+◌, ◌^◌, ◌<◌, [], length};
-ghost use Rattle.monoid_laws.specs.Measure.{measure_of};
+ghost use Rattle.std.specs.Prelude.{◌≡◌, ◌+◌, ◌^◌, ◌<◌, [], List, length};
+ghost use Rattle.weighted_tree.specs.Measures.{measure_in};
 ghost use Rattle.weighted_tree.specs.Balance.{weight};
-ghost use Rattle.weighted_tree.specs.Nodes.{node_items};
-ghost use Rattle.weighted_tree.specs.Sides.{other, side_of, with_side};
+ghost use Rattle.weighted_tree.specs.Nodes.{node_items, IsRoot};
+ghost use Rattle.weighted_tree.specs.Sides.{other, side_of, with_side, join_from, IsOpened};
 
 use crate::subtree::{Node, Subtree};
 use monoid_laws::{Measured, Monoid};
@@ -22,6 +22,18 @@ impl Side {
         match self {
             Side::Left => Side::Right,
             Side::Right => Side::Left,
+        }
+    }
+
+    /// A measure joined with the one beyond it, seen from this side.
+    pub(crate) fn join<M: Monoid>(self, near: M, far: M) -> M
+        requires { M.items_of near + M.items_of far < 2 ^ 32 }
+        ensures value { result ≡ join_from self M.joined near far }
+        ensures items { M.items_of result ≡ M.items_of near + M.items_of far }
+    {
+        match self {
+            Side::Left => near.join(far),
+            Side::Right => far.join(near),
         }
     }
 }
@@ -51,7 +63,7 @@ impl<T: Measured> Node<T> {
     /// The measure of these items.
     pub(crate) fn measure(&self) -> T::Measure
         requires fits { length (node_items self.now) < 2 ^ 32 }
-        ensures { result ≡ measure_of T.Measure.unit_value T.Measure.joined T.measured (node_items self.now) }
+        ensures { result ≡ measure_in T.Measured T.Measure.Monoid (node_items self.now) }
     {
         self.around(self.left.whole(), self.right.whole())
     }
@@ -62,6 +74,25 @@ impl<T: Measured> Node<T> {
         ensures { result ≡ T.Measure.joined (T.Measure.joined before (T.measured self.now.item)) after }
     {
         before.join(self.item.measure()).join(after)
+    }
+
+    /// The subtree on a side, and the one on the other side.
+    pub(crate) fn sides(&self, side: Side) -> (&Subtree<T>, &Subtree<T>)
+        ensures { (items : List T) → IsRoot items self.now → IsOpened side items result.0.now result.1.now self.now }
+    {
+        match side {
+            Side::Left => (&self.left, &self.right),
+            Side::Right => (&self.right, &self.left),
+        }
+    }
+
+    /// A measure joined with that of the item, seen from a side.
+    pub(crate) fn passed(&self, side: Side, before: T::Measure) -> T::Measure
+        requires fits { T.Measure.items_of before + 1 < 2 ^ 32 }
+        ensures value { result ≡ join_from side T.Measure.joined before (T.measured self.now.item) }
+        ensures items { T.Measure.items_of result ≡ T.Measure.items_of before + 1 }
+    {
+        side.join(before, self.item.measure())
     }
 
     /// The weight of a side.

@@ -1,5 +1,5 @@
 ghost use Rattle.std.specs.Prelude.{◌≡◌, ◌+◌, ◌<◌, ◌≤◌, take, drop, length, slice_get, Some};
-ghost use Rattle.monoid_laws.specs.Measure.{measure_of};
+ghost use Rattle.weighted_tree.specs.Measures.{measure_in};
 ghost use Rattle.std.specs.List.{slice_range};
 ghost use Rattle.weighted_tree.specs.Balance.{weight};
 ghost use Rattle.weighted_tree.specs.Levels.{OneALevel, FourALevel};
@@ -34,7 +34,7 @@ impl<T: Measured> Subtree<T> {
     pub(crate) fn between<L: Ledger>(&self, from: u32, to: u32, steps: &mut Steps<L>) -> T::Measure
         requires order { from ≤ to }
         requires within { to ≤ length self.now }
-        ensures value { result ≡ measure_of T.Measure.unit_value T.Measure.joined T.measured (slice_range self.now from to) }
+        ensures value { result ≡ measure_in T.Measured T.Measure.Monoid (slice_range self.now from to) }
         ensures none_lost { steps.old ≤ steps.new }
         ensures some { from < to → steps.old + 1 ≤ steps.new }
         ensures visits { FourALevel (weight self.now) steps.old steps.new }
@@ -62,7 +62,7 @@ impl<T: Measured> Subtree<T> {
     /// The measure of the items before `to`.
     fn prefix<L: Ledger>(&self, to: u32, steps: &mut Steps<L>) -> T::Measure
         requires within { to ≤ length self.now }
-        ensures value { result ≡ measure_of T.Measure.unit_value T.Measure.joined T.measured (take to self.now) }
+        ensures value { result ≡ measure_in T.Measured T.Measure.Monoid (take to self.now) }
         ensures items { T.Measure.items_of result ≡ to }
         ensures none_lost { steps.old ≤ steps.new }
         ensures visits { OneALevel (weight self.now) steps.old steps.new }
@@ -84,7 +84,7 @@ impl<T: Measured> Subtree<T> {
     /// The measure of the items from `from` on.
     fn suffix<L: Ledger>(&self, from: u32, steps: &mut Steps<L>) -> T::Measure
         requires within { from ≤ length self.now }
-        ensures value { result ≡ measure_of T.Measure.unit_value T.Measure.joined T.measured (drop from self.now) }
+        ensures value { result ≡ measure_in T.Measured T.Measure.Monoid (drop from self.now) }
         ensures items { T.Measure.items_of result + from ≡ length self.now }
         ensures none_lost { steps.old ≤ steps.new }
         ensures visits { OneALevel (weight self.now) steps.old steps.new }

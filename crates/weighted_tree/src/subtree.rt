@@ -1,8 +1,10 @@
 ghost use Rattle.std.specs.Prelude.{◌≡◌, ◌+◌, ◌^◌, ◌<◌, [], length, MatchOption};
-ghost use Rattle.monoid_laws.specs.Measure.{measure_of};
 ghost use Rattle.weighted_tree.specs.Balance.{weight};
+ghost use Rattle.weighted_tree.specs.Measures.{measure_in, measure_seen};
 ghost use Rattle.weighted_tree.specs.Nodes.{node_items, HasBalance, IsRoot};
+ghost use Rattle.weighted_tree.specs.Sides.{join_from, seen_from};
 
+use crate::node::Side;
 use monoid_laws::{Measured, Monoid};
 use retro_base::Steps;
 use std::marker::Model;
@@ -82,13 +84,22 @@ impl<T: Measured> Subtree<T> {
 
     /// The measure of all items.
     pub(crate) fn whole(&self) -> T::Measure
-        ensures value { result ≡ measure_of T.Measure.unit_value T.Measure.joined T.measured self.now }
+        ensures value { result ≡ measure_in T.Measured T.Measure.Monoid self.now }
         ensures items { T.Measure.items_of result ≡ length self.now }
     {
         match &self.link {
             Link::Empty => T::Measure::unit(),
             Link::Full { measure, .. } => *measure,
         }
+    }
+
+    /// A measure joined with that of all items, seen from a side.
+    pub(crate) fn passed(&self, side: Side, before: T::Measure) -> T::Measure
+        requires fits { T.Measure.items_of before + length self.now < 2 ^ 32 }
+        ensures value { result ≡ join_from side T.Measure.joined before (measure_seen side T.Measured T.Measure.Monoid (seen_from side self.now)) }
+        ensures items { T.Measure.items_of result ≡ T.Measure.items_of before + length self.now }
+    {
+        side.join(before, self.whole())
     }
 
     /// Visits the root.

@@ -1,5 +1,4 @@
-ghost use Rattle.std.specs.Prelude.{◌≡◌, ◌+◌, ◌^◌, ◌<◌, ◌≤◌, ◌≤ℤ◌, pos, [], map, take, length};
-ghost use Rattle.std.specs.List.{All};
+ghost use Rattle.std.specs.Prelude.{◌≡◌, ◌+◌, ◌^◌, ◌<◌, ◌≤◌, pos, [], map, take, length};
 ghost use Rattle.std.specs.Int.Signed.{le_z};
 ghost use Rattle.monoid_laws.specs.Summed.{sum_of};
 ghost use Rattle.retro_base.specs.Visits.{VisitsWithin};
@@ -106,12 +105,58 @@ fn answers_as_a_list(rt: HostRuntime) {
     answers::<Brand>(&rt, rt.alloc(), Blank::new(1));
 }
 
-/// The least number of amounts, from the first on, that add up to `goal` or more.
-fn first_reaching<L: Ledger>(tree: &Tree<Amount>, goal: i128, steps: &mut Steps<L>) -> Option<u32>
-    requires { All (λ amount. pos 0 ≤ℤ amount.value) tree.now }
-    ensures { IsFirstOrNone (λ place. le_z goal (sum_of (map (λ amount. amount.value) (take place tree.now)))) 0 (length tree.now) result }
+/// A piece of a whole, of some size.
+#[derive(Clone, Copy)]
+struct Piece {
+    size: u32,
+}
+
+impl Measured for Piece {
+    ghost use Rattle.std.specs.Prelude.{pos, refl};
+    ghost use Rattle.monoid_laws.specs.Summed.{one_sum};
+
+    type Measure = Sum;
+
+    ghost measured = { λ piece. one_sum (pos piece.size) };
+
+    ghost single = { λ piece. refl };
+
+    fn measure(&self) -> Sum {
+        Sum::single(i64::from(self.size))
+    }
+}
+
+/// The least number of pieces, from the first on, whose sizes add up to `goal` or more.
+fn first_reaching<L: Ledger>(tree: &Tree<Piece>, goal: i128, steps: &mut Steps<L>) -> Option<u32>
+    ensures { IsFirstOrNone (λ place. le_z goal (sum_of (map (λ piece. pos piece.size) (take place tree.now)))) 0 (length tree.now) result }
 {
     tree.first_place(0, |sum: &Sum| goal <= sum.sum(), steps)
+}
+
+// The prefixes of 3, 0, 4 have the sums 0, 3, 3, 7.
+fn reaching<L: Ledger>(rt: &impl Abort, alloc: Global, blank: Blank)
+    requires name { blank.name ≡ L.name }
+    requires parts { blank.parts ≡ L.parts }
+    requires shared { 0 < blank.parts }
+{
+    let mut steps = Steps::<L>::new(blank);
+    let mut tree = Tree::new(alloc);
+    for size in [4, 0, 3] {
+        if tree.len() < 3 {
+            tree.insert(0, Piece { size }, &mut steps)
+                .expect(rt, "memory");
+        }
+    }
+    assert_eq!(rt; tree.len(), 3);
+    assert_eq!(rt; first_reaching(&tree, 0, &mut steps), Some(0));
+    assert_eq!(rt; first_reaching(&tree, 3, &mut steps), Some(1));
+    assert_eq!(rt; first_reaching(&tree, 4, &mut steps), Some(3));
+    assert_eq!(rt; first_reaching(&tree, 8, &mut steps), None);
+}
+
+#[test]
+fn finds_by_a_closure(rt: HostRuntime) {
+    reaching::<Brand>(&rt, rt.alloc(), Blank::new(1));
 }
 
 /// One more amount at the front, after no more visits than are stated.

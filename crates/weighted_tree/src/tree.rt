@@ -1,9 +1,10 @@
-ghost use Rattle.std.specs.Prelude.{◌≡◌, Bool, ◌+◌, ◌^◌, ◌<◌, ◌≤◌, [], length, slice_get, slice_set, Some, IfSome, IfOk, OnOk, OnErr};
+ghost use Rattle.std.specs.Prelude.{◌≡◌, ◌+◌, ◌^◌, ◌<◌, ◌≤◌, [], length, slice_get, slice_set, Some, IfSome, IfOk, OnOk, OnErr};
 ghost use Rattle.std.specs.List.{insert, remove, slice_range};
-ghost use Rattle.monoid_laws.specs.Measure.{measure_of};
+ghost use Rattle.weighted_tree.specs.Measures.{measure_in, from_place, up_to_place};
 ghost use Rattle.retro_base.specs.Visits.{VisitsWithin};
-ghost use Rattle.weighted_tree.specs.Search.{Tests, IsRising, IsFalling, IsFirstOrNone, IsLastOrNone, from_place, up_to_place};
+ghost use Rattle.weighted_tree.specs.Search.{FindsFirst, FindsLast};
 
+use crate::node::Side;
 use crate::search::Search;
 use crate::subtree::{Node, Subtree};
 use monoid_laws::Measured;
@@ -100,7 +101,7 @@ impl<T: Measured> Tree<T> {
     pub fn measure<L: Ledger>(&self, from: u32, to: u32, steps: &mut Steps<L>) -> T::Measure
         requires order { from ≤ to }
         requires within { to ≤ length self.now }
-        ensures value { result ≡ measure_of T.Measure.unit_value T.Measure.joined T.measured (slice_range self.now from to) }
+        ensures value { result ≡ measure_in T.Measured T.Measure.Monoid (slice_range self.now from to) }
         ensures some { from < to → steps.old + 1 ≤ steps.new }
         ensures visits { VisitsWithin 12 (length self.now) steps.old steps.new }
     {
@@ -116,13 +117,13 @@ impl<T: Measured> Tree<T> {
     ) -> Option<u32>
         requires within { from ≤ length self.now }
         requires callable { F.IsAlwaysCallable test }
-        ensures first { (holds : T.Measure → Bool) → Tests F.Fn test holds → IsRising (from_place holds T.Measure.unit_value T.Measure.joined T.measured self.now from) from (length self.now) → IsFirstOrNone (from_place holds T.Measure.unit_value T.Measure.joined T.measured self.now from) from (length self.now) result }
+        ensures first { FindsFirst F.Fn test (from_place T.Measured T.Measure.Monoid self.now from) from (length self.now) result }
         ensures within { IfSome result (λ place. (from ≤ place) × (place ≤ length self.now)) }
         ensures some { from < length self.now → steps.old + 1 ≤ steps.new }
         ensures visits { VisitsWithin 12 (length self.now) steps.old steps.new }
     {
-        match self.root.first_from(from, &test, steps) {
-            Search::Found(place) => Some(place),
+        match self.root.turn_from(Side::Left, from, &test, steps) {
+            Search::Found(count) => Some(from + count),
             Search::Open(_) => None,
         }
     }
@@ -136,13 +137,14 @@ impl<T: Measured> Tree<T> {
     ) -> Option<u32>
         requires within { to ≤ length self.now }
         requires callable { F.IsAlwaysCallable test }
-        ensures last { (holds : T.Measure → Bool) → Tests F.Fn test holds → IsFalling (up_to_place holds T.Measure.unit_value T.Measure.joined T.measured self.now to) to → IsLastOrNone (up_to_place holds T.Measure.unit_value T.Measure.joined T.measured self.now to) to result }
+        ensures last { FindsLast F.Fn test (up_to_place T.Measured T.Measure.Monoid self.now to) to result }
         ensures within { IfSome result (λ place. place ≤ to) }
         ensures some { 0 < to → steps.old + 1 ≤ steps.new }
         ensures visits { VisitsWithin 12 (length self.now) steps.old steps.new }
     {
-        match self.root.last_up_to(to, &test, steps) {
-            Search::Found(place) => Some(place),
+        let from = self.len() - to;
+        match self.root.turn_from(Side::Right, from, &test, steps) {
+            Search::Found(count) => Some(to - count),
             Search::Open(_) => None,
         }
     }
