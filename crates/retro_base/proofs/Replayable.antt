@@ -13,7 +13,7 @@ use Rattle.retro_base.specs.Replay.{fold_rows, IsValid}
 use Rattle.retro_base.specs.State.{step, empty}
 use Rattle.retro_base.specs.Edits.{Edit}
 use Rattle.retro_base.specs.Changes.{IsChange}
-use Rattle.retro_base.specs.Timeline.{Structure, IsFresh, HaveOwnNumbers, IsReplayable}
+use Rattle.retro_base.specs.Timeline.{Structure, IsFresh, IsReplayable}
 use Rattle.retro_base.specs.OrderLaws.{all_with, all_without, own_numbers_with, own_numbers_without}
 use Rattle.retro_base.proofs.Folds.{front_possible}
 
@@ -80,7 +80,7 @@ replayable_seen_without now kind rows place seen replayable valid =
     let same_kind : now.kind ≡ kind = ap (λ (h : Structure). h.kind) (sym seen) in
     replayable_without kind rows place replayable (rw (same_kind, same_rows) at valid)
 
--- of the kinds other than the priority queue a change tells nothing
+-- of the kinds other than the priority queue a change is `Plain`
 pub plain_change : (kind : Kind) (rows : List Row) (edit : Edit) → kind ≢ Pq → IsChange kind rows edit Plain
 plain_change Queue rows edit served = refl
 plain_change Stack rows edit served = refl
