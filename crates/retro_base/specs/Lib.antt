@@ -9,6 +9,7 @@ pub mod Places
 pub mod Timeline
 pub mod Order
 pub mod OrderLaws
+pub mod ReplayableLaws
 pub mod TimelineLaws
 pub mod Questions
 pub mod Bridges
