@@ -9,3 +9,5 @@ pub mod SortedPairs
 pub mod CountedKeys
 pub mod Counted
 pub mod Replayable
+pub mod PossibleSteps
+pub mod Performed

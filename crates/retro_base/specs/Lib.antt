@@ -16,6 +16,8 @@ pub mod Changes
 pub mod Counting
 pub mod Content
 pub mod Text
+pub mod TextLaws
+pub mod OpText
 pub mod LineLength
 pub mod Digits
 pub mod Visits
