@@ -1,8 +1,7 @@
 -- The grammar of the script: what each line asks for. A form is read by place, so that a timeline may be called `at`.
-use Rattle.std.specs.Prelude.{◌≢◌, ℕ, ◌==◌, Bool, false, ◌||◌, List, [], ◌∷◌, codes, Option, Some, None, option_map, option_and_then, Result, Err, if◌then◌else◌}
+use Rattle.std.specs.Prelude.{◌≢◌, ℕ, ◌==◌, Bool, false, ◌||◌, List, [], ◌∷◌, codes, Option, Some, None, option_map, option_and_then, Result, if◌then◌else◌}
 use Rattle.std.specs.Option.{ok_or}
 use Rattle.std.specs.Str.{bytes_eq}
-use Rattle.retro_base.specs.LineLength.{is_long}
 use Rattle.retro_base.specs.Name.{name_of}
 use Rattle.retro_base.specs.declared.kind.Kind.{Kind}
 use Rattle.retro_base.specs.declared.kind.Kind.TheVariants.{Queue, Stack, Deque, Dict, Pq}
@@ -12,7 +11,7 @@ use Rattle.script_grammar.specs.declared.command.Spot.{Spot}
 use Rattle.script_grammar.specs.declared.command.Spot.TheVariants.{At, Before, After}
 use Rattle.script_grammar.specs.declared.command.Moment.TheVariants.{Now, Then}
 use Rattle.script_grammar.specs.declared.command.LineError.{LineError}
-use Rattle.script_grammar.specs.declared.command.LineError.TheVariants.{Long, Syntax}
+use Rattle.script_grammar.specs.declared.command.LineError.TheVariants.{Syntax}
 use Rattle.script_grammar.specs.Words.{words}
 use Rattle.script_grammar.specs.Numbers.{row_number_of, time_of}
 use Rattle.script_grammar.specs.Operands.{alone}
@@ -101,10 +100,6 @@ command_of (word ∷ rest) =
 -- the command of a line that is not long, or `Syntax` where the line is in no form
 unfoldable pub command : List ℕ → Result Command LineError
 command line = ok_or (command_of (words line)) Syntax
-
--- the command of a whole line, or why it has none
-abbrev pub read : List ℕ → Result Command LineError
-read line = if is_long line then Err Long else command line
 
 -- a timeline that is started is no priority queue
 abbrev pub StartsNoPq : Command → Type 0

@@ -46,7 +46,8 @@ fn read_form(word: &[u8], words: Words) -> Option<Command>
     read_about(Name::read(word)?, words)
 }
 
-fn begins_comment(word: &[u8]) -> bool
+/// Whether a word begins a comment.
+pub fn begins_comment(word: &[u8]) -> bool
     ensures { result ≡ begins_comment word.now }
 {
     match word {
