@@ -15,6 +15,7 @@ use Rattle.retro_base.specs.Answers.{answer_of}
 use Rattle.retro_base.specs.Edits.{add, cut, edited, edited_by, inverse_step, Step, failing_row}
 use Rattle.retro_base.specs.Bridges.{is_bridge, stated_bridge}
 use Rattle.retro_base.specs.Changes.{change_of}
+use Rattle.retro_base.specs.Weights.{sum_of_weights}
 use Rattle.retro_base.specs.Places.{place_of_time, place_of_row}
 
 abbrev row : ℕ → ℕ → Op → Row
@@ -155,6 +156,11 @@ moved_back = refl
 bridges_are_the_ends : map (is_bridge late_lesser) (0 ∷ 1 ∷ 2 ∷ 3 ∷ []) ≡ true ∷ false ∷ false ∷ true ∷ []
 unfolding fold_rows perform
 bridges_are_the_ends = refl
+
+-- the 2 weighs 1, since it is dead, the 4 nothing, and the `delmin` -1
+sums_find_the_bridges : map (sum_of_weights late_lesser) (0 ∷ 1 ∷ 2 ∷ 3 ∷ []) ≡ pos 0 ∷ pos 1 ∷ pos 1 ∷ pos 0 ∷ []
+unfolding fold_rows perform
+sums_find_the_bridges = refl
 
 -- before the 2 was put in, the `delmin` took the 4; without the 2 it takes it again
 abbrev before_the_lesser : List Row

@@ -11,3 +11,4 @@ pub mod Counted
 pub mod Replayable
 pub mod PossibleSteps
 pub mod Performed
+pub mod bridges

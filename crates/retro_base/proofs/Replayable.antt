@@ -14,21 +14,12 @@ use Rattle.retro_base.specs.State.{step, empty}
 use Rattle.retro_base.specs.Edits.{Edit}
 use Rattle.retro_base.specs.Changes.{IsChange}
 use Rattle.retro_base.specs.Timeline.{Structure, IsFresh, HaveOwnNumbers, IsReplayable}
-use Rattle.retro_base.specs.OrderLaws.{all_with, all_without, own_numbers_with, own_numbers_without}
+use Rattle.retro_base.specs.ReplayableLaws.{replayable_with, replayable_without}
 use Rattle.retro_base.proofs.Folds.{front_possible}
 
 pub empty_replayable : (kind : Kind) → IsReplayable kind []
 unfolding fold_rows
 empty_replayable kind = record { few = lit≤ tt; of_kind = tt; own_numbers = tt; valid = refl }
-
-pub replayable_with : (kind : Kind) (rows : List Row) (place : ℕ) (row : Row) → IsReplayable kind rows → length rows < most_rows → place ≤ length rows
-    → IsFresh row.number rows → kind_of row.op ≡ kind → IsValid kind (insert rows place row) → IsReplayable kind (insert rows place row)
-replayable_with kind rows place row replayable room within fresh of_kind valid = record {
-  few = omega (arith, length-insert rows place row within);
-  of_kind = all_with (λ r. kind_of r.op ≡ kind) rows place row replayable.of_kind of_kind;
-  own_numbers = own_numbers_with rows place row replayable.own_numbers fresh;
-  valid = valid;
-}
 
 -- the same, where the requirements are on a value that is seen as this kind and these rows
 pub replayable_seen_with : (now : Structure) (kind : Kind) (rows : List Row) (place : ℕ) (row : Row)
@@ -57,21 +48,6 @@ all_before P [] (suc place) all = tt
 all_before P (x ∷ xs) zero all = tt
 all_before P (x ∷ xs) (suc place) all = (all.0, all_before P xs place all.1)
 
-length_without : {X : Type 0} (xs : List X) (place : ℕ) → length (remove xs place) ≤ length xs
-length_without [] zero = omega arith
-length_without [] (suc place) = omega arith
-length_without (x ∷ xs) zero = omega arith
-length_without (x ∷ xs) (suc place) = omega (arith, length_without xs place)
-
--- a history stays one when a row is taken out that leaves it valid
-pub replayable_without : (kind : Kind) (rows : List Row) (place : ℕ) → IsReplayable kind rows → IsValid kind (remove rows place) → IsReplayable kind (remove rows place)
-replayable_without kind rows place replayable valid = record {
-  few = omega (arith, length_without rows place, replayable.few);
-  of_kind = all_without (λ r. kind_of r.op ≡ kind) rows place replayable.of_kind;
-  own_numbers = own_numbers_without rows place replayable.own_numbers;
-  valid = valid;
-}
-
 pub replayable_seen_without : (now : Structure) (kind : Kind) (rows : List Row) (place : ℕ)
     → ◌≡◌ {A = Structure} (record { kind = kind; rows = rows }) now → IsReplayable kind rows
     → IsValid now.kind (remove now.rows place) → IsReplayable kind (remove rows place)
@@ -80,7 +56,7 @@ replayable_seen_without now kind rows place seen replayable valid =
     let same_kind : now.kind ≡ kind = ap (λ (h : Structure). h.kind) (sym seen) in
     replayable_without kind rows place replayable (rw (same_kind, same_rows) at valid)
 
--- of the kinds other than the priority queue a change tells nothing
+-- of the kinds other than the priority queue a change is `Plain`
 pub plain_change : (kind : Kind) (rows : List Row) (edit : Edit) → kind ≢ Pq → IsChange kind rows edit Plain
 plain_change Queue rows edit served = refl
 plain_change Stack rows edit served = refl

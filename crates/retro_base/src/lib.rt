@@ -12,9 +12,11 @@
 //! - Rows: `Kind`, `Op`, `Row`, `Rows`, `Entry`, `Change`. Questions: `Question`, `Answer`, `Item`, `Listing`.
 //! - Structures: `Retro`, `PlainList`, `PerformedRows`.
 //! - Texts: `Name`, `Text`, `print_op`. Costs: `Steps`. Memory: `NoMemory`.
+//! - Laws on the bridges of a priority queue: the functions of `bridge_laws.rt`, which have no body.
 //! - Limits: `MAX_ROWS`, `MAX_NEXT`, which are those of `specs/Limits.antt`.
 #![tactic(auto)]
 
+mod bridge_laws;
 mod content;
 mod counting;
 mod kind;
@@ -35,6 +37,10 @@ mod rows;
 mod steps;
 mod text;
 
+pub use bridge_laws::{
+    carried_entry_changes_at_takes, dead_come_first, greatest_from_bridge_is_gained,
+    least_before_bridge_is_lost, one_change_is_named, one_entry_is_carried, weights_count_the_dead,
+};
 pub use kind::Kind;
 pub use limits::{MAX_NEXT, MAX_ROWS, limits_are_those_stated};
 pub use listing::Listing;

@@ -95,8 +95,8 @@ impl<'a, S: Source> LineReader<'a, S> {
     }
 
     /// Moves to the next line. It takes no memory, and reads from the source only where no whole line is held and no
-    /// read of its own has answered the end. A read offers a buffer of 16 bytes at least, or of all that are left up to the
-    /// limit where they are fewer, or of the one byte that shows that there are more.
+    /// read of its own has answered the end. A read offers all of its buffer but what is kept of a line, or as much as is left
+    /// up to the limit where that is less, or room for the one byte that shows that there are more.
     pub fn next(&mut self) -> Result<Mark, ReadError>
         requires { has_failed self.old ≡ false }
         ensures reference { reference_of self.new ≡ reference_of self.old }
@@ -222,12 +222,12 @@ impl<'a, S: Source> LineReader<'a, S> {
         }
     }
 
-    /// Reads after the bytes held: up to the limit, or the one byte that shows that there are more. The buffer offers far
-    /// more than 16 bytes after those that it keeps of a line.
+    /// Reads after the bytes held: up to the limit, or the one byte that shows that there are more. The buffer offers
+    /// all of its room but what it keeps of a line.
     fn fill(&mut self) -> Result<usize, ReadError>
         requires failed { has_failed self.old ≡ false }
         requires ended { has_ended self.old ≡ false }
-        requires room { length (held self.old) + 16 ≤ 65536 }
+        requires room { length (held self.old) ≤ longest_line + 1 }
         ensures reference { reference_of self.new ≡ reference_of self.old }
         ensures limit { limit_of self.new ≡ limit_of self.old }
         ensures failed { has_failed self.new ≡ is_err result }

@@ -12,7 +12,7 @@ use Rattle.weighted_tree.specs.SearchSteps.{VisitsOfSearch}
 use Rattle.weighted_tree.specs.declared.node.Side.{Side}
 use Rattle.weighted_tree.specs.declared.search.Search.{Search}
 use Rattle.weighted_tree.specs.declared.search.Search.TheVariants.{Found, Open}
-use Rattle.weighted_tree.proofs.SeenFrom.{IsOpened}
+use Rattle.weighted_tree.specs.Sides.{IsOpened}
 
 triple : ℕ → ℕ
 triple zero = zero

@@ -2,6 +2,8 @@
 use Rattle.std.proofs.Common.{◌≡◌, ℕ, zero, suc, ◌+◌, ◌-◌, ◌<◌, ◌≤◌, List, [], ◌∷◌, ◌++◌, length, refl, ap, ◌∙◌, arith}
 use Rattle.std.specs.Prelude.{Some, slice_get, slice_set}
 use Rattle.std.specs.List.{insert, remove}
+use Rattle.std.proofs.lemmas.List.{set-append_left, set-append_right}
+use Rattle.std.proofs.Math.Seq.{set-append_seam}
 use Rattle.std.proofs.lemmas.List.Edits.{insert-append_left, insert-append_right, remove-append_left, remove-append_right}
 
 module _ {A : Type 0} (before after : List A) (middle : A) where
@@ -32,6 +34,18 @@ module _ {A : Type 0} (before after : List A) (middle : A) where
       remove-append_right before (middle ∷ after) (length before) place refl (omega arith)
       ∙ ap (λ k. before ++ remove (middle ∷ after) k) (one_less place beyond)
 
+  -- another item at a place
+  pub set-before : (place : ℕ) (item : A) → place < length before → slice_set (before ++ middle ∷ after) place item ≡ slice_set before place item ++ middle ∷ after
+  set-before place item within = set-append_left before (middle ∷ after) place item within
+
+  pub set-middle : (item : A) → slice_set (before ++ middle ∷ after) (length before) item ≡ before ++ item ∷ after
+  set-middle item = set-append_seam before middle after item
+
+  pub set-after : (place : ℕ) (item : A) → length before < place → slice_set (before ++ middle ∷ after) place item ≡ before ++ middle ∷ slice_set after (place - length before - 1) item
+  set-after place item beyond =
+      set-append_right before (middle ∷ after) (length before) place item refl (omega arith)
+      ∙ ap (λ k. before ++ slice_set (middle ∷ after) k item) (one_less place beyond)
+
 -- what is at a place
 get_shift : {A : Type 0} (before rest : List A) (k : ℕ) → slice_get (before ++ rest) (length before + k) ≡ slice_get rest k
 get_shift [] rest k = ap (slice_get rest) (omega arith)
@@ -50,22 +64,3 @@ pub get-after : {A : Type 0} (before after : List A) (middle : A) (place : ℕ) 
 get-after before after middle place beyond =
     ap (slice_get (before ++ middle ∷ after)) (let s : place ≡ length before + suc (place - length before - 1) = omega arith in s)
     ∙ get_shift before (middle ∷ after) (suc (place - length before - 1))
-
--- another item at a place
-pub set-before : {A : Type 0} (before rest : List A) (place : ℕ) (item : A) → place < length before → slice_set (before ++ rest) place item ≡ slice_set before place item ++ rest
-set-before [] rest place item within = absurd (omega arith)
-set-before (x ∷ before) rest zero item within = refl
-set-before (x ∷ before) rest (suc place) item within = ap (λ ys. x ∷ ys) (set-before before rest place item (omega arith))
-
-pub set-middle : {A : Type 0} (before after : List A) (middle item : A) → slice_set (before ++ middle ∷ after) (length before) item ≡ before ++ item ∷ after
-set-middle [] after middle item = refl
-set-middle (x ∷ before) after middle item = ap (λ ys. x ∷ ys) (set-middle before after middle item)
-
-set_shift : {A : Type 0} (before rest : List A) (k : ℕ) (item : A) → slice_set (before ++ rest) (length before + k) item ≡ before ++ slice_set rest k item
-set_shift [] rest k item = ap (λ j. slice_set rest j item) (omega arith)
-set_shift (x ∷ before) rest k item = ap (λ j. slice_set (x ∷ (before ++ rest)) j item) (let s : length (x ∷ before) + k ≡ suc (length before + k) = omega arith in s) ∙ ap (λ ys. x ∷ ys) (set_shift before rest k item)
-
-pub set-after : {A : Type 0} (before after : List A) (middle item : A) (place : ℕ) → length before < place → slice_set (before ++ middle ∷ after) place item ≡ before ++ middle ∷ slice_set after (place - length before - 1) item
-set-after before after middle item place beyond =
-    ap (λ j. slice_set (before ++ middle ∷ after) j item) (let s : place ≡ length before + suc (place - length before - 1) = omega arith in s)
-    ∙ set_shift before (middle ∷ after) (suc (place - length before - 1)) item

@@ -1,14 +1,13 @@
 -- Lists and nodes as they stand from a side: from the right, lists are reversed and joins turned round.
-use Rattle.std.proofs.Common.{◌≡◌, ℕ, ◌+◌, ◌-◌, ◌<◌, ◌≤◌, ◌^◌, List, [], ◌∷◌, ◌++◌, refl, sym, ap, ◌∙◌, subst, arith, drop, reverse, length, length-append}
+use Rattle.std.proofs.Common.{◌≡◌, ℕ, ◌+◌, ◌-◌, ◌<◌, ◌≤◌, List, [], ◌∷◌, ◌++◌, refl, sym, ap, ◌∙◌, arith, drop, reverse, length, length-append}
 use Rattle.std.proofs.Math.Seq.{append_snoc}
 use Rattle.std.proofs.lemmas.Grind.{reverse_onto}
 use Rattle.std.proofs.lemmas.List.{reverse-append, length-reverse, length-drop, drop-append-le}
 use Rattle.monoid_laws.specs.Laws.{MonoidLaws}
 use Rattle.monoid_laws.specs.Measure.{measure_of}
 use Rattle.monoid_laws.specs.MeasureLaws.{measure_of-append}
-use Rattle.weighted_tree.specs.Balance.{weight, IsBalanced}
-use Rattle.weighted_tree.specs.Nodes.{node_items, HasBalance, IsRoot}
-use Rattle.weighted_tree.specs.Sides.{other, side_of, seen_from, join_from}
+use Rattle.weighted_tree.specs.Nodes.{IsRoot}
+use Rattle.weighted_tree.specs.Sides.{seen_from, join_from, IsOpened}
 use Rattle.weighted_tree.specs.declared.node.Side.{Side}
 use Rattle.weighted_tree.specs.declared.node.Side.TheVariants.{Left, Right}
 use Rattle.weighted_tree.specs.declared.subtree.Node.{Node}
@@ -41,35 +40,23 @@ pub length-seen : {A : Type 0} (side : Side) (xs : List A) → length (seen_from
 length-seen Left xs = refl
 length-seen Right xs = length-reverse xs
 
--- a root seen from a side, and the items on that side and on the other one
-pub record IsOpened {A M : Type 0} (side : Side) (items near far : List A) (node : Node A M) : Type 0 where
-  pub seen : seen_from side items ≡ seen_from side near ++ node.item ∷ seen_from side far
-  pub sizes : length items ≡ length near + 1 + length far
-  pub fits : length items < 2 ^ 32
-  pub balanced : IsBalanced (weight near) (weight far)
+module _ {A M : Type 0} (items : List A) (node : Node A M) (root : IsRoot items node) where
+  sizes : length items ≡ length node.left + 1 + length node.right
+  sizes = omega (arith, ap length root.items_are, length-append node.left (node.item ∷ node.right))
 
-seen_node : {A M : Type 0} (side : Side) (node : Node A M) → seen_from side (node_items node) ≡ seen_from side (side_of side node) ++ node.item ∷ seen_from side (side_of (other side) node)
-seen_node Left node = refl
-seen_node Right node =
-    reverse-append node.left (node.item ∷ node.right)
-    ∙ ap (λ xs. xs ++ reverse node.left) (reverse_onto node.right node.item [])
-    ∙ append_snoc (reverse node.right) node.item (reverse node.left)
+  pub opened_left : IsOpened Left items node.left node.right node
+  opened_left = record { seen = root.items_are; sizes = sizes; balanced = root.balanced }
 
-sizes_node : {A M : Type 0} (side : Side) (node : Node A M) → length (node_items node) ≡ length (side_of side node) + 1 + length (side_of (other side) node)
-sizes_node Left node = omega (arith, length-append node.left (node.item ∷ node.right))
-sizes_node Right node = omega (arith, length-append node.left (node.item ∷ node.right))
-
-balance_node : {A M : Type 0} (side : Side) (node : Node A M) → HasBalance node → IsBalanced (weight (side_of side node)) (weight (side_of (other side) node))
-balance_node Left node balance = balance
-balance_node Right node balance = record { left_light = balance.right_light; right_light = balance.left_light }
-
-pub opened : {A M : Type 0} (side : Side) (items near far : List A) (node : Node A M) → IsRoot items node → near ≡ side_of side node → far ≡ side_of (other side) node → IsOpened side items near far node
-opened side items near far node root near_is far_is = record {
-  seen = ap (seen_from side) root.items_are ∙ seen_node side node ∙ ap (λ xs. seen_from side xs ++ node.item ∷ seen_from side (side_of (other side) node)) (sym near_is) ∙ ap (λ xs. seen_from side near ++ node.item ∷ seen_from side xs) (sym far_is);
-  sizes = omega (arith, ap length root.items_are, sizes_node side node, ap length near_is, ap length far_is);
-  fits = root.fits;
-  balanced = subst (λ xs. IsBalanced (weight xs) (weight far)) (sym near_is) (subst (λ xs. IsBalanced (weight (side_of side node)) (weight xs)) (sym far_is) (balance_node side node root.balanced));
-}
+  pub opened_right : IsOpened Right items node.right node.left node
+  opened_right = record {
+    seen =
+        ap reverse root.items_are
+        ∙ reverse-append node.left (node.item ∷ node.right)
+        ∙ ap (λ xs. xs ++ reverse node.left) (reverse_onto node.right node.item [])
+        ∙ append_snoc (reverse node.right) node.item (reverse node.left);
+    sizes = omega (arith, sizes);
+    balanced = record { left_light = root.balanced.right_light; right_light = root.balanced.left_light };
+  }
 
 module _ {A M : Type 0} {side : Side} {items near far : List A} {node : Node A M} (root : IsOpened side items near far node) where
   -- beyond the node, the far side is left

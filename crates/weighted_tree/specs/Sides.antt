@@ -1,5 +1,6 @@
 -- A node seen from one of its sides.
-use Rattle.std.specs.Prelude.{List, reverse}
+use Rattle.std.specs.Prelude.{◌≡◌, ◌+◌, List, ◌∷◌, ◌++◌, reverse, length}
+use Rattle.weighted_tree.specs.Balance.{weight, IsBalanced}
 use Rattle.weighted_tree.specs.declared.subtree.Node.{Node}
 use Rattle.weighted_tree.specs.declared.node.Side.{Side}
 use Rattle.weighted_tree.specs.declared.node.Side.TheVariants.{Left, Right}
@@ -27,3 +28,9 @@ seen_from Right items = reverse items
 abbrev pub join_from : {M : Type 0} → Side → (M → M → M) → M → M → M
 join_from Left join near far = join near far
 join_from Right join near far = join far near
+
+-- a root seen from a side: what stands on that side, its item, and what stands on the other side
+pub record IsOpened {A M : Type 0} (side : Side) (items near far : List A) (node : Node A M) : Type 0 where
+  pub seen : seen_from side items ≡ seen_from side near ++ node.item ∷ seen_from side far
+  pub sizes : length items ≡ length near + 1 + length far
+  pub balanced : IsBalanced (weight near) (weight far)

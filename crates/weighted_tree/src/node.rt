@@ -1,8 +1,8 @@
-ghost use Rattle.std.specs.Prelude.{◌≡◌, ◌+◌, ◌^◌, ◌<◌, [], length};
+ghost use Rattle.std.specs.Prelude.{◌≡◌, ◌+◌, ◌^◌, ◌<◌, [], List, length};
 ghost use Rattle.weighted_tree.specs.Measures.{measure_in};
 ghost use Rattle.weighted_tree.specs.Balance.{weight};
-ghost use Rattle.weighted_tree.specs.Nodes.{node_items};
-ghost use Rattle.weighted_tree.specs.Sides.{other, side_of, with_side, join_from};
+ghost use Rattle.weighted_tree.specs.Nodes.{node_items, IsRoot};
+ghost use Rattle.weighted_tree.specs.Sides.{other, side_of, with_side, join_from, IsOpened};
 
 use crate::subtree::{Node, Subtree};
 use monoid_laws::{Measured, Monoid};
@@ -78,8 +78,7 @@ impl<T: Measured> Node<T> {
 
     /// The subtree on a side, and the one on the other side.
     pub(crate) fn sides(&self, side: Side) -> (&Subtree<T>, &Subtree<T>)
-        ensures near { result.0.now ≡ side_of side self.now }
-        ensures far { result.1.now ≡ side_of (other side) self.now }
+        ensures { (items : List T) → IsRoot items self.now → IsOpened side items result.0.now result.1.now self.now }
     {
         match side {
             Side::Left => (&self.left, &self.right),

@@ -15,11 +15,11 @@ returns-clause-items g t c =
     elim c.if-place-before.branch [
       | then-place-before w ↦
           let new : node_items c.if-place-before.node.value ≡ slice_set node.left c.args.place c.args.item ++ node.item ∷ node.right = rw (w.node-is, w.replace_below-old.ensures.items, w.deref_mut.ensures.value) refl in
-          c.of_root.ensures ∙ new ∙ sym (set-before node.left (node.item ∷ node.right) c.args.place c.args.item (omega arith)) ∙ whole
+          c.of_root.ensures ∙ new ∙ sym (set-before node.left node.right node.item c.args.place c.args.item (omega arith)) ∙ whole
       | else-place-before+then-place-before-2 w ↦
           let place : c.args.place - c.len-before.result - 1 ≡ c.args.place - length node.left - 1 = omega arith in
           let new : node_items c.if-place-before.node.value ≡ node.left ++ node.item ∷ slice_set node.right (c.args.place - length node.left - 1) c.args.item = rw (w.node-is, w.replace_below.ensures.items, w.deref_mut-then-place-before-2.ensures.value, place) refl in
-          c.of_root.ensures ∙ new ∙ sym (set-after node.left node.right node.item c.args.item c.args.place (omega arith)) ∙ whole
+          c.of_root.ensures ∙ new ∙ sym (set-after node.left node.right node.item c.args.place c.args.item (omega arith)) ∙ whole
       | else-place-before+else-place-before-2 w ↦
           let place : length node.left ≡ c.args.place = omega arith in
           let new : node_items c.if-place-before.node.value ≡ node.left ++ c.args.item ∷ node.right = rw (w.node-is, w.replace-else-place-before-2.ensures.after, w.deref_mut-else-place-before-2.ensures.value) refl in

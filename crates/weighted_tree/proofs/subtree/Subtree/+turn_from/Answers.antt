@@ -1,7 +1,7 @@
 use Rattle.std.proofs.Common.{◌≡◌, ◌-◌, ap, sym, ◌∙◌, arith, drop, length}
 use Rattle.weighted_tree.specs.Sides.{seen_from}
 use Rattle.weighted_tree.proofs.Levels.{four_near, near_then_far, one_near, search_far, few_of_one}
-use Rattle.weighted_tree.proofs.SeenFrom.{laws_from, opened, parted_from, left_beyond}
+use Rattle.weighted_tree.proofs.SeenFrom.{laws_from, parted_from, left_beyond}
 use Rattle.weighted_tree.proofs.Turns.{carried, start_found, start_open, near_found, near_open, item_found, far_found, all_open}
 use Rattle.weighted_tree.proofs.subtree.Subtree.+turn_from.Goals as goal
 
@@ -18,62 +18,52 @@ returns-else-passes-clause-sought g t c =
 pub returns-then-from-place-clause-sought : goal.returns-then-from-place-clause-sought
 returns-then-from-place-clause-sought g t c =
     let laws = laws_from g.met.T.Measure.Monoid.laws c.args.side in
-    let root = opened c.args.side _ _ _ c.in-Some.node.now c.in-Some.ensures.0 c.sides.ensures.near c.sides.ensures.far in
+    let root = c.sides.ensures _ c.in-Some.ensures.0 in
     let beyond = left_beyond root c.args.from (omega arith) ∙ ap (λ n. drop (c.args.from - n - 1) (seen_from c.args.side c.sides.result.1.now)) (sym c.len-place.ensures) in
     carried laws g.T.Measured.measured g.T.Measure.Monoid.unit_value g.F.Fn c.args.test.now _ _ _ _ beyond (omega (arith, root.sizes)) _ c.turn_from.ensures.sought
 
 pub returns-then-from-place-clause-visits : goal.returns-then-from-place-clause-visits
-returns-then-from-place-clause-visits g t c =
-    let root = opened c.args.side _ _ _ c.in-Some.node.now c.in-Some.ensures.0 c.sides.ensures.near c.sides.ensures.far in
-    search_far root _ _ c.in-Some.ensures.1 _ _ c.turn_from.ensures.visits
+returns-then-from-place-clause-visits g t c = search_far (c.sides.ensures _ c.in-Some.ensures.0) _ _ c.in-Some.ensures.1 _ _ c.turn_from.ensures.visits
 
 pub returns-in-Found-clause-sought : goal.returns-in-Found-clause-sought
 returns-in-Found-clause-sought g t c =
     let laws = laws_from g.met.T.Measure.Monoid.laws c.args.side in
-    let root = opened c.args.side _ _ _ c.in-Some.node.now c.in-Some.ensures.0 c.sides.ensures.near c.sides.ensures.far in
+    let root = c.sides.ensures _ c.in-Some.ensures.0 in
     let parts = parted_from root c.args.from (omega arith) in
     near_found laws g.T.Measured.measured g.T.Measure.Monoid.unit_value parts g.F.Fn c.args.test.now _ c.in-Found.ensures.sought
 
 pub returns-in-Found-clause-visits : goal.returns-in-Found-clause-visits
-returns-in-Found-clause-visits g t c =
-    let root = opened c.args.side _ _ _ c.in-Some.node.now c.in-Some.ensures.0 c.sides.ensures.near c.sides.ensures.far in
-    four_near root _ _ c.in-Some.ensures.1 _ c.in-Found.ensures.visits
+returns-in-Found-clause-visits g t c = four_near (c.sides.ensures _ c.in-Some.ensures.0) _ _ c.in-Some.ensures.1 _ c.in-Found.ensures.visits
 
 pub returns-then-passes-2-clause-sought : goal.returns-then-passes-2-clause-sought
 returns-then-passes-2-clause-sought g t c =
     let laws = laws_from g.met.T.Measure.Monoid.laws c.args.side in
-    let root = opened c.args.side _ _ _ c.in-Some.node.now c.in-Some.ensures.0 c.sides.ensures.near c.sides.ensures.far in
+    let root = c.sides.ensures _ c.in-Some.ensures.0 in
     let parts = parted_from root c.args.from (omega arith) in
     let near = near_open laws g.T.Measured.measured g.T.Measure.Monoid.unit_value parts g.F.Fn c.args.test.now _ c.in-Open.ensures.sought in
     item_found laws g.T.Measured.measured g.T.Measure.Monoid.unit_value parts g.F.Fn c.args.test.now near.0 _ _ _ near.1 c.passed-next.ensures.value c.passes-2.ensures c.if-passes-2.true _ (omega arith)
 
 pub returns-then-passes-2-clause-visits : goal.returns-then-passes-2-clause-visits
-returns-then-passes-2-clause-visits g t c =
-    let root = opened c.args.side _ _ _ c.in-Some.node.now c.in-Some.ensures.0 c.sides.ensures.near c.sides.ensures.far in
-    few_of_one _ _ _ (one_near root _ _ c.in-Some.ensures.1 _ c.in-Open.ensures.visits)
+returns-then-passes-2-clause-visits g t c = few_of_one _ _ _ (one_near (c.sides.ensures _ c.in-Some.ensures.0) _ _ c.in-Some.ensures.1 _ c.in-Open.ensures.visits)
 
 pub returns-then-passes-3-clause-sought : goal.returns-then-passes-3-clause-sought
 returns-then-passes-3-clause-sought g t c =
     let laws = laws_from g.met.T.Measure.Monoid.laws c.args.side in
-    let root = opened c.args.side _ _ _ c.in-Some.node.now c.in-Some.ensures.0 c.sides.ensures.near c.sides.ensures.far in
+    let root = c.sides.ensures _ c.in-Some.ensures.0 in
     let parts = parted_from root c.args.from (omega arith) in
     let near = near_open laws g.T.Measured.measured g.T.Measure.Monoid.unit_value parts g.F.Fn c.args.test.now _ c.in-Open.ensures.sought in
     far_found laws g.T.Measured.measured g.T.Measure.Monoid.unit_value parts g.F.Fn c.args.test.now near.0 _ _ _ near.1 c.passed-next.ensures.value c.passes-2.ensures _ _ c.passed-all.ensures.value c.passes-3.ensures c.if-passes-2.false c.if-passes-3.true _ c.turn_within.ensures.turn _ (omega arith)
 
 pub returns-then-passes-3-clause-visits : goal.returns-then-passes-3-clause-visits
-returns-then-passes-3-clause-visits g t c =
-    let root = opened c.args.side _ _ _ c.in-Some.node.now c.in-Some.ensures.0 c.sides.ensures.near c.sides.ensures.far in
-    near_then_far root _ _ c.in-Some.ensures.1 _ _ c.in-Open.ensures.visits c.turn_within.ensures.visits
+returns-then-passes-3-clause-visits g t c = near_then_far (c.sides.ensures _ c.in-Some.ensures.0) _ _ c.in-Some.ensures.1 _ _ c.in-Open.ensures.visits c.turn_within.ensures.visits
 
 pub returns-else-passes-3-clause-sought : goal.returns-else-passes-3-clause-sought
 returns-else-passes-3-clause-sought g t c =
     let laws = laws_from g.met.T.Measure.Monoid.laws c.args.side in
-    let root = opened c.args.side _ _ _ c.in-Some.node.now c.in-Some.ensures.0 c.sides.ensures.near c.sides.ensures.far in
+    let root = c.sides.ensures _ c.in-Some.ensures.0 in
     let parts = parted_from root c.args.from (omega arith) in
     let near = near_open laws g.T.Measured.measured g.T.Measure.Monoid.unit_value parts g.F.Fn c.args.test.now _ c.in-Open.ensures.sought in
     all_open laws g.T.Measured.measured g.T.Measure.Monoid.unit_value parts g.F.Fn c.args.test.now near.0 _ _ _ near.1 c.passed-next.ensures.value c.passes-2.ensures _ _ c.passed-all.ensures.value c.passes-3.ensures c.if-passes-3.false (omega (arith, root.sizes, c.in-Open.ensures.sought.end.1))
 
 pub returns-else-passes-3-clause-visits : goal.returns-else-passes-3-clause-visits
-returns-else-passes-3-clause-visits g t c =
-    let root = opened c.args.side _ _ _ c.in-Some.node.now c.in-Some.ensures.0 c.sides.ensures.near c.sides.ensures.far in
-    one_near root _ _ c.in-Some.ensures.1 _ c.in-Open.ensures.visits
+returns-else-passes-3-clause-visits g t c = one_near (c.sides.ensures _ c.in-Some.ensures.0) _ _ c.in-Some.ensures.1 _ c.in-Open.ensures.visits

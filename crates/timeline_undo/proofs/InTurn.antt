@@ -1,0 +1,41 @@
+-- Edits that can be made one after another.
+use Rattle.std.proofs.Common.{ℕ, ◌+◌, ◌<◌, ◌≤◌, List, [], ◌∷◌, ◌++◌, arith}
+use Rattle.retro_base.specs.declared.kind.Kind.{Kind}
+use Rattle.retro_base.specs.declared.row.Row.{Row}
+use Rattle.retro_base.specs.Limits.{next_limit}
+use Rattle.retro_base.specs.Edits.{Edit, edited, inverse, IsWithin}
+use Rattle.retro_base.specs.OrderLaws.{all_weaker}
+use Rattle.retro_base.specs.Timeline.{IsTimeline}
+use Rattle.timeline_undo.specs.Kept.{StandInTurn}
+use Rattle.timeline_undo.proofs.Edits.{can_go_back, there_and_back}
+
+-- a timeline is one still where another number comes next
+pub timeline_later : (kind : Kind) (rows : List Row) (next : ℕ) → next < next_limit → IsTimeline kind rows next → IsTimeline kind rows (next + 1)
+timeline_later kind rows next below timeline = record {
+  replayable = timeline.replayable;
+  in_order = timeline.in_order;
+  numbered = all_weaker (λ r. (1 ≤ r.number) × (r.number < next)) (λ r. (1 ≤ r.number) × (r.number < next + 1)) rows
+      (λ r h. (h.0, omega (arith, h.1))) timeline.numbered;
+  next_in_range = (omega (arith, timeline.next_in_range.0), omega arith);
+}
+
+pub in_turn_later : (kind : Kind) (next : ℕ) (rows : List Row) (edits : List Edit) → next < next_limit
+    → StandInTurn kind next rows edits → StandInTurn kind (next + 1) rows edits
+in_turn_later kind next rows [] below turn = tt
+in_turn_later kind next rows (edit ∷ more) below turn = (
+  record { within = turn.0.within; timeline = timeline_later kind (edited rows edit) next below turn.0.timeline },
+  in_turn_later kind next (edited rows edit) more below turn.1,
+)
+
+-- the first of them can be made without the others
+pub in_turn_first : (kind : Kind) (next : ℕ) (rows : List Row) (first others : List Edit)
+    → StandInTurn kind next rows (first ++ others) → StandInTurn kind next rows first
+in_turn_first kind next rows [] others turn = tt
+in_turn_first kind next rows (edit ∷ first) others turn = (turn.0, in_turn_first kind next (edited rows edit) first others turn.1)
+
+-- behind an edit it can be taken back, and then what could be made before it can be made again
+pub in_turn_back : (kind : Kind) (next : ℕ) (rows : List Row) (edit : Edit) (more : List Edit) → IsWithin rows edit
+    → IsTimeline kind rows next → StandInTurn kind next rows more → StandInTurn kind next (edited rows edit) (inverse edit ∷ more)
+in_turn_back kind next rows edit more within timeline turn =
+    let back = there_and_back rows edit within in
+    (record { within = can_go_back rows edit within; timeline = rw back timeline }, rw back turn)

@@ -1,0 +1,4 @@
+pub mod Edits
+pub mod InTurn
+pub mod Rings
+pub mod Sessions

@@ -1,0 +1,38 @@
+//! A timeline that is corrected, and whose corrections can be undone.
+//!
+//! A [`Session`] holds the rows of a timeline beside the structure that performs them, and its type keeps that both
+//! have the same rows. An edit is judged by the structure before anything is changed: `put` and `cut` do it whole, or
+//! name the first row that could no longer be performed. Each accepted edit is a step of the session's history. `undo`
+//! takes the newest step back, with the same row at the same place, and `redo` makes it again, until another edit comes.
+//! Of its steps a session keeps the last 1,024; it takes the memory for them when it is made.
+//!
+//! What the layer above may rely on: a session is seen as a kind, rows, the number that the next row draws, and a
+//! history (`specs/Session.antt`, `specs/History.antt`); behind every error all is as before; `EditError::Fails` comes
+//! exactly where the edited rows do not replay, and `UndoError::Nothing` exactly where there is no such step. That an
+//! undo always replays is no test but a fact, which the invariant keeps: every step leads to rows that stood before.
+//!
+//! | Call | Cost |
+//! |---|---|
+//! | `put`, `cut`, `undo`, `redo`, `append` | an edit of the timeline and one of the structure |
+//! | `ask_now`, `ask`, `all` | those of the structure |
+//!
+//! - `session`: the type and its calls. `turn`, `error`: what they answer.
+//! - `edit`, `noted`, `failing`: an edit in both lists, what the history keeps of it, the row that fails.
+//! - `laws`: an undo leads back.
+#![tactic(auto)]
+
+mod edit;
+mod error;
+mod failing;
+mod laws;
+mod noted;
+mod session;
+mod turn;
+
+pub use error::{EditError, UndoError};
+pub use laws::an_undo_leads_back;
+pub use session::{MAX_STEPS, Session};
+pub use turn::{Put, Turn};
+
+#[cfg(test)]
+mod tests;

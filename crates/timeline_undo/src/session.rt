@@ -1,0 +1,234 @@
+ghost use Rattle.std.specs.Prelude.{◌≡◌, ◌↔◌, ◌+◌, ◌≤◌, ◌<◌, [], length, slice_get, Some, true, IfOk, IfErr, IfSome, OnErr, OnOk, IsErrOf, ◌∷◌, ◌++◌};
+ghost use Rattle.retro_base.specs.Answers.{answer_of, content};
+ghost use Rattle.retro_base.specs.Changes.{IsChange};
+ghost use Rattle.retro_base.specs.Edits.{add, cut, Step, inverse_step, IsAccepted};
+ghost use Rattle.retro_base.specs.Kind.{kind_of};
+ghost use Rattle.retro_base.specs.Limits.{most_rows, next_limit};
+ghost use Rattle.retro_base.specs.Order.{Fits};
+ghost use Rattle.retro_base.specs.Questions.{suits};
+ghost use Rattle.retro_base.specs.Replay.{present, state_at};
+ghost use Rattle.retro_base.specs.Timeline.{IsFresh, IsTimeline};
+ghost use Rattle.timeline_undo.specs.History.{newest_step, no_history};
+ghost use Rattle.timeline_undo.specs.Session.{drawn, edit_told, IsCause, with_edit, with_insert, with_redo, with_undo};
+
+use crate::edit::make;
+use crate::failing::{fails_at, row_after_insert, row_after_remove};
+use crate::noted::{Noted, newest, note, pass_on};
+use crate::{EditError, Put, Turn, UndoError};
+use circular_buffer::HeapCircularBuffer;
+use order_timeline::Timeline;
+use retro_base::{Answer, Change, Kind, Listing, NoMemory, Op, Question, Retro, Row};
+use std::alloc::Global;
+use std::marker::Model;
+
+/// How many steps of a timeline can be undone.
+pub const MAX_STEPS: usize = 1024;
+
+/// A timeline with the structure that performs it, and with what can be undone of it.
+#[derive(Drop)]
+pub struct Session<R: Retro + Drop> {
+    timeline: Timeline,
+    structure: R,
+    next: u32,
+    undo: HeapCircularBuffer<Noted>,
+    redo: HeapCircularBuffer<Noted>,
+}
+
+impl<R: Retro + Drop> Model for Session<R> {
+    ghost use Rattle.timeline_undo.specs.Kept.{IsSession, steps_of};
+    ghost use Rattle.timeline_undo.specs.Session.{SessionState};
+
+    ghost Value = { SessionState };
+
+    ghost view = { λ s. record {
+      kind = R.kind s.structure;
+      rows = s.timeline;
+      next = s.next;
+      history = record { undo = steps_of s.undo.items; redo = steps_of s.redo.items };
+    } };
+
+    ghost invariant = { λ s. IsSession (R.kind s.structure) (R.rows s.structure) s.timeline s.next s.undo s.redo };
+}
+
+impl<R: Retro + Drop> Session<R> {
+    /// A session over a structure without rows; the rows that it gets have numbers below `next`. It takes all the
+    /// memory that its history will need.
+    pub fn new(alloc: Global, structure: R, next: u32) -> Result<Session<R>, NoMemory>
+        requires empty { R.rows structure ≡ [] }
+        requires least { 1 ≤ next }
+        requires most { next ≤ next_limit }
+        ensures { IfOk result (λ session. session ≡ record { kind = R.kind structure; rows = []; next = next; history = no_history }) }
+    {
+        let _kind = structure.kind();
+        let undo = HeapCircularBuffer::with_capacity(alloc, MAX_STEPS)?;
+        let redo = HeapCircularBuffer::with_capacity(alloc, MAX_STEPS)?;
+        Ok(Session {
+            timeline: Timeline::new(alloc),
+            structure,
+            next,
+            undo,
+            redo,
+        })
+    }
+
+    /// The rows.
+    pub fn timeline(&self) -> &Timeline
+        ensures rows { result.now ≡ self.now.rows }
+        ensures timeline { IsTimeline self.now.kind self.now.rows self.now.next }
+    {
+        &self.timeline
+    }
+
+    /// The structure that performs them.
+    pub fn structure(&self) -> &R
+        ensures kind { R.kind result.now ≡ self.now.kind }
+        ensures rows { R.rows result.now ≡ self.now.rows }
+    {
+        &self.structure
+    }
+
+    /// The number that the next row draws.
+    pub fn next(&self) -> u32
+        ensures next { result ≡ self.now.next }
+        ensures within { (1 ≤ result) × (result ≤ next_limit) }
+    {
+        self.next
+    }
+
+    /// The kind.
+    pub fn kind(&self) -> Kind
+        ensures { result ≡ self.now.kind }
+    {
+        self.structure.kind()
+    }
+
+    /// Puts in a row that draws the next number. After every error all is as before.
+    pub fn put(&mut self, place: u32, time: u64, op: Op) -> Result<Put, EditError>
+        requires within { place ≤ length self.old.rows }
+        requires fits { Fits self.old.rows place time }
+        requires room { length self.old.rows < most_rows }
+        requires number { self.old.next < next_limit }
+        requires of_kind { kind_of op ≡ self.old.kind }
+        ensures accepted { OnOk result (IsAccepted self.old.kind self.old.rows (add place (drawn self.old time op))) }
+        ensures session { OnOk result (self.new ≡ with_insert self.old place (drawn self.old time op)) }
+        ensures number { IfOk result (λ put. put.number ≡ self.old.next) }
+        ensures change { IfOk result (λ put. IsChange self.old.kind self.old.rows (add place (drawn self.old time op)) put.change) }
+        ensures cause { IfErr result (IsCause self.old.kind self.old.rows (add place (drawn self.old time op))) }
+        ensures err { OnErr result (self.new ≡ self.old) }
+    {
+        let row = Row {
+            number: self.next,
+            time,
+            op,
+        };
+        if let Some(index) = self.structure.failure_after_insert(place, op) {
+            return Err(fails_at(row_after_insert(&self.timeline, place, row, index)));
+        }
+        let noted = Noted::Added { place, row };
+        let turn = make(&mut self.timeline, &mut self.structure, noted)?;
+        note(&mut self.undo, &mut self.redo, noted);
+        self.next += 1;
+        Ok(Put {
+            number: row.number,
+            change: turn.change,
+        })
+    }
+
+    /// Appends a row that has a number already, as one of a block that is read has. It is no step of the history,
+    /// which has none. After `NoMemory` all is as before.
+    pub fn append(&mut self, row: Row) -> Result<Change, NoMemory>
+        requires number { (1 ≤ row.number) × (row.number < self.old.next) }
+        requires fresh { IsFresh row.number self.old.rows }
+        requires fits { Fits self.old.rows (length self.old.rows) row.time }
+        requires room { length self.old.rows < most_rows }
+        requires of_kind { kind_of row.op ≡ self.old.kind }
+        requires accepted { IsAccepted self.old.kind self.old.rows (add (length self.old.rows) row) }
+        requires history { self.old.history ≡ no_history }
+        ensures session { OnOk result (self.new ≡ record self.old { rows = self.old.rows ++ row ∷ [] }) }
+        ensures change { IfOk result (IsChange self.old.kind self.old.rows (add (length self.old.rows) row)) }
+        ensures err { OnErr result (self.new ≡ self.old) }
+    {
+        let place = self.timeline.len();
+        let noted = Noted::Added { place, row };
+        let turn = make(&mut self.timeline, &mut self.structure, noted)?;
+        Ok(turn.change)
+    }
+
+    /// Takes the row at a place out. After every error all is as before.
+    pub fn cut(&mut self, place: u32) -> Result<Turn, EditError>
+        requires { place < length self.old.rows }
+        ensures row { IfOk result (λ turn. slice_get self.old.rows place ≡ Some turn.row) }
+        ensures told { IfOk result (λ turn. edit_told turn ≡ cut place turn.row) }
+        ensures accepted { IfOk result (λ turn. IsAccepted self.old.kind self.old.rows (cut place turn.row)) }
+        ensures session { IfOk result (λ turn. self.new ≡ with_edit self.old (cut place turn.row)) }
+        ensures change { IfOk result (λ turn. IsChange self.old.kind self.old.rows (cut place turn.row) turn.change) }
+        ensures cause { IfErr result (λ error. IfSome (slice_get self.old.rows place) (λ row. IsCause self.old.kind self.old.rows (cut place row) error)) }
+        ensures err { OnErr result (self.new ≡ self.old) }
+    {
+        let row = self.timeline.row_at(place);
+        if let Some(index) = self.structure.failure_after_remove(place) {
+            return Err(fails_at(row_after_remove(&self.timeline, place, index)));
+        }
+        let noted = Noted::Taken { place, row };
+        let turn = make(&mut self.timeline, &mut self.structure, noted)?;
+        note(&mut self.undo, &mut self.redo, noted);
+        Ok(turn)
+    }
+
+    /// Takes the newest step back. After every error all is as before.
+    pub fn undo(&mut self) -> Result<Turn, UndoError>
+        ensures step { IfOk result (λ turn. (step : Step) × (newest_step self.old.history.undo ≡ Some step) × (inverse_step step ≡ edit_told turn ∷ []) × (self.new ≡ with_undo self.old step)) }
+        ensures change { IfOk result (λ turn. IsChange self.old.kind self.old.rows (edit_told turn) turn.change) }
+        ensures nothing { IsErrOf result UndoError.Nothing ↔ (self.old.history.undo ≡ []) }
+        ensures err { OnErr result (self.new ≡ self.old) }
+    {
+        let Some(noted) = newest(&self.undo) else {
+            return Err(UndoError::Nothing);
+        };
+        let turn = make(&mut self.timeline, &mut self.structure, noted.inverse())?;
+        pass_on(&mut self.undo, &mut self.redo, noted);
+        Ok(turn)
+    }
+
+    /// Makes the step again that was taken back last. After every error all is as before.
+    pub fn redo(&mut self) -> Result<Turn, UndoError>
+        ensures step { IfOk result (λ turn. (newest_step self.old.history.redo ≡ Some (edit_told turn ∷ [])) × (self.new ≡ with_redo self.old (edit_told turn ∷ []))) }
+        ensures change { IfOk result (λ turn. IsChange self.old.kind self.old.rows (edit_told turn) turn.change) }
+        ensures nothing { IsErrOf result UndoError.Nothing ↔ (self.old.history.redo ≡ []) }
+        ensures err { OnErr result (self.new ≡ self.old) }
+    {
+        let Some(noted) = newest(&self.redo) else {
+            return Err(UndoError::Nothing);
+        };
+        let turn = make(&mut self.timeline, &mut self.structure, noted)?;
+        pass_on(&mut self.redo, &mut self.undo, noted);
+        Ok(turn)
+    }
+
+    /// The answer to a question about the present.
+    pub fn ask_now(&self, question: Question) -> Answer
+        requires { suits question self.now.kind ≡ true }
+        ensures { result ≡ answer_of (present self.now.kind self.now.rows) question }
+    {
+        self.structure.ask_now(question)
+    }
+
+    /// The answer to a question about a place. The session is unchanged, whatever the answer.
+    pub fn ask(&mut self, place: u32, question: Question) -> Result<Answer, NoMemory>
+        requires within { place ≤ length self.old.rows }
+        requires suited { suits question self.old.kind ≡ true }
+        ensures unchanged { self.new ≡ self.old }
+        ensures answer { IfOk result (λ answer. answer ≡ answer_of (state_at self.old.kind self.old.rows place) question) }
+    {
+        self.structure.ask(place, question)
+    }
+
+    /// The whole content at a place. The session is unchanged, whatever the answer.
+    pub fn all(&mut self, place: u32) -> Result<Listing, NoMemory>
+        requires { place ≤ length self.old.rows }
+        ensures unchanged { self.new ≡ self.old }
+        ensures content { IfOk result (λ listing. listing ≡ content (state_at self.old.kind self.old.rows place)) }
+    {
+        self.structure.all(place)
+    }
+}

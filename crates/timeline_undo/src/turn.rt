@@ -1,0 +1,23 @@
+use retro_base::{Change, Row};
+
+/// What an accepted insert tells.
+#[derive(Clone, Copy, Debug, PartialEq, Eq)]
+pub struct Put {
+    /// The number that the row has drawn.
+    pub number: u32,
+    /// What has changed in the present.
+    pub change: Change,
+}
+
+/// The list edit that a delete, an undo or a redo has made.
+#[derive(Clone, Copy, Debug, PartialEq, Eq)]
+pub struct Turn {
+    /// Whether the row was put in; else it was taken out.
+    pub added: bool,
+    /// Where it was put in, or where it stood.
+    pub place: u32,
+    /// The row.
+    pub row: Row,
+    /// What has changed in the present.
+    pub change: Change,
+}
