@@ -11,7 +11,7 @@ use Rattle.retro_base.specs.Limits.{most_rows}
 use Rattle.retro_base.specs.State.{State, empty, step}
 use Rattle.retro_base.specs.Timeline.{Structure, IsFresh}
 use Rattle.retro_base.proofs.Folds.{fold_rows-last}
-use Rattle.retro_base.proofs.Replayable.{replayable_with}
+use Rattle.retro_base.specs.ReplayableLaws.{replayable_with}
 
 kept_with : (kind : Kind) (rows : List Row) (row : Row) (s t : State) → IsKept kind rows s → length rows < most_rows → IsFresh row.number rows
     → kind_of row.op ≡ kind → step row s ≡ Some t → IsKept kind (rows ++ row ∷ []) t
