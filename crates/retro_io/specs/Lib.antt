@@ -10,6 +10,7 @@ pub mod Lines
 pub mod Marks
 pub mod Memory
 pub mod Outbox
+pub mod ReaderLaws
 pub mod Reads
 pub mod Sink
 pub mod SinkLaws
