@@ -1,4 +1,4 @@
-ghost use Rattle.std.specs.Prelude.{◌≡◌, ◌<◌, [], ◌∷◌, ◌++◌, length, slice_get, Some, OnOk, OnErr, MatchOption};
+ghost use Rattle.std.specs.Prelude.{◌≡◌, ◌^◌, ◌<◌, [], ◌∷◌, ◌++◌, length, slice_get, Some, IfOk, OnOk, OnErr, MatchOption};
 
 use crate::{NoMemory, Row};
 use std::alloc::Global;
@@ -29,6 +29,16 @@ impl Rows {
         Rows {
             rows: Vec::new(alloc),
         }
+    }
+
+    /// A copy of these rows.
+    pub fn of(alloc: Global, rows: &[Row]) -> Result<Rows, NoMemory>
+        requires { length rows.now < 2 ^ 32 }
+        ensures { IfOk result (λ copied. copied ≡ rows.now) }
+    {
+        let mut copied = Vec::new(alloc);
+        copied.extend_from_slice(rows)?;
+        Ok(Rows { rows: copied })
     }
 
     /// Appends a row. Without memory for it the rows stay as they were.

@@ -74,6 +74,21 @@ impl BlockReader {
         }
     }
 
+    /// The kind of the block.
+    pub fn kind(&self) -> Kind
+        ensures kind { result ≡ self.now.kind }
+        ensures served { result ≢ Pq }
+    {
+        self.rows.kind()
+    }
+
+    /// The number that the timeline of the block draws next.
+    pub fn next(&self) -> u32
+        ensures { result ≡ self.now.next }
+    {
+        self.next
+    }
+
     /// Takes a line that is not the end of the block. Of a line that is too long its first bytes are given,
     /// as many as a line may have, and `long` says that it has more. After `NoMemory` all is as before.
     #[tactic(auto, unfolding(crate::specs::Block::taken))]
