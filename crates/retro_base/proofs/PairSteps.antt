@@ -1,5 +1,5 @@
 -- What the operations and questions of a dictionary come to.
-use Rattle.std.proofs.Common.{◌≡◌, ℕ, ℤ, Bool, true, false, List, [], ◌∷◌, ◌++◌, ◌+◌, ◌<◌, ◌≤◌, suc, cond, ◌&&◌, length, map, length-append, arith, fold, ◌+ℤ◌, int_le, reverse, IsSome, refl, sym, ap, ◌∙◌, Option, Some, None}
+use Rattle.std.proofs.Common.{◌≡◌, ℕ, ℤ, Bool, true, false, List, [], ◌∷◌, ◌++◌, ◌+◌, ◌-◌, ◌^◌, ◌<◌, ◌≤◌, suc, cond, ◌&&◌, length, map, length-append, arith, fold, ◌+ℤ◌, int_le, reverse, IsSome, refl, sym, ap, ◌∙◌, Option, Some, None}
 use Rattle.std.specs.Prelude.{if◌then◌else◌}
 use Rattle.std.specs.Option.{option_map, option_or, is_some}
 use Rattle.std.specs.Ordering.{int_eq}
@@ -79,7 +79,7 @@ module _ (low high key value : ℤ) (all rest : List (ℤ × ℤ)) (sum answer :
 
 -- what is listed so far leaves room for one item more, where there is one
 pub room : {A B : Type 0} (f : A → B) (listed : List B) (left all : List A) (x : A) (rest : List A)
-    → listed ++ map f left ≡ map f all → left ≡ x ∷ rest → length all < 4294967296 → length listed < 4294967295
+    → listed ++ map f left ≡ map f all → left ≡ x ∷ rest → length all < 2 ^ 32 → length listed < 2 ^ 32 - 1
 room f listed left all x rest e first few = omega (arith, simp (length-append, length-map) at (ap length e), ap length first)
 
 -- of the pairs from low to high there are at most as many as of all

@@ -1,4 +1,4 @@
-ghost use Rattle.std.specs.Prelude.{◌≡◌, ◌<◌, [], ◌∷◌, ◌++◌, length, slice_get, Some, OnOk, OnErr};
+ghost use Rattle.std.specs.Prelude.{◌≡◌, ◌-◌, ◌^◌, ◌<◌, [], ◌∷◌, ◌++◌, length, slice_get, Some, OnOk, OnErr};
 
 use crate::{Item, NoMemory};
 use std::alloc::Global;
@@ -34,7 +34,7 @@ impl Listing {
 
     /// Appends an item. Without memory for it the listing stays as it was.
     pub fn push(&mut self, item: Item) -> Result<(), NoMemory>
-        requires { length self.old < 4294967295 }
+        requires { length self.old < 2 ^ 32 - 1 }
         ensures ok { OnOk result (self.new ≡ self.old ++ item ∷ []) }
         ensures err { OnErr result (self.new ≡ self.old) }
     {

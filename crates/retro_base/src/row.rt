@@ -1,3 +1,6 @@
+ghost use Rattle.std.specs.Prelude.{◌≡◌};
+ghost use Rattle.retro_base.specs.State.{comes_before};
+
 use crate::Op;
 
 /// One line of a history: an operation, when it was performed, and the number by which edits name it.
@@ -17,6 +20,15 @@ pub struct Row {
 pub struct Entry {
     pub key: i64,
     pub number: u32,
+}
+
+impl Entry {
+    /// Whether this entry is taken before another one: it is the lesser.
+    pub fn comes_before(self, other: Entry) -> bool
+        ensures { result ≡ comes_before self other }
+    {
+        self < other
+    }
 }
 
 /// What an accepted edit did to the present of a priority queue. Of the other kinds it is `Plain`.
