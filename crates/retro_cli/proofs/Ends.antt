@@ -19,7 +19,7 @@ use Rattle.retro_cli.specs.Output.{answers_to, output, has_refusal, refuses_one,
 use Rattle.retro_cli.specs.declared.stop.Stop.{Stop}
 use Rattle.retro_cli.specs.declared.stop.Stop.TheVariants as stops
 use Rattle.retro_cli.specs.Stop.{stops_at_write}
-use Rattle.retro_cli.specs.Run.{AppendsAnswersOfFirst, AppendsAnswersOfTaken, AppendsFirstAnswers, AppendsOutput, AppendsOutputPart, AppendsOutputPrefix, MatchesRefusal}
+use Rattle.retro_cli.specs.Run.{AppendsAnswersOfFirst, AppendsAnswersOfTaken, AppendsFirstAnswers, AppendsOutput, AppendsProperOutputPrefix, AppendsOutputPrefix, MatchesRefusal}
 use Rattle.retro_cli.proofs.GoesOn.{GivenAs, GoesOn, gives, none_is_not_some, some_same}
 use Rattle.retro_cli.proofs.Reactions.{answers_to-none, before_last, output_after, output_from}
 use Rattle.retro_cli.proofs.WholeLines.{up_to-unbroken}
@@ -94,7 +94,7 @@ part_at_line bytes now after first bench refused mark long shown ended written w
 pub part_in_line : (script first : Option (List ℕ)) (bench : Bench) (refused : Bool) (mark : Mark) (long : Bool) (shown : List ℕ) (ended : Bool)
     (rest rest' written written' : Option (List ℕ)) → GivenAs mark long → GivesNextOf mark shown ended rest rest'
     → ((bytes : List ℕ) → script ≡ Some bytes → GoesOn bytes first bench refused false rest written)
-    → AppendsProperPrefix written (reacts_to bench shown long).answer written' → AppendsOutputPart script first written'
+    → AppendsProperPrefix written (reacts_to bench shown long).answer written' → AppendsProperOutputPrefix script first written'
 part_in_line None first bench refused mark long shown ended rest rest' written written' as_given next on part = tt
 part_in_line (Some bytes) first bench refused mark long shown ended None rest' written written' as_given next on part =
     absurd (none_is_not_some (on bytes refl).rest_is)
@@ -103,7 +103,7 @@ part_in_line (Some bytes) first bench refused mark long shown ended (Some now) (
     part_at_line bytes now after first bench refused mark long shown ended written written' as_given next (on bytes refl) part
 
 -- and such a prefix is one
-pub prefix_of_part : (script before after : Option (List ℕ)) → AppendsOutputPart script before after → AppendsOutputPrefix script before after
+pub prefix_of_part : (script before after : Option (List ℕ)) → AppendsProperOutputPrefix script before after → AppendsOutputPrefix script before after
 prefix_of_part None before after part = tt
 prefix_of_part (Some bytes) before after part =
     let parts = AppendsPrefixOf-parts before (without_last (output bytes)) after part.1 in
@@ -113,7 +113,7 @@ prefix_of_part (Some bytes) before after part =
 
 -- at an answer that was not written, with or without a fault
 pub prefix_at_stop : (stop : Stop) (script first written written' : Option (List ℕ)) → AppendsOutputPrefix script first written
-    → (stop_at stop ≡ stop_at stops.WriteFault → AppendsOutputPart script first written') → (stops_at_write (stop_at stop) ≡ false → written' ≡ written)
+    → (stop_at stop ≡ stop_at stops.WriteFault → AppendsProperOutputPrefix script first written') → (stops_at_write (stop_at stop) ≡ false → written' ≡ written)
     → AppendsOutputPrefix script first written'
 prefix_at_stop stops.WriteFault script first written written' so_far part same = prefix_of_part script first written' (part refl)
 prefix_at_stop stops.ReadFault script first written written' so_far part same = rw (same refl) so_far

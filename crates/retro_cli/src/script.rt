@@ -2,11 +2,11 @@ ghost use Rattle.std.specs.Prelude.{◌≡◌, ◌+◌, ◌-◌, ◌<◌, ◌↔
 ghost use Rattle.retro_base.specs.Limits.{longest_line, most_bytes};
 ghost use Rattle.retro_io.specs.Faults.{Counts, Rose, count_after, last_count};
 ghost use Rattle.retro_io.specs.Sink.{Appends, AppendsProperPrefix};
-ghost use Rattle.retro_io.specs.Flushes.{EndsWithFlush, StaysUnflushed};
+ghost use Rattle.retro_io.specs.Flushes.{EndsAtFault, EndsWithFailedWrite, EndsWithFlush, StaysUnflushed};
 ghost use Rattle.retro_io.specs.Source.{GivesCount};
 ghost use Rattle.retro_io.specs.LineReader.{taken, given, limit_of, has_failed, reference_of, rest_of, source_of};
 ghost use Rattle.retro_cli.specs.Output.{has_refusal};
-ghost use Rattle.retro_cli.specs.Run.{is_run, is_read_fault, is_write_fault, AppendsFirstAnswers, AppendsOutput, AppendsOutputPart, AppendsOutputPrefix, AppendsAnswersOfFirst, AppendsAnswersOfTaken, EndsBetweenLines, EndsWithoutFault, HasAnswered, MayBeTooLong, MatchesRefusal, status_of};
+ghost use Rattle.retro_cli.specs.Run.{is_run, is_read_fault, is_write_fault, AppendsFirstAnswers, AppendsOutput, AppendsProperOutputPrefix, AppendsOutputPrefix, AppendsAnswersOfFirst, AppendsAnswersOfTaken, EndsBetweenLines, EndsWithoutFault, HasAnswered, MayBeTooLong, MatchesRefusal, status_of};
 ghost use Rattle.retro_cli.specs.Stop.{stops_at_read, stops_at_write};
 ghost use Rattle.workbench.specs.Reaction.{reacts_to};
 
@@ -35,6 +35,7 @@ fn answer_line<K: Sink>(
         AppendsProperPrefix (K.written sink.old) reaction.answer (K.written sink.new)) }
     ensures untouched { OnErr result (stops_at_write result ≡ false → sink.new ≡ sink.old) }
     ensures unflushed { OnOk result (StaysUnflushed ⟦<K as Sink>⟧ sink.old sink.new) }
+    ensures last { IsErrOf result Stop.WriteFault → EndsWithFailedWrite ⟦<K as Sink>⟧ sink.old sink.new }
     ensures sink_faults { Counts (stops_at_write result) (K.faults sink.old) (K.faults sink.new) }
     ensures reads_nothing { (IsErrOf result Stop.ReadFault → ⊥) × (IsErrOf result Stop.TooLong → ⊥) }
 {
@@ -60,7 +61,7 @@ fn answer_lines<S: Source, K: Sink>(
     ensures ended { OnOk result (S.ended (source_of reader.new) ≡ true) }
     ensures answered { OnOk result (AppendsOutput (rest_of reader.old) (K.written sink.old) (K.written sink.new)) }
     ensures prefix { AppendsOutputPrefix (rest_of reader.old) (K.written sink.old) (K.written sink.new) }
-    ensures part { IsErrOf result Stop.WriteFault → AppendsOutputPart (rest_of reader.old) (K.written sink.old) (K.written sink.new) }
+    ensures part { IsErrOf result Stop.WriteFault → AppendsProperOutputPrefix (rest_of reader.old) (K.written sink.old) (K.written sink.new) }
     ensures whole { OnErr result (stops_at_write result ≡ false →
         AppendsFirstAnswers (rest_of reader.old) (K.written sink.old) (K.written sink.new)) }
     ensures taken_answers { IsErrOf result Stop.ReadFault →
@@ -68,6 +69,7 @@ fn answer_lines<S: Source, K: Sink>(
     ensures first_answers { IsErrOf result Stop.TooLong →
         AppendsAnswersOfFirst (rest_of reader.old) (limit_of reader.old - given reader.old) (K.written sink.old) (K.written sink.new) }
     ensures unflushed { stops_at_write result ≡ false → StaysUnflushed ⟦<K as Sink>⟧ sink.old sink.new }
+    ensures last { IsErrOf result Stop.WriteFault → EndsWithFailedWrite ⟦<K as Sink>⟧ sink.old sink.new }
     ensures refusal { IfOk result (MatchesRefusal (rest_of reader.old)) }
     ensures source_faults { Counts (stops_at_read result) (S.faults (source_of reader.old)) (S.faults (source_of reader.new)) }
     ensures sink_faults { Counts (stops_at_write result) (K.faults sink.old) (K.faults sink.new) }
@@ -91,7 +93,7 @@ fn run_script<S: Source, K: Sink>(alloc: Global, source: &mut S, sink: &mut K) -
     ensures answered { OnOk result (AppendsOutput (S.left source.old) (K.written sink.old) (K.written sink.new)) }
     ensures flush { OnOk result (EndsWithFlush ⟦<K as Sink>⟧ sink.old true sink.new) }
     ensures prefix { AppendsOutputPrefix (S.left source.old) (K.written sink.old) (K.written sink.new) }
-    ensures part { IsErrOf result Stop.WriteFault → AppendsOutputPart (S.left source.old) (K.written sink.old) (K.written sink.new)
+    ensures part { IsErrOf result Stop.WriteFault → AppendsProperOutputPrefix (S.left source.old) (K.written sink.old) (K.written sink.new)
         ⊎ (AppendsOutput (S.left source.old) (K.written sink.old) (K.written sink.new)
         × EndsWithFlush ⟦<K as Sink>⟧ sink.old false sink.new) }
     ensures whole { OnErr result (stops_at_write result ≡ false →
@@ -101,6 +103,7 @@ fn run_script<S: Source, K: Sink>(alloc: Global, source: &mut S, sink: &mut K) -
     ensures first_answers { IsErrOf result Stop.TooLong →
         AppendsAnswersOfFirst (S.left source.old) most_bytes (K.written sink.old) (K.written sink.new) }
     ensures unflushed { OnErr result (stops_at_write result ≡ false → StaysUnflushed ⟦<K as Sink>⟧ sink.old sink.new) }
+    ensures last { IsErrOf result Stop.WriteFault → EndsAtFault ⟦<K as Sink>⟧ sink.old sink.new }
     ensures refusal { IfOk result (MatchesRefusal (S.left source.old)) }
     ensures source_faults { Counts (stops_at_read result) (S.faults source.old) (S.faults source.new) }
     ensures sink_faults { Counts (stops_at_write result) (K.faults sink.old) (K.faults sink.new) }
@@ -127,13 +130,14 @@ pub fn run<S: Source, K: Sink>(alloc: Global, words: &Words, source: &mut S, sin
     ensures refusal { HasAnswered result → IfSome (S.left source.old) (λ bytes. result ≡ status_of (has_refusal bytes)) }
     ensures flush { HasAnswered result → EndsWithFlush ⟦<K as Sink>⟧ sink.old true sink.new }
     // At every status, what was appended is a prefix of the output: all of it at a flush that failed, and less at a write
-    // that failed. Where the run ended between two lines, it is the whole answers to some first lines, and they were not
-    // flushed: at a failed read to all lines whose line feed was taken, at a script that is too long to all that end within
-    // the bytes that it may have.
+    // that failed; that call was the last one. Where the run ended between two lines, it is the whole answers to some first
+    // lines, and they were not flushed: at a failed read to all lines whose line feed was taken, at a script that is too
+    // long to all that end within the bytes that it may have.
     ensures prefix { AppendsOutputPrefix (S.left source.old) (K.written sink.old) (K.written sink.new) }
-    ensures part { result ≡ Status.WriteFault → AppendsOutputPart (S.left source.old) (K.written sink.old) (K.written sink.new)
+    ensures part { result ≡ Status.WriteFault → AppendsProperOutputPrefix (S.left source.old) (K.written sink.old) (K.written sink.new)
         ⊎ (AppendsOutput (S.left source.old) (K.written sink.old) (K.written sink.new)
         × EndsWithFlush ⟦<K as Sink>⟧ sink.old false sink.new) }
+    ensures last { result ≡ Status.WriteFault → EndsAtFault ⟦<K as Sink>⟧ sink.old sink.new }
     ensures unflushed { EndsBetweenLines result → StaysUnflushed ⟦<K as Sink>⟧ sink.old sink.new }
     ensures whole { EndsBetweenLines result → AppendsFirstAnswers (S.left source.old) (K.written sink.old) (K.written sink.new) }
     ensures taken_answers { result ≡ Status.ReadFault →

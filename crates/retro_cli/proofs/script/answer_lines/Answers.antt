@@ -1,7 +1,7 @@
 use Rattle.std.proofs.Common.{◌≡◌, false, refl, ap, ◌∙◌, inl, arith}
 use Rattle.std.proofs.lemmas.Result.{err_from_is_err_and}
 use Rattle.retro_io.specs.LineReader.{held, line_of, has_ended, taken}
-use Rattle.retro_io.specs.FlushLaws.{StaysUnflushed-more}
+use Rattle.retro_io.specs.FlushLaws.{EndsWithFailedWrite-more, StaysUnflushed-more}
 use Rattle.retro_cli.proofs.Ends.{answers_of_first, answers_of_taken, appends_output, first_answers, part_in_line, prefix_at_stop, prefix_of_all, prefix_so_far}
 use Rattle.retro_cli.proofs.GoesOn.{GivenAs, before_end, goes_on_first, goes_on_next}
 use Rattle.retro_cli.proofs.Stops.{count_after-twice, fault_of, gives_count-none, gives_count-twice, on_err, open_before_error, open_before_line, too_long_of}
@@ -54,6 +54,11 @@ returns-in_err-refused-clause-prefix g c =
     (λ is. part_in_line _ _ _ _ c.in_ok-next.field-0 c.match-branch-2.long (line_of c.next.new.self) (has_ended c.next.new.self) _ _ _ _
     as_given c.in_ok-next.ensures.lines (before_end _ _ _ _ _ _ _ not_ended c.loop-bench.invariant.answers) (rw c.line.ensures at (c.in_err-refused.ensures.part is)))
     (λ no_fault. ap g.K.Sink.written (c.in_err-refused.ensures.untouched no_fault))
+
+pub returns-in_err-refused-clause-last : goal.returns-in_err-refused-clause-last
+returns-in_err-refused-clause-last g c =
+    let p = err_from_is_err_and c.from_residual-in_err-refused.result c.from_residual-in_err-refused.ensures.1 in
+    rw (p.1, p.2) (λ is. EndsWithFailedWrite-more g.K.Sink _ _ _ c.loop-bench.invariant.unflushed (c.in_err-refused.ensures.last is))
 
 pub returns-in_err-next-clause-whole : goal.returns-in_err-next-clause-whole
 returns-in_err-next-clause-whole g c = on_err c.from_residual.result (λ _. first_answers _ _ _ _ _ _ _ c.loop-bench.invariant.answers)

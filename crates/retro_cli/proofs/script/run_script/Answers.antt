@@ -27,3 +27,12 @@ returns-in-Err-clause-part g c = λ _. inr (
     flush = c.in-Err.ensures.does;
   },
 )
+
+pub returns-in-Err-clause-last : goal.returns-in-Err-clause-last
+returns-in-Err-clause-last g c = λ _. inr record {
+  middle = c.answer_lines-answered.new.sink;
+  wrote = c.in_ok-refused.ensures.unflushed refl;
+  answer = Err c.in-Err.field-0;
+  is = refl;
+  flush = c.in-Err.ensures.does;
+}
