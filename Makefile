@@ -36,3 +36,4 @@ test:
 
 bench: build
 	@python3 bench/measure.py build/retro
+	@python3 bench/lines.py build/retro

@@ -1,12 +1,14 @@
 //! The program `retro`: it reads a script from standard input and writes the answers to standard
 //! output. All that it does is the call of `retro_cli::run` on the words of its command line; this is
-//! the one place where the real streams are handed in.
+//! the one place where the real streams are handed in. The answers gather in an outbox, and go out
+//! before each read, so that whoever waits for one gets it before the next line is asked for.
 #![tactic(auto)]
 
 use retro_base::NoMemory;
 use retro_cli::{Status, Words, run};
-use retro_io::{StdSink, StdSource};
+use retro_io::{Outbox, SendingSource, SharedSink, StdSink, StdSource};
 use std::alloc::Global;
+use std::cell::RefCell;
 use std::io::ErrorKind;
 use std::process::ExitCode;
 use std::rt::Env;
@@ -17,14 +19,26 @@ const WORDS_REFUSED: u8 = 7;
 
 fn main(rt: HostRuntime) -> ExitCode {
     let code = match words_of(&rt) {
-        Ok(words) => {
-            let mut source = StdSource::new(rt.stdin());
-            let mut sink = StdSink::new(rt.stdout());
-            run(rt.alloc(), &words, &mut source, &mut sink).code()
-        }
+        Ok(words) => match answer(&rt, &words) {
+            Ok(status) => status.code(),
+            Err(NoMemory) => Status::NoMemory.code(),
+        },
         Err(code) => code,
     };
     ExitCode::from(code)
+}
+
+/// Runs the program over the streams of the process.
+fn answer(rt: &HostRuntime, words: &Words) -> Result<Status, NoMemory> {
+    let outbox = RefCell::new(Outbox::new(rt.alloc(), StdSink::new(rt.stdout()))?);
+    let mut source = SendingSource::new(StdSource::new(rt.stdin()), &outbox);
+    let mut sink = SharedSink::new(&outbox);
+    let status = run(rt.alloc(), words, &mut source, &mut sink);
+    // Where the run ended early, the whole answers before it may still wait.
+    if outbox.into_inner().into_inner().is_err() {
+        return Ok(Status::WriteFault);
+    }
+    Ok(status)
 }
 
 /// The words after the program's name, or the exit status where they cannot be had.

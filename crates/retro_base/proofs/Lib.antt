@@ -9,4 +9,6 @@ pub mod SortedPairs
 pub mod CountedKeys
 pub mod Counted
 pub mod Replayable
+pub mod PossibleSteps
+pub mod Performed
 pub mod bridges

@@ -56,7 +56,7 @@ replayable_seen_without now kind rows place seen replayable valid =
     let same_kind : now.kind ≡ kind = ap (λ (h : Structure). h.kind) (sym seen) in
     replayable_without kind rows place replayable (rw (same_kind, same_rows) at valid)
 
--- of the kinds other than the priority queue a change tells nothing
+-- of the kinds other than the priority queue a change is `Plain`
 pub plain_change : (kind : Kind) (rows : List Row) (edit : Edit) → kind ≢ Pq → IsChange kind rows edit Plain
 plain_change Queue rows edit served = refl
 plain_change Stack rows edit served = refl

@@ -25,13 +25,13 @@ Gains rows edit entry = Joins entry (survivors rows) (survivors (edited rows edi
 abbrev pub Loses : List Row → Edit → Entry → Type 0
 Loses rows edit entry = Joins entry (survivors (edited rows edit)) (survivors rows)
 
--- what an accepted edit of a priority queue changes: it tells the stated bridge, and then the entry
+-- what an accepted edit of a priority queue changes: the stated bridge, and the entry
 abbrev pub IsPqChange : List Row → Edit → Change → Type 0
 IsPqChange rows edit Plain = ⊥
 IsPqChange rows edit (Gain bridge entry) = IsStatedBridge rows edit (Some bridge) × Gains rows edit entry
 IsPqChange rows edit (Lose bridge entry) = IsStatedBridge rows edit bridge × Loses rows edit entry
 
--- what an accepted edit changes: of the other kinds nothing is told
+-- what an accepted edit changes: of the other kinds it is `Plain`
 abbrev pub IsChange : Kind → List Row → Edit → Change → Type 0
 IsChange Queue rows edit change = change ≡ Plain
 IsChange Stack rows edit change = change ≡ Plain

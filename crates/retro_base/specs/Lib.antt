@@ -24,6 +24,8 @@ pub mod ChangeLaws
 pub mod Counting
 pub mod Content
 pub mod Text
+pub mod TextLaws
+pub mod OpText
 pub mod LineLength
 pub mod Digits
 pub mod Visits

@@ -9,9 +9,9 @@
 //! `PlainList` is the plain program whose contract is the definition; every faster structure is compared with
 //! it. It serves queues, stacks, deques and dictionaries.
 //!
-//! - Rows: `Kind`, `Op`, `Row`, `Entry`, `Change`. Questions: `Question`, `Answer`, `Item`, `Listing`.
-//! - Structures: `Retro`, `PlainList`.
-//! - Texts: `Name`, `Text`. Costs: `Steps`. Memory: `NoMemory`.
+//! - Rows: `Kind`, `Op`, `Row`, `Rows`, `Entry`, `Change`. Questions: `Question`, `Answer`, `Item`, `Listing`.
+//! - Structures: `Retro`, `PlainList`, `PerformedRows`.
+//! - Texts: `Name`, `Text`, `print_op`. Costs: `Steps`. Memory: `NoMemory`.
 //! - Laws on the bridges of a priority queue: the functions of `bridge_laws.rt`, which have no body.
 //! - Limits: `MAX_ROWS`, `MAX_NEXT`, which are those of `specs/Limits.antt`.
 #![tactic(auto)]
@@ -26,11 +26,14 @@ mod listing;
 mod memory;
 mod name;
 mod op;
+mod op_text;
 mod pairs;
+mod performed_rows;
 mod plain_list;
 mod question;
 mod retro;
 mod row;
+mod rows;
 mod steps;
 mod text;
 
@@ -44,9 +47,12 @@ pub use listing::Listing;
 pub use memory::NoMemory;
 pub use name::Name;
 pub use op::Op;
+pub use op_text::print_op;
+pub use performed_rows::PerformedRows;
 pub use plain_list::PlainList;
 pub use question::{Answer, Item, Question};
 pub use retro::Retro;
 pub use row::{Change, Entry, Row};
+pub use rows::Rows;
 pub use steps::Steps;
 pub use text::Text;

@@ -47,7 +47,7 @@ pub trait Retro {
         ensures first { result ≡ failure (kind self.now) (remove (rows self.now) place) }
         ensures index { IfSome result (λ index. index + 1 < length (rows self.now)) };
 
-    /// Puts the row in at the place, and tells how the present has changed. After `NoMemory` all is as
+    /// Puts the row in at the place, and answers the change of the present. After `NoMemory` all is as
     /// before.
     fn insert(&mut self, place: u32, row: Row) -> Result<Change, NoMemory>
         requires within { place ≤ length (rows self.old) }
@@ -61,7 +61,7 @@ pub trait Retro {
         ensures change { IfOk result (IsChange (kind self.old) (rows self.old) (add place row)) }
         ensures err { OnErr result (rows self.new ≡ rows self.old) };
 
-    /// Takes the row at the place out, gives it back, and tells how the present has changed. After
+    /// Takes the row at the place out, gives it back, and answers the change of the present. After
     /// `NoMemory` all is as before.
     fn remove(&mut self, place: u32) -> Result<(Row, Change), NoMemory>
         requires within { place < length (rows self.old) }

@@ -1,5 +1,5 @@
 -- What stands in the sink where a run ends.
-use Rattle.std.proofs.Common.{◌≡◌, ℕ, Bool, false, ◌≤◌, ◌<◌, ◌-◌, ◌+◌, List, [], ◌∷◌, ◌++◌, length, take, drop, arith, refl, sym, ap, ◌∙◌, subst, append_assoc, append-nil, length-append, length-drop, Option, Some, None, Result, Err}
+use Rattle.std.proofs.Common.{◌≡◌, ℕ, Bool, false, ◌≤◌, ◌<◌, ◌-◌, ◌+◌, List, [], ◌∷◌, ◌++◌, length, take, drop, arith, refl, sym, ap, ◌∙◌, subst, append_assoc, append-nil, length-append, length-drop, Option, Some, None, Result, Err, inl, inr}
 use Rattle.std.specs.Ffi.{without_last}
 use Rattle.std.specs.Prelude.{IfSome}
 use Rattle.std.proofs.Math.Seq.{take-append-add}
@@ -18,7 +18,13 @@ use Rattle.workbench.specs.Reaction.{Reaction, reacts, reacts_to}
 use Rattle.retro_cli.specs.Output.{answers_to, output, has_refusal, refuses_one, up_to_last_feed}
 use Rattle.retro_cli.specs.declared.stop.Stop.{Stop}
 use Rattle.retro_cli.specs.declared.stop.Stop.TheVariants as stops
-use Rattle.retro_cli.specs.Stop.{stops_at_write}
+use Rattle.retro_io.specs.declared.mark.ReadError.{ReadError}
+use Rattle.retro_io.specs.declared.mark.ReadError.TheVariants.{ReadFault, TooLong}
+use Rattle.retro_io.specs.declared.sink.Sink.{Ghosts}
+use Rattle.retro_io.specs.FlushLaws.{EndsWithFailedWrite-more}
+use Rattle.retro_io.specs.Flushes.{EndsWithFailedWrite, StaysUnflushed}
+use Rattle.retro_cli.specs.Ends.{Stands}
+use Rattle.retro_cli.specs.Stop.{StopsAt, stops_at_write}
 use Rattle.retro_cli.specs.Run.{AppendsAnswersOfFirst, AppendsAnswersOfTaken, AppendsFirstAnswers, AppendsOutput, AppendsProperOutputPrefix, AppendsOutputPrefix, MatchesRefusal}
 use Rattle.retro_cli.proofs.GoesOn.{GivenAs, GoesOn, gives, none_is_not_some, some_same}
 use Rattle.retro_cli.proofs.Reactions.{answers_to-none, before_last, output_after, output_from}
@@ -38,15 +44,14 @@ pub appends_no_output : (script written : Option (List ℕ)) → AppendsOutputPr
 appends_no_output None written = tt
 appends_no_output (Some bytes) written = AppendsPrefixOf-from written (output bytes) [] (output bytes) written refl (Appends-none written)
 
--- the answers so far are a prefix of the output
-pub prefix_so_far : (script first : Option (List ℕ)) (bench : Bench) (refused ended : Bool) (rest written : Option (List ℕ))
-    → ((bytes : List ℕ) → script ≡ Some bytes → GoesOn bytes first bench refused ended rest written) → AppendsOutputPrefix script first written
-prefix_so_far None first bench refused ended rest written on = tt
-prefix_so_far (Some bytes) first bench refused ended rest written on =
-    let here = on bytes refl in
-    AppendsPrefixOf-from first (output bytes) (answers_to here.given) _ written (output_after bytes here.given (lines here.left) here.cut) here.appended
+-- the whole answers to some first lines are a prefix of the output
+prefix_of_answers : (script before after : Option (List ℕ)) → AppendsFirstAnswers script before after → AppendsOutputPrefix script before after
+prefix_of_answers None before after answers = tt
+prefix_of_answers (Some bytes) before after answers =
+    AppendsPrefixOf-from before (output bytes) (answers_to answers.answered) _ after
+    (output_after bytes answers.answered answers.unanswered answers.cut) answers.appended
 
--- and they are the whole answers to the lines given
+-- the answers so far are the whole answers to the lines given
 pub first_answers : (script first : Option (List ℕ)) (bench : Bench) (refused ended : Bool) (rest written : Option (List ℕ))
     → ((bytes : List ℕ) → script ≡ Some bytes → GoesOn bytes first bench refused ended rest written) → AppendsFirstAnswers script first written
 first_answers None first bench refused ended rest written on = tt
@@ -110,15 +115,6 @@ prefix_of_part (Some bytes) before after part =
     let last = drop (length (output bytes) - 1) (output bytes) in
     AppendsPrefixOf-from before (output bytes) parts.0 (parts.1 ++ last) after
     (sym (take-append-drop (length (output bytes) - 1) (output bytes)) ∙ ap (λ xs. xs ++ last) parts.2 ∙ append_assoc parts.0 parts.1 last) parts.3
-
--- at an answer that was not written, with or without a fault
-pub prefix_at_stop : (stop : Stop) (script first written written' : Option (List ℕ)) → AppendsOutputPrefix script first written
-    → (stop_at stop ≡ stop_at stops.WriteFault → AppendsProperOutputPrefix script first written') → (stops_at_write (stop_at stop) ≡ false → written' ≡ written)
-    → AppendsOutputPrefix script first written'
-prefix_at_stop stops.WriteFault script first written written' so_far part same = prefix_of_part script first written' (part refl)
-prefix_at_stop stops.ReadFault script first written written' so_far part same = rw (same refl) so_far
-prefix_at_stop stops.NoMemory script first written written' so_far part same = rw (same refl) so_far
-prefix_at_stop stops.TooLong script first written written' so_far part same = rw (same refl) so_far
 
 nothing_left : (shown : List ℕ) (ended : Bool) (rest rest' : Option (List ℕ)) (left : List ℕ) → GivesNextOf End shown ended rest rest' → rest ≡ Some left → rest ≡ Some []
 nothing_left shown ended None rest' left next e = absurd (none_is_not_some e)
@@ -194,3 +190,39 @@ answers_of_first first bench refused held₀ held (Some src₀) (Some src) taken
     let given : lines (up_to_last_feed (here.past ++ (held ++ last))) ≡ here.given =
     up_to-unbroken here.past (held ++ last) here.given (here.whole refl) (unbroken-append held last unbroken unbroken') in
     subst (λ ls. Appends first (answers_to ls) written) (sym (ap (λ xs. lines (up_to_last_feed xs)) prefix ∙ given)) here.appended
+
+module _ {K : Type 0} (G : Ghosts K) where
+  -- where no next line was given
+  pub stands_at_error : (script left : Option (List ℕ)) (limit : ℕ) (before after : K) (error : ReadError) (stop : Stop) → StopsAt error stop
+      → AppendsFirstAnswers script (G.written before) (G.written after) → StaysUnflushed G before after
+      → (error ≡ ReadFault → AppendsAnswersOfTaken script left (G.written before) (G.written after))
+      → (error ≡ TooLong → AppendsAnswersOfFirst script limit (G.written before) (G.written after))
+      → Stands G script left before after limit stop
+  stands_at_error script left limit before after ReadFault stop stops_at whole unflushed taken first =
+      rw stops_at (record { whole = whole; unflushed = unflushed }, taken refl)
+  stands_at_error script left limit before after TooLong stop stops_at whole unflushed taken first =
+      rw stops_at (record { whole = whole; unflushed = unflushed }, first refl)
+
+  -- where an answer was not given, or not written
+  pub stands_at_answer : (script left : Option (List ℕ)) (limit : ℕ) (before middle after : K) (stop : Stop)
+      → AppendsFirstAnswers script (G.written before) (G.written middle) → StaysUnflushed G before middle
+      → (stops_at_write (stop_at stop) ≡ false → after ≡ middle)
+      → (stop_at stop ≡ stop_at stops.ReadFault → ⊥) × (stop_at stop ≡ stop_at stops.TooLong → ⊥)
+      → (stop_at stop ≡ stop_at stops.WriteFault → AppendsProperOutputPrefix script (G.written before) (G.written after))
+      → (stop_at stop ≡ stop_at stops.WriteFault → EndsWithFailedWrite G middle after)
+      → Stands G script left before after limit stop
+  stands_at_answer script left limit before middle after stops.ReadFault whole unflushed same reads part last = absurd (reads.0 refl)
+  stands_at_answer script left limit before middle after stops.TooLong whole unflushed same reads part last = absurd (reads.1 refl)
+  stands_at_answer script left limit before middle after stops.WriteFault whole unflushed same reads part last =
+      inl (part refl, EndsWithFailedWrite-more G before middle after unflushed (last refl))
+  stands_at_answer script left limit before middle after stops.NoMemory whole unflushed same reads part last =
+      rw (same refl) record { whole = whole; unflushed = unflushed }
+
+  -- whatever stands is a prefix of the output
+  pub prefix_that_stands : (script left : Option (List ℕ)) (limit : ℕ) (before after : K) (stop : Stop) → Stands G script left before after limit stop
+      → AppendsOutputPrefix script (G.written before) (G.written after)
+  prefix_that_stands script left limit before after stops.ReadFault stands = prefix_of_answers script (G.written before) (G.written after) stands.0.whole
+  prefix_that_stands script left limit before after stops.TooLong stands = prefix_of_answers script (G.written before) (G.written after) stands.0.whole
+  prefix_that_stands script left limit before after stops.NoMemory stands = prefix_of_answers script (G.written before) (G.written after) stands.whole
+  prefix_that_stands script left limit before after stops.WriteFault (inl part) = prefix_of_part script (G.written before) (G.written after) part.0
+  prefix_that_stands script left limit before after stops.WriteFault (inr all) = prefix_of_all script (G.written before) (G.written after) all.0

@@ -1,5 +1,6 @@
 pub use Rattle.workbench.specs.Reaction
 pub use Rattle.workbench.specs.Answers
+pub mod Ends
 pub mod Status
 pub mod Output
 pub mod Run

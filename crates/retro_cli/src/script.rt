@@ -1,12 +1,12 @@
-ghost use Rattle.std.specs.Prelude.{◌≡◌, ◌+◌, ◌-◌, ◌<◌, ◌↔◌, ◌≤◌, ◌⊎◌, true, false, Err, IsTrue, IfOk, IfSome, OnErr, OnOk, IsErrOf, if◌then◌else◌, length};
+ghost use Rattle.std.specs.Prelude.{◌≡◌, ◌+◌, ◌-◌, ◌<◌, ◌↔◌, ◌≤◌, ◌⊎◌, true, false, Err, IsTrue, IfOk, IfSome, IfErr, OnErr, OnOk, IsErrOf, if◌then◌else◌, length};
 ghost use Rattle.retro_base.specs.Limits.{longest_line, most_bytes};
-ghost use Rattle.retro_io.specs.Faults.{Counts, Rose, count_after, last_count};
+ghost use Rattle.retro_io.specs.Faults.{Counts, Rose, last_count};
 ghost use Rattle.retro_io.specs.Sink.{Appends, AppendsProperPrefix};
-ghost use Rattle.retro_io.specs.Flushes.{EndsAtFault, EndsWithFailedWrite, EndsWithFlush, StaysUnflushed};
-ghost use Rattle.retro_io.specs.Source.{GivesCount};
-ghost use Rattle.retro_io.specs.LineReader.{taken, given, limit_of, has_failed, reference_of, rest_of, source_of};
+ghost use Rattle.retro_io.specs.Flushes.{EndsWithFailedWrite, EndsWithFlush, StaysUnflushed};
+ghost use Rattle.retro_io.specs.LineReader.{MovesOn, given, has_failed, limit_of, rest_of, source_of, taken};
+ghost use Rattle.retro_cli.specs.Ends.{Answers, EndsAtSink, Stands};
 ghost use Rattle.retro_cli.specs.Output.{has_refusal};
-ghost use Rattle.retro_cli.specs.Run.{is_run, is_read_fault, is_write_fault, AppendsFirstAnswers, AppendsOutput, AppendsProperOutputPrefix, AppendsOutputPrefix, AppendsAnswersOfFirst, AppendsAnswersOfTaken, EndsBetweenLines, EndsWithoutFault, HasAnswered, MayBeTooLong, MatchesRefusal, status_of};
+ghost use Rattle.retro_cli.specs.Run.{is_run, is_read_fault, is_write_fault, AppendsFirstAnswers, AppendsOutput, AppendsOutputPrefix, AppendsAnswersOfFirst, AppendsAnswersOfTaken, EndsBetweenLines, EndsWithoutFault, HasAnswered, MayBeTooLong, MatchesRefusal, status_of};
 ghost use Rattle.retro_cli.specs.Stop.{stops_at_read, stops_at_write};
 ghost use Rattle.workbench.specs.Reaction.{reacts_to};
 
@@ -52,25 +52,13 @@ fn answer_lines<S: Source, K: Sink>(
     sink: &mut K,
 ) -> Result<bool, Stop>
     requires { has_failed reader.old ≡ false }
-    ensures reference { reference_of reader.new ≡ reference_of reader.old }
-    ensures limit { limit_of reader.new ≡ limit_of reader.old }
-    ensures taken { S.taken (source_of reader.new) ≡ count_after (S.taken (source_of reader.old)) (taken reader.new - taken reader.old) }
-    ensures taken_more { taken reader.old ≤ taken reader.new }
-    ensures within { taken reader.new ≤ limit_of reader.new + 1 }
-    ensures left { GivesCount (S.left (source_of reader.old)) (taken reader.new - taken reader.old) (S.left (source_of reader.new)) }
+    ensures moves { MovesOn reader.old reader.new }
     ensures ended { OnOk result (S.ended (source_of reader.new) ≡ true) }
-    ensures answered { OnOk result (AppendsOutput (rest_of reader.old) (K.written sink.old) (K.written sink.new)) }
-    ensures prefix { AppendsOutputPrefix (rest_of reader.old) (K.written sink.old) (K.written sink.new) }
-    ensures part { IsErrOf result Stop.WriteFault → AppendsProperOutputPrefix (rest_of reader.old) (K.written sink.old) (K.written sink.new) }
-    ensures whole { OnErr result (stops_at_write result ≡ false →
-        AppendsFirstAnswers (rest_of reader.old) (K.written sink.old) (K.written sink.new)) }
-    ensures taken_answers { IsErrOf result Stop.ReadFault →
-        AppendsAnswersOfTaken (rest_of reader.old) (S.left (source_of reader.new)) (K.written sink.old) (K.written sink.new) }
-    ensures first_answers { IsErrOf result Stop.TooLong →
-        AppendsAnswersOfFirst (rest_of reader.old) (limit_of reader.old - given reader.old) (K.written sink.old) (K.written sink.new) }
-    ensures unflushed { stops_at_write result ≡ false → StaysUnflushed ⟦<K as Sink>⟧ sink.old sink.new }
-    ensures last { IsErrOf result Stop.WriteFault → EndsWithFailedWrite ⟦<K as Sink>⟧ sink.old sink.new }
+    ensures output { OnOk result (AppendsOutput (rest_of reader.old) (K.written sink.old) (K.written sink.new)) }
     ensures refusal { IfOk result (MatchesRefusal (rest_of reader.old)) }
+    ensures unflushed { OnOk result (StaysUnflushed ⟦<K as Sink>⟧ sink.old sink.new) }
+    ensures stands { IfErr result (Stands ⟦<K as Sink>⟧ (rest_of reader.old) (S.left (source_of reader.new)) sink.old sink.new
+        (limit_of reader.old - given reader.old)) }
     ensures source_faults { Counts (stops_at_read result) (S.faults (source_of reader.old)) (S.faults (source_of reader.new)) }
     ensures sink_faults { Counts (stops_at_write result) (K.faults sink.old) (K.faults sink.new) }
     ensures too_long { IsErrOf result Stop.TooLong ↔ (taken reader.new ≡ limit_of reader.new + 1) }
@@ -90,21 +78,8 @@ fn answer_lines<S: Source, K: Sink>(
 /// Reads a script, answers its lines and sees to it that the answers arrive.
 fn run_script<S: Source, K: Sink>(alloc: Global, source: &mut S, sink: &mut K) -> Result<bool, Stop>
     ensures ended { OnOk result ((S.ended source.new ≡ true) × (K.flushed sink.new ≡ true)) }
-    ensures answered { OnOk result (AppendsOutput (S.left source.old) (K.written sink.old) (K.written sink.new)) }
-    ensures flush { OnOk result (EndsWithFlush ⟦<K as Sink>⟧ sink.old true sink.new) }
-    ensures prefix { AppendsOutputPrefix (S.left source.old) (K.written sink.old) (K.written sink.new) }
-    ensures part { IsErrOf result Stop.WriteFault → AppendsProperOutputPrefix (S.left source.old) (K.written sink.old) (K.written sink.new)
-        ⊎ (AppendsOutput (S.left source.old) (K.written sink.old) (K.written sink.new)
-        × EndsWithFlush ⟦<K as Sink>⟧ sink.old false sink.new) }
-    ensures whole { OnErr result (stops_at_write result ≡ false →
-        AppendsFirstAnswers (S.left source.old) (K.written sink.old) (K.written sink.new)) }
-    ensures taken_answers { IsErrOf result Stop.ReadFault →
-        AppendsAnswersOfTaken (S.left source.old) (S.left source.new) (K.written sink.old) (K.written sink.new) }
-    ensures first_answers { IsErrOf result Stop.TooLong →
-        AppendsAnswersOfFirst (S.left source.old) most_bytes (K.written sink.old) (K.written sink.new) }
-    ensures unflushed { OnErr result (stops_at_write result ≡ false → StaysUnflushed ⟦<K as Sink>⟧ sink.old sink.new) }
-    ensures last { IsErrOf result Stop.WriteFault → EndsAtFault ⟦<K as Sink>⟧ sink.old sink.new }
-    ensures refusal { IfOk result (MatchesRefusal (S.left source.old)) }
+    ensures answers { IfOk result (Answers ⟦<K as Sink>⟧ (S.left source.old) (S.left source.new) sink.old sink.new) }
+    ensures stands { IfErr result (Stands ⟦<K as Sink>⟧ (S.left source.old) (S.left source.new) sink.old sink.new most_bytes) }
     ensures source_faults { Counts (stops_at_read result) (S.faults source.old) (S.faults source.new) }
     ensures sink_faults { Counts (stops_at_write result) (K.faults sink.old) (K.faults sink.new) }
     ensures too_long { S.taken source.new < last_count → (IsErrOf result Stop.TooLong ↔ (most_bytes < S.taken source.new - S.taken source.old)) }
@@ -134,10 +109,7 @@ pub fn run<S: Source, K: Sink>(alloc: Global, words: &Words, source: &mut S, sin
     // lines, and they were not flushed: at a failed read to all lines whose line feed was taken, at a script that is too
     // long to all that end within the bytes that it may have.
     ensures prefix { AppendsOutputPrefix (S.left source.old) (K.written sink.old) (K.written sink.new) }
-    ensures part { result ≡ Status.WriteFault → AppendsProperOutputPrefix (S.left source.old) (K.written sink.old) (K.written sink.new)
-        ⊎ (AppendsOutput (S.left source.old) (K.written sink.old) (K.written sink.new)
-        × EndsWithFlush ⟦<K as Sink>⟧ sink.old false sink.new) }
-    ensures last { result ≡ Status.WriteFault → EndsAtFault ⟦<K as Sink>⟧ sink.old sink.new }
+    ensures part { result ≡ Status.WriteFault → EndsAtSink ⟦<K as Sink>⟧ (S.left source.old) (S.left source.new) sink.old sink.new }
     ensures unflushed { EndsBetweenLines result → StaysUnflushed ⟦<K as Sink>⟧ sink.old sink.new }
     ensures whole { EndsBetweenLines result → AppendsFirstAnswers (S.left source.old) (K.written sink.old) (K.written sink.new) }
     ensures taken_answers { result ≡ Status.ReadFault →

@@ -7,8 +7,9 @@ use Rattle.retro_io.specs.declared.mark.Mark.TheVariants.{Whole, Long, End}
 use Rattle.retro_io.specs.declared.mark.ReadError.{ReadError}
 use Rattle.retro_io.specs.declared.mark.ReadError.TheVariants.{ReadFault, TooLong}
 use Rattle.std.specs.Prelude.{IfOk, IsTrue}
-use Rattle.retro_io.specs.Faults.{count_after}
-use Rattle.retro_io.specs.LineReader.{held_and_left}
+use Rattle.retro_io.specs.declared.line_reader.LineReader.{LineReader}
+use Rattle.retro_io.specs.declared.source.Source.{Ghosts}
+use Rattle.retro_io.specs.LineReader.{GivesLine, given, has_ended, held, held_and_left, line_of, rest_of, source_of}
 use Rattle.retro_io.specs.Lines.{lines, longest_line, line_feed, has_line_feed, without_return, StartsWith}
 use Rattle.retro_io.specs.Marks.{Shows, GivesNext, GivesNextOf, Measures, gives_line}
 use Rattle.retro_io.specs.Reads.{Took, GivesPiece, GivesFirst, MakesOf}
@@ -89,10 +90,6 @@ pub Shows-long : (shown piece first : List ℕ) → longest_line + 1 < length pi
     → Shows Long shown (without_return piece)
 Shows-long shown piece first h s f =
     (s ∙ f ∙ sym (take-without_return longest_line piece (omega arith)), omega (arith, length-without_return piece))
-
--- a count after so many more, and then again so many
-pub count_after-twice : (count first second : ℕ) → count_after (count_after count first) second ≡ count_after count (first + second)
-count_after-twice count first second = omega arith
 
 pub GivesFirst-piece : (mark : Mark) (shown : List ℕ) (ended : Bool) (bytes after : List ℕ)
     → GivesPiece mark shown ended bytes after → GivesFirst mark shown ended bytes after
@@ -231,3 +228,34 @@ measures_of_call (Ok Whole) shown ended held after before left count took = meas
 measures_of_call (Ok Long) shown ended held after before left count took = measures_shown Long shown _ took.holds.shows
 measures_of_call (Ok End) shown ended held after before left count took = tt
 measures_of_call (Err error) shown ended held after before left count took = tt
+
+end_is_not_whole : Whole ≡ End → ⊥
+end_is_not_whole e = cc
+
+end_is_not_long : Long ≡ End → ⊥
+end_is_not_long e = cc
+
+-- a line that is shown is no end
+pub shows_no_end : {A : Type 0} (mark : Mark) (shown line : List ℕ) → Shows mark shown line → mark ≡ End → A
+shows_no_end Whole shown line shows is = absurd (end_is_not_whole is)
+shows_no_end Long shown line shows is = absurd (end_is_not_long is)
+shows_no_end End shown line shows is = absurd shows
+
+-- at the end nothing is held
+pub end_of_call : {A : Type 0} (r : Result Mark ReadError) (shown : List ℕ) (ended : Bool) (held after : List ℕ) (before left : Option (List ℕ)) (count : ℕ)
+    → Took before left count (MakesOf r shown ended held after) → (ended ≡ true → A) → IfOk r (λ mark. mark ≡ End → (after ≡ []) × (ended ≡ true) × A)
+end_of_call (Ok Whole) shown ended held after before left count took at_end = λ is. absurd (end_is_not_whole is)
+end_of_call (Ok Long) shown ended held after before left count took at_end = λ is. absurd (end_is_not_long is)
+end_of_call (Ok End) shown ended held after before left count took at_end = λ _. (took.holds.1, took.holds.2, at_end took.holds.2)
+end_of_call (Err error) shown ended held after before left count took at_end = tt
+
+-- and all of it in one
+pub gives_line_from : {S : Type 0} {G : Ghosts S} (r : Result Mark ReadError) (before after : LineReader S G)
+    → IfOk r (λ mark. GivesNextOf mark (line_of after) (has_ended after) (rest_of before) (rest_of after))
+    → IfOk r (λ mark. Measures mark (line_of after))
+    → IfOk r (λ mark. IsTrue (gives_line mark) → given before < given after)
+    → IfOk r (λ mark. mark ≡ End → (held after ≡ []) × (has_ended after ≡ true) × (G.ended (source_of after) ≡ true))
+    → IfOk r (λ mark. GivesLine mark before after)
+gives_line_from (Ok mark) before after lines shown progress at_end =
+    record { lines = lines; shown = shown; progress = progress; at_end = at_end }
+gives_line_from (Err error) before after lines shown progress at_end = tt

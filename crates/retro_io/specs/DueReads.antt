@@ -1,10 +1,11 @@
 -- When the reader reads, and which buffers it offers.
 use Rattle.std.specs.Prelude.{◌≡◌, ℕ, ◌-◌, ◌≤◌, ◌<◌, min, max, Bool, true, false, List, [], ◌∷◌, ◌++◌, length, Result, Ok, Err}
+use Rattle.retro_io.specs.LineBuffer.{room_beside_line}
 use Rattle.retro_io.specs.Lines.{has_line_feed}
 
--- with so many bytes left up to the limit, a read offers a buffer of 16 bytes at least, or of all that are left where they are fewer, and of one where none is left
+-- with so many bytes left up to the limit, a read offers room for all of them, and for one where none is left; but no more than the reader's buffer has beside a line
 abbrev pub Offers : ℕ → ℕ → Type 0
-Offers left room = (0 < room) × (min 16 left ≤ room) × (room ≤ max left 1)
+Offers left room = (0 < room) × (min room_beside_line left ≤ room) × (room ≤ max left 1)
 
 -- the bytes that a read gave
 abbrev pub given_by : {E : Type 0} → Result (List ℕ) E → List ℕ

@@ -38,7 +38,3 @@ module _ {S : Type 0} (G : Ghosts S) where
     pub wrote : IsWritten before middle
     pub some : 0 < length piece
     pub failed : G.writes middle piece (Err fault) after
-
-  -- the last call of all was the one that failed
-  abbrev pub EndsAtFault : S → S → Type 0
-  EndsAtFault before after = EndsWithFailedWrite before after ⊎ EndsWithFlush before false after

@@ -9,6 +9,8 @@ pub mod LineReader
 pub mod Lines
 pub mod Marks
 pub mod Memory
+pub mod Outbox
+pub mod ReaderLaws
 pub mod Reads
 pub mod Sink
 pub mod SinkLaws

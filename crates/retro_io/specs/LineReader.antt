@@ -1,8 +1,16 @@
 -- What contracts see of a line reader.
-use Rattle.std.specs.Prelude.{ℕ, Bool, ◌-◌, List, ◌++◌, length, Option, None, Some}
+use Rattle.std.specs.Prelude.{◌≡◌, ℕ, Bool, true, false, ◌+◌, ◌-◌, ◌≤◌, ◌<◌, List, [], ◌++◌, length, take, Option, None, Some, IfSome, IsTrue}
 use Rattle.std.specs.Borrow.{GName}
 use Rattle.retro_io.specs.declared.line_reader.LineReader.{LineReader}
+use Rattle.retro_io.specs.declared.mark.Mark.{Mark}
+use Rattle.retro_io.specs.declared.mark.Mark.TheVariants.{End}
+use Rattle.retro_io.specs.declared.mark.ReadError.{ReadError}
+use Rattle.retro_io.specs.declared.mark.ReadError.TheVariants.{ReadFault, TooLong}
 use Rattle.retro_io.specs.declared.source.Source.{Ghosts}
+use Rattle.retro_io.specs.Faults.{count_after}
+use Rattle.retro_io.specs.Lines.{has_line_feed}
+use Rattle.retro_io.specs.Marks.{GivesNextOf, Measures, gives_line}
+use Rattle.retro_io.specs.Source.{GivesCount}
 
 -- the bytes not given yet: those held, and then those left in the source, where it tells them
 abbrev pub held_and_left : List ℕ → Option (List ℕ) → Option (List ℕ)
@@ -49,3 +57,25 @@ module _ {S : Type 0} {G : Ghosts S} where
   -- the bytes not given yet, where the source tells its own
   abbrev pub rest_of : LineReader S G → Option (List ℕ)
   rest_of r = held_and_left (held r) (G.left (source_of r))
+
+  -- a reader moves on: it took more bytes of its own source, one past its limit at the most
+  pub record MovesOn (before after : LineReader S G) : Type 0 where
+    pub reference : reference_of after ≡ reference_of before
+    pub limit : limit_of after ≡ limit_of before
+    pub more : taken before ≤ taken after
+    pub within : taken after ≤ limit_of after + 1
+    pub count : G.taken (source_of after) ≡ count_after (G.taken (source_of before)) (taken after - taken before)
+    pub left : GivesCount (G.left (source_of before)) (taken after - taken before) (G.left (source_of after))
+
+  -- it gives the next line of its bytes, or comes to the end of them
+  pub record GivesLine (mark : Mark) (before after : LineReader S G) : Type 0 where
+    pub lines : GivesNextOf mark (line_of after) (has_ended after) (rest_of before) (rest_of after)
+    pub shown : Measures mark (line_of after)
+    pub progress : IsTrue (gives_line mark) → given before < given after
+    pub at_end : mark ≡ End → (held after ≡ []) × (has_ended after ≡ true) × (G.ended (source_of after) ≡ true)
+
+  -- it stops at an error, where it held no whole line and took none: none at all up to a failed read, or none within its limit
+  pub record StopsAt (error : ReadError) (before after : LineReader S G) : Type 0 where
+    pub unbroken : has_line_feed (held before) ≡ false
+    pub unbroken_taken : error ≡ ReadFault → IfSome (G.left (source_of before)) (λ bytes. has_line_feed (take (taken after - taken before) bytes) ≡ false)
+    pub unbroken_first : error ≡ TooLong → IfSome (G.left (source_of before)) (λ bytes. has_line_feed (take (limit_of before - taken before) bytes) ≡ false)

@@ -15,6 +15,7 @@
 //! - `line_reader`, `line_buffer`, `mark`: the reader, the buffer that it cuts lines from, and what it answers.
 //! - `memory_source`, `whole_source`, `memory_sink`, `stock`: sources and a sink in memory, which tell their bytes, and
 //!   of which chosen calls fail.
+//! - `outbox`, `sharing`: a sink that gathers what is written, and a source that sends it before each read.
 //! - `std_source`, `std_sink`: those over std's readers and writers. Nothing is known of what such a reader gives or such
 //!   a writer does with what it takes.
 #![tactic(auto)]
@@ -24,10 +25,14 @@ mod line_reader;
 mod mark;
 mod memory_sink;
 mod memory_source;
+mod outbox;
+mod sharing;
 mod sink;
 mod source;
 mod std_sink;
 mod std_source;
+#[cfg(test)]
+mod std_tests;
 mod stock;
 #[cfg(test)]
 mod tests;
@@ -38,6 +43,8 @@ pub use line_reader::LineReader;
 pub use mark::{Mark, ReadError};
 pub use memory_sink::MemorySink;
 pub use memory_source::MemorySource;
+pub use outbox::Outbox;
+pub use sharing::{SendingSource, SharedSink};
 pub use sink::{Sink, WriteFault, put_all};
 pub use source::{Failed, Source};
 pub use std_sink::StdSink;

@@ -31,7 +31,7 @@ pub struct LineBuffer {
 impl Model for LineBuffer {
     ghost use Rattle.std.specs.Prelude.{◌≡◌, ◌≤◌, vec_len};
     ghost use Rattle.std.specs.List.{slice_range};
-    ghost use Rattle.retro_io.specs.LineBuffer.{Buffered};
+    ghost use Rattle.retro_io.specs.LineBuffer.{Buffered, buffer_size};
 
     ghost Value = { Buffered };
 
@@ -40,8 +40,8 @@ impl Model for LineBuffer {
       shown = slice_range b.bytes.items b.line_start b.line_end;
     } };
 
-    ghost invariant = { λ b. (b.start ≤ b.end) × (b.end ≤ 65536) × (vec_len b.bytes ≡ 65536)
-        × (b.line_start ≤ b.line_end) × (b.line_end ≤ 65536) };
+    ghost invariant = { λ b. (b.start ≤ b.end) × (b.end ≤ buffer_size) × (vec_len b.bytes ≡ buffer_size)
+        × (b.line_start ≤ b.line_end) × (b.line_end ≤ buffer_size) };
 }
 
 impl LineBuffer {
@@ -135,7 +135,7 @@ impl LineBuffer {
         most: u64,
     ) -> Result<usize, Failed>
         requires some { 0 < most }
-        requires room { length self.old.held + 16 ≤ 65536 }
+        requires room { length self.old.held ≤ longest_line + 1 }
         ensures kept { take (length self.old.held) self.new.held ≡ self.old.held }
         ensures count { MatchResult result
             (λ count. length self.new.held ≡ length self.old.held + count)

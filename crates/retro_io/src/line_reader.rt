@@ -1,10 +1,10 @@
-ghost use Rattle.std.specs.Prelude.{◌≡◌, ◌+◌, ◌-◌, ◌^◌, ◌≤◌, ◌<◌, ◌↔◌, [], true, false, length, take, drop, Result, Ok, IfOk, IfSome, OnErr, IsErrOf, IsTrue, is_err};
+ghost use Rattle.std.specs.Prelude.{◌≡◌, ◌+◌, ◌-◌, ◌^◌, ◌≤◌, ◌<◌, ◌↔◌, [], true, false, length, take, drop, Result, Ok, IfOk, IfErr, IsErrOf, is_err};
 ghost use Rattle.retro_io.specs.DueReads.{ReadOnce, WereDue, WereDueOf};
-ghost use Rattle.retro_io.specs.Faults.{Counts, count_after};
+ghost use Rattle.retro_io.specs.Faults.{Counts};
 ghost use Rattle.retro_io.specs.Lines.{has_line_feed, longest_line};
-ghost use Rattle.retro_io.specs.Marks.{GivesNextOf, Measures, gives_line, is_fault};
+ghost use Rattle.retro_io.specs.Marks.{is_fault};
 ghost use Rattle.retro_io.specs.Reads.{GivesFirst, MakesOf, Took};
-ghost use Rattle.retro_io.specs.Source.{Gives, GivesCount, bytes_left};
+ghost use Rattle.retro_io.specs.Source.{Gives, bytes_left};
 
 use crate::line_buffer::{LONGEST, LineBuffer};
 use crate::{Failed, Mark, ReadError, Source};
@@ -31,7 +31,7 @@ pub struct LineReader<'a, S: Source> {
 }
 
 impl<'a, S: Source> LineReader<'a, S> {
-    ghost use Rattle.retro_io.specs.LineReader.{held, line_of, taken, given, limit_of, has_ended, has_failed, source_of, reference_of, rest_of};
+    ghost use Rattle.retro_io.specs.LineReader.{GivesLine, MovesOn, StopsAt, held, line_of, taken, limit_of, has_ended, has_failed, source_of, reference_of};
 
     /// A reader of the lines of the source. It reserves all the memory that it will need.
     pub fn new(alloc: Global, source: &'a mut S, limit: u64) -> Result<LineReader<'a, S>, NoMemory>
@@ -95,39 +95,23 @@ impl<'a, S: Source> LineReader<'a, S> {
     }
 
     /// Moves to the next line. It takes no memory, and reads from the source only where no whole line is held and no
-    /// read of its own has answered the end. A read offers a buffer of 16 bytes at least, or of all that are left up to the
-    /// limit where they are fewer, or of the one byte that shows that there are more.
+    /// read of its own has answered the end. A read offers all of its buffer but what is kept of a line, or as much as is left
+    /// up to the limit where that is less, or room for the one byte that shows that there are more.
     pub fn next(&mut self) -> Result<Mark, ReadError>
         requires { has_failed self.old ≡ false }
-        ensures reference { reference_of self.new ≡ reference_of self.old }
-        ensures limit { limit_of self.new ≡ limit_of self.old }
+        ensures moves { MovesOn self.old self.new }
         ensures failed { has_failed self.new ≡ is_err result }
-        ensures taken { taken self.old ≤ taken self.new }
-        ensures within { taken self.new ≤ limit_of self.new + 1 }
-        // What became of the source.
-        ensures source_taken { S.taken (source_of self.new)
-            ≡ count_after (S.taken (source_of self.old)) (taken self.new - taken self.old) }
-        ensures source_left { GivesCount (S.left (source_of self.old)) (taken self.new - taken self.old) (S.left (source_of self.new)) }
         ensures source_faults { Counts (is_fault result) (S.faults (source_of self.old)) (S.faults (source_of self.new)) }
-        // The lines given are those of the bytes.
-        ensures lines { IfOk result (λ mark. GivesNextOf mark (line_of self.new) (has_ended self.new) (rest_of self.old) (rest_of self.new)) }
-        ensures shown { IfOk result (λ mark. Measures mark (line_of self.new)) }
-        ensures progress { IfOk result (λ mark. IsTrue (gives_line mark) → given self.old < given self.new) }
-        ensures at_end { IfOk result (λ mark. mark ≡ Mark.End →
-            (held self.new ≡ []) × (has_ended self.new ≡ true) × (S.ended (source_of self.new) ≡ true)) }
+        // The lines given are those of the bytes, whatever the pieces.
+        ensures gives { IfOk result (λ mark. GivesLine mark self.old self.new) }
+        ensures stops { IfErr result (λ error. StopsAt error self.old self.new) }
+        ensures too_long { IsErrOf result ReadError.TooLong ↔ (taken self.new ≡ limit_of self.new + 1) }
         // It reads only where no whole line is held and no read of its own has answered the end or failed, and offers a buffer
         // of the stated size.
         ensures kept_line { has_line_feed (held self.old) ≡ true → source_of self.new ≡ source_of self.old }
         ensures kept_end { has_ended self.old ≡ true → (source_of self.new ≡ source_of self.old) × (result ≡ Ok Mark.End) }
         ensures reads { WereDueOf S.reads (limit_of self.old - taken self.old) (held self.old) (has_ended self.old)
             (source_of self.old) (taken self.new - taken self.old) (source_of self.new) }
-        // An error comes only where no whole line was held.
-        ensures unbroken { OnErr result (has_line_feed (held self.old) ≡ false) }
-        ensures fault_unbroken { IsErrOf result ReadError.ReadFault → IfSome (S.left (source_of self.old))
-            (λ bytes. has_line_feed (take (taken self.new - taken self.old) bytes) ≡ false) }
-        ensures too_long { IsErrOf result ReadError.TooLong ↔ (taken self.new ≡ limit_of self.new + 1) }
-        ensures too_long_unbroken { IsErrOf result ReadError.TooLong → IfSome (S.left (source_of self.old))
-            (λ bytes. has_line_feed (take (limit_of self.old - taken self.old) bytes) ≡ false) }
     {
         if self.ended {
             return Ok(Mark::End);
@@ -143,12 +127,8 @@ impl<'a, S: Source> LineReader<'a, S> {
         requires failed { has_failed self.old ≡ false }
         requires ended { has_ended self.old ≡ false }
         requires unbroken { has_line_feed (held self.old) ≡ false }
-        ensures reference { reference_of self.new ≡ reference_of self.old }
-        ensures limit { limit_of self.new ≡ limit_of self.old }
+        ensures moves { MovesOn self.old self.new }
         ensures failed { has_failed self.new ≡ is_err result }
-        ensures taken { taken self.old ≤ taken self.new }
-        ensures source_taken { S.taken (source_of self.new)
-            ≡ count_after (S.taken (source_of self.old)) (taken self.new - taken self.old) }
         ensures source_faults { Counts (is_fault result) (S.faults (source_of self.old)) (S.faults (source_of self.new)) }
         ensures took { Took (S.left (source_of self.old)) (S.left (source_of self.new)) (taken self.new - taken self.old)
             (λ got. MakesOf result (line_of self.new) (has_ended self.new) (held self.old) (held self.new) got
@@ -173,12 +153,8 @@ impl<'a, S: Source> LineReader<'a, S> {
         requires ended { has_ended self.old ≡ false }
         requires unbroken { has_line_feed (held self.old) ≡ false }
         requires long { longest_line + 1 < length (held self.old) }
-        ensures reference { reference_of self.new ≡ reference_of self.old }
-        ensures limit { limit_of self.new ≡ limit_of self.old }
+        ensures moves { MovesOn self.old self.new }
         ensures failed { has_failed self.new ≡ is_err result }
-        ensures taken { taken self.old ≤ taken self.new }
-        ensures source_taken { S.taken (source_of self.new)
-            ≡ count_after (S.taken (source_of self.old)) (taken self.new - taken self.old) }
         ensures source_faults { Counts (is_fault result) (S.faults (source_of self.old)) (S.faults (source_of self.new)) }
         ensures took { Took (S.left (source_of self.old)) (S.left (source_of self.new)) (taken self.new - taken self.old)
             (λ got. MakesOf result (line_of self.new) (has_ended self.new) (held self.old) (held self.new) got
@@ -222,20 +198,16 @@ impl<'a, S: Source> LineReader<'a, S> {
         }
     }
 
-    /// Reads after the bytes held: up to the limit, or the one byte that shows that there are more. The buffer offers far
-    /// more than 16 bytes after those that it keeps of a line.
+    /// Reads after the bytes held: up to the limit, or the one byte that shows that there are more. The buffer offers
+    /// all of its room but what it keeps of a line.
     fn fill(&mut self) -> Result<usize, ReadError>
         requires failed { has_failed self.old ≡ false }
         requires ended { has_ended self.old ≡ false }
-        requires room { length (held self.old) + 16 ≤ 65536 }
-        ensures reference { reference_of self.new ≡ reference_of self.old }
-        ensures limit { limit_of self.new ≡ limit_of self.old }
+        requires room { length (held self.old) ≤ longest_line + 1 }
+        ensures moves { MovesOn self.old self.new }
         ensures failed { has_failed self.new ≡ is_err result }
         ensures ended { has_ended self.new ≡ false }
         ensures count { IfOk result (λ count. taken self.new ≡ taken self.old + count) }
-        ensures taken { taken self.old ≤ taken self.new }
-        ensures source_taken { S.taken (source_of self.new)
-            ≡ count_after (S.taken (source_of self.old)) (taken self.new - taken self.old) }
         ensures source_faults { Counts (is_fault result) (S.faults (source_of self.old)) (S.faults (source_of self.new)) }
         ensures reads { ReadOnce S.reads (limit_of self.old - taken self.old)
             (source_of self.old) (drop (length (held self.old)) (held self.new)) (source_of self.new) }

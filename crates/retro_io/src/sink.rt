@@ -1,4 +1,4 @@
-ghost use Rattle.std.specs.Prelude.{◌≡◌, ℕ, Bool, false, List, Option, ◌≤◌, ◌<◌, length, take, Result, is_ok, is_err, IfOk, MatchResult};
+ghost use Rattle.std.specs.Prelude.{◌≡◌, ℕ, Bool, false, List, Option, ◌≤◌, ◌<◌, length, take, Result, is_ok, is_err, IfOk, IfErr, MatchResult};
 ghost use Rattle.retro_io.specs.Faults.{Counts, last_count};
 ghost use Rattle.retro_io.specs.Sink.{Appends, AppendsProperPrefix, HandsAll, HandsAllUntilFault};
 ghost use Rattle.retro_io.specs.declared.source.Failed.{Failed};
@@ -61,11 +61,30 @@ pub fn put_all<K: Sink>(sink: &mut K, bytes: &[u8]) -> Result<(), WriteFault>
     ensures nothing { length bytes.now ≡ 0 → sink.new ≡ sink.old }
     ensures counts { Counts (is_err result) (K.faults sink.old) (K.faults sink.new) }
 {
+    match put_until_fault(sink, bytes) {
+        Ok(()) => Ok(()),
+        Err(_count) => Err(WriteFault),
+    }
+}
+
+/// The same, and where a write failed it answers how many bytes were appended before.
+pub(crate) fn put_until_fault<K: Sink>(sink: &mut K, bytes: &[u8]) -> Result<(), usize>
+    ensures appended { MatchResult result
+        (λ _. Appends (K.written sink.old) bytes.now (K.written sink.new))
+        (λ count. Appends (K.written sink.old) (take count bytes.now) (K.written sink.new)) }
+    ensures short { IfErr result (λ count. count < length bytes.now) }
+    ensures handed { MatchResult result
+        (λ _. HandsAll K.writes bytes.now sink.old (length bytes.now) sink.new)
+        (λ _. HandsAllUntilFault K.writes bytes.now sink.old sink.new) }
+    ensures flushed { 0 < length bytes.now → K.flushed sink.new ≡ false }
+    ensures nothing { length bytes.now ≡ 0 → sink.new ≡ sink.old }
+    ensures counts { Counts (is_err result) (K.faults sink.old) (K.faults sink.new) }
+{
     let mut appended = 0;
     while appended < bytes.len() {
         match sink.write(&bytes[appended..]) {
             Ok(count) => appended += count,
-            Err(Failed) => return Err(WriteFault),
+            Err(Failed) => return Err(appended),
         }
     }
     Ok(())

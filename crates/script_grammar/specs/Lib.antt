@@ -6,4 +6,6 @@ pub mod Operands
 pub mod Operations
 pub mod Queries
 pub mod Command
+pub mod BlockLines
+pub mod SpellingLaws
 pub mod AnswerText

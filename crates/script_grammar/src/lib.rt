@@ -6,12 +6,15 @@
 //! `specs/` that has one case for each form, so that a further form is one more case in both.
 //!
 //! - `read_line` gives the command of a line, or says why it has none.
+//! - `read_row`, `is_end` and `is_passed_over` read the lines within a block.
 //! - `print_answer` and `print_listing` append the text of an answer.
 #![tactic(auto)]
 
 mod answer;
 mod ask;
+mod block_lines;
 mod command;
+mod header;
 mod line;
 mod listing;
 mod numbers;
@@ -24,6 +27,7 @@ mod tests;
 mod words;
 
 pub use answer::print_answer;
+pub use block_lines::{is_end, is_passed_over, read_row};
 pub use command::{Command, LineError, Moment, Query, Spot};
 pub use line::read_line;
 pub use listing::print_listing;

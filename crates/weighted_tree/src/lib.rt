@@ -25,7 +25,8 @@
 //! there is none; no other call takes any.
 //!
 //! The proofs rest on the laws of the monoid alone. What the layer above may rely on: the clauses of
-//! `Tree`, in the words of lists; `measure_of` and `slice_range` for what a range measures; `VisitsWithin` of
+//! `Tree`, in the words of lists; `measure_in` of specs/Measures.antt and std's `slice_range` for what a
+//! range measures; `FindsFirst` and `FindsLast` of specs/Search.antt for the searches; `VisitsWithin` of
 //! `retro_base` for the cost.
 #![tactic(auto)]
 

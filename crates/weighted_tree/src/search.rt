@@ -31,7 +31,9 @@ impl<T: Measured> Subtree<T> {
     ) -> Search<T::Measure>
         requires within { from ≤ length self.now }
         requires callable { F.IsAlwaysCallable test.now }
-        ensures sought { IsSought F.Fn test.now T.Measure.items_of (passing side T.Measured T.Measure.Monoid T.Measure.unit_value (drop from (seen_from side self.now))) (length self.now - from) result }
+        ensures sought { IsSought F.Fn test.now T.Measure.items_of
+            (passing side T.Measured T.Measure.Monoid T.Measure.unit_value (drop from (seen_from side self.now)))
+            (length self.now - from) result }
         ensures fits { length self.now < 2 ^ 32 }
         ensures none_lost { steps.old ≤ steps.new }
         ensures some { from < length self.now → steps.old + 1 ≤ steps.new }
@@ -77,7 +79,8 @@ impl<T: Measured> Subtree<T> {
     ) -> u32
         requires fits { T.Measure.items_of before + length self.now < 2 ^ 32 }
         requires callable { F.IsAlwaysCallable test.now }
-        ensures turn { IsTurnWithin F.Fn test.now (passing side T.Measured T.Measure.Monoid before (seen_from side self.now)) (length self.now) result }
+        ensures turn { IsTurnWithin F.Fn test.now
+            (passing side T.Measured T.Measure.Monoid before (seen_from side self.now)) (length self.now) result }
         ensures none_lost { steps.old ≤ steps.new }
         ensures visits { OneALevel (weight self.now) steps.old steps.new }
     {

@@ -96,7 +96,8 @@ impl<T: Measured> Subtree<T> {
     /// A measure joined with that of all items, seen from a side.
     pub(crate) fn passed(&self, side: Side, before: T::Measure) -> T::Measure
         requires fits { T.Measure.items_of before + length self.now < 2 ^ 32 }
-        ensures value { result ≡ join_from side T.Measure.joined before (measure_seen side T.Measured T.Measure.Monoid (seen_from side self.now)) }
+        ensures value { result ≡ join_from side T.Measure.joined before
+            (measure_seen side T.Measured T.Measure.Monoid (seen_from side self.now)) }
         ensures items { T.Measure.items_of result ≡ T.Measure.items_of before + length self.now }
     {
         side.join(before, self.whole())

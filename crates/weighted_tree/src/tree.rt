@@ -117,7 +117,8 @@ impl<T: Measured> Tree<T> {
     ) -> Option<u32>
         requires within { from ≤ length self.now }
         requires callable { F.IsAlwaysCallable test }
-        ensures first { FindsFirst F.Fn test (from_place T.Measured T.Measure.Monoid self.now from) from (length self.now) result }
+        ensures first { FindsFirst F.Fn test
+            (from_place T.Measured T.Measure.Monoid self.now from) from (length self.now) result }
         ensures within { IfSome result (λ place. (from ≤ place) × (place ≤ length self.now)) }
         ensures some { from < length self.now → steps.old + 1 ≤ steps.new }
         ensures visits { VisitsWithin 12 (length self.now) steps.old steps.new }
@@ -137,7 +138,8 @@ impl<T: Measured> Tree<T> {
     ) -> Option<u32>
         requires within { to ≤ length self.now }
         requires callable { F.IsAlwaysCallable test }
-        ensures last { FindsLast F.Fn test (up_to_place T.Measured T.Measure.Monoid self.now to) to result }
+        ensures last { FindsLast F.Fn test
+            (up_to_place T.Measured T.Measure.Monoid self.now to) to result }
         ensures within { IfSome result (λ place. place ≤ to) }
         ensures some { 0 < to → steps.old + 1 ≤ steps.new }
         ensures visits { VisitsWithin 12 (length self.now) steps.old steps.new }

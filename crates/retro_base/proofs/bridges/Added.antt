@@ -1,5 +1,5 @@
 -- The entries that rows add are those that their moves add.
-use Rattle.std.proofs.Common.{List, [], ◌∷◌, ◌⊎◌, inl, inr, Option, Some, None}
+use Rattle.std.proofs.Common.{List, [], ◌∷◌, inl, inr, Some, None}
 use Rattle.std.specs.List.{cons_option}
 use Rattle.retro_base.specs.declared.row.Entry.{Entry}
 use Rattle.retro_base.specs.declared.row.Row.{Row}

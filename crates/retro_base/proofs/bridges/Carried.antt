@@ -1,8 +1,8 @@
 -- Two replays of the same rows, one of them with an entry more: it has exactly one more at each later place. Where that
 -- entry comes before the one that is taken, the taken one is the one more from then on.
 --
---     c e      take, add a  lead to  a e     c is taken from the longer one,
---     c d e    take, add a  lead to  a d e   c more before, d more at the end
+--     d e      take, add a  lead to  a e      d is taken
+--     c d e    take, add a  lead to  a d e    c is taken: first c is the one more, and then d
 use Rattle.std.proofs.Common.{◌≡◌, ◌≢◌, List, [], ◌∷◌, true, false, ◌⊎◌, inl, inr, refl, ap, sym, ◌∙◌, subst, Option, Some, None}
 use Rattle.retro_base.specs.declared.row.Entry.{Entry}
 use Rattle.retro_base.specs.State.{comes_before, with_entry}

@@ -7,7 +7,7 @@ use Rattle.retro_base.specs.declared.row.Entry.{Entry}
 use Rattle.retro_base.specs.State.{with_entry}
 use Rattle.retro_base.proofs.bridges.Bridging.{AllIn, some_dead}
 use Rattle.retro_base.proofs.bridges.EntryOrder.{before_irreflexive, before_or_after, same_or_other}
-use Rattle.retro_base.proofs.bridges.Entries.{In, in_or_not, above_in, with_in}
+use Rattle.retro_base.proofs.bridges.Entries.{In, above_in, with_in}
 use Rattle.retro_base.proofs.bridges.Moves.{Leads, Adds, Ready, ready_added, ready_taken}
 use Rattle.retro_base.proofs.bridges.Carried.{AtMost, at_most_further}
 

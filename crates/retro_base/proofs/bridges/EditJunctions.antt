@@ -1,5 +1,8 @@
 -- An edit makes a junction of the rows before it and those after it: where it gives, the new rows are the richer ones, and
 -- else the old ones are. Only an added row that takes may find nothing to take at its place.
+--
+--     old   before |       | after
+--     new   before | ins 2 | after      the edit gives: the new rows hold the 2 more
 use Rattle.std.proofs.Common.{◌≡◌, ℕ, suc, ◌<◌, ◌≤◌, true, false, not, is_some, List, [], ◌∷◌, ◌++◌, length, take, drop, length-take, ◌⊎◌, inl, inr, refl, ap, sym, ◌∙◌, arith, subst, Some, None}
 use Rattle.std.specs.Prelude.{slice_get}
 use Rattle.std.proofs.Math.Seq.{drop-cons}

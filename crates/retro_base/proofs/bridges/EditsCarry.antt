@@ -1,8 +1,7 @@
 -- What an edit carries: behind an edit that gives the new states have one entry more, and behind any other accepted edit
 -- the old states have one more.
-use Rattle.std.proofs.Common.{◌≡◌, ℕ, suc, ◌+◌, ◌≤◌, Bool, true, false, List, [], ◌∷◌, length, length-append, drop, arith, inl, inr, refl, ap, sym, subst, Some}
-use Rattle.std.specs.Prelude.{slice_get, Contains}
-use Rattle.std.specs.List.{AllByRecursion}
+use Rattle.std.proofs.Common.{◌≡◌, ℕ, suc, ◌+◌, ◌≤◌, Bool, true, false, List, [], length, length-append, drop, arith, inl, inr, refl, ap, sym, subst, Some}
+use Rattle.std.specs.Prelude.{slice_get}
 use Rattle.retro_base.specs.Weights.{added_by}
 use Rattle.retro_base.specs.declared.kind.Kind.TheVariants.{Pq}
 use Rattle.retro_base.specs.declared.row.Entry.{Entry}
@@ -14,7 +13,7 @@ use Rattle.retro_base.specs.Carried.{IsPqEdit, gives, Differ, Carries, ChangesBy
 use Rattle.retro_base.proofs.bridges.Bridging.{all_in, bridge_all}
 use Rattle.retro_base.proofs.bridges.Histories.{valid_leads, never_both, moves_of}
 use Rattle.retro_base.proofs.bridges.Behind.{carried_behind, one_more_behind, carried_to_end, one_more_survives, rich_valid}
-use Rattle.retro_base.proofs.bridges.Entries.{In, contains_in, with_in}
+use Rattle.retro_base.proofs.bridges.Entries.{In, with_in}
 use Rattle.retro_base.proofs.bridges.Kept.{kept_behind}
 use Rattle.retro_base.proofs.bridges.Later.{adding_later, row_behind, one_joins, junction_later}
 use Rattle.retro_base.proofs.bridges.EditJunctions.{Taking, giving, taking}

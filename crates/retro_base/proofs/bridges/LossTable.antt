@@ -1,4 +1,8 @@
--- The lines of the table on what is lost.
+-- The lines of the table on what is lost. A bridge holds the survivors that were added before it, in their order: so the first
+-- that it holds is the least of them, and where it holds none there is none.
+--
+--     bridge b holds  4 6      an entry is missing before it: 4 is lost
+--     bridge b holds  .        an entry is missing before it: the rows fail
 use Rattle.std.proofs.Common.{◌≡◌, ℕ, suc, ◌-◌, ◌<◌, ◌≤◌, false, List, [], ◌∷◌, ◌++◌, take, drop, inl, inr, refl, ap, sym, ◌∙◌, arith, subst, Option, Some, None}
 use Rattle.std.specs.Prelude.{Contains}
 use Rattle.std.specs.Result.{result_err}

@@ -1,8 +1,8 @@
 -- The weights up to a place count the dead entries that are held there: a row that adds a dead entry puts one more on the
 -- heap, a row that takes takes a dead one off it, and the survivors count for nothing. A bridge is where the count is 0.
 --
---     ins 4, ins 2, delmin, delmin, ins 3        weights  1  1 -1 -1  0
---     sums  0 1 2 1 0 0                          bridges  |        |  |
+--     ins 4, ins 2, delmin, delmin, ins 3    weigh  1, 1, -1, -1, 0
+--     the sums are  0 1 2 1 0 0              and the places 0, 4 and 5 are bridges
 use Rattle.std.proofs.Common.{◌≡◌, ℕ, ℤ, pos, negsuc, ◌+◌, ◌+ℤ◌, not, true, false, List, [], ◌∷◌, ◌++◌, take, drop, refl, ap, sym, ◌∙◌, arith, cond, Option, Some, None}
 use Rattle.std.specs.Prelude.{◌↔◌, ◌≤ℤ◌, count_by, Contains}
 use Rattle.std.specs.List.{fold, AllByRecursion}

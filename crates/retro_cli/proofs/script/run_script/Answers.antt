@@ -1,38 +1,35 @@
 -- The answers were written, and then one flush was made.
-use Rattle.std.proofs.Common.{refl, inr, rules, Ok, Err}
+use Rattle.std.proofs.Common.{refl, inl, inr, rules, Ok, Err}
+use Rattle.std.proofs.lemmas.Result.{err_from_is_err_and}
 use Rattle.retro_cli.proofs.Ends.{appends_no_answers}
-use Rattle.retro_cli.proofs.Stops.{on_err}
 use Rattle.retro_cli.proofs.script.run_script.Goals as goal
 
-pub returns-in_err-buffer-clause-whole : goal.returns-in_err-buffer-clause-whole
-returns-in_err-buffer-clause-whole g c = on_err c.from_residual.result (λ _. appends_no_answers _ _)
+pub returns-in_err-buffer-clause-stands : goal.returns-in_err-buffer-clause-stands
+returns-in_err-buffer-clause-stands g c =
+    let p = err_from_is_err_and c.from_residual.result c.from_residual.ensures.1 in
+    rw (p.1, p.2) record { whole = appends_no_answers _ _; unflushed = inl refl }
 
-pub returns-in-Ok-clause-flush : goal.returns-in-Ok-clause-flush
-returns-in-Ok-clause-flush g c = record {
-  middle = c.answer_lines-answered.new.sink;
-  wrote = c.in_ok-refused.ensures.unflushed refl;
-  answer = Ok c.in-Ok.field-0;
-  is = refl;
-  flush = c.in-Ok.ensures.does;
+pub returns-in-Ok-clause-answers : goal.returns-in-Ok-clause-answers
+returns-in-Ok-clause-answers g c = record {
+  output = search rules;
+  flush = record {
+    middle = c.answer_lines-answered.new.sink;
+    wrote = c.in_ok-refused.ensures.unflushed;
+    answer = Ok c.in-Ok.field-0;
+    is = refl;
+    flush = c.in-Ok.ensures.does;
+  };
+  refusal = search rules;
 }
 
-pub returns-in-Err-clause-part : goal.returns-in-Err-clause-part
-returns-in-Err-clause-part g c = λ _. inr (
+pub returns-in-Err-clause-stands : goal.returns-in-Err-clause-stands
+returns-in-Err-clause-stands g c = inr (
   search rules,
   record {
     middle = c.answer_lines-answered.new.sink;
-    wrote = c.in_ok-refused.ensures.unflushed refl;
+    wrote = c.in_ok-refused.ensures.unflushed;
     answer = Err c.in-Err.field-0;
     is = refl;
     flush = c.in-Err.ensures.does;
   },
 )
-
-pub returns-in-Err-clause-last : goal.returns-in-Err-clause-last
-returns-in-Err-clause-last g c = λ _. inr record {
-  middle = c.answer_lines-answered.new.sink;
-  wrote = c.in_ok-refused.ensures.unflushed refl;
-  answer = Err c.in-Err.field-0;
-  is = refl;
-  flush = c.in-Err.ensures.does;
-}

@@ -4,13 +4,13 @@ use Rattle.std.proofs.lemmas.List.{append-nil}
 use Rattle.std.proofs.lemmas.Result.{err_from_is_err_and}
 use Rattle.retro_io.specs.declared.mark.ReadError.{ReadError}
 use Rattle.retro_io.specs.DueReads.{ReadOnce, ReadsDue, WereDue}
-use Rattle.retro_io.specs.Faults.{count_after}
 use Rattle.retro_io.specs.Lines.{has_line_feed, line_feed}
 use Rattle.retro_io.specs.Source.{Gives}
+use Rattle.retro_io.specs.ReaderLaws.{MovesOn-none, MovesOn-then}
 use Rattle.retro_io.specs.Reads.{MakesOf, GivesFirst, GivesPiece}
 use Rattle.retro_io.proofs.LineLemmas.{unbroken-back}
 use Rattle.retro_io.proofs.DueLemmas.{Took-due, Took-due-on, WereDue-then}
-use Rattle.retro_io.proofs.ReadLemmas.{Took-none, Took-both, MakesOf-error, MakesOf-later, GivesFirst-of, GivesFirst-piece, grown, length-after, count_after-twice}
+use Rattle.retro_io.proofs.ReadLemmas.{Took-none, Took-both, MakesOf-error, MakesOf-later, GivesFirst-of, GivesFirst-piece, grown, length-after}
 use Rattle.retro_io.proofs.line_reader.LineReader.read_line.Goals as goal
 use Rattle.retro_io.proofs.line_reader.LineReader.read_line.Goals.{After-fill}
 use Rattle.retro_io.proofs.line_reader.LineReader.read_line.Given.{Over}
@@ -31,14 +31,11 @@ held_unbroken g c xs e = ap has_line_feed (sym e) ∙ c.loop-self.invariant.unbr
 
 pub loop-self-init : goal.loop-self-init
 loop-self-init g c = record {
-  reference = refl;
-  limit = refl;
+  moves = MovesOn-none c.args.self.now c.args.self.now.within;
   failed = c.requires.failed;
   ended = c.requires.ended;
   unbroken = c.requires.unbroken;
-  rises = omega arith;
   in_limit = c.args.self.now.in_limit c.requires.failed;
-  source_taken = omega arith;
   source_faults = refl;
   took = Took-none _ _ _ (omega arith) (sym (append-nil c.args.self.now.buffer.held), ReadsDue.none);
 }
@@ -53,11 +50,11 @@ returns-in_err-fill-clause-took g c =
     rw (p.1, p.2)
     (Took-due g.S.Source.reads _ _ _ _ held _ _ _ _ _ _ (λ xs. c.loop-self.self.buffer.held ≡ held ++ xs)
     (MakesOf (Err error) c.fill.new.self.buffer.shown c.fill.new.self.ended held c.fill.new.self.buffer.held) came
-    c.loop-self.invariant.took c.fill.ensures.gives (omega (arith, count, c.fill.ensures.taken, c.loop-self.invariant.rises))
-    (omega (arith, c.loop-self.invariant.limit, c.loop-self.invariant.rises)) (held_unbroken g (goal.at.returns-in_err-fill-clause-took g c).After-fill) c.fill.ensures.reads
+    c.loop-self.invariant.took c.fill.ensures.gives (omega (arith, count, c.fill.ensures.moves.more, c.loop-self.invariant.moves.more))
+    (omega (arith, c.loop-self.invariant.moves.limit, c.loop-self.invariant.moves.more)) (held_unbroken g (goal.at.returns-in_err-fill-clause-took g c).After-fill) c.fill.ensures.reads
     (λ xs e. MakesOf-error error _ _ _ _ xs came (unbroken-back held xs (ap has_line_feed (sym e) ∙ c.loop-self.invariant.unbroken))
     (λ is. omega (arith, count, c.in_err-fill.ensures.fault (ap failing is)))
-    (λ is. omega (arith, count, c.in_err-fill.ensures.last (ap failing is), c.in_err-fill.ensures.too_long.0 (ap failing is), c.fill.ensures.limit))))
+    (λ is. omega (arith, count, c.in_err-fill.ensures.last (ap failing is), c.in_err-fill.ensures.too_long.0 (ap failing is), c.fill.ensures.moves.limit))))
 
 pub returns-then-branch-eq0-clause-took : goal.returns-then-branch-eq0-clause-took
 returns-then-branch-eq0-clause-took g c =
@@ -75,8 +72,8 @@ returns-then-branch-eq0-clause-took g c =
     (MakesOf (Ok mark) shown c.give_last.new.self.ended held after) came
     c.loop-self.invariant.took
     (subst (λ source. Gives (g.S.Source.left c.loop-self.self.source.now) came (g.S.Source.left source)) (sym c.give_last.ensures.source) c.fill.ensures.gives)
-    (omega (arith, count, c.fill.ensures.taken, c.loop-self.invariant.rises, c.give_last.ensures.taken))
-    (omega (arith, c.loop-self.invariant.limit, c.loop-self.invariant.rises)) (held_unbroken g (goal.at.returns-then-branch-eq0-clause-took g c).After-fill)
+    (omega (arith, count, c.fill.ensures.moves.more, c.loop-self.invariant.moves.more, c.give_last.ensures.taken))
+    (omega (arith, c.loop-self.invariant.moves.limit, c.loop-self.invariant.moves.more)) (held_unbroken g (goal.at.returns-then-branch-eq0-clause-took g c).After-fill)
     (subst (λ source. ReadOnce g.S.Source.reads (c.loop-self.self.limit - c.loop-self.self.taken) c.loop-self.self.source.now came source)
     (sym c.give_last.ensures.source) c.fill.ensures.reads)
     (λ xs e. GivesFirst-of mark shown c.give_last.new.self.ended now (held ++ (xs ++ came)) after (grown held before now xs e c.fill.ensures.kept) gives)
@@ -102,8 +99,8 @@ returns-in-Some-clause-took g c =
     Took-due g.S.Source.reads _ _ _ _ held _ _ _ _ _ _ (λ xs. before ≡ held ++ xs)
     (MakesOf (Ok mark) shown ended held after) came
     c.loop-self.invariant.took c.fill.ensures.gives
-    (omega (arith, count, c.fill.ensures.taken, c.loop-self.invariant.rises))
-    (omega (arith, c.loop-self.invariant.limit, c.loop-self.invariant.rises)) (held_unbroken g (goal.at.returns-in-Some-clause-took g c).After-fill) c.fill.ensures.reads
+    (omega (arith, count, c.fill.ensures.moves.more, c.loop-self.invariant.moves.more))
+    (omega (arith, c.loop-self.invariant.moves.limit, c.loop-self.invariant.moves.more)) (held_unbroken g (goal.at.returns-in-Some-clause-took g c).After-fill) c.fill.ensures.reads
     (λ xs e. GivesFirst-of mark shown ended now (held ++ (xs ++ came)) after (grown held before now xs e c.fill.ensures.kept)
     (GivesFirst-piece mark shown ended now after piece))
 
@@ -115,20 +112,15 @@ loop-self-preserved g c =
     let came = drop (length before) now in
     let count = size g (goal.at.loop-self-preserved g c).After-fill in
     record {
-      reference = c.fill.ensures.reference ∙ c.loop-self.invariant.reference;
-      limit = c.fill.ensures.limit ∙ c.loop-self.invariant.limit;
+      moves = MovesOn-then c.args.self.now c.loop-self.self c.fill.new.self c.loop-self.invariant.moves c.fill.ensures.moves;
       failed = c.in_ok-fill.ensures.failed;
       ended = c.fill.ensures.ended;
       unbroken = c.in_default.ensures;
-      rises = omega (arith, c.fill.ensures.taken, c.loop-self.invariant.rises);
       in_limit = c.fill.new.self.in_limit c.in_ok-fill.ensures.failed;
-      source_taken = c.fill.ensures.source_taken ∙ ap (λ n. count_after n (c.fill.new.self.taken - c.loop-self.self.taken)) c.loop-self.invariant.source_taken
-          ∙ count_after-twice (g.S.Source.taken c.args.self.now.source.now) _ _
-          ∙ ap (count_after (g.S.Source.taken c.args.self.now.source.now)) (omega (arith, c.fill.ensures.taken, c.loop-self.invariant.rises));
       source_faults = c.in_ok-fill.ensures.source_faults ∙ c.loop-self.invariant.source_faults;
       took = Took-due-on g.S.Source.reads _ _ _ _ held _ _ _ _ _ _ (λ xs. before ≡ held ++ xs) (λ xs. now ≡ held ++ xs) came
-          c.loop-self.invariant.took c.fill.ensures.gives (omega (arith, count, c.fill.ensures.taken, c.loop-self.invariant.rises))
-          (omega (arith, c.loop-self.invariant.limit, c.loop-self.invariant.rises)) (held_unbroken g (goal.at.loop-self-preserved g c).After-fill) c.fill.ensures.reads
+          c.loop-self.invariant.took c.fill.ensures.gives (omega (arith, count, c.fill.ensures.moves.more, c.loop-self.invariant.moves.more))
+          (omega (arith, c.loop-self.invariant.moves.limit, c.loop-self.invariant.moves.more)) (held_unbroken g (goal.at.loop-self-preserved g c).After-fill) c.fill.ensures.reads
           (λ xs e. grown held before now xs e c.fill.ensures.kept)
           (omega (arith, count, c.in_ok-fill.ensures.count, c.if-branch-eq0.false));
     }
@@ -149,9 +141,9 @@ returns-clause-took g c =
     × WereDue g.S.Source.reads left held false first xs last.source.now)
     (c.loop-self.self.taken - c.args.self.now.taken) (last.taken - c.loop-self.self.taken) (last.taken - c.args.self.now.taken)
     c.loop-self.invariant.took c.read_long.ensures.took
-    (omega (arith, c.read_long.ensures.taken, c.loop-self.invariant.rises))
+    (omega (arith, c.read_long.ensures.moves.more, c.loop-self.invariant.moves.more))
     (λ xs ys n p q. (
       MakesOf-later c.read_long.result last.buffer.shown last.ended held before last.buffer.held xs ys p.0 c.loop-self.invariant.unbroken q.0,
       WereDue-then g.S.Source.reads left rest held before false first middle last.source.now xs ys
-          (omega (arith, n, c.loop-self.invariant.limit, c.loop-self.invariant.rises)) p.0 p.1 q.1,
+          (omega (arith, n, c.loop-self.invariant.moves.limit, c.loop-self.invariant.moves.more)) p.0 p.1 q.1,
     ))

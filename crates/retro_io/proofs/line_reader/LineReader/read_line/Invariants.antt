@@ -1,21 +1,18 @@
 -- All that was taken is held, and has no line feed.
 use Rattle.std.proofs.Common.{◌≡◌, ◌≤◌, ◌+◌, ◌-◌, ◌++◌, false, List, ℕ}
 use Rattle.retro_io.specs.DueReads.{ReadsDue}
-use Rattle.retro_io.specs.Faults.{count_after}
+use Rattle.retro_io.specs.LineReader.{MovesOn}
 use Rattle.retro_io.specs.Lines.{has_line_feed}
 use Rattle.retro_io.specs.Reads.{Took}
 use Rattle.retro_io.proofs.line_reader.LineReader.read_line.Given as goal
 
 abbrev pub invariant-loop-self : goal.invariant-loop-self
 invariant-loop-self g l = record {
-  reference : l.self.source.ghost_name ≡ l.initial.self.source.ghost_name;
-  limit : l.self.limit ≡ l.initial.self.limit;
+  moves : MovesOn l.initial.self l.self;
   failed : l.self.failed ≡ false;
   ended : l.self.ended ≡ false;
   unbroken : has_line_feed l.self.buffer.held ≡ false;
-  rises : l.initial.self.taken ≤ l.self.taken;
   in_limit : l.self.taken ≤ l.self.limit;
-  source_taken : g.S.Source.taken l.self.source.now ≡ count_after (g.S.Source.taken l.initial.self.source.now) (l.self.taken - l.initial.self.taken);
   source_faults : g.S.Source.faults l.self.source.now ≡ g.S.Source.faults l.initial.self.source.now;
   took : Took (g.S.Source.left l.initial.self.source.now) (g.S.Source.left l.self.source.now) (l.self.taken - l.initial.self.taken)
       (λ (got : List ℕ). (l.self.buffer.held ≡ l.initial.self.buffer.held ++ got)

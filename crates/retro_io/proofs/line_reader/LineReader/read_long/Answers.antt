@@ -5,13 +5,14 @@ use Rattle.std.proofs.lemmas.Result.{err_from_is_err_and}
 use Rattle.retro_io.specs.declared.mark.Mark.TheVariants.{Long}
 use Rattle.retro_io.specs.declared.mark.ReadError.{ReadError}
 use Rattle.retro_io.specs.DueReads.{ReadsDue}
-use Rattle.retro_io.specs.Faults.{count_after}
 use Rattle.retro_io.specs.Lines.{longest_line, line_feed, has_line_feed}
+use Rattle.retro_io.specs.LineReader.{MovesOn}
+use Rattle.retro_io.specs.ReaderLaws.{MovesOn-none, MovesOn-then}
 use Rattle.retro_io.specs.Reads.{MakesOf}
 use Rattle.retro_io.specs.LineLaws.{unbroken-append}
 use Rattle.retro_io.proofs.LineLemmas.{unbroken-take, unbroken-drop}
 use Rattle.retro_io.proofs.DueLemmas.{Took-due, Took-due-on}
-use Rattle.retro_io.proofs.ReadLemmas.{Took-none, MakesOf-error, Shows-long, cut_after, length-after, count_after-twice}
+use Rattle.retro_io.proofs.ReadLemmas.{Took-none, MakesOf-error, Shows-long, cut_after, length-after}
 use Rattle.retro_io.proofs.line_reader.LineReader.read_long.Goals as goal
 use Rattle.retro_io.proofs.line_reader.LineReader.read_long.Goals.{After-fill}
 use Rattle.retro_io.proofs.line_reader.LineReader.read_long.Given.{Over}
@@ -35,17 +36,55 @@ size g c = length-after c.keep_prefix.new.self.held c.fill.new.self.buffer.held 
 held_unbroken : (g : Over) (c : After-fill g) (xs : List ℕ) → has_line_feed xs ≡ false → has_line_feed (c.args.self.now.buffer.held ++ xs) ≡ false
 held_unbroken g c xs u = unbroken-append c.args.self.now.buffer.held xs c.requires.unbroken u
 
+-- the reader has moved on since the entry
+moved : (g : Over) (c : After-fill g) → MovesOn c.args.self.now c.fill.new.self
+moved g c =
+    let m = c.fill.ensures.moves in
+    MovesOn-then c.args.self.now c.loop-self.self c.fill.new.self c.loop-self.invariant.moves
+    record {
+      reference = m.reference;
+      limit = m.limit;
+      more = m.more;
+      within = m.within;
+      count = m.count;
+      left = m.left;
+    }
+
+pub returns-in_err-fill-clause-moves : goal.returns-in_err-fill-clause-moves
+returns-in_err-fill-clause-moves g c = moved g (goal.at.returns-in_err-fill-clause-moves g c).After-fill
+
+pub returns-then-branch-eq0-clause-moves : goal.returns-then-branch-eq0-clause-moves
+returns-then-branch-eq0-clause-moves g c =
+    let m = moved g (goal.at.returns-then-branch-eq0-clause-moves g c).After-fill in
+    record {
+      reference = m.reference;
+      limit = m.limit;
+      more = m.more;
+      within = m.within;
+      count = m.count;
+      left = m.left;
+    }
+
+pub returns-in-Some-clause-moves : goal.returns-in-Some-clause-moves
+returns-in-Some-clause-moves g c =
+    let m = moved g (goal.at.returns-in-Some-clause-moves g c).After-fill in
+    record {
+      reference = m.reference;
+      limit = m.limit;
+      more = m.more;
+      within = m.within;
+      count = m.count;
+      left = m.left;
+    }
+
 pub loop-self-init : goal.loop-self-init
 loop-self-init g c = record {
-  reference = refl;
-  limit = refl;
+  moves = MovesOn-none c.args.self.now c.args.self.now.within;
   failed = c.requires.failed;
   ended = c.requires.ended;
   long = omega (arith, c.requires.long);
   prefix = refl;
-  rises = omega arith;
   in_limit = c.args.self.now.in_limit c.requires.failed;
-  source_taken = omega arith;
   source_faults = refl;
   took = Took-none _ _ _ (omega arith) (refl, ReadsDue.none);
 }
@@ -59,11 +98,11 @@ returns-in_err-fill-clause-took g c =
     rw (p.1, p.2)
     (Took-due g.S.Source.reads _ _ _ _ c.args.self.now.buffer.held _ _ _ _ _ _ (λ xs. has_line_feed xs ≡ false)
     (MakesOf (Err error) c.fill.new.self.buffer.shown c.fill.new.self.ended c.args.self.now.buffer.held c.fill.new.self.buffer.held) came
-    c.loop-self.invariant.took c.fill.ensures.gives (omega (arith, count, c.fill.ensures.taken, c.loop-self.invariant.rises))
-    (omega (arith, c.loop-self.invariant.limit, c.loop-self.invariant.rises)) (held_unbroken g (goal.at.returns-in_err-fill-clause-took g c).After-fill) c.fill.ensures.reads
+    c.loop-self.invariant.took c.fill.ensures.gives (omega (arith, count, c.fill.ensures.moves.more, c.loop-self.invariant.moves.more))
+    (omega (arith, c.loop-self.invariant.moves.limit, c.loop-self.invariant.moves.more)) (held_unbroken g (goal.at.returns-in_err-fill-clause-took g c).After-fill) c.fill.ensures.reads
     (λ xs u. MakesOf-error error _ _ _ _ xs came u
     (λ is. omega (arith, count, c.in_err-fill.ensures.fault (ap failing is)))
-    (λ is. omega (arith, count, c.in_err-fill.ensures.last (ap failing is), c.in_err-fill.ensures.too_long.0 (ap failing is), c.fill.ensures.limit))))
+    (λ is. omega (arith, count, c.in_err-fill.ensures.last (ap failing is), c.in_err-fill.ensures.too_long.0 (ap failing is), c.fill.ensures.moves.limit))))
 
 pub invariant_of-self-then-branch-eq0-clause-counted : goal.invariant_of-self-then-branch-eq0-clause-counted
 invariant_of-self-then-branch-eq0-clause-counted g c =
@@ -86,8 +125,8 @@ returns-then-branch-eq0-clause-took g c =
     let unbroken : has_line_feed came ≡ false = ap has_line_feed (nil_from_length came none) in
     Took-due g.S.Source.reads _ _ _ _ held _ _ _ _ _ _ (λ xs. has_line_feed xs ≡ false)
     (MakesOf (Ok Long) c.give_long.new.self.shown true held c.give_long.new.self.held) came
-    c.loop-self.invariant.took c.fill.ensures.gives (omega (arith, count, c.fill.ensures.taken, c.loop-self.invariant.rises))
-    (omega (arith, c.loop-self.invariant.limit, c.loop-self.invariant.rises)) (held_unbroken g (goal.at.returns-then-branch-eq0-clause-took g c).After-fill) c.fill.ensures.reads
+    c.loop-self.invariant.took c.fill.ensures.gives (omega (arith, count, c.fill.ensures.moves.more, c.loop-self.invariant.moves.more))
+    (omega (arith, c.loop-self.invariant.moves.limit, c.loop-self.invariant.moves.more)) (held_unbroken g (goal.at.returns-then-branch-eq0-clause-took g c).After-fill) c.fill.ensures.reads
     (λ xs u. record {
       piece = held ++ (xs ++ came);
       unbroken = unbroken-append held (xs ++ came) c.requires.unbroken (unbroken-append xs came u unbroken);
@@ -126,8 +165,8 @@ returns-in-Some-clause-took g c =
     let unbroken : has_line_feed line ≡ false = unbroken-drop kept (take at now) found.2 in
     Took-due g.S.Source.reads _ _ _ _ held _ _ _ _ _ _ (λ xs. has_line_feed xs ≡ false)
     (MakesOf (Ok Long) c.give_long-in-Some.new.self.shown c.fill.new.self.ended held c.give_long-in-Some.new.self.held) came
-    c.loop-self.invariant.took c.fill.ensures.gives (omega (arith, count, c.fill.ensures.taken, c.loop-self.invariant.rises))
-    (omega (arith, c.loop-self.invariant.limit, c.loop-self.invariant.rises)) (held_unbroken g (goal.at.returns-in-Some-clause-took g c).After-fill) c.fill.ensures.reads
+    c.loop-self.invariant.took c.fill.ensures.gives (omega (arith, count, c.fill.ensures.moves.more, c.loop-self.invariant.moves.more))
+    (omega (arith, c.loop-self.invariant.moves.limit, c.loop-self.invariant.moves.more)) (held_unbroken g (goal.at.returns-in-Some-clause-took g c).After-fill) c.fill.ensures.reads
     (λ xs u. record {
       piece = held ++ (xs ++ line);
       unbroken = unbroken-append held (xs ++ line) c.requires.unbroken (unbroken-append xs line u unbroken);
@@ -147,21 +186,16 @@ loop-self-preserved g c =
     let at_fill = (goal.at.loop-self-preserved g c).After-fill in
     let count = size g at_fill in
     record {
-      reference = c.fill.ensures.reference ∙ c.loop-self.invariant.reference;
-      limit = c.fill.ensures.limit ∙ c.loop-self.invariant.limit;
+      moves = moved g at_fill;
       failed = c.in_ok-fill.ensures.failed;
       ended = c.fill.ensures.ended;
       long = omega (arith, c.fill.ensures.length, c.keep_prefix.ensures.length);
       prefix = prefix g at_fill;
-      rises = omega (arith, c.fill.ensures.taken, c.loop-self.invariant.rises);
       in_limit = c.fill.new.self.in_limit c.in_ok-fill.ensures.failed;
-      source_taken = c.fill.ensures.source_taken ∙ ap (λ n. count_after n (c.fill.new.self.taken - c.loop-self.self.taken)) c.loop-self.invariant.source_taken
-          ∙ count_after-twice (g.S.Source.taken c.args.self.now.source.now) _ _
-          ∙ ap (count_after (g.S.Source.taken c.args.self.now.source.now)) (omega (arith, c.fill.ensures.taken, c.loop-self.invariant.rises));
       source_faults = c.in_ok-fill.ensures.source_faults ∙ c.loop-self.invariant.source_faults;
       took = Took-due-on g.S.Source.reads _ _ _ _ c.args.self.now.buffer.held _ _ _ _ _ _ (λ xs. has_line_feed xs ≡ false) (λ xs. has_line_feed xs ≡ false) came
-          c.loop-self.invariant.took c.fill.ensures.gives (omega (arith, count, c.fill.ensures.taken, c.loop-self.invariant.rises))
-          (omega (arith, c.loop-self.invariant.limit, c.loop-self.invariant.rises)) (held_unbroken g at_fill) c.fill.ensures.reads
+          c.loop-self.invariant.took c.fill.ensures.gives (omega (arith, count, c.fill.ensures.moves.more, c.loop-self.invariant.moves.more))
+          (omega (arith, c.loop-self.invariant.moves.limit, c.loop-self.invariant.moves.more)) (held_unbroken g at_fill) c.fill.ensures.reads
           (λ xs u. unbroken-append xs came u (unbroken-drop kept now c.in_default.ensures))
           (omega (arith, count, c.in_ok-fill.ensures.count, c.if-branch-eq0.false));
     }

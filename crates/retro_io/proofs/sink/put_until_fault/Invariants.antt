@@ -1,6 +1,6 @@
 use Rattle.std.proofs.Common.{◌≡◌, ◌≤◌, ◌<◌, ◌-◌, false, length, take}
 use Rattle.retro_io.specs.Sink.{Appends, HandsAll}
-use Rattle.retro_io.proofs.sink.put_all.Given as goal
+use Rattle.retro_io.proofs.sink.put_until_fault.Given as goal
 
 abbrev pub invariant-loop-appended : goal.invariant-loop-appended
 invariant-loop-appended g l = record {

@@ -1,0 +1,87 @@
+use crate::{Failed, Sink, Source, StdSink, StdSource};
+use std::io::{self, ErrorKind, Read, Write};
+use std::test::Fail;
+
+/// A stream whose first call of each kind fails, and which then gives what is asked for and takes what it is handed.
+#[derive(Drop)]
+struct FailsOnce {
+    read: bool,
+    written: bool,
+    flushed: bool,
+}
+
+impl FailsOnce {
+    fn new() -> FailsOnce {
+        FailsOnce {
+            read: false,
+            written: false,
+            flushed: false,
+        }
+    }
+}
+
+/// An error at the first call, which this notes.
+fn fail_once(before: &mut bool) -> io::Result<()> {
+    if *before {
+        return Ok(());
+    }
+    *before = true;
+    Err(ErrorKind::Interrupted.into())
+}
+
+impl Read for FailsOnce {
+    fn read(&mut self, buffer: &mut [u8]) -> io::Result<usize> {
+        fail_once(&mut self.read)?;
+        Ok(buffer.len())
+    }
+}
+
+impl Write for FailsOnce {
+    fn write(&mut self, piece: &[u8]) -> io::Result<usize> {
+        fail_once(&mut self.written)?;
+        Ok(piece.len())
+    }
+
+    fn flush(&mut self) -> io::Result<()> {
+        fail_once(&mut self.flushed)
+    }
+}
+
+#[test]
+fn a_call_that_fails_is_not_tried_again(rt: HostRuntime) -> Result<(), Fail> {
+    let mut source = StdSource::new(FailsOnce::new());
+    assert_eq!(rt; source.read(&mut [0; 16]), Err(Failed));
+    assert_eq!(rt; source.read(&mut [0; 16]), Ok(16));
+    let mut sink = StdSink::new(FailsOnce::new());
+    assert_eq!(rt; sink.write(b"abc"), Err(Failed));
+    assert_eq!(rt; sink.write(b"abc"), Ok(3));
+    // A write flushes nothing, so the first flush is still to come.
+    assert_eq!(rt; sink.flush(), Err(Failed));
+    assert_eq!(rt; sink.flush(), Ok(()));
+    Ok(())
+}
+
+/// A stream that answers the end at every second read, and else gives all that it is asked for.
+#[derive(Drop)]
+struct EndsInTurn {
+    ends: bool,
+}
+
+impl Read for EndsInTurn {
+    fn read(&mut self, buffer: &mut [u8]) -> io::Result<usize> {
+        self.ends = !self.ends;
+        if self.ends { Ok(0) } else { Ok(buffer.len()) }
+    }
+}
+
+#[test]
+fn a_read_is_one_read_of_all_that_is_asked_for(rt: HostRuntime) -> Result<(), Fail> {
+    let mut source = StdSource::new(EndsInTurn { ends: false });
+    let mut buffer = vec![in rt.alloc(); 0; 65_536]?;
+    // In all 1.3 gigabytes, which are more than a script may have.
+    for _ in 0..20_000 {
+        assert_eq!(rt; source.read(&mut buffer), Ok(0));
+        assert_eq!(rt; source.read(&mut buffer), Ok(65_536));
+    }
+    Ok(())
+}

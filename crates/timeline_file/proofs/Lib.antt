@@ -1,0 +1,2 @@
+pub mod GoodRows
+pub mod Reading

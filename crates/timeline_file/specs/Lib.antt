@@ -1,0 +1,4 @@
+pub mod Block
+pub mod Read
+pub mod Saved
+pub mod ReadsBack
