@@ -21,10 +21,11 @@ use Rattle.retro_cli.specs.declared.stop.Stop.TheVariants as stops
 use Rattle.retro_io.specs.declared.mark.ReadError.{ReadError}
 use Rattle.retro_io.specs.declared.mark.ReadError.TheVariants.{ReadFault, TooLong}
 use Rattle.retro_io.specs.declared.sink.Sink.{Ghosts}
-use Rattle.retro_io.specs.Flushes.{StaysUnflushed}
+use Rattle.retro_io.specs.FlushLaws.{EndsWithFailedWrite-more}
+use Rattle.retro_io.specs.Flushes.{EndsWithFailedWrite, StaysUnflushed}
 use Rattle.retro_cli.specs.Ends.{Stands}
 use Rattle.retro_cli.specs.Stop.{StopsAt, stops_at_write}
-use Rattle.retro_cli.specs.Run.{AppendsAnswersOfFirst, AppendsAnswersOfTaken, AppendsFirstAnswers, AppendsOutput, AppendsOutputPart, AppendsOutputPrefix, MatchesRefusal}
+use Rattle.retro_cli.specs.Run.{AppendsAnswersOfFirst, AppendsAnswersOfTaken, AppendsFirstAnswers, AppendsOutput, AppendsProperOutputPrefix, AppendsOutputPrefix, MatchesRefusal}
 use Rattle.retro_cli.proofs.GoesOn.{GivenAs, GoesOn, gives, none_is_not_some, some_same}
 use Rattle.retro_cli.proofs.Reactions.{answers_to-none, before_last, output_after, output_from}
 use Rattle.retro_cli.proofs.WholeLines.{up_to-unbroken}
@@ -98,7 +99,7 @@ part_at_line bytes now after first bench refused mark long shown ended written w
 pub part_in_line : (script first : Option (List ℕ)) (bench : Bench) (refused : Bool) (mark : Mark) (long : Bool) (shown : List ℕ) (ended : Bool)
     (rest rest' written written' : Option (List ℕ)) → GivenAs mark long → GivesNextOf mark shown ended rest rest'
     → ((bytes : List ℕ) → script ≡ Some bytes → GoesOn bytes first bench refused false rest written)
-    → AppendsProperPrefix written (reacts_to bench shown long).answer written' → AppendsOutputPart script first written'
+    → AppendsProperPrefix written (reacts_to bench shown long).answer written' → AppendsProperOutputPrefix script first written'
 part_in_line None first bench refused mark long shown ended rest rest' written written' as_given next on part = tt
 part_in_line (Some bytes) first bench refused mark long shown ended None rest' written written' as_given next on part =
     absurd (none_is_not_some (on bytes refl).rest_is)
@@ -107,7 +108,7 @@ part_in_line (Some bytes) first bench refused mark long shown ended (Some now) (
     part_at_line bytes now after first bench refused mark long shown ended written written' as_given next (on bytes refl) part
 
 -- and such a prefix is one
-pub prefix_of_part : (script before after : Option (List ℕ)) → AppendsOutputPart script before after → AppendsOutputPrefix script before after
+pub prefix_of_part : (script before after : Option (List ℕ)) → AppendsProperOutputPrefix script before after → AppendsOutputPrefix script before after
 prefix_of_part None before after part = tt
 prefix_of_part (Some bytes) before after part =
     let parts = AppendsPrefixOf-parts before (without_last (output bytes)) after part.1 in
@@ -207,12 +208,14 @@ module _ {K : Type 0} (G : Ghosts K) where
       → AppendsFirstAnswers script (G.written before) (G.written middle) → StaysUnflushed G before middle
       → (stops_at_write (stop_at stop) ≡ false → after ≡ middle)
       → (stop_at stop ≡ stop_at stops.ReadFault → ⊥) × (stop_at stop ≡ stop_at stops.TooLong → ⊥)
-      → (stop_at stop ≡ stop_at stops.WriteFault → AppendsOutputPart script (G.written before) (G.written after))
+      → (stop_at stop ≡ stop_at stops.WriteFault → AppendsProperOutputPrefix script (G.written before) (G.written after))
+      → (stop_at stop ≡ stop_at stops.WriteFault → EndsWithFailedWrite G middle after)
       → Stands G script left before after limit stop
-  stands_at_answer script left limit before middle after stops.ReadFault whole unflushed same reads part = absurd (reads.0 refl)
-  stands_at_answer script left limit before middle after stops.TooLong whole unflushed same reads part = absurd (reads.1 refl)
-  stands_at_answer script left limit before middle after stops.WriteFault whole unflushed same reads part = inl (part refl)
-  stands_at_answer script left limit before middle after stops.NoMemory whole unflushed same reads part =
+  stands_at_answer script left limit before middle after stops.ReadFault whole unflushed same reads part last = absurd (reads.0 refl)
+  stands_at_answer script left limit before middle after stops.TooLong whole unflushed same reads part last = absurd (reads.1 refl)
+  stands_at_answer script left limit before middle after stops.WriteFault whole unflushed same reads part last =
+      inl (part refl, EndsWithFailedWrite-more G before middle after unflushed (last refl))
+  stands_at_answer script left limit before middle after stops.NoMemory whole unflushed same reads part last =
       rw (same refl) record { whole = whole; unflushed = unflushed }
 
   -- whatever stands is a prefix of the output
@@ -221,5 +224,5 @@ module _ {K : Type 0} (G : Ghosts K) where
   prefix_that_stands script left limit before after stops.ReadFault stands = prefix_of_answers script (G.written before) (G.written after) stands.0.whole
   prefix_that_stands script left limit before after stops.TooLong stands = prefix_of_answers script (G.written before) (G.written after) stands.0.whole
   prefix_that_stands script left limit before after stops.NoMemory stands = prefix_of_answers script (G.written before) (G.written after) stands.whole
-  prefix_that_stands script left limit before after stops.WriteFault (inl part) = prefix_of_part script (G.written before) (G.written after) part
+  prefix_that_stands script left limit before after stops.WriteFault (inl part) = prefix_of_part script (G.written before) (G.written after) part.0
   prefix_that_stands script left limit before after stops.WriteFault (inr all) = prefix_of_all script (G.written before) (G.written after) all.0

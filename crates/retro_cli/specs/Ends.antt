@@ -1,10 +1,10 @@
 -- What stands in the sink where a run of lines ends.
 use Rattle.std.specs.Prelude.{◌⊎◌, ℕ, Bool, true, false, List, Option}
 use Rattle.retro_io.specs.declared.sink.Sink.{Ghosts}
-use Rattle.retro_io.specs.Flushes.{EndsWithFlush, StaysUnflushed}
+use Rattle.retro_io.specs.Flushes.{EndsWithFailedWrite, EndsWithFlush, StaysUnflushed}
 use Rattle.retro_cli.specs.declared.stop.Stop.{Stop}
 use Rattle.retro_cli.specs.declared.stop.Stop.TheVariants as stops
-use Rattle.retro_cli.specs.Run.{AppendsAnswersOfFirst, AppendsAnswersOfTaken, AppendsFirstAnswers, AppendsOutput, AppendsOutputPart, MatchesRefusal}
+use Rattle.retro_cli.specs.Run.{AppendsAnswersOfFirst, AppendsAnswersOfTaken, AppendsFirstAnswers, AppendsOutput, AppendsProperOutputPrefix, MatchesRefusal}
 
 -- the script, what its source has left at the end, and the sink before and after
 module _ {K : Type 0} (G : Ghosts K) (script left : Option (List ℕ)) (before after : K) where
@@ -19,9 +19,9 @@ module _ {K : Type 0} (G : Ghosts K) (script left : Option (List ℕ)) (before a
     pub whole : AppendsFirstAnswers script (G.written before) (G.written after)
     pub unflushed : StaysUnflushed G before after
 
-  -- a write failed within the output, or the flush after all of it
+  -- a write failed within the output, or the flush after all of it, and that was the last call
   abbrev pub EndsAtSink : Type 0
-  EndsAtSink = AppendsOutputPart script (G.written before) (G.written after)
+  EndsAtSink = (AppendsProperOutputPrefix script (G.written before) (G.written after) × EndsWithFailedWrite G before after)
       ⊎ (AppendsOutput script (G.written before) (G.written after) × EndsWithFlush G before false after)
 
   -- what stands where a run stops so, of a script that may have so many bytes

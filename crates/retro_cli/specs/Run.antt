@@ -47,9 +47,9 @@ AppendsOutputPrefix None before after = Unit {0}
 AppendsOutputPrefix (Some bytes) before after = AppendsPrefixOf before (output bytes) after
 
 -- the same of a prefix that is not the whole output
-abbrev pub AppendsOutputPart : Option (List ℕ) → Option (List ℕ) → Option (List ℕ) → Type 0
-AppendsOutputPart None before after = Unit {0}
-AppendsOutputPart (Some bytes) before after = AppendsProperPrefix before (output bytes) after
+abbrev pub AppendsProperOutputPrefix : Option (List ℕ) → Option (List ℕ) → Option (List ℕ) → Type 0
+AppendsProperOutputPrefix None before after = Unit {0}
+AppendsProperOutputPrefix (Some bytes) before after = AppendsProperPrefix before (output bytes) after
 
 -- the whole answers to some first lines of the script were appended
 pub record AppendsAnswersTo (bytes : List ℕ) (before after : Option (List ℕ)) : Type 0 where

@@ -2,11 +2,11 @@ ghost use Rattle.std.specs.Prelude.{◌≡◌, ◌+◌, ◌-◌, ◌<◌, ◌↔
 ghost use Rattle.retro_base.specs.Limits.{longest_line, most_bytes};
 ghost use Rattle.retro_io.specs.Faults.{Counts, Rose, last_count};
 ghost use Rattle.retro_io.specs.Sink.{Appends, AppendsProperPrefix};
-ghost use Rattle.retro_io.specs.Flushes.{EndsWithFlush, StaysUnflushed};
+ghost use Rattle.retro_io.specs.Flushes.{EndsWithFailedWrite, EndsWithFlush, StaysUnflushed};
 ghost use Rattle.retro_io.specs.LineReader.{MovesOn, given, has_failed, limit_of, rest_of, source_of, taken};
 ghost use Rattle.retro_cli.specs.Ends.{Answers, EndsAtSink, Stands};
 ghost use Rattle.retro_cli.specs.Output.{has_refusal};
-ghost use Rattle.retro_cli.specs.Run.{is_run, is_read_fault, is_write_fault, AppendsFirstAnswers, AppendsOutput, AppendsOutputPart, AppendsOutputPrefix, AppendsAnswersOfFirst, AppendsAnswersOfTaken, EndsBetweenLines, EndsWithoutFault, HasAnswered, MayBeTooLong, MatchesRefusal, status_of};
+ghost use Rattle.retro_cli.specs.Run.{is_run, is_read_fault, is_write_fault, AppendsFirstAnswers, AppendsOutput, AppendsOutputPrefix, AppendsAnswersOfFirst, AppendsAnswersOfTaken, EndsBetweenLines, EndsWithoutFault, HasAnswered, MayBeTooLong, MatchesRefusal, status_of};
 ghost use Rattle.retro_cli.specs.Stop.{stops_at_read, stops_at_write};
 ghost use Rattle.workbench.specs.Reaction.{reacts_to};
 
@@ -35,6 +35,7 @@ fn answer_line<K: Sink>(
         AppendsProperPrefix (K.written sink.old) reaction.answer (K.written sink.new)) }
     ensures untouched { OnErr result (stops_at_write result ≡ false → sink.new ≡ sink.old) }
     ensures unflushed { OnOk result (StaysUnflushed ⟦<K as Sink>⟧ sink.old sink.new) }
+    ensures last { IsErrOf result Stop.WriteFault → EndsWithFailedWrite ⟦<K as Sink>⟧ sink.old sink.new }
     ensures sink_faults { Counts (stops_at_write result) (K.faults sink.old) (K.faults sink.new) }
     ensures reads_nothing { (IsErrOf result Stop.ReadFault → ⊥) × (IsErrOf result Stop.TooLong → ⊥) }
 {
@@ -104,9 +105,9 @@ pub fn run<S: Source, K: Sink>(alloc: Global, words: &Words, source: &mut S, sin
     ensures refusal { HasAnswered result → IfSome (S.left source.old) (λ bytes. result ≡ status_of (has_refusal bytes)) }
     ensures flush { HasAnswered result → EndsWithFlush ⟦<K as Sink>⟧ sink.old true sink.new }
     // At every status, what was appended is a prefix of the output: all of it at a flush that failed, and less at a write
-    // that failed. Where the run ended between two lines, it is the whole answers to some first lines, and they were not
-    // flushed: at a failed read to all lines whose line feed was taken, at a script that is too long to all that end within
-    // the bytes that it may have.
+    // that failed; that call was the last one. Where the run ended between two lines, it is the whole answers to some first
+    // lines, and they were not flushed: at a failed read to all lines whose line feed was taken, at a script that is too
+    // long to all that end within the bytes that it may have.
     ensures prefix { AppendsOutputPrefix (S.left source.old) (K.written sink.old) (K.written sink.new) }
     ensures part { result ≡ Status.WriteFault → EndsAtSink ⟦<K as Sink>⟧ (S.left source.old) (S.left source.new) sink.old sink.new }
     ensures unflushed { EndsBetweenLines result → StaysUnflushed ⟦<K as Sink>⟧ sink.old sink.new }

@@ -1,4 +1,4 @@
-ghost use Rattle.std.specs.Prelude.{◌≡◌, ◌≤◌, [], true, false, vec_len, vec_capacity, IfOk, Ok};
+ghost use Rattle.std.specs.Prelude.{◌≡◌, ◌≤◌, [], true, false, vec_len, vec_capacity, IfOk, OnOk, Ok};
 ghost use Rattle.retro_io.specs.Faults.{Counts, count_after, faults_after, last_count};
 
 use crate::sink::put_until_fault;
@@ -103,7 +103,9 @@ impl<K: Sink + Drop> Sink for Outbox<K> {
 
     ghost writes = { λ before piece answer after. after.faults ≡ faults_after before.faults answer };
 
-    ghost flushes = { λ before answer after. after.faults ≡ faults_after before.faults answer };
+    ghost flushes = { λ before answer after.
+        OnOk answer ((waiting_of after ≡ []) × (K.flushed (sink_of after) ≡ true))
+        × (after.faults ≡ faults_after before.faults answer) };
 
     fn write(&mut self, piece: &[u8]) -> Result<usize, Failed> {
         self.flushed = false;

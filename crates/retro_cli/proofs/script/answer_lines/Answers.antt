@@ -52,7 +52,8 @@ returns-in_err-refused-clause-stands g c =
     (stands_at_answer g.K.Sink _ _ _ _ _ _ c.in_err-refused.field-0.0
     (first_answers _ _ _ _ _ _ _ c.loop-bench.invariant.answers) c.loop-bench.invariant.unflushed c.in_err-refused.ensures.untouched c.in_err-refused.ensures.reads_nothing
     (λ is. part_in_line _ _ _ _ c.in_ok-next.field-0 c.match-branch-2.long (line_of c.next.new.self) (has_ended c.next.new.self) _ _ _ _
-    as_given c.in_ok-next.ensures.gives.lines (before_end _ _ _ _ _ _ _ not_ended c.loop-bench.invariant.answers) (rw c.line.ensures at (c.in_err-refused.ensures.part is))))
+    as_given c.in_ok-next.ensures.gives.lines (before_end _ _ _ _ _ _ _ not_ended c.loop-bench.invariant.answers) (rw c.line.ensures at (c.in_err-refused.ensures.part is)))
+    c.in_err-refused.ensures.last)
 
 pub loop-bench-init : goal.loop-bench-init
 loop-bench-init g c = record {
