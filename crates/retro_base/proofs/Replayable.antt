@@ -1,8 +1,8 @@
 -- A history stays one when a row is put in or taken out that leaves it valid.
-use Rattle.std.proofs.Common.{◌≡◌, ◌≢◌, ℕ, zero, suc, ◌<◌, ◌≤◌, List, [], ◌∷◌, ◌++◌, length, take, drop, refl, sym, ap, ◌∙◌, arith, lit≤}
+use Rattle.std.proofs.Common.{◌≡◌, ◌≢◌, ℕ, zero, suc, ◌<◌, ◌≤◌, List, [], ◌∷◌, ◌++◌, length, take, drop, refl, sym, ap, ◌∙◌, lit≤}
 use Rattle.std.specs.List.{insert, remove, AllByRecursion}
 use Rattle.std.proofs.lemmas.List.{take-append-drop}
-use Rattle.std.proofs.lemmas.List.Edits.{length-insert, insert_end}
+use Rattle.std.proofs.lemmas.List.Edits.{insert_end}
 use Rattle.retro_base.specs.declared.kind.Kind.{Kind}
 use Rattle.retro_base.specs.declared.kind.Kind.TheVariants.{Queue, Stack, Deque, Dict, Pq}
 use Rattle.retro_base.specs.declared.row.Change.TheVariants.{Plain}
@@ -13,7 +13,7 @@ use Rattle.retro_base.specs.Replay.{fold_rows, IsValid}
 use Rattle.retro_base.specs.State.{step, empty}
 use Rattle.retro_base.specs.Edits.{Edit}
 use Rattle.retro_base.specs.Changes.{IsChange}
-use Rattle.retro_base.specs.Timeline.{Structure, IsFresh, HaveOwnNumbers, IsReplayable}
+use Rattle.retro_base.specs.Timeline.{Structure, IsFresh, IsReplayable}
 use Rattle.retro_base.specs.ReplayableLaws.{replayable_with, replayable_without}
 use Rattle.retro_base.proofs.Folds.{front_possible}
 
