@@ -67,6 +67,7 @@ impl Timeline {
     pub fn place_of(&self, number: u32) -> Option<u32>
         ensures place { result ≡ place_of_row number self.now }
         ensures within { IfSome result (λ place. place < length self.now) }
+        ensures few { length self.now ≤ most_rows }
     {
         let place = index_of_row(self.rows.as_slice(), number)?;
         Some(place as u32)

@@ -2,7 +2,7 @@ ghost use Rattle.std.specs.Prelude.{◌≤◌, None};
 ghost use Rattle.retro_io.specs.Faults.{last_count};
 
 use super::*;
-use retro_base::NoMemory;
+use retro_base::{NoMemory, Text};
 use retro_io::{Failed, MemorySink, MemorySource, Sink, WholeSource};
 use std::alloc::Global;
 
@@ -40,7 +40,7 @@ fn run_over(
 
 #[test]
 fn scripts_get_their_answers(rt: HostRuntime) -> Result<(), NoMemory> {
-    let scripts: [(&[u8], &[u8], Status); 17] = [
+    let scripts: [(&[u8], &[u8], Status); 20] = [
         (
             b"new q queue\nq at 10 enq 5\nq at 20 enq 7\nq ask front\nq at 15 deq\nq ask front\n\
               q at 5 enq 9\nq ask front\n",
@@ -115,6 +115,28 @@ fn scripts_get_their_answers(rt: HostRuntime) -> Result<(), NoMemory> {
               = 7\nrefused at #2 30\nok #4\nok #3\n= 5\n",
             Status::Refused,
         ),
+        // Steps are undone and made again, until another edit comes.
+        (
+            b"new s stack\ns at 1 push 1\ns undo\ns redo\ns undo\ns at 2 push 5\ns redo\ns ask all\n",
+            b"ok\nok #1\nok\nok\nok\nok #2\nrefused nothing to redo\n= 5\n",
+            Status::Refused,
+        ),
+        // A deleted row comes back at its place, with its number; a refused line is no step.
+        (
+            b"new q queue\nq at 5 enq 1\nq at 5 enq 2\nq at 7 enq 3\nq delete #1\nq ask all\nq at 1 deq\n\
+              q undo\nq ask all\nq ask before #2 all\nq redo\nq undo\nq undo\nq ask all\n",
+            b"ok\nok #1\nok #2\nok #3\nok\n= 2 3\nrefused at #4 1\nok\n= 1 2 3\n= 1\nok\nok\nok\n= 1 2\n",
+            Status::Refused,
+        ),
+        // Every refusal of a line that names a timeline.
+        (
+            b"new q queue\nnew q stack\nx ask size\nq at 1 push 3\nq after #9 push 1\nq after #9 enq 1\n\
+              q ask top\nq delete #1\nq undo\nq frob\nnew r heap\nx undo\n",
+            b"ok\nrefused name taken\nrefused no timeline x\nrefused kind\nrefused kind\nrefused no row #9\n\
+              refused kind\nrefused no row #1\nrefused nothing to undo\nrefused syntax\nrefused syntax\n\
+              refused no timeline x\n",
+            Status::Refused,
+        ),
         // Each row stands in front of the one before it.
         (
             b"new q queue\nq at 1 enq 0\nq before #1 enq 0\nq before #2 enq 0\nq before #3 enq 0\n\
@@ -174,6 +196,30 @@ fn scripts_get_their_answers(rt: HostRuntime) -> Result<(), NoMemory> {
             assert_eq!(rt; ended, status, "row {number} in pieces of {piece}");
         }
     }
+    Ok(())
+}
+
+/// More edits than are kept: the last of them are undone, until none is left to undo.
+#[test]
+fn the_oldest_edit_is_not_undone(rt: HostRuntime) -> Result<(), NoMemory> {
+    let mut script = Vec::from_slice(rt.alloc(), b"new q queue\n")?;
+    let mut answers = Text::new(rt.alloc());
+    answers.push_all(b"ok\n")?;
+    for number in 1..=1025 {
+        script.extend_from_slice(b"q at 1 enq 0\n")?;
+        answers.push_all(b"ok #")?;
+        answers.push_number(number)?;
+        answers.push_all(b"\n")?;
+    }
+    for _ in 0..1024 {
+        script.extend_from_slice(b"q undo\n")?;
+        answers.push_all(b"ok\n")?;
+    }
+    script.extend_from_slice(b"q undo\nq ask size\n")?;
+    answers.push_all(b"refused nothing to undo\n= 1\n")?;
+    let (status, sink) = run_over(rt.alloc(), &[b"run"], script.as_slice(), 512, &NONE_FAILS)?;
+    assert_eq!(rt; sink.written(), answers.as_bytes());
+    assert_eq!(rt; status, Status::Refused);
     Ok(())
 }
 

@@ -7,7 +7,7 @@ use Rattle.retro_base.specs.Name.{name_of}
 use Rattle.retro_base.specs.declared.kind.Kind.{Kind}
 use Rattle.retro_base.specs.declared.kind.Kind.TheVariants.{Pq}
 use Rattle.script_grammar.specs.declared.command.Command.{Command}
-use Rattle.script_grammar.specs.declared.command.Command.TheVariants.{New}
+use Rattle.script_grammar.specs.declared.command.Command.TheVariants.{New, Undo, Redo}
 use Rattle.script_grammar.specs.declared.command.LineError.{LineError}
 use Rattle.script_grammar.specs.declared.command.LineError.TheVariants.{Syntax}
 use Rattle.script_grammar.specs.declared.command.Spot.{Spot}
@@ -82,7 +82,11 @@ ask_starts name (word ∷ rest) = search (chosen, mapped, ask_then_starts)
 
 about_starts : (name : List ℕ) (rest : List (List ℕ)) → IfSome (about name rest) StartsNoPq
 about_starts name [] = tt
-about_starts name (word ∷ rest) = search (chosen, ask_starts, delete_starts, insert_starts)
+about_starts name (word ∷ rest) =
+    chosen StartsNoPq (bytes_eq word (codes "ask")) _ _ (ask_starts name rest)
+    (chosen StartsNoPq (bytes_eq word (codes "delete")) _ _ (delete_starts name rest)
+    (chosen StartsNoPq (bytes_eq word (codes "undo")) _ _ (last StartsNoPq (Undo name) rest tt)
+    (chosen StartsNoPq (bytes_eq word (codes "redo")) _ _ (last StartsNoPq (Redo name) rest tt) (insert_starts name word rest))))
 
 command_starts : (spelled : List (List ℕ)) → IfSome (command_of spelled) StartsNoPq
 command_starts [] = tt

@@ -6,7 +6,7 @@ use Rattle.retro_base.specs.Name.{name_of}
 use Rattle.retro_base.specs.declared.kind.Kind.{Kind}
 use Rattle.retro_base.specs.declared.kind.Kind.TheVariants.{Queue, Stack, Deque, Dict, Pq}
 use Rattle.script_grammar.specs.declared.command.Command.{Command}
-use Rattle.script_grammar.specs.declared.command.Command.TheVariants.{Nothing, New, Insert, Delete, Ask}
+use Rattle.script_grammar.specs.declared.command.Command.TheVariants.{Nothing, New, Insert, Delete, Ask, Undo, Redo}
 use Rattle.script_grammar.specs.declared.command.Spot.{Spot}
 use Rattle.script_grammar.specs.declared.command.Spot.TheVariants.{At, Before, After}
 use Rattle.script_grammar.specs.declared.command.Moment.TheVariants.{Now, Then}
@@ -82,7 +82,9 @@ about name [] = None
 about name (word ∷ rest) =
     if bytes_eq word (codes "ask") then ask_of name rest
     else (if bytes_eq word (codes "delete") then delete_of name rest
-    else insert_of name word rest)
+    else (if bytes_eq word (codes "undo") then alone (Undo name) rest
+    else (if bytes_eq word (codes "redo") then alone (Redo name) rest
+    else insert_of name word rest)))
 
 -- a word that begins with `;`, byte 59: whatever follows it on its line is passed over
 abbrev pub begins_comment : List ℕ → Bool

@@ -28,6 +28,14 @@ pub enum Command {
         moment: Moment,
         query: Query,
     },
+    /// Undoes the newest step of a timeline.
+    Undo {
+        name: Name,
+    },
+    /// Makes the step of a timeline again that was undone last.
+    Redo {
+        name: Name,
+    },
 }
 
 /// A place in a timeline, between its rows.

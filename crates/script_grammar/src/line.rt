@@ -1,5 +1,7 @@
 ghost use Rattle.std.specs.Prelude.{◌≡◌, ◌≤◌, ◌∷◌, length, IsTrue, IfOk, Err, if◌then◌else◌};
 ghost use Rattle.retro_base.specs.Limits.{longest_line};
+ghost use Rattle.script_grammar.specs.Operands.{alone};
+ghost use Rattle.script_grammar.specs.declared.command.Command.TheVariants.{Undo, Redo};
 ghost use Rattle.script_grammar.specs.Command.{about, begins_comment, command, command_of, delete_of, insert_of, kind_named, kind_of_word, new_of, StartsNoPq};
 
 use crate::ask::read_ask;
@@ -95,6 +97,10 @@ fn read_about(name: Name, mut words: Words) -> Option<Command>
         read_ask(name, words)
     } else if word == b"delete".as_slice() {
         read_delete(name, words)
+    } else if word == b"undo".as_slice() {
+        read_undo(name, words)
+    } else if word == b"redo".as_slice() {
+        read_redo(name, words)
     } else {
         read_insert(name, word, words)
     }
@@ -105,6 +111,18 @@ fn read_delete(name: Name, mut words: Words) -> Option<Command>
 {
     let number = read_row_number(words.next_word()?)?;
     words.is_empty().then_some(Command::Delete { name, number })
+}
+
+fn read_undo(name: Name, words: Words) -> Option<Command>
+    ensures { result ≡ alone (Undo name) words.entry }
+{
+    words.is_empty().then_some(Command::Undo { name })
+}
+
+fn read_redo(name: Name, words: Words) -> Option<Command>
+    ensures { result ≡ alone (Redo name) words.entry }
+{
+    words.is_empty().then_some(Command::Redo { name })
 }
 
 fn read_insert(name: Name, word: &[u8], mut words: Words) -> Option<Command>

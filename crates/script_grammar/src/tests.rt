@@ -22,7 +22,7 @@ fn commands(rt: HostRuntime) -> Result<(), Fail> {
     let q = Name::read(b"q").ok_or("q")?;
     let at = Name::read(b"at").ok_or("at")?;
     let long = Name::read(b"Abcdefghijklmnopqrstuvwxyz-_0123").ok_or("32 bytes")?;
-    let lines: [(&[u8], Command); 18] = [
+    let lines: [(&[u8], Command); 20] = [
         (b"", Command::Nothing),
         (b"   ", Command::Nothing),
         (b";note", Command::Nothing),
@@ -90,6 +90,8 @@ fn commands(rt: HostRuntime) -> Result<(), Fail> {
             },
         ),
         (b"q delete #007", Command::Delete { name: q, number: 7 }),
+        (b"q undo", Command::Undo { name: q }),
+        (b" at  redo ", Command::Redo { name: at }),
         (
             b"q ask all",
             Command::Ask {
@@ -218,8 +220,8 @@ fn no_commands(rt: HostRuntime) {
         b"NEW q queue",
         b"q",
         b"q frob",
-        b"q undo",
-        b"q redo",
+        b"q undo 1",
+        b"q redo q",
         b"save q",
         b"timeline q queue next 1",
         b"end",

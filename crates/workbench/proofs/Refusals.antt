@@ -2,11 +2,11 @@
 use Rattle.std.proofs.Common.{◌≡◌, ℕ, ◌+◌, Bool, true, false, cond, nat_le, List, [], ◌∷◌, ◌++◌, length, refl, ap, Option, Some, None, Result, Ok, Err}
 use Rattle.retro_base.specs.declared.op.Op.{Op}
 use Rattle.retro_base.specs.Limits.{most_rows, next_limit}
-use Rattle.retro_base.specs.Edits.{Edit, add, edited}
+use Rattle.retro_base.specs.Edits.{Edit, Step, add, edited}
 use Rattle.retro_base.specs.Replay.{failure}
 use Rattle.retro_base.specs.Kind.{kind_of, same_kind}
 use Rattle.script_grammar.specs.declared.command.Command.{Command}
-use Rattle.script_grammar.specs.declared.command.Command.TheVariants.{Nothing, New, Insert, Delete, Ask}
+use Rattle.script_grammar.specs.declared.command.Command.TheVariants.{Nothing, New, Insert, Delete, Ask, Undo, Redo}
 use Rattle.script_grammar.specs.declared.command.LineError.{LineError}
 use Rattle.script_grammar.specs.declared.command.LineError.TheVariants as errors
 use Rattle.script_grammar.specs.declared.command.Spot.{Spot}
@@ -18,7 +18,8 @@ use Rattle.workbench.specs.declared.position.Position.{Position}
 use Rattle.workbench.specs.Bench.{NamedTimeline, fresh, is_named, has_timeline}
 use Rattle.workbench.specs.Outcome.{is_refusal}
 use Rattle.workbench.specs.Reaction.{Effect, leaves, on_named, obeys}
-use Rattle.workbench.specs.TimelineEffects.{TimelineEffect, refuses, accepted_or_refused, after_edit, edits, new_row, row_named, position_of, inserts_there, inserts_at, cut_of, deletes_by, inserts, deletes, unchanged, answers}
+use Rattle.workbench.specs.TimelineEffects.{TimelineEffect, refuses, accepted_or_refused, after_edit, edits, new_row, row_named, position_of, inserts_there, inserts_at, cut_of, deletes_by, inserts, deletes, unchanged, answers, undoes_step, undoes, redoes_step, redoes}
+use Rattle.timeline_undo.specs.History.{newest_step}
 
 -- the effect leaves the timeline as it was, where it is a refusal
 abbrev Keeps : NamedTimeline → TimelineEffect → Type 0
@@ -67,6 +68,22 @@ keeps_deletes : (timeline : NamedTimeline) (number : ℕ) → Keeps timeline (de
 unfolding deletes
 keeps_deletes timeline number = keeps_deletes_by timeline number (cut_of number timeline.rows)
 
+keeps_undoes_step : (timeline : NamedTimeline) (step : Option Step) → Keeps timeline (undoes_step timeline step)
+keeps_undoes_step timeline None = λ refused. refl
+keeps_undoes_step timeline (Some step) = λ refused. absurd (not_both false refl refused)
+
+keeps_undoes : (timeline : NamedTimeline) → Keeps timeline (undoes timeline)
+unfolding undoes
+keeps_undoes timeline = keeps_undoes_step timeline (newest_step timeline.history.undo)
+
+keeps_redoes_step : (timeline : NamedTimeline) (step : Option Step) → Keeps timeline (redoes_step timeline step)
+keeps_redoes_step timeline None = λ refused. refl
+keeps_redoes_step timeline (Some step) = λ refused. absurd (not_both false refl refused)
+
+keeps_redoes : (timeline : NamedTimeline) → Keeps timeline (redoes timeline)
+unfolding redoes
+keeps_redoes timeline = keeps_redoes_step timeline (newest_step timeline.history.redo)
+
 named_keeps : (name : List ℕ) (effect : NamedTimeline → TimelineEffect) → ((timeline : NamedTimeline) → Keeps timeline (effect timeline)) → (bench : List NamedTimeline)
     → is_refusal (on_named name effect bench).outcome ≡ true → (on_named name effect bench).bench ≡ bench
 named_keeps name effect keeps [] = λ refused. refl
@@ -98,6 +115,8 @@ refusal_keeps bench (Ok (Insert name spot op)) refused = named_keeps name (λ ti
 refusal_keeps bench (Ok (Delete name number)) refused = named_keeps name (λ timeline. deletes timeline number) (λ timeline. keeps_deletes timeline number) bench refused
 refusal_keeps bench (Ok (Ask name moment query)) refused =
     named_keeps name (λ timeline. unchanged timeline (answers timeline moment query)) (λ timeline e. refl) bench refused
+refusal_keeps bench (Ok (Undo name)) refused = named_keeps name undoes keeps_undoes bench refused
+refusal_keeps bench (Ok (Redo name)) refused = named_keeps name redoes keeps_redoes bench refused
 
 -- a refused line leaves the bench as it was
 pub kept : (bench after : List NamedTimeline) (line : Result Command LineError) (outcome : Outcome) → obeys bench line ≡ record { bench = after; outcome = outcome }

@@ -1,12 +1,18 @@
 -- What a timeline makes of an edit and of a question, case by case.
-use Rattle.std.proofs.Common.{◌≡◌, ◌≢◌, ℕ, zero, suc, ◌<◌, ◌≤◌, true, false, List, [], ◌∷◌, arith, length, slice_get, refl, sym, ◌∙◌, ap, subst, Option, Some, None}
-use Rattle.std.specs.Prelude.{option_map, option_and_then}
-use Rattle.std.specs.List.{remove}
+use Rattle.std.proofs.Common.{◌≡◌, ℕ, zero, suc, ◌+◌, nat_le, ◌<◌, ◌≤◌, true, false, List, [], ◌∷◌, arith, length, slice_get, refl, sym, ◌∙◌, ap, subst, Option, Some, None}
+use Rattle.std.specs.Prelude.{option_map, option_and_then, Result, Ok, Err, IfSome, IfOk}
 use Rattle.std.proofs.Math.Seq.{take-length}
 use Rattle.retro_base.specs.declared.op.Op.{Op}
 use Rattle.retro_base.specs.declared.question.Question.{Question}
 use Rattle.retro_base.specs.declared.row.Row.{Row}
-use Rattle.retro_base.specs.Edits.{cut}
+use Rattle.retro_base.specs.Edits.{Edit, Step, add, cut, edited}
+use Rattle.retro_base.specs.Limits.{most_rows, next_limit}
+use Rattle.timeline_undo.specs.History.{newest_step}
+use Rattle.timeline_undo.specs.Session.{FailsFirst, IsCause}
+use Rattle.timeline_undo.specs.declared.error.EditError.{EditError}
+use Rattle.timeline_undo.specs.declared.error.EditError.TheVariants as errors
+use Rattle.retro_base.specs.declared.memory.NoMemory.{NoMemory}
+use Rattle.workbench.specs.EditErrors.{IsRefusedBy}
 use Rattle.retro_base.specs.Kind.{kind_of, same_kind}
 use Rattle.retro_base.specs.Replay.{failure, present, state_at}
 use Rattle.retro_base.specs.Answers.{answer_of, content}
@@ -17,12 +23,13 @@ use Rattle.script_grammar.specs.declared.command.Spot.{Spot}
 use Rattle.script_grammar.specs.declared.command.Spot.TheVariants.{At, Before, After}
 use Rattle.script_grammar.specs.declared.command.Moment.TheVariants.{Now, Then}
 use Rattle.script_grammar.specs.declared.command.Query.TheVariants.{One, All}
-use Rattle.workbench.specs.declared.outcome.Outcome.TheVariants.{Accepted, Answered, Listed, Refused}
+use Rattle.workbench.specs.declared.outcome.Outcome.{Outcome}
+use Rattle.workbench.specs.declared.outcome.Outcome.TheVariants.{Accepted, Answered, Inserted, Listed, Refused}
 use Rattle.workbench.specs.declared.outcome.Refusal.TheVariants as refusals
 use Rattle.workbench.specs.declared.position.Position.{Position}
 use Rattle.workbench.specs.Bench.{NamedTimeline}
 use Rattle.retro_base.specs.Order.{Fits}
-use Rattle.workbench.specs.TimelineEffects.{TimelineEffect, accepted_or_refused, refuses, row_named, position_before, next_position, position_of, inserts_there, deletes_by, inserts, deletes, answers}
+use Rattle.workbench.specs.TimelineEffects.{refuses, row_named, position_before, next_position, position_of, inserts_there, new_row, after_edit, edits, inserts, deletes, answers, undoes_step, undoes, redoes_step, redoes}
 use Rattle.retro_base.specs.OrderLaws.{time_fits, fits_before, fits_after}
 
 pub inserts_other_kind : (t : NamedTimeline) (spot : Spot) (op : Op) → same_kind (kind_of op) t.kind ≡ false → inserts t spot op ≡ refuses t refusals.Kind
@@ -43,35 +50,77 @@ pub deletes_nothing : (t : NamedTimeline) (number : ℕ) → place_of_row number
 unfolding deletes
 deletes_nothing t number nowhere = rw nowhere refl
 
+-- an edit after which a row fails is refused, and the row named; one after which none does is accepted
+pub edits_fails : (t : NamedTimeline) (edit : Edit) (next : ℕ) (outcome : Outcome) (number time : ℕ) → FailsFirst t.kind (edited t.rows edit) number time
+    → edits t edit next outcome ≡ refuses t (refusals.At number time)
+edits_fails t edit next outcome number time (index, row, fails, at, same_number, same_time) =
+    rw (fails, at, ← same_number, ← same_time) refl
+
+pub edits_accepted : (t : NamedTimeline) (edit : Edit) (next : ℕ) (outcome : Outcome) → failure t.kind (edited t.rows edit) ≡ None
+    → edits t edit next outcome ≡ record { timeline = after_edit t edit next; outcome = outcome }
+edits_accepted t edit next outcome none = rw none refl
+
+-- a row is deleted that stands at a place
+pub deletes_there : (t : NamedTimeline) (number place : ℕ) (row : Row) → place_of_row number t.rows ≡ Some place → slice_get t.rows place ≡ Some row
+    → deletes t number ≡ edits t (cut place row) t.next Accepted
+unfolding deletes
+deletes_there t number place row there at = rw (there, at) refl
+
+-- the delete of a row is refused by the cause that the edit has
+refused_there : (t : NamedTimeline) (number place : ℕ) (row : Row) (error : EditError) (result : Result Outcome NoMemory) → place_of_row number t.rows ≡ Some place
+    → slice_get t.rows place ≡ Some row → IsCause t.kind t.rows (cut place row) error → IsRefusedBy error result
+    → IfOk result (λ outcome. deletes t number ≡ record { timeline = t; outcome = outcome })
+refused_there t number place row (errors.Fails failing time) result there at cause refused =
+    rw refused (deletes_there t number place row there at ∙ edits_fails t (cut place row) t.next Accepted failing time cause)
+refused_there t number place row errors.NoMemory (Ok outcome) there at cause refused = absurd (refused outcome refl)
+refused_there t number place row errors.NoMemory (Err error) there at cause refused = tt
+
 -- an index without an element is past the end
 slice_get_none : {X : Type 0} (xs : List X) (i : ℕ) → slice_get xs i ≡ None → length xs ≤ i
 slice_get_none [] i none = omega arith
 slice_get_none (x ∷ xs) zero none = absurd (cc)
 slice_get_none (x ∷ xs) (suc i) none = omega (arith, slice_get_none xs i none)
 
--- what becomes of the rows without the one at a place
-abbrev without : NamedTimeline → ℕ → TimelineEffect
-without t place = accepted_or_refused t (record t { rows = remove t.rows place }) Accepted (failure t.kind (remove t.rows place))
+refused_found : (t : NamedTimeline) (number place : ℕ) (found : Option Row) (error : EditError) (result : Result Outcome NoMemory) → place_of_row number t.rows ≡ Some place
+    → place < length t.rows → slice_get t.rows place ≡ found → IfSome found (λ row. IsCause t.kind t.rows (cut place row) error) → IsRefusedBy error result
+    → IfOk result (λ outcome. deletes t number ≡ record { timeline = t; outcome = outcome })
+refused_found t number place None error result there within at cause refused = absurd (omega (arith, slice_get_none t.rows place at))
+refused_found t number place (Some row) error result there within at cause refused = refused_there t number place row error result there at cause refused
 
-deletes_found : (t : NamedTimeline) (number place : ℕ) (found : Option Row) → found ≢ None → deletes_by t number (option_map (cut place) found) ≡ without t place
-deletes_found t number place None there = absurd (there refl)
-deletes_found t number place (Some row) there = refl
+pub deletes_refused : (t : NamedTimeline) (number place : ℕ) (error : EditError) (result : Result Outcome NoMemory) → place_of_row number t.rows ≡ Some place
+    → place < length t.rows → IfSome (slice_get t.rows place) (λ row. IsCause t.kind t.rows (cut place row) error) → IsRefusedBy error result
+    → IfOk result (λ outcome. deletes t number ≡ record { timeline = t; outcome = outcome })
+deletes_refused t number place error result there within cause refused =
+    refused_found t number place (slice_get t.rows place) error result there within refl cause refused
 
--- a row is deleted that stands at a place
-deletes_there : (t : NamedTimeline) (number place : ℕ) → place_of_row number t.rows ≡ Some place → place < length t.rows → deletes t number ≡ without t place
-unfolding deletes
-deletes_there t number place there within =
-    rw there (deletes_found t number place (slice_get t.rows place) (λ nowhere. absurd (omega (arith, slice_get_none t.rows place nowhere))))
+-- a row is inserted where there is room and a number
+pub inserts_full : (t : NamedTimeline) (op : Op) (position : Position) → nat_le most_rows (length t.rows) ≡ true → inserts_there t op position ≡ refuses t refusals.Full
+inserts_full t op position full = rw full refl
 
-pub deletes_fails : (t : NamedTimeline) (number place index : ℕ) (failing : Row) → place_of_row number t.rows ≡ Some place → place < length t.rows
-    → failure t.kind (remove t.rows place) ≡ Some index → slice_get (remove t.rows place) index ≡ Some failing
-    → deletes t number ≡ refuses t (refusals.At failing.number failing.time)
-deletes_fails t number place index failing there within fails at = rw (deletes_there t number place there within, fails, at) refl
+pub inserts_numbers : (t : NamedTimeline) (op : Op) (position : Position) → nat_le most_rows (length t.rows) ≡ false → nat_le next_limit t.next ≡ true
+    → inserts_there t op position ≡ refuses t refusals.Numbers
+inserts_numbers t op position room none = rw (room, none) refl
 
-pub deletes_accepted : (t : NamedTimeline) (number place : ℕ) → place_of_row number t.rows ≡ Some place → place < length t.rows
-    → failure t.kind (remove t.rows place) ≡ None
-    → deletes t number ≡ record { timeline = record t { rows = remove t.rows place }; outcome = Accepted }
-deletes_accepted t number place there within stands = rw (deletes_there t number place there within, stands) refl
+pub inserts_edits : (t : NamedTimeline) (op : Op) (position : Position) → nat_le most_rows (length t.rows) ≡ false → nat_le next_limit t.next ≡ false
+    → inserts_there t op position ≡ edits t (add position.place (new_row t position op)) (t.next + 1) (Inserted t.next)
+inserts_edits t op position room number = rw (room, number) refl
+
+-- steps that are undone and made again, where there are some
+pub undoes_nothing : (t : NamedTimeline) → t.history.undo ≡ [] → undoes t ≡ refuses t refusals.NothingToUndo
+unfolding undoes
+undoes_nothing t none = rw none refl
+
+pub undoes_newest : (t : NamedTimeline) (step : Step) → newest_step t.history.undo ≡ Some step → undoes t ≡ undoes_step t (Some step)
+unfolding undoes
+undoes_newest t step there = rw there refl
+
+pub redoes_nothing : (t : NamedTimeline) → t.history.redo ≡ [] → redoes t ≡ refuses t refusals.NothingToRedo
+unfolding redoes
+redoes_nothing t none = rw none refl
+
+pub redoes_newest : (t : NamedTimeline) (step : Step) → newest_step t.history.redo ≡ Some step → redoes t ≡ redoes_step t (Some step)
+unfolding redoes
+redoes_newest t step there = rw there refl
 
 pub answers_unsuited : (t : NamedTimeline) (moment : Rattle.script_grammar.specs.declared.command.Moment.Moment) (question : Question) → suits question t.kind ≡ false
     → answers t moment (One question) ≡ Refused refusals.Kind

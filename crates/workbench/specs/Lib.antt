@@ -1,6 +1,7 @@
 pub use Rattle.retro_base.specs.Kind
 pub use Rattle.script_grammar.specs.Command
 pub mod Bench
+pub mod EditErrors
 pub mod Outcome
 pub mod TimelineEffects
 pub mod Reaction

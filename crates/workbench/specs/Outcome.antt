@@ -5,7 +5,7 @@ use Rattle.script_grammar.specs.AnswerText.{answer_text, listing_text}
 use Rattle.workbench.specs.declared.outcome.Outcome.{Outcome}
 use Rattle.workbench.specs.declared.outcome.Outcome.TheVariants.{Silent, Accepted, Inserted, Answered, Listed, Refused}
 use Rattle.workbench.specs.declared.outcome.Refusal.{Refusal}
-use Rattle.workbench.specs.declared.outcome.Refusal.TheVariants.{Long, Syntax, NoTimeline, NameTaken, Timelines, Kind, NoRow, Full, Numbers, At}
+use Rattle.workbench.specs.declared.outcome.Refusal.TheVariants.{Long, Syntax, NoTimeline, NameTaken, Timelines, Kind, NoRow, Full, Numbers, At, NothingToUndo, NothingToRedo}
 
 -- the text of a refusal
 abbrev pub refusal_text : Refusal → List ℕ
@@ -18,6 +18,8 @@ refusal_text Kind = codes "refused kind"
 refusal_text (NoRow number) = codes "refused no row #" ++ decimal number
 refusal_text Full = codes "refused full"
 refusal_text Numbers = codes "refused numbers"
+refusal_text NothingToUndo = codes "refused nothing to undo"
+refusal_text NothingToRedo = codes "refused nothing to redo"
 refusal_text (At number time) = codes "refused at #" ++ decimal number ++ codes " " ++ decimal time
 
 -- a text on a line of its own

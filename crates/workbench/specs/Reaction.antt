@@ -3,7 +3,7 @@ use Rattle.std.specs.Prelude.{ℕ, Bool, nat_le, List, [], ◌∷◌, ◌++◌, 
 use Rattle.std.specs.Prelude.{Result, Ok, Err}
 use Rattle.retro_base.specs.declared.kind.Kind.{Kind}
 use Rattle.script_grammar.specs.declared.command.Command.{Command}
-use Rattle.script_grammar.specs.declared.command.Command.TheVariants.{Nothing, New, Insert, Delete, Ask}
+use Rattle.script_grammar.specs.declared.command.Command.TheVariants.{Nothing, New, Insert, Delete, Ask, Undo, Redo}
 use Rattle.script_grammar.specs.declared.command.LineError.{LineError}
 use Rattle.script_grammar.specs.declared.command.LineError.TheVariants as errors
 use Rattle.retro_base.specs.LineLength.{is_long}
@@ -14,7 +14,7 @@ use Rattle.workbench.specs.declared.outcome.Refusal.TheVariants as refusals
 use Rattle.retro_base.specs.Limits.{most_timelines}
 use Rattle.workbench.specs.Bench.{NamedTimeline, Bench, fresh, is_named, has_timeline}
 use Rattle.workbench.specs.Outcome.{reply_text, is_refusal}
-use Rattle.workbench.specs.TimelineEffects.{TimelineEffect, unchanged, inserts, deletes, answers}
+use Rattle.workbench.specs.TimelineEffects.{TimelineEffect, unchanged, inserts, deletes, answers, undoes, redoes}
 
 -- what the bench makes of a line: itself afterwards, and the outcome
 pub record Effect : Type 0 where
@@ -52,6 +52,8 @@ obeys bench (Ok (New name kind)) = starts bench name kind
 obeys bench (Ok (Insert name spot op)) = on_named name (λ timeline. inserts timeline spot op) bench
 obeys bench (Ok (Delete name number)) = on_named name (λ timeline. deletes timeline number) bench
 obeys bench (Ok (Ask name moment query)) = on_named name (λ timeline. unchanged timeline (answers timeline moment query)) bench
+obeys bench (Ok (Undo name)) = on_named name undoes bench
+obeys bench (Ok (Redo name)) = on_named name redoes bench
 
 -- the reaction to a line: the bench afterwards, the lines that answer it, and whether they are a refusal
 pub record Reaction : Type 0 where

@@ -1,5 +1,5 @@
 -- What one timeline makes of an edit and of a question.
-use Rattle.std.specs.Prelude.{ℕ, suc, ◌+◌, nat_le, List, length, slice_get, if◌then◌else◌}
+use Rattle.std.specs.Prelude.{ℕ, suc, ◌+◌, nat_le, List, [], ◌∷◌, length, slice_get, if◌then◌else◌}
 use Rattle.std.specs.Prelude.{Option, Some, None, option_map, option_and_then}
 use Rattle.retro_base.specs.declared.op.Op.{Op}
 use Rattle.retro_base.specs.declared.row.Row.{Row}
@@ -8,8 +8,9 @@ use Rattle.retro_base.specs.Kind.{kind_of, same_kind}
 use Rattle.retro_base.specs.Replay.{failure, state_at}
 use Rattle.retro_base.specs.Answers.{answer_of, content}
 use Rattle.retro_base.specs.Questions.{suits}
-use Rattle.retro_base.specs.Edits.{Edit, add, cut, edited}
+use Rattle.retro_base.specs.Edits.{Edit, Step, add, cut, edited, edited_by, inverse_step}
 use Rattle.retro_base.specs.Places.{place_of_time, place_of_row}
+use Rattle.timeline_undo.specs.History.{newest_step, recorded, redone, undone}
 use Rattle.script_grammar.specs.declared.command.Spot.{Spot}
 use Rattle.script_grammar.specs.declared.command.Spot.TheVariants as spots
 use Rattle.script_grammar.specs.declared.command.Moment.{Moment}
@@ -67,9 +68,10 @@ abbrev pub accepted_or_refused : NamedTimeline → NamedTimeline → Outcome →
 accepted_or_refused timeline after outcome None = record { timeline = after; outcome = outcome }
 accepted_or_refused timeline after outcome (Some index) = refuses timeline (refusal_at (slice_get after.rows index))
 
--- the timeline after an edit, with the number that it draws next
+-- the timeline after an accepted edit, which is recorded as a step, with the number that it draws next
 abbrev pub after_edit : NamedTimeline → Edit → ℕ → NamedTimeline
-after_edit timeline edit next = record timeline { rows = edited timeline.rows edit; next = next }
+after_edit timeline edit next =
+    record timeline { rows = edited timeline.rows edit; next = next; history = recorded (edit ∷ []) timeline.history }
 
 -- what becomes of an edit
 abbrev pub edits : NamedTimeline → Edit → ℕ → Outcome → TimelineEffect
@@ -110,6 +112,30 @@ deletes_by timeline number (Some edit) = edits timeline edit timeline.next Accep
 -- `NAME delete #N`
 unfoldable pub deletes : NamedTimeline → ℕ → TimelineEffect
 deletes timeline number = deletes_by timeline number (cut_of number timeline.rows)
+
+-- the newest step is undone, if there is one
+abbrev pub undoes_step : NamedTimeline → Option Step → TimelineEffect
+undoes_step timeline None = refuses timeline refusals.NothingToUndo
+undoes_step timeline (Some step) = record {
+  timeline = record timeline { rows = edited_by timeline.rows (inverse_step step); history = undone step timeline.history };
+  outcome = Accepted;
+}
+
+-- `NAME undo`
+unfoldable pub undoes : NamedTimeline → TimelineEffect
+undoes timeline = undoes_step timeline (newest_step timeline.history.undo)
+
+-- the step that was undone last is made again, if there is one
+abbrev pub redoes_step : NamedTimeline → Option Step → TimelineEffect
+redoes_step timeline None = refuses timeline refusals.NothingToRedo
+redoes_step timeline (Some step) = record {
+  timeline = record timeline { rows = edited_by timeline.rows step; history = redone step timeline.history };
+  outcome = Accepted;
+}
+
+-- `NAME redo`
+unfoldable pub redoes : NamedTimeline → TimelineEffect
+redoes timeline = redoes_step timeline (newest_step timeline.history.redo)
 
 -- what is answered at a place, if the moment has one
 abbrev pub answers_at : (ℕ → Outcome) → ℕ → Option Position → Outcome

@@ -4,7 +4,7 @@ ghost use Rattle.script_grammar.specs.Command.{StartsNoPq};
 ghost use Rattle.retro_base.specs.Limits.{longest_line, most_timelines};
 ghost use Rattle.workbench.specs.Bench.{has_timeline, is_named};
 ghost use Rattle.workbench.specs.Reaction.{obeys, on_named, reacts_to, starts};
-ghost use Rattle.workbench.specs.TimelineEffects.{answers, deletes, inserts, unchanged};
+ghost use Rattle.workbench.specs.TimelineEffects.{answers, deletes, inserts, redoes, undoes, unchanged};
 
 use crate::named_timeline::NamedTimeline;
 use crate::outcome::{Outcome, Refusal};
@@ -100,6 +100,8 @@ impl Bench {
                 moment,
                 query,
             } => self.ask(*name, *moment, *query),
+            Command::Undo { name } => self.undo(*name),
+            Command::Redo { name } => self.redo(*name),
         }
     }
 
@@ -115,8 +117,8 @@ impl Bench {
         if self.is_full() {
             return Ok(Outcome::refused(Refusal::Timelines));
         }
-        self.timelines
-            .push(NamedTimeline::new(self.alloc, name, kind))?;
+        let timeline = NamedTimeline::new(self.alloc, name, kind)?;
+        self.timelines.push(timeline)?;
         Ok(Outcome::Accepted)
     }
 
@@ -138,6 +140,28 @@ impl Bench {
     {
         match self.index_of(name) {
             Some(index) => self.timelines[index].delete(number),
+            None => Ok(Outcome::refused(Refusal::NoTimeline { name })),
+        }
+    }
+
+    /// Undoes the newest step of the timeline of this name.
+    fn undo(&mut self, name: Name) -> Result<Outcome, NoMemory>
+        ensures ok { IfOk result (λ outcome. on_named name undoes self.old ≡ record { bench = self.new; outcome = outcome }) }
+        ensures err { OnErr result (self.new ≡ self.old) }
+    {
+        match self.index_of(name) {
+            Some(index) => self.timelines[index].undo(),
+            None => Ok(Outcome::refused(Refusal::NoTimeline { name })),
+        }
+    }
+
+    /// Makes the step of the timeline of this name again that was undone last.
+    fn redo(&mut self, name: Name) -> Result<Outcome, NoMemory>
+        ensures ok { IfOk result (λ outcome. on_named name redoes self.old ≡ record { bench = self.new; outcome = outcome }) }
+        ensures err { OnErr result (self.new ≡ self.old) }
+    {
+        match self.index_of(name) {
+            Some(index) => self.timelines[index].redo(),
             None => Ok(Outcome::refused(Refusal::NoTimeline { name })),
         }
     }

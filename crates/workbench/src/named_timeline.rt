@@ -1,63 +1,51 @@
-ghost use Rattle.std.specs.Prelude.{◌≡◌, ◌≢◌, ◌+◌, ◌<◌, ◌≤◌, true, length, slice_get, Some, IfOk, OnErr};
-ghost use Rattle.std.specs.List.{insert, remove};
+ghost use Rattle.std.specs.Prelude.{◌≡◌, ◌≢◌, ◌≤◌, true, length, IfOk, OnErr};
 ghost use Rattle.retro_base.specs.declared.kind.Kind.TheVariants.{Pq};
-ghost use Rattle.retro_base.specs.Limits.{most_rows};
 ghost use Rattle.retro_base.specs.Kind.{kind_of, same_kind};
 ghost use Rattle.retro_base.specs.Answers.{content};
+ghost use Rattle.retro_base.specs.Order.{Fits};
 ghost use Rattle.retro_base.specs.Questions.{suits};
 ghost use Rattle.retro_base.specs.Replay.{state_at};
 ghost use Rattle.script_grammar.specs.declared.command.Moment.TheVariants.{Then};
 ghost use Rattle.script_grammar.specs.declared.command.Query.TheVariants.{One, All};
 ghost use Rattle.workbench.specs.declared.outcome.Outcome.TheVariants.{Listed, Refused};
-ghost use Rattle.workbench.specs.declared.outcome.Refusal.TheVariants.{NoRow, At};
-ghost use Rattle.retro_base.specs.Order.{Fits};
+ghost use Rattle.workbench.specs.declared.outcome.Refusal.TheVariants.{NoRow};
+ghost use Rattle.workbench.specs.EditErrors.{IsRefusedBy};
 
 use crate::outcome::{Outcome, Refusal};
-use crate::position::{Position, place_of_row, position_of, row_named};
+use crate::position::{Position, position_of, row_named};
 use engine::Engine;
-use retro_base::{Kind, MAX_NEXT, MAX_ROWS, Name, NoMemory, Op, Question, Retro, Row};
+use retro_base::{Kind, MAX_NEXT, MAX_ROWS, Name, NoMemory, Op, Question};
 use script_grammar::{Moment, Query, Spot};
 use std::alloc::Global;
 use std::marker::Model;
+use timeline_undo::{EditError, Session, UndoError};
 
-/// A timeline of the bench: its rows with their times and numbers, and the structure that performs
-/// them. The two hold the same rows.
+/// A timeline of the bench: its name, and the session that keeps and performs its rows.
 #[derive(Drop)]
 pub(crate) struct NamedTimeline {
     name: Name,
-    rows: Vec<Row>,
-    structure: Engine,
-    next: u32,
+    session: Session<Engine>,
 }
 
 impl Model for NamedTimeline {
-    ghost use Rattle.std.specs.Prelude.{◌≡◌};
-    ghost use Rattle.engine.specs.Engine.{kind_inside, rows_inside};
-    ghost use Rattle.retro_base.specs.Timeline.{IsTimeline};
-    ghost use Rattle.workbench.specs.Bench.{NamedTimeline};
+    ghost use Rattle.workbench.specs.Bench.{NamedTimeline, named};
 
     ghost Value = { NamedTimeline };
 
-    ghost view = { λ t. record { name = t.name; kind = kind_inside t.structure; rows = t.rows.items; next = t.next } };
-
-    ghost invariant = { λ t. (rows_inside t.structure ≡ t.rows.items) × IsTimeline (kind_inside t.structure) t.rows.items t.next };
+    ghost view = { λ t. named t.name t.session };
 }
 
 impl NamedTimeline {
     ghost use Rattle.workbench.specs.Bench.{fresh};
-    ghost use Rattle.workbench.specs.TimelineEffects.{deletes, inserts, inserts_there, unchanged, answers};
+    ghost use Rattle.workbench.specs.TimelineEffects.{deletes, inserts, inserts_there, unchanged, answers, undoes, redoes};
 
     /// A timeline without rows.
-    pub(crate) fn new(alloc: Global, name: Name, kind: Kind) -> NamedTimeline
+    pub(crate) fn new(alloc: Global, name: Name, kind: Kind) -> Result<NamedTimeline, NoMemory>
         requires { kind ≢ Pq }
-        ensures { result ≡ fresh name kind }
+        ensures { IfOk result (λ timeline. timeline ≡ fresh name kind) }
     {
-        NamedTimeline {
-            name,
-            rows: Vec::new(alloc),
-            structure: Engine::new(alloc, kind),
-            next: 1,
-        }
+        let session = Session::new(alloc, Engine::new(alloc, kind), 1)?;
+        Ok(NamedTimeline { name, session })
     }
 
     /// The name.
@@ -76,7 +64,7 @@ impl NamedTimeline {
         if !self.takes(op) {
             return Ok(Outcome::refused(Refusal::Kind));
         }
-        match position_of(self.rows.as_slice(), spot) {
+        match position_of(self.session.timeline(), spot) {
             Some(position) => self.insert_at(position, op),
             None => Ok(no_row(row_named(spot))),
         }
@@ -86,7 +74,7 @@ impl NamedTimeline {
     fn takes(&self, op: Op) -> bool
         ensures { result ≡ same_kind (kind_of op) self.now.kind }
     {
-        op.kind() == self.structure.kind()
+        op.kind() == self.session.kind()
     }
 
     /// Puts a row in at a position, where there is room and the edited rows replay whole.
@@ -97,29 +85,15 @@ impl NamedTimeline {
         ensures ok { IfOk result (λ outcome. inserts_there self.old op position ≡ record { timeline = self.new; outcome = outcome }) }
         ensures err { OnErr result (self.new ≡ self.old) }
     {
-        if self.structure.len() >= MAX_ROWS {
+        if self.session.timeline().len() >= MAX_ROWS {
             return Ok(Outcome::refused(Refusal::Full));
         }
-        if self.next >= MAX_NEXT {
+        if self.session.next() >= MAX_NEXT {
             return Ok(Outcome::refused(Refusal::Numbers));
         }
-        let row = Row {
-            number: self.next,
-            time: position.time,
-            op,
-        };
-        match self.structure.failure_after_insert(position.place, op) {
-            Some(index) => {
-                let failing = row_after_insert(self.rows.as_slice(), position.place, row, index);
-                Ok(fails_at(failing))
-            }
-            None => {
-                self.rows.reserve(1)?;
-                self.structure.insert(position.place, row)?;
-                self.rows.insert(position.place as usize, row).unwrap();
-                self.next += 1;
-                Ok(Outcome::Inserted { number: row.number })
-            }
+        match self.session.put(position.place, position.time, op) {
+            Ok(put) => Ok(Outcome::Inserted { number: put.number }),
+            Err(error) => refused_by(error),
         }
     }
 
@@ -129,16 +103,36 @@ impl NamedTimeline {
         ensures ok { IfOk result (λ outcome. deletes self.old number ≡ record { timeline = self.new; outcome = outcome }) }
         ensures err { OnErr result (self.new ≡ self.old) }
     {
-        let Some(place) = place_of_row(self.rows.as_slice(), number) else {
+        let Some(place) = self.session.timeline().place_of(number) else {
             return Ok(no_row(number));
         };
-        match self.structure.failure_after_remove(place) {
-            Some(index) => Ok(fails_at(row_after_remove(self.rows.as_slice(), place, index))),
-            None => {
-                self.structure.remove(place)?;
-                self.rows.remove(place as usize);
-                Ok(Outcome::Accepted)
-            }
+        match self.session.cut(place) {
+            Ok(_) => Ok(Outcome::Accepted),
+            Err(error) => refused_by(error),
+        }
+    }
+
+    /// Undoes the newest step. After a refusal and after `NoMemory` all is as before.
+    pub(crate) fn undo(&mut self) -> Result<Outcome, NoMemory>
+        ensures ok { IfOk result (λ outcome. undoes self.old ≡ record { timeline = self.new; outcome = outcome }) }
+        ensures err { OnErr result (self.new ≡ self.old) }
+    {
+        match self.session.undo() {
+            Ok(_) => Ok(Outcome::Accepted),
+            Err(UndoError::Nothing) => Ok(Outcome::refused(Refusal::NothingToUndo)),
+            Err(UndoError::NoMemory) => Err(NoMemory),
+        }
+    }
+
+    /// Makes the step again that was undone last. After a refusal and after `NoMemory` all is as before.
+    pub(crate) fn redo(&mut self) -> Result<Outcome, NoMemory>
+        ensures ok { IfOk result (λ outcome. redoes self.old ≡ record { timeline = self.new; outcome = outcome }) }
+        ensures err { OnErr result (self.new ≡ self.old) }
+    {
+        match self.session.redo() {
+            Ok(_) => Ok(Outcome::Accepted),
+            Err(UndoError::Nothing) => Ok(Outcome::refused(Refusal::NothingToRedo)),
+            Err(UndoError::NoMemory) => Err(NoMemory),
         }
     }
 
@@ -158,12 +152,12 @@ impl NamedTimeline {
         ensures unchanged { self.new ≡ self.old }
         ensures ok { IfOk result (λ outcome. outcome ≡ answers self.old moment (One question)) }
     {
-        if !question.suits(self.structure.kind()) {
+        if !question.suits(self.session.kind()) {
             return Ok(Outcome::refused(Refusal::Kind));
         }
         match moment {
             Moment::Now => Ok(Outcome::Answered {
-                answer: self.structure.ask_now(question),
+                answer: self.session.ask_now(question),
             }),
             Moment::Then { spot } => self.ask_at(spot, question),
         }
@@ -175,9 +169,9 @@ impl NamedTimeline {
         ensures unchanged { self.new ≡ self.old }
         ensures ok { IfOk result (λ outcome. outcome ≡ answers self.old (Then spot) (One question)) }
     {
-        match position_of(self.rows.as_slice(), spot) {
+        match position_of(self.session.timeline(), spot) {
             Some(position) => {
-                let answer = self.structure.ask(position.place, question)?;
+                let answer = self.session.ask(position.place, question)?;
                 Ok(Outcome::Answered { answer })
             }
             None => Ok(no_row(row_named(spot))),
@@ -191,10 +185,10 @@ impl NamedTimeline {
     {
         match moment {
             Moment::Now => {
-                let place = self.structure.len();
+                let place = self.session.timeline().len();
                 self.list_at(place)
             }
-            Moment::Then { spot } => match position_of(self.rows.as_slice(), spot) {
+            Moment::Then { spot } => match position_of(self.session.timeline(), spot) {
                 Some(position) => self.list_at(position.place),
                 None => Ok(no_row(row_named(spot))),
             },
@@ -207,7 +201,7 @@ impl NamedTimeline {
         ensures unchanged { self.new ≡ self.old }
         ensures ok { IfOk result (λ outcome. outcome ≡ Listed (content (state_at self.old.kind self.old.rows place))) }
     {
-        let listing = self.structure.all(place)?;
+        let listing = self.session.all(place)?;
         Ok(Outcome::Listed { listing })
     }
 }
@@ -219,40 +213,12 @@ fn no_row(number: u32) -> Outcome
     Outcome::refused(Refusal::NoRow { number })
 }
 
-/// The outcome of an edit after which this row is the first that could not be performed.
-fn fails_at(failing: Row) -> Outcome
-    ensures { result ≡ Refused (At failing.number failing.time) }
+/// The outcome of an edit that does not stand.
+fn refused_by(error: EditError) -> Result<Outcome, NoMemory>
+    ensures { IsRefusedBy error result }
 {
-    Outcome::refused(Refusal::At {
-        number: failing.number,
-        time: failing.time,
-    })
-}
-
-/// The row at this index, were a row put in at the place.
-fn row_after_insert(rows: &[Row], place: u32, row: Row, index: u32) -> Row
-    requires place { place ≤ length rows.now }
-    requires index { index ≤ length rows.now }
-    ensures { slice_get (insert rows.now place row) index ≡ Some result }
-{
-    if index < place {
-        rows[index as usize]
-    } else if index == place {
-        row
-    } else {
-        rows[index as usize - 1]
-    }
-}
-
-/// The row at this index, were the row at the place taken out.
-fn row_after_remove(rows: &[Row], place: u32, index: u32) -> Row
-    requires place { place < length rows.now }
-    requires index { index + 1 < length rows.now }
-    ensures { slice_get (remove rows.now place) index ≡ Some result }
-{
-    if index < place {
-        rows[index as usize]
-    } else {
-        rows[index as usize + 1]
+    match error {
+        EditError::Fails { number, time } => Ok(Outcome::refused(Refusal::At { number, time })),
+        EditError::NoMemory => Err(NoMemory),
     }
 }

@@ -46,6 +46,10 @@ pub(crate) enum Refusal {
     Numbers,
     /// The edited rows do not replay: this is the first row that could not be performed.
     At { number: u32, time: u64 },
+    /// No step of the timeline can be undone.
+    NothingToUndo,
+    /// No step of the timeline can be made again.
+    NothingToRedo,
 }
 
 impl Outcome {
@@ -106,6 +110,8 @@ impl Refusal {
             }
             Refusal::Full => out.push_all(b"refused full")?,
             Refusal::Numbers => out.push_all(b"refused numbers")?,
+            Refusal::NothingToUndo => out.push_all(b"refused nothing to undo")?,
+            Refusal::NothingToRedo => out.push_all(b"refused nothing to redo")?,
             Refusal::At { number, time } => {
                 out.push_all(b"refused at #")?;
                 out.push_number(*number)?;

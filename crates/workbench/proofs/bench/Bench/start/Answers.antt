@@ -12,5 +12,5 @@ returns-then-is_full-clause-ok c =
 pub returns-clause-ok : goal.returns-clause-ok
 returns-clause-ok c =
     let free : has_timeline c.args.name c.self.inside.timelines.items ≡ false = rw (← c.self.view_is) at (sym c.has.ensures ∙ c.if-has.false) in
-    rw (← c.self.view_is, c.in_ok-push.ensures.items, c.new.ensures)
+    rw (← c.self.view_is, c.in_ok-push.ensures.items, c.in_ok-timeline.ensures)
     (starts_anew c.self.inside.timelines.items c.args.name c.args.kind free (rw (← c.self.view_is) at (sym c.is_full.ensures ∙ c.if-is_full.false)))

@@ -6,13 +6,13 @@ use Rattle.workbench.proofs.named_timeline.NamedTimeline.ask_at.Goals as goal
 
 pub returns-in_ok-answer-in-Some-clause-ok : goal.returns-in_ok-answer-in-Some-clause-ok
 returns-in_ok-answer-in-Some-clause-ok c =
-    let there : position_of c.args.spot c.self.inside.rows.items ≡ Some c.in-Some.position = rw c.as_slice.ensures.value at (sym c.position_of.ensures.position ∙ c.in-Some.is) in
+    let there : position_of c.args.spot c.self.inside.session.rows ≡ Some c.in-Some.position = rw c.timeline.ensures.rows at (sym c.position_of.ensures.position ∙ c.in-Some.is) in
     rw (← c.self.view_is)
-    (ap (λ a. Answered a) (rw c.self.invariant.0 at c.in_ok-answer-in-Some.ensures.answer)
+    (ap (λ a. Answered a) c.in_ok-answer-in-Some.ensures.answer
     ∙ sym (answers_there _ c.args.spot c.args.question c.in-Some.position (rw (← c.self.view_is) at c.requires) there))
 
 pub returns-in-None-clause-ok : goal.returns-in-None-clause-ok
 returns-in-None-clause-ok c =
-    let nowhere : position_of c.args.spot c.self.inside.rows.items ≡ None = rw c.as_slice.ensures.value at (sym c.position_of.ensures.position ∙ c.in-None.is) in
+    let nowhere : position_of c.args.spot c.self.inside.session.rows ≡ None = rw c.timeline.ensures.rows at (sym c.position_of.ensures.position ∙ c.in-None.is) in
     rw (← c.self.view_is, c.no_row.ensures, c.row_named.ensures)
     (sym (answers_nowhere _ c.args.spot c.args.question (rw (← c.self.view_is) at c.requires) nowhere))

@@ -5,16 +5,16 @@ use Rattle.workbench.proofs.named_timeline.NamedTimeline.list.Goals as goal
 
 pub returns-in-Now-clause-ok : goal.returns-in-Now-clause-ok
 returns-in-Now-clause-ok c =
-    let place : c.len-place.result ≡ length c.args.self.now.rows = rw (← c.self.view_is) (rw c.self.invariant.0 at c.len-place.ensures.length) in
+    let place : c.len-place.result ≡ length c.args.self.now.rows = rw (← c.self.view_is, ← c.timeline.ensures.rows) c.len-place.ensures.length in
     rw (c.in-Now.is, lists_now c.args.self.now) (rw place at c.list_at.ensures.ok)
 
 pub returns-in-Some-clause-ok : goal.returns-in-Some-clause-ok
 returns-in-Some-clause-ok c =
-    let there : position_of c.in-Then.spot c.self-in-Then.inside.rows.items ≡ Some c.in-Some.position = rw c.as_slice.ensures.value at (sym c.position_of.ensures.position ∙ c.in-Some.is) in
+    let there : position_of c.in-Then.spot c.self-in-Then.inside.session.rows ≡ Some c.in-Some.position = rw c.timeline-in-Then.ensures.rows at (sym c.position_of.ensures.position ∙ c.in-Some.is) in
     rw (c.in-Then.is, lists_there c.args.self.now c.in-Then.spot c.in-Some.position (rw (← c.self-in-Then.view_is) there)) c.list_at-in-Some.ensures.ok
 
 pub returns-in-None-clause-ok : goal.returns-in-None-clause-ok
 returns-in-None-clause-ok c =
-    let nowhere : position_of c.in-Then.spot c.self-in-Then.inside.rows.items ≡ None = rw c.as_slice.ensures.value at (sym c.position_of.ensures.position ∙ c.in-None.is) in
+    let nowhere : position_of c.in-Then.spot c.self-in-Then.inside.session.rows ≡ None = rw c.timeline-in-Then.ensures.rows at (sym c.position_of.ensures.position ∙ c.in-None.is) in
     rw (c.in-Then.is, c.no_row.ensures, c.row_named.ensures)
     (sym (lists_nowhere c.args.self.now c.in-Then.spot (rw (← c.self-in-Then.view_is) nowhere)))

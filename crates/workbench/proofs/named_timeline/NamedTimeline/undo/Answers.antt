@@ -1,0 +1,16 @@
+use Rattle.std.proofs.Common.{refl}
+use Rattle.workbench.proofs.TimelineEffects.{undoes_nothing, undoes_newest}
+use Rattle.workbench.proofs.named_timeline.NamedTimeline.undo.Goals as goal
+use Rattle.workbench.proofs.named_timeline.NamedTimeline.undo.Goals.{in-Ok, in-Err-Nothing, in-Err-NoMemory}
+
+pub returns-clause-ok : goal.returns-clause-ok
+returns-clause-ok c =
+    elim c.match-undo.branch [
+      | in-Ok w ↦
+          let found = w.in-Ok.ensures.step in
+          rw w.result-is (rw (← c.self.view_is, found.3) (undoes_newest _ found.0 found.1))
+      | in-Err-Nothing w ↦
+          rw w.result-is
+          (rw (← c.self.view_is, w.in-Err-Nothing.ensures.err, w.refused.ensures) (undoes_nothing _ (w.in-Err-Nothing.ensures.nothing.0 (rw w.in-Err-Nothing.field-0-is refl))))
+      | in-Err-NoMemory w ↦ rw w.result-is tt
+    ]
