@@ -1,4 +1,4 @@
-ghost use Rattle.std.specs.Prelude.{◌≡◌, ◌≤◌, [], true, false, vec_len, vec_capacity, IfOk, OnOk, Ok};
+ghost use Rattle.std.specs.Prelude.{◌≡◌, ◌≤◌, ◌<◌, [], true, false, length, vec_len, vec_capacity, IfOk, OnOk, OnErr, Ok};
 ghost use Rattle.retro_io.specs.Faults.{Counts, count_after, faults_after, last_count};
 
 use crate::sink::put_until_fault;
@@ -51,6 +51,7 @@ impl<K: Sink + Drop> Outbox<K> {
         ensures written { then_waiting (K.written (sink_of self.new)) (waiting_of self.new)
             ≡ then_waiting (K.written (sink_of self.old)) (waiting_of self.old) }
         ensures sent { self.new.failed ≡ false → self.new.waiting.items ≡ [] }
+        ensures fails { self.new.failed ≡ true → self.old.failed ≡ false → 0 < length (waiting_of self.old) }
         ensures once_failed { self.old.failed ≡ true → self.new ≡ self.old }
         ensures faults { self.new.faults ≡ self.old.faults }
         ensures flushed { self.new.flushed ≡ self.old.flushed }
@@ -73,6 +74,7 @@ impl<K: Sink + Drop> Outbox<K> {
     /// Sends all that waits, and gives the other sink back where all went on.
     pub fn into_inner(mut self) -> Result<K, WriteFault>
         ensures written { IfOk result (λ sink. K.written sink ≡ then_waiting (K.written (sink_of self)) (waiting_of self)) }
+        ensures failed { OnErr result (self.failed ≡ false → 0 < length (waiting_of self)) }
     {
         self.send();
         let Outbox { sink, failed, .. } = self;

@@ -1,4 +1,4 @@
-ghost use Rattle.std.specs.Prelude.{◌≡◌, ◌≤◌, None};
+ghost use Rattle.std.specs.Prelude.{◌≡◌, ◌≤◌, false, None};
 ghost use Rattle.retro_io.specs.Faults.{faults_after, last_count};
 
 use crate::{Failed, Outbox, Sink, Source};
@@ -14,7 +14,9 @@ pub struct SendingSource<'a, S, K> {
 
 impl<'a, S: Source, K: Sink + Drop> SendingSource<'a, S, K> {
     /// This source, beside an outbox.
-    pub fn new(source: S, outbox: &'a RefCell<Outbox<K>>) -> SendingSource<'a, S, K> {
+    pub fn new(source: S, outbox: &'a RefCell<Outbox<K>>) -> SendingSource<'a, S, K>
+        ensures { result.source ≡ source }
+    {
         SendingSource { source, outbox }
     }
 }
@@ -50,7 +52,10 @@ pub struct SharedSink<'a, K> {
 
 impl<'a, K: Sink + Drop> SharedSink<'a, K> {
     /// A sink that writes to this outbox.
-    pub fn new(outbox: &'a RefCell<Outbox<K>>) -> SharedSink<'a, K> {
+    pub fn new(outbox: &'a RefCell<Outbox<K>>) -> SharedSink<'a, K>
+        ensures flushed { result.flushed ≡ false }
+        ensures faults { result.faults ≡ 0 }
+    {
         SharedSink {
             outbox,
             flushed: false,
