@@ -10,6 +10,7 @@ pub mod Timeline
 pub mod Order
 pub mod OrderLaws
 pub mod ReplayableLaws
+pub mod PrefixLaws
 pub mod TimelineLaws
 pub mod Questions
 pub mod Bridges

@@ -28,7 +28,7 @@ all_without P (x ∷ xs) zero all = all.1
 all_without P (x ∷ xs) (suc place) all = (all.0, all_without P xs place all.1)
 
 -- what holds of all elements holds of each
-all_at : {X : Type 0} (P : X → Type 0) (xs : List X) (index : ℕ) (x : X) → AllByRecursion P xs → slice_get xs index ≡ Some x → P x
+pub all_at : {X : Type 0} (P : X → Type 0) (xs : List X) (index : ℕ) (x : X) → AllByRecursion P xs → slice_get xs index ≡ Some x → P x
 all_at P [] index x all there = absurd (cc)
 all_at P (y ∷ ys) zero x all there = let same : y ≡ x = cc in rw same at all.0
 all_at P (y ∷ ys) (suc index) x all there = all_at P ys index x all.1 there

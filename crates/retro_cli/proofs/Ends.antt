@@ -1,5 +1,5 @@
 -- What stands in the sink where a run ends.
-use Rattle.std.proofs.Common.{◌≡◌, ℕ, Bool, false, ◌≤◌, ◌<◌, ◌-◌, ◌+◌, List, [], ◌∷◌, ◌++◌, length, take, drop, arith, refl, sym, ap, ◌∙◌, subst, append_assoc, append-nil, length-append, length-drop, Option, Some, None, Result, Err, inl, inr}
+use Rattle.std.proofs.Common.{◌≡◌, ℕ, Bool, false, ◌||◌, ◌≤◌, ◌<◌, ◌-◌, ◌+◌, List, [], ◌∷◌, ◌++◌, length, take, drop, arith, refl, sym, ap, ◌∙◌, subst, append_assoc, append-nil, length-append, length-drop, Option, Some, None, Result, Err, inl, inr}
 use Rattle.std.specs.Ffi.{without_last}
 use Rattle.std.specs.Prelude.{IfSome}
 use Rattle.std.proofs.Math.Seq.{take-append-add}
@@ -13,9 +13,10 @@ use Rattle.retro_io.specs.Marks.{GivesNextOf}
 use Rattle.retro_io.specs.Sink.{Appends, AppendsProperPrefix}
 use Rattle.retro_io.specs.SinkLaws.{Appends-append, Appends-none, AppendsPrefixOf-from, AppendsPrefixOf-parts}
 use Rattle.retro_io.specs.Source.{GivesCount}
-use Rattle.workbench.specs.Bench.{Bench}
-use Rattle.workbench.specs.Reaction.{Reaction, reacts, reacts_to}
-use Rattle.retro_cli.specs.Output.{answers_to, output, has_refusal, refuses_one, up_to_last_feed}
+use Rattle.workbench.specs.Answers.{bench_after}
+use Rattle.workbench.specs.Bench.{Bench, empty_bench}
+use Rattle.workbench.specs.Reaction.{Reaction, closing, reacts, reacts_to}
+use Rattle.retro_cli.specs.Output.{answers_to, close_of, output, has_refusal, refuses_one, up_to_last_feed}
 use Rattle.retro_cli.specs.declared.stop.Stop.{Stop}
 use Rattle.retro_cli.specs.declared.stop.Stop.TheVariants as stops
 use Rattle.retro_io.specs.declared.mark.ReadError.{ReadError}
@@ -121,23 +122,52 @@ nothing_left shown ended None rest' left next e = absurd (none_is_not_some e)
 nothing_left shown ended (Some now) None left next e = absurd next
 nothing_left shown ended (Some now) (Some after) left next e = ap (λ xs. Some xs) next.0
 
--- at the end all is answered
-all_answered : (bytes : List ℕ) (first : Option (List ℕ)) (bench : Bench) (refused ended : Bool) (rest written : Option (List ℕ))
-    → GoesOn bytes first bench refused ended rest written → rest ≡ Some [] → Appends first (output bytes) written × (refused ≡ has_refusal bytes)
-all_answered bytes first bench refused ended rest written on e =
+-- at the end all lines are given, and the bench is the one that they leave
+record AllGiven (bytes : List ℕ) (first : Option (List ℕ)) (bench : Bench) (refused : Bool) (written : Option (List ℕ)) : Type 0 where
+  appended : Appends first (answers_to (lines bytes)) written
+  refusals : refuses_one (lines bytes) ≡ refused
+  bench_is : bench_after empty_bench (lines bytes) ≡ bench
+
+all_given : (bytes : List ℕ) (first : Option (List ℕ)) (bench : Bench) (refused ended : Bool) (rest written : Option (List ℕ))
+    → GoesOn bytes first bench refused ended rest written → rest ≡ Some [] → AllGiven bytes first bench refused written
+all_given bytes first bench refused ended rest written on e =
     let none_left : on.left ≡ [] = some_same rest on.rest_is e in
-    let all : on.given ≡ lines bytes = sym (on.cut ∙ ap (λ xs. on.given ++ lines xs) none_left ∙ append-nil on.given) in (
-      subst (λ xs. Appends first xs written) (ap answers_to all ∙ sym (append-nil (answers_to (lines bytes)))) on.appended,
-      sym on.refusals ∙ ap refuses_one all,
+    let all : on.given ≡ lines bytes = sym (on.cut ∙ ap (λ xs. on.given ++ lines xs) none_left ∙ append-nil on.given) in
+    record {
+      appended = subst (λ ls. Appends first (answers_to ls) written) all on.appended;
+      refusals = sym (ap refuses_one all) ∙ on.refusals;
+      bench_is = sym (ap (bench_after empty_bench) all) ∙ on.bench_is;
+    }
+
+given_at_end : (bytes : List ℕ) (first : Option (List ℕ)) (bench : Bench) (refused ended : Bool) (rest rest' written : Option (List ℕ)) (shown : List ℕ)
+    (has_ended : Bool) → GoesOn bytes first bench refused ended rest written → GivesNextOf End shown has_ended rest rest'
+    → AllGiven bytes first bench refused written
+given_at_end bytes first bench refused ended rest rest' written shown has_ended on next =
+    all_given bytes first bench refused ended rest written on (nothing_left shown has_ended rest rest' on.left next on.rest_is)
+
+-- then the answer of the close is appended
+pub appends_output : (script first : Option (List ℕ)) (bench : Bench) (refused ended : Bool) (rest rest' written written' : Option (List ℕ)) (shown : List ℕ)
+    (has_ended : Bool) → ((bytes : List ℕ) → script ≡ Some bytes → GoesOn bytes first bench refused ended rest written)
+    → GivesNextOf End shown has_ended rest rest' → Appends written (closing bench).answer written'
+    → AppendsOutput script first written' × MatchesRefusal script (refused || (closing bench).refused)
+appends_output None first bench refused ended rest rest' written written' shown has_ended on next appended = (tt, tt)
+appends_output (Some bytes) first bench refused ended rest rest' written written' shown has_ended on next appended =
+    let all = given_at_end bytes first bench refused ended rest rest' written shown has_ended (on bytes refl) next in
+    let close : closing bench ≡ close_of (lines bytes) = ap closing (sym all.bench_is) in (
+      Appends-append first written written' (answers_to (lines bytes)) _ all.appended (subst (λ (r : Reaction). Appends written r.answer written') close appended),
+      ap (λ b. b || (closing bench).refused) (sym all.refusals) ∙ ap (λ (r : Reaction). refuses_one (lines bytes) || r.refused) close,
     )
 
-pub appends_output : (script first : Option (List ℕ)) (bench : Bench) (refused ended : Bool) (rest rest' written : Option (List ℕ)) (shown : List ℕ)
+-- or a first part of it, where the write failed
+pub part_at_end : (script first : Option (List ℕ)) (bench : Bench) (refused ended : Bool) (rest rest' written written' : Option (List ℕ)) (shown : List ℕ)
     (has_ended : Bool) → ((bytes : List ℕ) → script ≡ Some bytes → GoesOn bytes first bench refused ended rest written)
-    → GivesNextOf End shown has_ended rest rest' → AppendsOutput script first written × MatchesRefusal script refused
-appends_output None first bench refused ended rest rest' written shown has_ended on next = (tt, tt)
-appends_output (Some bytes) first bench refused ended rest rest' written shown has_ended on next =
-    let here = on bytes refl in
-    all_answered bytes first bench refused ended rest written here (nothing_left shown has_ended rest rest' here.left next here.rest_is)
+    → GivesNextOf End shown has_ended rest rest' → AppendsProperPrefix written (closing bench).answer written' → AppendsProperOutputPrefix script first written'
+part_at_end None first bench refused ended rest rest' written written' shown has_ended on next part = tt
+part_at_end (Some bytes) first bench refused ended rest rest' written written' shown has_ended on next part =
+    let all = given_at_end bytes first bench refused ended rest rest' written shown has_ended (on bytes refl) next in
+    let close : closing bench ≡ close_of (lines bytes) = ap closing (sym all.bench_is) in
+    prefix_between first written written' (answers_to (lines bytes)) (close_of (lines bytes)).answer [] (output bytes) (sym (append-nil (output bytes))) all.appended
+    (subst (λ (r : Reaction). AppendsProperPrefix written r.answer written') close part)
 
 -- at a read that failed all is answered whose line feed was taken
 pub answers_of_taken : (script first : Option (List ℕ)) (bench : Bench) (refused : Bool) (held : List ℕ) (source source' : Option (List ℕ)) (count : ℕ)

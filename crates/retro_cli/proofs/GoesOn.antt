@@ -8,8 +8,9 @@ use Rattle.retro_io.specs.Marks.{GivesNext, GivesNextOf}
 use Rattle.retro_io.specs.Sink.{Appends}
 use Rattle.retro_io.specs.SinkLaws.{Appends-append, Appends-none}
 use Rattle.workbench.specs.Answers.{bench_after}
-use Rattle.workbench.specs.Bench.{Bench}
+use Rattle.workbench.specs.Bench.{Bench, empty_bench}
 use Rattle.workbench.specs.Reaction.{Reaction, reacts, reacts_to}
+use Rattle.workbench.specs.ReactionLaws.{reacts-first}
 use Rattle.retro_cli.specs.Output.{answers_to, refuses_one}
 use Rattle.retro_cli.proofs.Reactions.{answers_to-line, answers_to-none, bench_after-line, refuses_one-line, refuses_one-none}
 use Rattle.retro_cli.proofs.WholeLines.{AreWhole, are_whole-none, further}
@@ -29,12 +30,12 @@ pub record GoesOn (bytes : List ℕ) (first : Option (List ℕ)) (bench : Bench)
   pub past_is : bytes ≡ past ++ left
   pub cut : lines bytes ≡ given ++ lines left
   pub whole : ended ≡ false → AreWhole past given
-  pub bench_is : bench_after [] given ≡ bench
+  pub bench_is : bench_after empty_bench given ≡ bench
   pub appended : Appends first (answers_to given) written
   pub refusals : refuses_one given ≡ refused
 
 -- at the start nothing is answered
-pub goes_on_first : (bytes : List ℕ) (ended : Bool) (rest written : Option (List ℕ)) → rest ≡ Some bytes → GoesOn bytes written [] false ended rest written
+pub goes_on_first : (bytes : List ℕ) (ended : Bool) (rest written : Option (List ℕ)) → rest ≡ Some bytes → GoesOn bytes written empty_bench false ended rest written
 unfolding bench_after
 goes_on_first bytes ended rest written e = record {
   given = [];
@@ -68,7 +69,7 @@ goes_on_line bytes first bench refused ended now after line written written' on 
       past_is = on.past_is ∙ ap (λ xs. on.past ++ xs) (sym same) ∙ next.cut;
       whole = next.whole;
       cut = on.cut ∙ ap (λ ls. on.given ++ ls) cut_left ∙ sym (append_assoc on.given (line ∷ []) (lines after));
-      bench_is = bench_after-line [] on.given line ∙ ap (λ b. (reacts b line).bench) on.bench_is;
+      bench_is = bench_after-line empty_bench on.given line ∙ ap (λ b. (reacts b line).bench) on.bench_is;
       appended = subst (λ xs. Appends first xs written') answers (Appends-append first written written' _ _ on.appended appended);
       refusals = refuses_one-line on.given line ∙ ap (λ b. refuses_one on.given || (reacts b line).refused) on.bench_is
           ∙ ap (λ b. b || (reacts bench line).refused) on.refusals;
@@ -97,7 +98,7 @@ gives Whole long shown ended now after as_given next = record {
 }
 gives Long long shown ended now after as_given next = record {
   line = next.0;
-  reaction = λ bench. rw as_given (ap (reacts_to bench next.0) (lt-ltb longest_line (length next.0) next.2));
+  reaction = λ bench. reacts-first bench next.0 ∙ rw (as_given, ← next.1) (ap (reacts_to bench shown) (lt-ltb longest_line (length next.0) next.2));
   cut = next.3;
   starts = next.4;
 }

@@ -6,10 +6,10 @@ use Rattle.std.proofs.Math.Bool.{or-false}
 use Rattle.std.proofs.Math.Seq.{take-append_seam}
 use Rattle.std.proofs.lemmas.List.{map-append, take-append-drop, take-take}
 use Rattle.std.proofs.lemmas.List.Folds.{concat-append, list_any-append}
-use Rattle.workbench.specs.Answers.{reactions, bench_after, closing}
-use Rattle.workbench.specs.Bench.{Bench}
+use Rattle.workbench.specs.Answers.{reactions, bench_after}
+use Rattle.workbench.specs.Bench.{Bench, empty_bench}
 use Rattle.workbench.specs.Reaction.{Reaction, reacts}
-use Rattle.retro_cli.specs.Output.{answers_to, output, refuses_one}
+use Rattle.retro_cli.specs.Output.{answers_to, close_of, output, refuses_one}
 use Rattle.retro_io.specs.Lines.{lines}
 
 -- what reactions append, one after the other
@@ -38,15 +38,15 @@ bench_after-line bench (x ∷ first) line = bench_after-line (reacts bench x).be
 
 -- first some lines are answered, and then one more, and then others
 pub answers_from : (first : List (List ℕ)) (line : List ℕ) (more : List (List ℕ)) → answers_to (first ++ line ∷ more)
-    ≡ (answers_to first ++ (reacts (bench_after [] first) line).answer) ++ texts (reactions (reacts (bench_after [] first) line).bench more)
+    ≡ (answers_to first ++ (reacts (bench_after empty_bench first) line).answer) ++ texts (reactions (reacts (bench_after empty_bench first) line).bench more)
 unfolding reactions
 answers_from first line more =
-    ap texts (reactions-append [] first (line ∷ more)) ∙ texts-append (reactions [] first) (reactions (bench_after [] first) (line ∷ more))
-    ∙ sym (append_assoc (answers_to first) (reacts (bench_after [] first) line).answer _)
+    ap texts (reactions-append empty_bench first (line ∷ more)) ∙ texts-append (reactions empty_bench first) (reactions (bench_after empty_bench first) (line ∷ more))
+    ∙ sym (append_assoc (answers_to first) (reacts (bench_after empty_bench first) line).answer _)
 
-pub answers_to-line : (first : List (List ℕ)) (line : List ℕ) → answers_to (first ++ line ∷ []) ≡ answers_to first ++ (reacts (bench_after [] first) line).answer
+pub answers_to-line : (first : List (List ℕ)) (line : List ℕ) → answers_to (first ++ line ∷ []) ≡ answers_to first ++ (reacts (bench_after empty_bench first) line).answer
 unfolding reactions
-answers_to-line first line = answers_from first line [] ∙ append-nil (answers_to first ++ (reacts (bench_after [] first) line).answer)
+answers_to-line first line = answers_from first line [] ∙ append-nil (answers_to first ++ (reacts (bench_after empty_bench first) line).answer)
 
 pub answers_to-none : answers_to [] ≡ []
 unfolding reactions
@@ -56,28 +56,28 @@ pub refuses_one-none : refuses_one [] ≡ false
 unfolding reactions
 refuses_one-none = refl
 
-pub refuses_one-line : (first : List (List ℕ)) (line : List ℕ) → refuses_one (first ++ line ∷ []) ≡ (refuses_one first || (reacts (bench_after [] first) line).refused)
+pub refuses_one-line : (first : List (List ℕ)) (line : List ℕ) → refuses_one (first ++ line ∷ []) ≡ (refuses_one first || (reacts (bench_after empty_bench first) line).refused)
 unfolding reactions
 refuses_one-line first line =
-    ap refuses (reactions-append [] first (line ∷ []))
-    ∙ list_any-append (λ (reaction : Reaction). reaction.refused) (reactions [] first) (reactions (bench_after [] first) (line ∷ []))
-    ∙ ap (λ b. refuses_one first || b) (or-false (reacts (bench_after [] first) line).refused)
+    ap refuses (reactions-append empty_bench first (line ∷ []))
+    ∙ list_any-append (λ (reaction : Reaction). reaction.refused) (reactions empty_bench first) (reactions (bench_after empty_bench first) (line ∷ []))
+    ∙ ap (λ b. refuses_one first || b) (or-false (reacts (bench_after empty_bench first) line).refused)
 
 -- the output, where some first lines are answered
 pub output_after : (bytes : List ℕ) (first more : List (List ℕ)) → lines bytes ≡ first ++ more
-    → output bytes ≡ answers_to first ++ (texts (reactions (bench_after [] first) more) ++ closing (bench_after [] (lines bytes)))
+    → output bytes ≡ answers_to first ++ (texts (reactions (bench_after empty_bench first) more) ++ (close_of (lines bytes)).answer)
 output_after bytes first more cut =
-    ap (λ xs. xs ++ closing (bench_after [] (lines bytes)))
-    (ap answers_to cut ∙ ap texts (reactions-append [] first more) ∙ texts-append (reactions [] first) (reactions (bench_after [] first) more))
+    ap (λ xs. xs ++ (close_of (lines bytes)).answer)
+    (ap answers_to cut ∙ ap texts (reactions-append empty_bench first more) ∙ texts-append (reactions empty_bench first) (reactions (bench_after empty_bench first) more))
     ∙ append_assoc (answers_to first) _ _
 
 -- and then one more
 pub output_from : (bytes : List ℕ) (first : List (List ℕ)) (line : List ℕ) (more : List (List ℕ)) → lines bytes ≡ first ++ line ∷ more
-    → output bytes ≡ (answers_to first ++ (reacts (bench_after [] first) line).answer)
-    ++ (texts (reactions (reacts (bench_after [] first) line).bench more) ++ closing (bench_after [] (lines bytes)))
+    → output bytes ≡ (answers_to first ++ (reacts (bench_after empty_bench first) line).answer)
+    ++ (texts (reactions (reacts (bench_after empty_bench first) line).bench more) ++ (close_of (lines bytes)).answer)
 output_from bytes first line more cut =
-    ap (λ xs. xs ++ closing (bench_after [] (lines bytes))) (ap answers_to cut ∙ answers_from first line more)
-    ∙ append_assoc (answers_to first ++ (reacts (bench_after [] first) line).answer) _ _
+    ap (λ xs. xs ++ (close_of (lines bytes)).answer) (ap answers_to cut ∙ answers_from first line more)
+    ∙ append_assoc (answers_to first ++ (reacts (bench_after empty_bench first) line).answer) _ _
 
 -- a prefix that is not the whole is one of all but the last
 pub before_last : (all prefix rest : List ℕ) → all ≡ prefix ++ rest → 0 < length rest

@@ -8,7 +8,7 @@ ghost use Rattle.retro_cli.specs.Ends.{Answers, EndsAtSink, Stands};
 ghost use Rattle.retro_cli.specs.Output.{has_refusal};
 ghost use Rattle.retro_cli.specs.Run.{is_run, is_read_fault, is_write_fault, AppendsFirstAnswers, AppendsOutput, AppendsOutputPrefix, AppendsAnswersOfFirst, AppendsAnswersOfTaken, EndsBetweenLines, EndsWithoutFault, HasAnswered, MayBeTooLong, MatchesRefusal, status_of};
 ghost use Rattle.retro_cli.specs.Stop.{stops_at_read, stops_at_write};
-ghost use Rattle.workbench.specs.Reaction.{reacts_to};
+ghost use Rattle.workbench.specs.Reaction.{closing, reacts_to};
 
 use crate::stop::Stop;
 use crate::{Status, Words};
@@ -28,10 +28,11 @@ fn answer_line<K: Sink>(
 ) -> Result<bool, Stop>
     requires within { length line.now ≤ longest_line }
     requires full { IsTrue long → length line.now ≡ longest_line }
-    ensures answered { IfOk result (λ refused. let reaction = reacts_to bench.old line.now long in
-        (bench.new ≡ reaction.bench) × (refused ≡ reaction.refused)
+    requires unspent { bench.old.spent ≡ false }
+    ensures answered { IfOk result (λ refused. let reaction = reacts_to bench.old.bench line.now long in
+        (bench.new ≡ record { bench = reaction.bench; spent = false }) × (refused ≡ reaction.refused)
         × Appends (K.written sink.old) reaction.answer (K.written sink.new)) }
-    ensures part { IsErrOf result Stop.WriteFault → (let reaction = reacts_to bench.old line.now long in
+    ensures part { IsErrOf result Stop.WriteFault → (let reaction = reacts_to bench.old.bench line.now long in
         AppendsProperPrefix (K.written sink.old) reaction.answer (K.written sink.new)) }
     ensures untouched { OnErr result (stops_at_write result ≡ false → sink.new ≡ sink.old) }
     ensures unflushed { OnOk result (StaysUnflushed ⟦<K as Sink>⟧ sink.old sink.new) }
@@ -40,6 +41,24 @@ fn answer_line<K: Sink>(
     ensures reads_nothing { (IsErrOf result Stop.ReadFault → ⊥) × (IsErrOf result Stop.TooLong → ⊥) }
 {
     let reply = bench.line(line, long)?;
+    put_all(sink, reply.text.as_bytes())?;
+    Ok(reply.refused)
+}
+
+/// Closes the block that is being read, if there is one, and writes the answer.
+fn answer_end<K: Sink>(bench: &mut Bench, sink: &mut K) -> Result<bool, Stop>
+    requires { bench.old.spent ≡ false }
+    ensures answered { IfOk result (λ refused. let reaction = closing bench.old.bench in
+        (refused ≡ reaction.refused) × Appends (K.written sink.old) reaction.answer (K.written sink.new)) }
+    ensures part { IsErrOf result Stop.WriteFault → (let reaction = closing bench.old.bench in
+        AppendsProperPrefix (K.written sink.old) reaction.answer (K.written sink.new)) }
+    ensures untouched { OnErr result (stops_at_write result ≡ false → sink.new ≡ sink.old) }
+    ensures unflushed { OnOk result (StaysUnflushed ⟦<K as Sink>⟧ sink.old sink.new) }
+    ensures last { IsErrOf result Stop.WriteFault → EndsWithFailedWrite ⟦<K as Sink>⟧ sink.old sink.new }
+    ensures sink_faults { Counts (stops_at_write result) (K.faults sink.old) (K.faults sink.new) }
+    ensures reads_nothing { (IsErrOf result Stop.ReadFault → ⊥) × (IsErrOf result Stop.TooLong → ⊥) }
+{
+    let reply = bench.end()?;
     put_all(sink, reply.text.as_bytes())?;
     Ok(reply.refused)
 }
@@ -69,7 +88,10 @@ fn answer_lines<S: Source, K: Sink>(
         let long = match reader.next()? {
             Mark::Whole => false,
             Mark::Long => true,
-            Mark::End => return Ok(refused),
+            Mark::End => {
+                refused |= answer_end(&mut bench, sink)?;
+                return Ok(refused);
+            }
         };
         refused |= answer_line(reader.line(), long, &mut bench, sink)?;
     }

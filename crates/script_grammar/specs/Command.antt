@@ -1,19 +1,20 @@
 -- The grammar of the script: what each line asks for. A form is read by place, so that a timeline may be called `at`.
-use Rattle.std.specs.Prelude.{◌≢◌, ℕ, ◌==◌, Bool, false, ◌||◌, List, [], ◌∷◌, codes, Option, Some, None, option_map, option_and_then, Result, if◌then◌else◌}
+use Rattle.std.specs.Prelude.{◌≢◌, ℕ, ◌≤◌, ◌==◌, Bool, false, ◌||◌, List, [], ◌∷◌, codes, Option, Some, None, option_map, option_and_then, Result, Err, if◌then◌else◌}
 use Rattle.std.specs.Option.{ok_or}
 use Rattle.std.specs.Str.{bytes_eq}
+use Rattle.retro_base.specs.Limits.{next_limit}
 use Rattle.retro_base.specs.Name.{name_of}
 use Rattle.retro_base.specs.declared.kind.Kind.{Kind}
 use Rattle.retro_base.specs.declared.kind.Kind.TheVariants.{Queue, Stack, Deque, Dict, Pq}
 use Rattle.script_grammar.specs.declared.command.Command.{Command}
-use Rattle.script_grammar.specs.declared.command.Command.TheVariants.{Nothing, New, Insert, Delete, Ask, Undo, Redo}
+use Rattle.script_grammar.specs.declared.command.Command.TheVariants.{Nothing, New, Insert, Delete, Ask, Undo, Redo, Save, Header}
 use Rattle.script_grammar.specs.declared.command.Spot.{Spot}
 use Rattle.script_grammar.specs.declared.command.Spot.TheVariants.{At, Before, After}
 use Rattle.script_grammar.specs.declared.command.Moment.TheVariants.{Now, Then}
 use Rattle.script_grammar.specs.declared.command.LineError.{LineError}
 use Rattle.script_grammar.specs.declared.command.LineError.TheVariants.{Syntax}
 use Rattle.script_grammar.specs.Words.{words}
-use Rattle.script_grammar.specs.Numbers.{row_number_of, time_of}
+use Rattle.script_grammar.specs.Numbers.{next_of, row_number_of, time_of}
 use Rattle.script_grammar.specs.Operands.{alone}
 use Rattle.script_grammar.specs.Operations.{op_of}
 use Rattle.script_grammar.specs.Queries.{query_of}
@@ -86,6 +87,31 @@ about name (word ∷ rest) =
     else (if bytes_eq word (codes "redo") then alone (Redo name) rest
     else insert_of name word rest)))
 
+-- `save NAME`, behind its first word
+abbrev pub save_of : List (List ℕ) → Option Command
+save_of [] = None
+save_of (word ∷ rest) = option_and_then (λ name. alone (Save name) rest) (name_of word)
+
+-- `N` of a header, as the last word
+abbrev pub header_next : List ℕ → Kind → List (List ℕ) → Option Command
+header_next name kind [] = None
+header_next name kind (word ∷ rest) = option_and_then (λ next. alone (Header name kind next) rest) (next_of word)
+
+-- `next N` of a header
+abbrev pub header_end : List ℕ → Kind → List (List ℕ) → Option Command
+header_end name kind [] = None
+header_end name kind (word ∷ rest) = if bytes_eq word (codes "next") then header_next name kind rest else None
+
+-- `KIND next N` of a header
+abbrev pub header_kind : List ℕ → List (List ℕ) → Option Command
+header_kind name [] = None
+header_kind name (word ∷ rest) = option_and_then (λ kind. header_end name kind rest) (kind_of_word word)
+
+-- `timeline NAME KIND next N`, behind its first word
+abbrev pub header_of : List (List ℕ) → Option Command
+header_of [] = None
+header_of (word ∷ rest) = option_and_then (λ name. header_kind name rest) (name_of word)
+
 -- a word that begins with `;`, byte 59: whatever follows it on its line is passed over
 abbrev pub begins_comment : List ℕ → Bool
 begins_comment [] = false
@@ -97,13 +123,20 @@ command_of [] = Some Nothing
 command_of (word ∷ rest) =
     if begins_comment word then Some Nothing
     else (if bytes_eq word (codes "new") then new_of rest
-    else option_and_then (λ name. about name rest) (name_of word))
+    else (if bytes_eq word (codes "save") then save_of rest
+    else (if bytes_eq word (codes "timeline") then header_of rest
+    else option_and_then (λ name. about name rest) (name_of word))))
 
 -- the command of a line that is not long, or `Syntax` where the line is in no form
 unfoldable pub command : List ℕ → Result Command LineError
 command line = ok_or (command_of (words line)) Syntax
 
--- a timeline that is started is no priority queue
-abbrev pub StartsNoPq : Command → Type 0
-StartsNoPq (New name kind) = kind ≢ Pq
-StartsNoPq other = Unit {0}
+-- a kind is served that is no priority queue
+abbrev pub IsServed : Kind → Type 0
+IsServed kind = kind ≢ Pq
+
+-- what a command starts is served, and the number that a block gives to draw next is in its range
+abbrev pub CanStart : Command → Type 0
+CanStart (New name kind) = IsServed kind
+CanStart (Header name kind next) = IsServed kind × (1 ≤ next) × (next ≤ next_limit)
+CanStart other = Unit {0}

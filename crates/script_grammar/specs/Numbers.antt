@@ -34,6 +34,10 @@ unfoldable pub row_number_of : List ℕ → Option ℕ
 row_number_of [] = None
 row_number_of (byte ∷ bytes) = if byte == 35 then option_and_then (between 1 (next_limit - 1)) (natural_of bytes) else None
 
+-- the number that a timeline draws next: a natural from 1 to the limit of numbers
+unfoldable pub next_of : List ℕ → Option ℕ
+next_of word = option_and_then (between 1 next_limit) (natural_of word)
+
 -- a value: an optional `-` and digits, from -2 ^ 63 up to 2 ^ 63 - 1
 unfoldable pub value_of : List ℕ → Option ℤ
 value_of [] = None

@@ -36,6 +36,16 @@ pub enum Command {
     Redo {
         name: Name,
     },
+    /// Asks for the text of a whole timeline.
+    Save {
+        name: Name,
+    },
+    /// Opens the block of a timeline, which draws this number next.
+    Header {
+        name: Name,
+        kind: Kind,
+        next: u32,
+    },
 }
 
 /// A place in a timeline, between its rows.

@@ -14,6 +14,7 @@ mod answer;
 mod ask;
 mod block_lines;
 mod command;
+mod header;
 mod line;
 mod listing;
 mod numbers;

@@ -2,9 +2,10 @@ ghost use Rattle.std.specs.Prelude.{◌≡◌, ◌≤◌, ◌∷◌, length, IsT
 ghost use Rattle.retro_base.specs.Limits.{longest_line};
 ghost use Rattle.script_grammar.specs.Operands.{alone};
 ghost use Rattle.script_grammar.specs.declared.command.Command.TheVariants.{Undo, Redo};
-ghost use Rattle.script_grammar.specs.Command.{about, begins_comment, command, command_of, delete_of, insert_of, kind_named, kind_of_word, new_of, StartsNoPq};
+ghost use Rattle.script_grammar.specs.Command.{about, begins_comment, command, command_of, delete_of, insert_of, kind_named, kind_of_word, new_of, save_of, CanStart};
 
 use crate::ask::read_ask;
+use crate::header::read_header;
 use crate::numbers::read_row_number;
 use crate::operation::read_op;
 use crate::spot::read_spot;
@@ -19,7 +20,7 @@ pub fn read_line(line: &[u8], long: bool) -> Result<Command, LineError>
     requires within { length line.now ≤ longest_line }
     requires full { IsTrue long → length line.now ≡ longest_line }
     ensures exact { result ≡ (if long then Err LineError.Long else command line.now) }
-    ensures kind { IfOk result StartsNoPq }
+    ensures kind { IfOk result CanStart }
 {
     if long {
         return Err(LineError::Long);
@@ -44,6 +45,12 @@ fn read_form(word: &[u8], words: Words) -> Option<Command>
     }
     if word == b"new".as_slice() {
         return read_new(words);
+    }
+    if word == b"save".as_slice() {
+        return read_save(words);
+    }
+    if word == b"timeline".as_slice() {
+        return read_header(words);
     }
     read_about(Name::read(word)?, words)
 }
@@ -73,7 +80,8 @@ fn read_kind(mut words: Words) -> Option<Kind>
     words.is_empty().then_some(kind)
 }
 
-fn kind_of_word(word: &[u8]) -> Option<Kind>
+/// The kind that a word names, if it is served.
+pub fn kind_of_word(word: &[u8]) -> Option<Kind>
     ensures { result ≡ kind_of_word word.now }
 {
     if word == b"queue".as_slice() {
@@ -87,6 +95,13 @@ fn kind_of_word(word: &[u8]) -> Option<Kind>
     } else {
         None
     }
+}
+
+fn read_save(mut words: Words) -> Option<Command>
+    ensures { result ≡ save_of words.entry }
+{
+    let name = Name::read(words.next_word()?)?;
+    words.is_empty().then_some(Command::Save { name })
 }
 
 fn read_about(name: Name, mut words: Words) -> Option<Command>

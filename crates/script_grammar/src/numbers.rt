@@ -1,6 +1,6 @@
 ghost use Rattle.std.specs.Prelude.{◌≡◌, ◌+◌, ◌-◌, ◌*◌, ◌^◌, ◌<◌, ◌≤◌, IfSome, option_and_then};
 ghost use Rattle.retro_base.specs.Limits.{next_limit};
-ghost use Rattle.script_grammar.specs.Numbers.{between, index_of, natural_of, row_number_of, time_of, up_to, value_of};
+ghost use Rattle.script_grammar.specs.Numbers.{between, index_of, natural_of, next_of, row_number_of, time_of, up_to, value_of};
 
 use retro_base::MAX_NEXT;
 
@@ -32,6 +32,15 @@ pub fn read_row_number(word: &[u8]) -> Option<u32>
     }
 }
 
+/// The number that a timeline draws next, as a word spells it.
+#[tactic(auto, unfolding(crate::specs::Numbers::next_of))]
+pub fn read_next(word: &[u8]) -> Option<u32>
+    ensures exact { result ≡ next_of word.now }
+    ensures range { IfSome result (λ next. (1 ≤ next) × (next ≤ next_limit)) }
+{
+    next_number(read_natural(word)?)
+}
+
 /// The value that a word spells.
 #[tactic(auto, unfolding(crate::specs::Numbers::value_of))]
 pub fn read_value(word: &[u8]) -> Option<i64>
@@ -49,6 +58,18 @@ fn row_number(number: u64) -> Option<u32>
     ensures range { IfSome result (λ number. (1 ≤ number) × (number < next_limit)) }
 {
     if 1 <= number && number < u64::from(MAX_NEXT) {
+        u32::try_from(number).ok()
+    } else {
+        None
+    }
+}
+
+/// A number that a timeline can draw next.
+fn next_number(number: u64) -> Option<u32>
+    ensures exact { result ≡ between 1 next_limit number }
+    ensures range { IfSome result (λ next. (1 ≤ next) × (next ≤ next_limit)) }
+{
+    if 1 <= number && number <= u64::from(MAX_NEXT) {
         u32::try_from(number).ok()
     } else {
         None

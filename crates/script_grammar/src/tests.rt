@@ -22,7 +22,7 @@ fn commands(rt: HostRuntime) -> Result<(), Fail> {
     let q = Name::read(b"q").ok_or("q")?;
     let at = Name::read(b"at").ok_or("at")?;
     let long = Name::read(b"Abcdefghijklmnopqrstuvwxyz-_0123").ok_or("32 bytes")?;
-    let lines: [(&[u8], Command); 20] = [
+    let lines: [(&[u8], Command); 23] = [
         (b"", Command::Nothing),
         (b"   ", Command::Nothing),
         (b";note", Command::Nothing),
@@ -92,6 +92,23 @@ fn commands(rt: HostRuntime) -> Result<(), Fail> {
         (b"q delete #007", Command::Delete { name: q, number: 7 }),
         (b"q undo", Command::Undo { name: q }),
         (b" at  redo ", Command::Redo { name: at }),
+        (b"save q", Command::Save { name: q }),
+        (
+            b"timeline at queue next 016777216",
+            Command::Header {
+                name: at,
+                kind: Kind::Queue,
+                next: 16777216,
+            },
+        ),
+        (
+            b" timeline q dict  next 1 ",
+            Command::Header {
+                name: q,
+                kind: Kind::Dict,
+                next: 1,
+            },
+        ),
         (
             b"q ask all",
             Command::Ask {
@@ -206,7 +223,7 @@ fn questions(rt: HostRuntime) -> Result<(), Fail> {
 
 #[test]
 fn no_commands(rt: HostRuntime) {
-    let lines: [&[u8]; 56] = [
+    let lines: [&[u8]; 64] = [
         b"new",
         b"new q",
         b"new q pq",
@@ -222,8 +239,16 @@ fn no_commands(rt: HostRuntime) {
         b"q frob",
         b"q undo 1",
         b"q redo q",
-        b"save q",
-        b"timeline q queue next 1",
+        b"save",
+        b"save 1q",
+        b"save q r",
+        b"timeline q queue next 0",
+        b"timeline q queue next 16777217",
+        b"timeline q queue next #1",
+        b"timeline q queue 1",
+        b"timeline q pq next 1",
+        b"timeline q queue next 1 ;",
+        b"timeline save queue next 1",
         b"end",
         b"#1 10 enq 5",
         b"q ;note",

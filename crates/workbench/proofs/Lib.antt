@@ -1,3 +1,4 @@
 pub mod Named
 pub mod TimelineEffects
 pub mod Refusals
+pub mod OpenBlocks

@@ -9,31 +9,35 @@ use Rattle.workbench.specs.declared.outcome.Outcome.{Outcome}
 use Rattle.workbench.specs.declared.outcome.Outcome.TheVariants.{Accepted, Refused}
 use Rattle.workbench.specs.declared.outcome.Refusal.TheVariants as refusals
 use Rattle.workbench.specs.Bench.{NamedTimeline, fresh, is_named, has_timeline}
-use Rattle.workbench.specs.Reaction.{leaves, with_first, starts, on_named}
+use Rattle.workbench.specs.Reaction.{Effect, leaves, if_startable, with_timeline, with_first, on_named}
 use Rattle.workbench.specs.TimelineEffects.{TimelineEffect, unchanged}
 
 some_is_not_none : {X : Type 0} {x : X} → Some x ≡ None → ⊥
 some_is_not_none e = cc
 
-pub starts_full : (bench : List NamedTimeline) (name : List ℕ) (kind : Kind) → has_timeline name bench ≡ false → nat_le most_timelines (length bench) ≡ true
-    → starts bench name kind ≡ leaves bench (Refused refusals.Timelines)
-starts_full bench name kind free full = rw (free, full) refl
+pub taken_name : (timelines : List NamedTimeline) (name : List ℕ) (effect : Effect) → has_timeline name timelines ≡ true
+    → if_startable timelines name effect ≡ leaves timelines (Refused refusals.NameTaken)
+taken_name timelines name effect taken = rw taken refl
 
-pub starts_anew : (bench : List NamedTimeline) (name : List ℕ) (kind : Kind) → has_timeline name bench ≡ false → nat_le most_timelines (length bench) ≡ false
-    → starts bench name kind ≡ record { bench = bench ++ fresh name kind ∷ []; outcome = Accepted }
-starts_anew bench name kind free room = rw (free, room) refl
+pub no_room : (timelines : List NamedTimeline) (name : List ℕ) (effect : Effect) → has_timeline name timelines ≡ false → nat_le most_timelines (length timelines) ≡ true
+    → if_startable timelines name effect ≡ leaves timelines (Refused refusals.Timelines)
+no_room timelines name effect free full = rw (free, full) refl
+
+pub startable : (timelines : List NamedTimeline) (name : List ℕ) (effect : Effect) → has_timeline name timelines ≡ false → nat_le most_timelines (length timelines) ≡ false
+    → if_startable timelines name effect ≡ effect
+startable timelines name effect free room = rw (free, room) refl
 
 -- the effect on the timeline at the index, where it is the first one of the name
 on_named_at : (name : List ℕ) (effect : NamedTimeline → TimelineEffect) (bench : List NamedTimeline) (index : ℕ) (d : NamedTimeline) → index < length bench
     → is_named name (get_or bench index d) ≡ true → ((k : ℕ) → k < index → is_named name (get_or bench k d) ≡ false)
-    → on_named name effect bench ≡ record { bench = set bench index (effect (get_or bench index d)).timeline; outcome = (effect (get_or bench index d)).outcome }
+    → on_named name effect bench ≡ record { timelines = set bench index (effect (get_or bench index d)).timeline; outcome = (effect (get_or bench index d)).outcome }
 on_named_at name effect [] index d below is others = absurd (omega arith)
 on_named_at name effect (first ∷ bench) zero d below is others = rw is refl
 on_named_at name effect (first ∷ bench) (suc index) d below is others =
     rw (others 0 (omega arith)) (ap (with_first first) (on_named_at name effect bench index d (omega arith) is (λ k less. others (suc k) (omega arith))))
 
 on_named_found : (name : List ℕ) (effect : NamedTimeline → TimelineEffect) (bench : List NamedTimeline) (index : ℕ) (d : NamedTimeline) → position (is_named name) bench ≡ Some index
-    → on_named name effect bench ≡ record { bench = set bench index (effect (get_or bench index d)).timeline; outcome = (effect (get_or bench index d)).outcome }
+    → on_named name effect bench ≡ record { timelines = set bench index (effect (get_or bench index d)).timeline; outcome = (effect (get_or bench index d)).outcome }
 on_named_found name effect bench index d at =
     let first = position-Some (is_named name) bench index d at in
     on_named_at name effect bench index d first.0 first.1 first.2
@@ -42,7 +46,7 @@ on_named_found name effect bench index d at =
 pub changed : {E : Type 0} (result : Result Outcome E) (name : List ℕ) (effect : NamedTimeline → TimelineEffect) (bench : List NamedTimeline) (index : ℕ) (named after : NamedTimeline)
     → Some index ≡ position (is_named name) bench → named ≡ get_or bench index named
     → IfOk result (λ outcome. effect named ≡ record { timeline = after; outcome = outcome })
-    → IfOk result (λ outcome. on_named name effect bench ≡ record { bench = set bench index after; outcome = outcome })
+    → IfOk result (λ outcome. on_named name effect bench ≡ record { timelines = set bench index after; outcome = outcome })
 changed (Ok outcome) name effect bench index named after at there took =
     on_named_found name effect bench index named (sym at) ∙ rw (← there, took) refl
 changed (Err e) name effect bench index named after at there took = tt
@@ -50,10 +54,26 @@ changed (Err e) name effect bench index named after at there took = tt
 -- the bench after a question to the timeline that was found
 pub asked : {E : Type 0} (result : Result Outcome E) (name : List ℕ) (answer_at : NamedTimeline → Outcome) (bench : List NamedTimeline) (index : ℕ) (named after : NamedTimeline)
     → Some index ≡ position (is_named name) bench → named ≡ get_or bench index named → after ≡ named → IfOk result (λ outcome. outcome ≡ answer_at named)
-    → IfOk result (λ outcome. on_named name (λ timeline. unchanged timeline (answer_at timeline)) bench ≡ record { bench = set bench index after; outcome = outcome })
+    → IfOk result (λ outcome. on_named name (λ timeline. unchanged timeline (answer_at timeline)) bench ≡ record { timelines = set bench index after; outcome = outcome })
 asked (Ok outcome) name answer_at bench index named after at there same answer =
     changed {E = Unit {0}} (Ok outcome) name (λ timeline. unchanged timeline (answer_at timeline)) bench index named after at there (rw (same, answer) refl)
 asked (Err e) name answer_at bench index named after at there same answer = tt
+
+-- an element put where it stands
+set_here : {X : Type 0} (xs : List X) (index : ℕ) (x : X) → index < length xs → x ≡ get_or xs index x → set xs index x ≡ xs
+set_here [] index x below here = absurd (omega arith)
+set_here (y ∷ ys) zero x below here = ap (λ z. z ∷ ys) here
+set_here (y ∷ ys) (suc index) x below here = ap (λ zs. y ∷ zs) (set_here ys index x (omega arith) here)
+
+-- the bench after a question that only reads the timeline that was found
+pub told : {E : Type 0} (result : Result Outcome E) (name : List ℕ) (answer_at : NamedTimeline → Outcome) (bench : List NamedTimeline) (index : ℕ) (named : NamedTimeline)
+    → Some index ≡ position (is_named name) bench → named ≡ get_or bench index named → IfOk result (λ outcome. outcome ≡ answer_at named)
+    → IfOk result (λ outcome. on_named name (λ timeline. unchanged timeline (answer_at timeline)) bench ≡ record { timelines = bench; outcome = outcome })
+told (Ok outcome) name answer_at bench index named at there answer =
+    let below = (position-Some (is_named name) bench index named (sym at)).0 in
+    on_named_found name (λ timeline. unchanged timeline (answer_at timeline)) bench index named (sym at)
+    ∙ rw (← there, answer, set_here bench index named below there) refl
+told (Err e) name answer_at bench index named at there answer = tt
 
 -- no timeline has the name
 nowhere_from : (name : List ℕ) (effect : NamedTimeline → TimelineEffect) (bench : List NamedTimeline) (from : ℕ) → position_from (is_named name) from bench ≡ None

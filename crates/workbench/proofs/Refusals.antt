@@ -1,24 +1,31 @@
 -- A line that is refused leaves the bench as it was.
-use Rattle.std.proofs.Common.{◌≡◌, ℕ, ◌+◌, Bool, true, false, cond, nat_le, List, [], ◌∷◌, ◌++◌, length, refl, ap, Option, Some, None, Result, Ok, Err}
+use Rattle.std.proofs.Common.{◌≡◌, ℕ, ◌+◌, Bool, true, false, cond, nat_le, List, [], ◌∷◌, ◌++◌, length, refl, sym, ap, ◌∙◌, Option, Some, None, Result, Ok, Err, IfOk}
 use Rattle.retro_base.specs.declared.op.Op.{Op}
 use Rattle.retro_base.specs.Limits.{most_rows, next_limit}
 use Rattle.retro_base.specs.Edits.{Edit, Step, add, edited}
 use Rattle.retro_base.specs.Replay.{failure}
 use Rattle.retro_base.specs.Kind.{kind_of, same_kind}
 use Rattle.script_grammar.specs.declared.command.Command.{Command}
-use Rattle.script_grammar.specs.declared.command.Command.TheVariants.{Nothing, New, Insert, Delete, Ask, Undo, Redo}
+use Rattle.script_grammar.specs.declared.command.Command.TheVariants.{Nothing, New, Insert, Delete, Ask, Undo, Redo, Save, Header}
 use Rattle.script_grammar.specs.declared.command.LineError.{LineError}
 use Rattle.script_grammar.specs.declared.command.LineError.TheVariants as errors
+use Rattle.script_grammar.specs.BlockLines.{is_end}
+use Rattle.script_grammar.specs.Command.{command}
+use Rattle.retro_base.specs.declared.row.Row.{Row}
+use Rattle.timeline_file.specs.declared.block.BlockError.{BlockError}
+use Rattle.timeline_file.specs.Block.{finished}
+use Rattle.std.specs.Prelude.{not, ◌&&◌, if◌then◌else◌}
 use Rattle.script_grammar.specs.declared.command.Spot.{Spot}
 use Rattle.retro_base.specs.Limits.{most_timelines}
+use Rattle.workbench.specs.declared.bench.Reply.{Reply}
 use Rattle.workbench.specs.declared.outcome.Outcome.{Outcome}
-use Rattle.workbench.specs.declared.outcome.Outcome.TheVariants.{Accepted, Inserted, Refused}
+use Rattle.workbench.specs.declared.outcome.Outcome.TheVariants.{Silent, Accepted, Inserted, Refused}
 use Rattle.workbench.specs.declared.outcome.Refusal.TheVariants as refusals
 use Rattle.workbench.specs.declared.position.Position.{Position}
-use Rattle.workbench.specs.Bench.{NamedTimeline, fresh, is_named, has_timeline}
+use Rattle.workbench.specs.Bench.{NamedTimeline, OpenBlock, Bench, fresh, is_named, has_timeline}
 use Rattle.workbench.specs.Outcome.{is_refusal}
-use Rattle.workbench.specs.Reaction.{Effect, leaves, on_named, obeys}
-use Rattle.workbench.specs.TimelineEffects.{TimelineEffect, refuses, accepted_or_refused, after_edit, edits, new_row, row_named, position_of, inserts_there, inserts_at, cut_of, deletes_by, inserts, deletes, unchanged, answers, undoes_step, undoes, redoes_step, redoes}
+use Rattle.workbench.specs.Reaction.{Effect, BenchEffect, leaves, if_startable, with_timeline, on_named, obeys, opened, outside, inside, happens, loads, closes, ends, with_line, with_block, without_block}
+use Rattle.workbench.specs.TimelineEffects.{TimelineEffect, refuses, accepted_or_refused, after_edit, edits, new_row, row_named, position_of, inserts_there, inserts_at, cut_of, deletes_by, inserts, deletes, unchanged, answers, undoes_step, undoes, redoes_step, redoes, saves}
 use Rattle.timeline_undo.specs.History.{newest_step}
 
 -- the effect leaves the timeline as it was, where it is a refusal
@@ -85,40 +92,109 @@ unfolding redoes
 keeps_redoes timeline = keeps_redoes_step timeline (newest_step timeline.history.redo)
 
 named_keeps : (name : List ℕ) (effect : NamedTimeline → TimelineEffect) → ((timeline : NamedTimeline) → Keeps timeline (effect timeline)) → (bench : List NamedTimeline)
-    → is_refusal (on_named name effect bench).outcome ≡ true → (on_named name effect bench).bench ≡ bench
+    → is_refusal (on_named name effect bench).outcome ≡ true → (on_named name effect bench).timelines ≡ bench
 named_keeps name effect keeps [] = λ refused. refl
 named_keeps name effect keeps (first ∷ bench) =
-    elim (is_named name first) as (λ b. is_named name first ≡ b → is_refusal (on_named name effect (first ∷ bench)).outcome ≡ true → (on_named name effect (first ∷ bench)).bench ≡ first ∷ bench) [
+    elim (is_named name first) as (λ b. is_named name first ≡ b → is_refusal (on_named name effect (first ∷ bench)).outcome ≡ true → (on_named name effect (first ∷ bench)).timelines ≡ first ∷ bench) [
       | true ↦ λ is. rw is (λ refused. ap (λ timeline. timeline ∷ bench) (keeps first refused))
       | false ↦ λ is. rw is (λ refused. ap (λ others. first ∷ others) (named_keeps name effect keeps bench refused))
     ] refl
 
--- the effect leaves the bench as it was, where it is a refusal
+-- the effect leaves the timelines as they were, where it is a refusal
 abbrev Leaves : List NamedTimeline → Effect → Type 0
-Leaves bench effect = is_refusal effect.outcome ≡ true → effect.bench ≡ bench
+Leaves timelines effect = is_refusal effect.outcome ≡ true → effect.timelines ≡ timelines
 
-leaves_if : (b : Bool) (bench : List NamedTimeline) (x y : Effect) → Leaves bench x → Leaves bench y → Leaves bench (cond b x y)
-leaves_if true bench x y first second = first
-leaves_if false bench x y first second = second
+leaves_if : (b : Bool) (timelines : List NamedTimeline) (x y : Effect) → Leaves timelines x → Leaves timelines y → Leaves timelines (cond b x y)
+leaves_if true timelines x y first second = first
+leaves_if false timelines x y first second = second
 
-refusal_keeps : (bench : List NamedTimeline) (line : Result Command LineError) → is_refusal (obeys bench line).outcome ≡ true → (obeys bench line).bench ≡ bench
-refusal_keeps bench (Err errors.Long) refused = refl
-refusal_keeps bench (Err errors.Syntax) refused = refl
-refusal_keeps bench (Ok Nothing) refused = refl
-refusal_keeps bench (Ok (New name kind)) refused =
-    let started : Effect = record { bench = bench ++ fresh name kind ∷ []; outcome = Accepted } in
-    let room : Effect = cond (nat_le most_timelines (length bench)) (leaves bench (Refused refusals.Timelines)) started in
-    leaves_if (has_timeline name bench) bench (leaves bench (Refused refusals.NameTaken)) room (λ e. refl)
-    (leaves_if (nat_le most_timelines (length bench)) bench (leaves bench (Refused refusals.Timelines)) started (λ e. refl)
-    (λ e. absurd (not_both false refl e))) refused
-refusal_keeps bench (Ok (Insert name spot op)) refused = named_keeps name (λ timeline. inserts timeline spot op) (λ timeline. keeps_inserts timeline spot op) bench refused
-refusal_keeps bench (Ok (Delete name number)) refused = named_keeps name (λ timeline. deletes timeline number) (λ timeline. keeps_deletes timeline number) bench refused
-refusal_keeps bench (Ok (Ask name moment query)) refused =
-    named_keeps name (λ timeline. unchanged timeline (answers timeline moment query)) (λ timeline e. refl) bench refused
-refusal_keeps bench (Ok (Undo name)) refused = named_keeps name undoes keeps_undoes bench refused
-refusal_keeps bench (Ok (Redo name)) refused = named_keeps name redoes keeps_redoes bench refused
+startable_leaves : (timelines : List NamedTimeline) (name : List ℕ) (effect : Effect) → Leaves timelines effect → Leaves timelines (if_startable timelines name effect)
+startable_leaves timelines name effect keeps =
+    leaves_if (has_timeline name timelines) timelines (leaves timelines (Refused refusals.NameTaken)) _ (λ refused. refl)
+    (leaves_if (nat_le most_timelines (length timelines)) timelines (leaves timelines (Refused refusals.Timelines)) effect (λ refused. refl) keeps)
 
--- a refused line leaves the bench as it was
-pub kept : (bench after : List NamedTimeline) (line : Result Command LineError) (outcome : Outcome) → obeys bench line ≡ record { bench = after; outcome = outcome }
-    → is_refusal outcome ≡ true → after ≡ bench
-kept bench after line outcome done refused = rw done at (refusal_keeps bench line (rw done refused))
+-- a block leaves the timelines as they were, where it is refused
+loads_leaves : (timelines : List NamedTimeline) (unclosed : OpenBlock) (made : Result (List Row) BlockError) → Leaves timelines (loads timelines unclosed made)
+loads_leaves timelines unclosed (Ok rows) = λ refused. absurd (not_both false refl refused)
+loads_leaves timelines unclosed (Err error) = λ refused. refl
+
+closes_leaves : (timelines : List NamedTimeline) (unclosed : OpenBlock) (ended : Bool) → Leaves timelines (closes timelines unclosed ended)
+closes_leaves timelines unclosed ended =
+    startable_leaves timelines unclosed.name (loads timelines unclosed (finished unclosed.block ended)) (loads_leaves timelines unclosed (finished unclosed.block ended))
+
+-- a line outside a block that is refused leaves the timelines as they were, and opens no block
+pub record KeepsAll (timelines : List NamedTimeline) (line : Result Command LineError) : Type 0 where
+  pub kept : (obeys timelines line).timelines ≡ timelines
+  pub opens_nothing : opened line ≡ None
+
+refusal_keeps : (timelines : List NamedTimeline) (line : Result Command LineError) → is_refusal (obeys timelines line).outcome ≡ true → KeepsAll timelines line
+refusal_keeps timelines (Err errors.Long) refused = record { kept = refl; opens_nothing = refl }
+refusal_keeps timelines (Err errors.Syntax) refused = record { kept = refl; opens_nothing = refl }
+refusal_keeps timelines (Ok Nothing) refused = record { kept = refl; opens_nothing = refl }
+refusal_keeps timelines (Ok (New name kind)) refused = record {
+  kept = startable_leaves timelines name (with_timeline timelines (fresh name kind)) (λ e. absurd (not_both false refl e)) refused;
+  opens_nothing = refl;
+}
+refusal_keeps timelines (Ok (Insert name spot op)) refused = record {
+  kept = named_keeps name (λ timeline. inserts timeline spot op) (λ timeline. keeps_inserts timeline spot op) timelines refused;
+  opens_nothing = refl;
+}
+refusal_keeps timelines (Ok (Delete name number)) refused = record {
+  kept = named_keeps name (λ timeline. deletes timeline number) (λ timeline. keeps_deletes timeline number) timelines refused;
+  opens_nothing = refl;
+}
+refusal_keeps timelines (Ok (Ask name moment query)) refused = record {
+  kept = named_keeps name (λ timeline. unchanged timeline (answers timeline moment query)) (λ timeline e. refl) timelines refused;
+  opens_nothing = refl;
+}
+refusal_keeps timelines (Ok (Undo name)) refused = record { kept = named_keeps name undoes keeps_undoes timelines refused; opens_nothing = refl }
+refusal_keeps timelines (Ok (Redo name)) refused = record { kept = named_keeps name redoes keeps_redoes timelines refused; opens_nothing = refl }
+refusal_keeps timelines (Ok (Save name)) refused = record {
+  kept = named_keeps name (λ timeline. unchanged timeline (saves timeline)) (λ timeline e. refl) timelines refused;
+  opens_nothing = refl;
+}
+refusal_keeps timelines (Ok (Header name kind next)) refused = record { kept = refl; opens_nothing = absurd (not_both false refl refused) }
+
+-- the bench behind a refusal
+abbrev KeepsBench : List NamedTimeline → BenchEffect → Type 0
+KeepsBench timelines effect = is_refusal effect.outcome ≡ true → effect.bench ≡ record { timelines = timelines; block = None }
+
+bench_if : (b : Bool) (timelines : List NamedTimeline) (x y : BenchEffect) → KeepsBench timelines x → KeepsBench timelines y → KeepsBench timelines (cond b x y)
+bench_if true timelines x y first second = first
+bench_if false timelines x y first second = second
+
+ends_keeps : (timelines : List NamedTimeline) (block : Option OpenBlock) (ended : Bool) → KeepsBench timelines (ends timelines block ended)
+ends_keeps timelines None ended = λ refused. refl
+ends_keeps timelines (Some unclosed) ended = λ refused. rw (closes_leaves timelines unclosed ended refused) refl
+
+outside_keeps : (timelines : List NamedTimeline) (line : Result Command LineError) → KeepsBench timelines (outside timelines line)
+outside_keeps timelines line = λ refused. let kept = refusal_keeps timelines line refused in rw (kept.kept, kept.opens_nothing) refl
+
+happens_keeps : (timelines : List NamedTimeline) (block : Option OpenBlock) (bytes : List ℕ) (long : Bool) → KeepsBench timelines (happens timelines block bytes long)
+happens_keeps timelines None bytes long = outside_keeps timelines (if long then Err errors.Long else command bytes)
+happens_keeps timelines (Some unclosed) bytes long =
+    bench_if (not long && is_end bytes) timelines (ends timelines (Some unclosed) true) (with_block (Some (with_line unclosed bytes long)) (leaves timelines Silent))
+    (ends_keeps timelines (Some unclosed) true) (λ refused. absurd (not_both false refl refused))
+
+-- a refused line leaves the timelines as they were, and no block to be closed
+kept : (timelines : List NamedTimeline) (block : Option OpenBlock) (bytes : List ℕ) (long : Bool) (after : Bench) (outcome : Outcome)
+    → happens timelines block bytes long ≡ record { bench = after; outcome = outcome } → is_refusal outcome ≡ true → after ≡ record { timelines = timelines; block = None }
+kept timelines block bytes long after outcome done refused = rw done at (happens_keeps timelines block bytes long (rw done refused))
+
+-- and so does a refused end
+kept_at_end : (timelines : List NamedTimeline) (block : Option OpenBlock) (ended : Bool) (after : Bench) (outcome : Outcome)
+    → ends timelines block ended ≡ record { bench = after; outcome = outcome } → is_refusal outcome ≡ true → after ≡ record { timelines = timelines; block = None }
+kept_at_end timelines block ended after outcome done refused = rw done at (ends_keeps timelines block ended (rw done refused))
+
+-- so it is where the outcome is told by a reply
+pub kept_behind : {E : Type 0} (result : Result Reply E) (bench after : Bench) (bytes : List ℕ) (long : Bool) (outcome : Outcome)
+    → happens bench.timelines bench.block bytes long ≡ record { bench = after; outcome = outcome }
+    → IfOk result (λ reply. reply.refused ≡ is_refusal outcome) → IfOk result (λ reply. reply.refused ≡ true → after ≡ without_block bench)
+kept_behind (Ok reply) bench after bytes long outcome done told = λ refused. kept bench.timelines bench.block bytes long after outcome done (sym told ∙ refused)
+kept_behind (Err e) bench after bytes long outcome done told = tt
+
+pub kept_behind_end : {E : Type 0} (result : Result Reply E) (bench after : Bench) (ended : Bool) (outcome : Outcome)
+    → ends bench.timelines bench.block ended ≡ record { bench = after; outcome = outcome }
+    → IfOk result (λ reply. reply.refused ≡ is_refusal outcome) → IfOk result (λ reply. reply.refused ≡ true → after ≡ without_block bench)
+kept_behind_end (Ok reply) bench after ended outcome done told = λ refused. kept_at_end bench.timelines bench.block ended after outcome done (sym told ∙ refused)
+kept_behind_end (Err e) bench after ended outcome done told = tt

@@ -1,4 +1,4 @@
--- The reactions to the lines of a script, each on the bench that the lines before it have left, and the answer of its close.
+-- The reactions to the lines of a script, each on the bench that the lines before it have left.
 use Rattle.std.specs.Prelude.{ℕ, List, [], ◌∷◌}
 use Rattle.workbench.specs.Bench.{Bench}
 use Rattle.workbench.specs.Reaction.{Reaction, reacts}
@@ -12,7 +12,3 @@ reactions bench (line ∷ more) = reacts bench line ∷ reactions (reacts bench 
 unfoldable pub bench_after : Bench → List (List ℕ) → Bench
 bench_after bench [] = bench
 bench_after bench (line ∷ more) = bench_after (reacts bench line).bench more
-
--- the answer of the close, after all lines: there is none
-abbrev pub closing : Bench → List ℕ
-closing bench = []

@@ -1,11 +1,12 @@
--- The bench: the timelines that a script has made, in the order in which it made them.
-use Rattle.std.specs.Prelude.{ℕ, Bool, List, []}
+-- The bench: the timelines that a script has made, in the order in which it made them, and the block that is being read.
+use Rattle.std.specs.Prelude.{ℕ, Bool, List, [], Option, None}
 use Rattle.std.specs.List.{list_any}
 use Rattle.std.specs.Str.{bytes_eq}
 use Rattle.retro_base.specs.declared.kind.Kind.{Kind}
 use Rattle.retro_base.specs.declared.row.Row.{Row}
 use Rattle.timeline_undo.specs.History.{History, no_history}
 use Rattle.timeline_undo.specs.Session.{SessionState}
+use Rattle.timeline_file.specs.Block.{Block}
 
 -- a timeline: its name, its kind, its rows, the number that the next row draws, and what can be undone of it and made again
 pub record NamedTimeline : Type 0 where
@@ -19,22 +20,37 @@ pub record NamedTimeline : Type 0 where
 abbrev pub named : List ℕ → SessionState → NamedTimeline
 named name session = record { name = name; kind = session.kind; rows = session.rows; next = session.next; history = session.history }
 
--- the bench
-abbrev pub Bench : Type 0
-Bench = List NamedTimeline
+-- a block that is being read: the name that its header gives, and what it comes to so far
+pub record OpenBlock : Type 0 where
+  pub name : List ℕ
+  pub block : Block
+
+-- the bench: its timelines, and the block that is being read, if there is one
+pub record Bench : Type 0 where
+  pub timelines : List NamedTimeline
+  pub block : Option OpenBlock
 
 -- the bench before the first line
 abbrev pub empty_bench : Bench
-empty_bench = []
+empty_bench = record { timelines = []; block = None }
+
+-- a bench, and whether it met want of memory
+pub record BenchState : Type 0 where
+  pub bench : Bench
+  pub spent : Bool
+
+-- a timeline with rows of which nothing can be undone
+abbrev pub with_rows : List ℕ → Kind → ℕ → List Row → NamedTimeline
+with_rows name kind next rows = record { name = name; kind = kind; rows = rows; next = next; history = no_history }
 
 -- a timeline without rows
 abbrev pub fresh : List ℕ → Kind → NamedTimeline
-fresh name kind = record { name = name; kind = kind; rows = []; next = 1; history = no_history }
+fresh name kind = with_rows name kind 1 []
 
 -- a timeline has the name
 abbrev pub is_named : List ℕ → NamedTimeline → Bool
 is_named name timeline = bytes_eq timeline.name name
 
 -- one of the timelines has the name
-abbrev pub has_timeline : List ℕ → Bench → Bool
-has_timeline name bench = list_any (is_named name) bench
+abbrev pub has_timeline : List ℕ → List NamedTimeline → Bool
+has_timeline name timelines = list_any (is_named name) timelines

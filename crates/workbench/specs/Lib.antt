@@ -5,5 +5,6 @@ pub mod EditErrors
 pub mod Outcome
 pub mod TimelineEffects
 pub mod Reaction
+pub mod OpenBlocks
 pub mod ReactionLaws
 pub mod Answers

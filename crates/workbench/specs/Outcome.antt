@@ -2,10 +2,30 @@
 use Rattle.std.specs.Prelude.{ℕ, Bool, true, false, List, [], ◌∷◌, ◌++◌, codes, decimal}
 use Rattle.retro_base.specs.Limits.{most_timelines}
 use Rattle.script_grammar.specs.AnswerText.{answer_text, listing_text}
+use Rattle.timeline_file.specs.declared.block.BlockError.{BlockError}
+use Rattle.timeline_file.specs.declared.block.BlockError.TheVariants as blocks
+use Rattle.timeline_file.specs.declared.block.RowCause.{RowCause}
+use Rattle.timeline_file.specs.declared.block.RowCause.TheVariants as causes
+use Rattle.timeline_file.specs.Saved.{saved}
 use Rattle.workbench.specs.declared.outcome.Outcome.{Outcome}
-use Rattle.workbench.specs.declared.outcome.Outcome.TheVariants.{Silent, Accepted, Inserted, Answered, Listed, Refused}
+use Rattle.workbench.specs.declared.outcome.Outcome.TheVariants.{Silent, Accepted, Inserted, Answered, Listed, Saved, Refused}
 use Rattle.workbench.specs.declared.outcome.Refusal.{Refusal}
-use Rattle.workbench.specs.declared.outcome.Refusal.TheVariants.{Long, Syntax, NoTimeline, NameTaken, Timelines, Kind, NoRow, Full, Numbers, At, NothingToUndo, NothingToRedo}
+use Rattle.workbench.specs.declared.outcome.Refusal.TheVariants.{Long, Syntax, NoTimeline, NameTaken, Timelines, Kind, NoRow, Full, Numbers, At, NothingToUndo, NothingToRedo, RowLine, Unfinished, Next}
+
+-- why a row line of a block is bad
+abbrev pub cause_text : RowCause → List ℕ
+cause_text causes.Syntax = codes "syntax"
+cause_text causes.Kind = codes "kind"
+cause_text causes.Number = codes "number"
+cause_text causes.Time = codes "time"
+cause_text causes.Replay = codes "replay"
+
+-- the refusal of a block, by what is wrong with it
+abbrev pub block_refusal : BlockError → Refusal
+block_refusal (blocks.Row place cause) = RowLine place cause
+block_refusal blocks.Full = Full
+block_refusal blocks.Unfinished = Unfinished
+block_refusal blocks.Next = Next
 
 -- the text of a refusal
 abbrev pub refusal_text : Refusal → List ℕ
@@ -20,6 +40,9 @@ refusal_text Full = codes "refused full"
 refusal_text Numbers = codes "refused numbers"
 refusal_text NothingToUndo = codes "refused nothing to undo"
 refusal_text NothingToRedo = codes "refused nothing to redo"
+refusal_text (RowLine place cause) = codes "refused row " ++ decimal place ++ codes " " ++ cause_text cause
+refusal_text Unfinished = codes "refused unfinished"
+refusal_text Next = codes "refused next"
 refusal_text (At number time) = codes "refused at #" ++ decimal number ++ codes " " ++ decimal time
 
 -- a text on a line of its own
@@ -33,6 +56,7 @@ reply_text Accepted = as_line (codes "ok")
 reply_text (Inserted number) = as_line (codes "ok #" ++ decimal number)
 reply_text (Answered answer) = as_line (answer_text answer)
 reply_text (Listed listing) = as_line (listing_text listing)
+reply_text (Saved name kind next rows) = saved name kind next rows
 reply_text (Refused refusal) = as_line (refusal_text refusal)
 
 -- the outcome is a refusal
@@ -42,4 +66,5 @@ is_refusal Accepted = false
 is_refusal (Inserted number) = false
 is_refusal (Answered answer) = false
 is_refusal (Listed listing) = false
+is_refusal (Saved name kind next rows) = false
 is_refusal (Refused refusal) = true

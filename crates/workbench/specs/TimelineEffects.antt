@@ -18,7 +18,7 @@ use Rattle.script_grammar.specs.declared.command.Moment.TheVariants.{Now, Then}
 use Rattle.script_grammar.specs.declared.command.Query.{Query}
 use Rattle.script_grammar.specs.declared.command.Query.TheVariants.{One, All}
 use Rattle.workbench.specs.declared.outcome.Outcome.{Outcome}
-use Rattle.workbench.specs.declared.outcome.Outcome.TheVariants.{Accepted, Inserted, Answered, Listed, Refused}
+use Rattle.workbench.specs.declared.outcome.Outcome.TheVariants.{Accepted, Inserted, Answered, Listed, Saved, Refused}
 use Rattle.workbench.specs.declared.outcome.Refusal.{Refusal}
 use Rattle.workbench.specs.declared.outcome.Refusal.TheVariants as refusals
 use Rattle.workbench.specs.declared.position.Position.{Position}
@@ -154,3 +154,7 @@ answers timeline moment (One question) =
     then answers_then timeline (λ place. Answered (answer_of (state_at timeline.kind timeline.rows place) question)) moment
     else Refused refusals.Kind
 answers timeline moment All = answers_then timeline (λ place. Listed (content (state_at timeline.kind timeline.rows place))) moment
+
+-- `save NAME`
+abbrev pub saves : NamedTimeline → Outcome
+saves timeline = Saved timeline.name timeline.kind timeline.next timeline.rows

@@ -1,20 +1,17 @@
-ghost use Rattle.std.specs.Prelude.{◌≡◌, ◌≢◌, ◌≤◌, ◌⊎◌, [], length, nat_le, position, Ok, IsTrue, IfOk, OnErr, true};
-ghost use Rattle.retro_base.specs.declared.kind.Kind.TheVariants.{Pq};
-ghost use Rattle.script_grammar.specs.Command.{StartsNoPq};
-ghost use Rattle.retro_base.specs.Limits.{longest_line, most_timelines};
-ghost use Rattle.workbench.specs.Bench.{has_timeline, is_named};
-ghost use Rattle.workbench.specs.Reaction.{obeys, on_named, reacts_to, starts};
-ghost use Rattle.workbench.specs.TimelineEffects.{answers, deletes, inserts, redoes, undoes, unchanged};
+ghost use Rattle.std.specs.Prelude.{◌≡◌, ◌≤◌, ◌⊎◌, ◌++◌, length, is_err, is_some, true, false, None, Some, IsTrue, IfOk, OnOk, OnErr, option_map};
+ghost use Rattle.retro_base.specs.Limits.{longest_line};
+ghost use Rattle.script_grammar.specs.Command.{CanStart};
+ghost use Rattle.workbench.specs.Bench.{empty_bench};
+ghost use Rattle.workbench.specs.Outcome.{is_refusal, reply_text};
+ghost use Rattle.workbench.specs.Reaction.{closing, ends, happens, opened, outside, reacts_to, with_line, without_block};
 
-use crate::named_timeline::NamedTimeline;
-use crate::outcome::{Outcome, Refusal};
-use retro_base::{Kind, Name, NoMemory, Op, Text};
-use script_grammar::{Command, LineError, Moment, Query, Spot, read_line};
+use crate::open_block::OpenBlock;
+use crate::outcome::Outcome;
+use crate::timelines::Timelines;
+use retro_base::{NoMemory, Text};
+use script_grammar::{Command, LineError, is_end, read_line};
 use std::alloc::Global;
 use std::marker::Model;
-
-/// The most timelines of a bench.
-pub const MAX_TIMELINES: usize = 8;
 
 /// What a line is answered.
 #[derive(Debug, Drop)]
@@ -25,180 +22,181 @@ pub struct Reply {
     pub refused: bool,
 }
 
-/// The timelines that a script has made, in the order in which it made them.
+/// The timelines that a script has made, and the block that is being read. A bench that met want of memory is
+/// spent, and takes no more lines.
 #[derive(Drop)]
 pub struct Bench {
     alloc: Global,
-    timelines: Vec<NamedTimeline>,
+    timelines: Timelines,
+    block: Option<OpenBlock>,
+    spent: bool,
 }
 
 impl Model for Bench {
-    ghost use Rattle.workbench.specs.Bench as specs;
+    ghost use Rattle.workbench.specs.Bench.{BenchState};
 
-    ghost Value = { specs.Bench };
+    ghost Value = { BenchState };
 
-    ghost view = { λ bench. bench.timelines.items };
+    ghost view = { λ b. record { bench = record { timelines = b.timelines; block = b.block }; spent = b.spent } };
 }
 
 impl Bench {
     /// A bench without a timeline.
     pub fn new(alloc: Global) -> Bench
-        ensures { result ≡ [] }
+        ensures { result ≡ record { bench = empty_bench; spent = false } }
     {
         Bench {
             alloc,
-            timelines: Vec::new(alloc),
+            timelines: Timelines::new(alloc),
+            block: None,
+            spent: false,
         }
+    }
+
+    /// Whether an earlier call met want of memory.
+    pub fn spent(&self) -> bool
+        ensures { result ≡ self.now.spent }
+    {
+        self.spent
     }
 
     /// Does what a line asks for. Of a line that is too long its first bytes are given, as many as a line may
-    /// have, and `long` says that it has more. After `NoMemory` the line is done or not, and its answer is lost.
+    /// have, and `long` says that it has more. After `NoMemory` the line is done or not, its answer is lost, and
+    /// the bench is spent.
     pub fn line(&mut self, line: &[u8], long: bool) -> Result<Reply, NoMemory>
         requires within { length line.now ≤ longest_line }
         requires full { IsTrue long → length line.now ≡ longest_line }
-        ensures reacts { IfOk result (λ reply. reacts_to self.old line.now long
-            ≡ record { bench = self.new; answer = reply.text; refused = reply.refused }) }
-        ensures keeps { IfOk result (λ reply. reply.refused ≡ true → self.new ≡ self.old) }
-        ensures err { OnErr result ((self.new ≡ self.old) ⊎ (self.new ≡ (reacts_to self.old line.now long).bench)) }
+        requires unspent { self.old.spent ≡ false }
+        ensures reacts { IfOk result (λ reply. reacts_to self.old.bench line.now long
+            ≡ record { bench = self.new.bench; answer = reply.text; refused = reply.refused }) }
+        ensures keeps { IfOk result (λ reply. reply.refused ≡ true → self.new.bench ≡ without_block self.old.bench) }
+        ensures spent { self.new.spent ≡ is_err result }
+        ensures err { OnErr result ((self.new.bench.timelines ≡ self.old.bench.timelines)
+            ⊎ (self.new.bench.timelines ≡ (reacts_to self.old.bench line.now long).bench.timelines)) }
     {
-        let outcome = self.obey(read_line(line, long))?;
-        let mut text = Text::new(self.alloc);
-        outcome.print(&mut text)?;
-        Ok(Reply {
-            text,
-            refused: outcome.is_refusal(),
-        })
+        let reply = self.react(line, long);
+        self.spent = reply.is_err();
+        reply
     }
 
-    /// Does what a command asks for, or refuses a line that has none. After a refusal and after `NoMemory`
-    /// all is as before.
-    fn obey(&mut self, line: Result<Command, LineError>) -> Result<Outcome, NoMemory>
-        requires { IfOk line StartsNoPq }
-        ensures ok { IfOk result (λ outcome. obeys self.old line ≡ record { bench = self.new; outcome = outcome }) }
-        ensures err { OnErr result (self.new ≡ self.old) }
+    /// Closes the block that is being read, as the end of the input does. Without one nothing is answered.
+    pub fn end(&mut self) -> Result<Reply, NoMemory>
+        requires { self.old.spent ≡ false }
+        ensures reacts { IfOk result (λ reply. closing self.old.bench
+            ≡ record { bench = self.new.bench; answer = reply.text; refused = reply.refused }) }
+        ensures keeps { IfOk result (λ reply. reply.refused ≡ true → self.new.bench ≡ without_block self.old.bench) }
+        ensures spent { self.new.spent ≡ is_err result }
+        ensures err { OnErr result ((self.new.bench.timelines ≡ self.old.bench.timelines)
+            ⊎ (self.new.bench.timelines ≡ (closing self.old.bench).bench.timelines)) }
     {
-        match line {
-            Err(LineError::Long) => Ok(Outcome::refused(Refusal::Long)),
-            Err(LineError::Syntax) => Ok(Outcome::refused(Refusal::Syntax)),
-            Ok(command) => self.perform(&command),
+        let reply = self.react_to_end();
+        self.spent = reply.is_err();
+        reply
+    }
+
+    /// Does what a line asks for, and tells its answer.
+    fn react(&mut self, line: &[u8], long: bool) -> Result<Reply, NoMemory>
+        requires within { length line.now ≤ longest_line }
+        requires full { IsTrue long → length line.now ≡ longest_line }
+        ensures reacts { IfOk result (λ reply. reacts_to self.old.bench line.now long
+            ≡ record { bench = self.new.bench; answer = reply.text; refused = reply.refused }) }
+        ensures keeps { IfOk result (λ reply. reply.refused ≡ true → self.new.bench ≡ without_block self.old.bench) }
+        ensures err { OnErr result ((self.new.bench.timelines ≡ self.old.bench.timelines)
+            ⊎ (self.new.bench.timelines ≡ (reacts_to self.old.bench line.now long).bench.timelines)) }
+    {
+        let outcome = self.obey(line, long)?;
+        tell(self.alloc, &outcome)
+    }
+
+    /// Closes the block that is being read, and tells the answer.
+    fn react_to_end(&mut self) -> Result<Reply, NoMemory>
+        ensures reacts { IfOk result (λ reply. closing self.old.bench
+            ≡ record { bench = self.new.bench; answer = reply.text; refused = reply.refused }) }
+        ensures keeps { IfOk result (λ reply. reply.refused ≡ true → self.new.bench ≡ without_block self.old.bench) }
+        ensures err { OnErr result ((self.new.bench.timelines ≡ self.old.bench.timelines)
+            ⊎ (self.new.bench.timelines ≡ (closing self.old.bench).bench.timelines)) }
+    {
+        let outcome = self.close(false)?;
+        tell(self.alloc, &outcome)
+    }
+
+    /// Does what a line asks for.
+    fn obey(&mut self, line: &[u8], long: bool) -> Result<Outcome, NoMemory>
+        requires within { length line.now ≤ longest_line }
+        requires full { IsTrue long → length line.now ≡ longest_line }
+        ensures ok { IfOk result (λ outcome. happens self.old.bench.timelines self.old.bench.block line.now long
+            ≡ record { bench = self.new.bench; outcome = outcome }) }
+        ensures err { OnErr result (self.new.bench.timelines ≡ self.old.bench.timelines) }
+    {
+        if self.block.is_none() {
+            return self.obey_outside(read_line(line, long));
+        }
+        if !long && is_end(line) {
+            return self.close(true);
+        }
+        self.take(line, long)?;
+        Ok(Outcome::Silent)
+    }
+
+    /// Does what a line outside a block asks for.
+    fn obey_outside(&mut self, line: Result<Command, LineError>) -> Result<Outcome, NoMemory>
+        requires { IfOk line CanStart }
+        ensures ok { IfOk result (λ outcome. outside self.old.bench.timelines line
+            ≡ record { bench = self.new.bench; outcome = outcome }) }
+        ensures err { OnErr result (self.new.bench.timelines ≡ self.old.bench.timelines) }
+    {
+        self.block = opened(self.alloc, &line);
+        self.timelines.obey(line)
+    }
+
+    /// Closes the block that is being read, if there is one: `ended` says that its `end` line came.
+    fn close(&mut self, ended: bool) -> Result<Outcome, NoMemory>
+        ensures ok { IfOk result (λ outcome. ends self.old.bench.timelines self.old.bench.block ended
+            ≡ record { bench = self.new.bench; outcome = outcome }) }
+        ensures err { OnErr result (self.new.bench.timelines ≡ self.old.bench.timelines) }
+    {
+        match self.block.take() {
+            Some(unclosed) => self.timelines.close(unclosed, ended),
+            None => Ok(Outcome::Silent),
         }
     }
 
-    /// Does what a command asks for, by its form.
-    fn perform(&mut self, command: &Command) -> Result<Outcome, NoMemory>
-        requires { StartsNoPq command.now }
-        ensures ok { IfOk result (λ outcome. obeys self.old (Ok command.now) ≡ record { bench = self.new; outcome = outcome }) }
-        ensures err { OnErr result (self.new ≡ self.old) }
+    /// Gives a line to the block that is being read. After `NoMemory` all is as before.
+    fn take(&mut self, line: &[u8], long: bool) -> Result<(), NoMemory>
+        requires within { length line.now ≤ longest_line }
+        requires full { IsTrue long → length line.now ≡ longest_line }
+        ensures timelines { self.new.bench.timelines ≡ self.old.bench.timelines }
+        ensures ok { OnOk result (self.new.bench.block ≡ option_map (λ unclosed. with_line unclosed line.now long) self.old.bench.block) }
     {
-        match command {
-            Command::Nothing => Ok(Outcome::Silent),
-            Command::New { name, kind } => self.start(*name, *kind),
-            Command::Insert { name, spot, op } => self.insert(*name, *spot, *op),
-            Command::Delete { name, number } => self.delete(*name, *number),
-            Command::Ask {
-                name,
-                moment,
-                query,
-            } => self.ask(*name, *moment, *query),
-            Command::Undo { name } => self.undo(*name),
-            Command::Redo { name } => self.redo(*name),
+        match &mut self.block {
+            Some(unclosed) => unclosed.take(line, long),
+            None => Ok(()),
         }
     }
+}
 
-    /// Starts a timeline without rows, where the name is free and there is room for one more.
-    fn start(&mut self, name: Name, kind: Kind) -> Result<Outcome, NoMemory>
-        requires { kind ≢ Pq }
-        ensures ok { IfOk result (λ outcome. starts self.old name kind ≡ record { bench = self.new; outcome = outcome }) }
-        ensures err { OnErr result (self.new ≡ self.old) }
-    {
-        if self.has(name) {
-            return Ok(Outcome::refused(Refusal::NameTaken));
+/// The block that a line opens, if it is a header.
+fn opened(alloc: Global, line: &Result<Command, LineError>) -> Option<OpenBlock>
+    requires { IfOk line.now CanStart }
+    ensures { result ≡ opened line.now }
+{
+    match line {
+        Ok(Command::Header { name, kind, next }) => {
+            Some(OpenBlock::new(alloc, *name, *kind, *next))
         }
-        if self.is_full() {
-            return Ok(Outcome::refused(Refusal::Timelines));
-        }
-        let timeline = NamedTimeline::new(self.alloc, name, kind)?;
-        self.timelines.push(timeline)?;
-        Ok(Outcome::Accepted)
+        _ => None,
     }
+}
 
-    /// Puts a row into the timeline of this name.
-    fn insert(&mut self, name: Name, spot: Spot, op: Op) -> Result<Outcome, NoMemory>
-        ensures ok { IfOk result (λ outcome. on_named name (λ timeline. inserts timeline spot op) self.old ≡ record { bench = self.new; outcome = outcome }) }
-        ensures err { OnErr result (self.new ≡ self.old) }
-    {
-        match self.index_of(name) {
-            Some(index) => self.timelines[index].insert(spot, op),
-            None => Ok(Outcome::refused(Refusal::NoTimeline { name })),
-        }
-    }
-
-    /// Takes a row out of the timeline of this name.
-    fn delete(&mut self, name: Name, number: u32) -> Result<Outcome, NoMemory>
-        ensures ok { IfOk result (λ outcome. on_named name (λ timeline. deletes timeline number) self.old ≡ record { bench = self.new; outcome = outcome }) }
-        ensures err { OnErr result (self.new ≡ self.old) }
-    {
-        match self.index_of(name) {
-            Some(index) => self.timelines[index].delete(number),
-            None => Ok(Outcome::refused(Refusal::NoTimeline { name })),
-        }
-    }
-
-    /// Undoes the newest step of the timeline of this name.
-    fn undo(&mut self, name: Name) -> Result<Outcome, NoMemory>
-        ensures ok { IfOk result (λ outcome. on_named name undoes self.old ≡ record { bench = self.new; outcome = outcome }) }
-        ensures err { OnErr result (self.new ≡ self.old) }
-    {
-        match self.index_of(name) {
-            Some(index) => self.timelines[index].undo(),
-            None => Ok(Outcome::refused(Refusal::NoTimeline { name })),
-        }
-    }
-
-    /// Makes the step of the timeline of this name again that was undone last.
-    fn redo(&mut self, name: Name) -> Result<Outcome, NoMemory>
-        ensures ok { IfOk result (λ outcome. on_named name redoes self.old ≡ record { bench = self.new; outcome = outcome }) }
-        ensures err { OnErr result (self.new ≡ self.old) }
-    {
-        match self.index_of(name) {
-            Some(index) => self.timelines[index].redo(),
-            None => Ok(Outcome::refused(Refusal::NoTimeline { name })),
-        }
-    }
-
-    /// Asks the timeline of this name. Nothing changes.
-    fn ask(&mut self, name: Name, moment: Moment, query: Query) -> Result<Outcome, NoMemory>
-        ensures ok { IfOk result (λ outcome. on_named name (λ timeline. unchanged timeline (answers timeline moment query)) self.old ≡ record { bench = self.new; outcome = outcome }) }
-        ensures err { OnErr result (self.new ≡ self.old) }
-    {
-        match self.index_of(name) {
-            Some(index) => self.timelines[index].ask(moment, query),
-            None => Ok(Outcome::refused(Refusal::NoTimeline { name })),
-        }
-    }
-
-    /// Whether a timeline has the name.
-    fn has(&self, name: Name) -> bool
-        ensures { result ≡ has_timeline name self.now }
-    {
-        self.timelines
-            .iter()
-            .any(|timeline| timeline.name() == name)
-    }
-
-    /// Whether there are as many timelines as there may be.
-    fn is_full(&self) -> bool
-        ensures { result ≡ nat_le most_timelines (length self.now) }
-    {
-        self.timelines.as_slice().len() >= MAX_TIMELINES
-    }
-
-    /// The index of the timeline that has the name.
-    fn index_of(&self, name: Name) -> Option<usize>
-        ensures { result ≡ position (is_named name) self.now }
-    {
-        self.timelines
-            .iter()
-            .position(|timeline| timeline.name() == name)
-    }
+/// The reply with this outcome.
+fn tell(alloc: Global, outcome: &Outcome) -> Result<Reply, NoMemory>
+    ensures text { IfOk result (λ reply. reply.text ≡ reply_text outcome.now) }
+    ensures refused { IfOk result (λ reply. reply.refused ≡ is_refusal outcome.now) }
+{
+    let mut text = Text::new(alloc);
+    outcome.print(&mut text)?;
+    Ok(Reply {
+        text,
+        refused: outcome.is_refusal(),
+    })
 }

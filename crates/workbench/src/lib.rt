@@ -9,9 +9,12 @@
 
 mod bench;
 mod named_timeline;
+mod open_block;
 mod outcome;
 mod position;
 #[cfg(test)]
 mod tests;
+mod timelines;
 
-pub use bench::{Bench, MAX_TIMELINES, Reply};
+pub use bench::{Bench, Reply};
+pub use timelines::MAX_TIMELINES;

@@ -5,6 +5,7 @@ ghost use Rattle.retro_base.specs.Answers.{content};
 ghost use Rattle.retro_base.specs.Order.{Fits};
 ghost use Rattle.retro_base.specs.Questions.{suits};
 ghost use Rattle.retro_base.specs.Replay.{state_at};
+ghost use Rattle.retro_base.specs.Timeline.{IsTimeline};
 ghost use Rattle.script_grammar.specs.declared.command.Moment.TheVariants.{Then};
 ghost use Rattle.script_grammar.specs.declared.command.Query.TheVariants.{One, All};
 ghost use Rattle.workbench.specs.declared.outcome.Outcome.TheVariants.{Listed, Refused};
@@ -14,7 +15,8 @@ ghost use Rattle.workbench.specs.EditErrors.{IsRefusedBy};
 use crate::outcome::{Outcome, Refusal};
 use crate::position::{Position, position_of, row_named};
 use engine::Engine;
-use retro_base::{Kind, MAX_NEXT, MAX_ROWS, Name, NoMemory, Op, Question};
+use order_timeline::Timeline;
+use retro_base::{Kind, MAX_NEXT, MAX_ROWS, Name, NoMemory, Op, Question, Rows};
 use script_grammar::{Moment, Query, Spot};
 use std::alloc::Global;
 use std::marker::Model;
@@ -36,8 +38,8 @@ impl Model for NamedTimeline {
 }
 
 impl NamedTimeline {
-    ghost use Rattle.workbench.specs.Bench.{fresh};
-    ghost use Rattle.workbench.specs.TimelineEffects.{deletes, inserts, inserts_there, unchanged, answers, undoes, redoes};
+    ghost use Rattle.workbench.specs.Bench.{fresh, with_rows};
+    ghost use Rattle.workbench.specs.TimelineEffects.{deletes, inserts, inserts_there, unchanged, answers, undoes, redoes, saves};
 
     /// A timeline without rows.
     pub(crate) fn new(alloc: Global, name: Name, kind: Kind) -> Result<NamedTimeline, NoMemory>
@@ -45,6 +47,25 @@ impl NamedTimeline {
         ensures { IfOk result (λ timeline. timeline ≡ fresh name kind) }
     {
         let session = Session::new(alloc, Engine::new(alloc, kind), 1)?;
+        Ok(NamedTimeline { name, session })
+    }
+
+    /// The timeline of a block that came to these rows.
+    pub(crate) fn of_block(
+        alloc: Global,
+        name: Name,
+        kind: Kind,
+        next: u32,
+        rows: &Rows,
+    ) -> Result<NamedTimeline, NoMemory>
+        requires served { kind ≢ Pq }
+        requires timeline { IsTimeline kind rows.now next }
+        ensures { IfOk result (λ timeline. timeline ≡ with_rows name kind next rows.now) }
+    {
+        let mut session = Session::new(alloc, Engine::new(alloc, kind), next)?;
+        for index in 0..rows.len() {
+            session.append(rows.row(index))?;
+        }
         Ok(NamedTimeline { name, session })
     }
 
@@ -204,6 +225,30 @@ impl NamedTimeline {
         let listing = self.session.all(place)?;
         Ok(Outcome::Listed { listing })
     }
+
+    /// What is saved of the timeline.
+    pub(crate) fn save(&self, alloc: Global) -> Result<Outcome, NoMemory>
+        ensures { IfOk result (λ outcome. outcome ≡ saves self.now) }
+    {
+        let rows = rows_of(alloc, self.session.timeline())?;
+        Ok(Outcome::Saved {
+            name: self.name,
+            kind: self.session.kind(),
+            next: self.session.next(),
+            rows,
+        })
+    }
+}
+
+/// The rows of a timeline.
+fn rows_of(alloc: Global, timeline: &Timeline) -> Result<Rows, NoMemory>
+    ensures { IfOk result (λ rows. rows ≡ timeline.now) }
+{
+    let mut rows = Rows::new(alloc);
+    for place in 0..timeline.len() {
+        rows.push(timeline.row_at(place))?;
+    }
+    Ok(rows)
 }
 
 /// The outcome of a line that names a row that is not there.

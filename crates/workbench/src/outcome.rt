@@ -1,10 +1,11 @@
 ghost use Rattle.std.specs.Prelude.{◌≡◌, ◌++◌, OnOk};
-ghost use Rattle.workbench.specs.Outcome.{is_refusal, refusal_text, reply_text};
+ghost use Rattle.workbench.specs.Outcome.{block_refusal, cause_text, is_refusal, refusal_text, reply_text};
 ghost use Rattle.workbench.specs.declared.outcome.Outcome.TheVariants as outcomes;
 
-use crate::bench::MAX_TIMELINES;
-use retro_base::{Answer, Listing, Name, NoMemory, Text};
+use crate::timelines::MAX_TIMELINES;
+use retro_base::{Answer, Kind, Listing, Name, NoMemory, Rows, Text};
 use script_grammar::{print_answer, print_listing};
+use timeline_file::{BlockError, RowCause, print_block};
 
 /// What a line is answered.
 #[derive(Debug, Drop)]
@@ -14,13 +15,28 @@ pub(crate) enum Outcome {
     /// It is done.
     Accepted,
     /// A row was inserted, and drew this number.
-    Inserted { number: u32 },
+    Inserted {
+        number: u32,
+    },
     /// A question was answered.
-    Answered { answer: Answer },
+    Answered {
+        answer: Answer,
+    },
     /// The whole content was asked for.
-    Listed { listing: Listing },
+    Listed {
+        listing: Listing,
+    },
+    /// The text of a timeline was asked for.
+    Saved {
+        name: Name,
+        kind: Kind,
+        next: u32,
+        rows: Rows,
+    },
     /// The line was refused, and changed nothing.
-    Refused { refusal: Refusal },
+    Refused {
+        refusal: Refusal,
+    },
 }
 
 /// Why a line was refused.
@@ -50,6 +66,12 @@ pub(crate) enum Refusal {
     NothingToUndo,
     /// No step of the timeline can be made again.
     NothingToRedo,
+    /// The row line of this place is the first bad one of a block.
+    RowLine { place: u32, cause: RowCause },
+    /// The input ended within a block.
+    Unfinished,
+    /// A row of a block has a number that is not below the one that its timeline draws next.
+    Next,
 }
 
 impl Outcome {
@@ -80,6 +102,12 @@ impl Outcome {
             }
             Outcome::Answered { answer } => print_answer(*answer, out)?,
             Outcome::Listed { listing } => print_listing(listing, out)?,
+            Outcome::Saved {
+                name,
+                kind,
+                next,
+                rows,
+            } => return print_block(name, *kind, *next, rows, out),
             Outcome::Refused { refusal } => refusal.print(out)?,
         }
         out.push_all(b"\n")
@@ -87,6 +115,18 @@ impl Outcome {
 }
 
 impl Refusal {
+    /// The refusal of a block, by what is wrong with it.
+    pub(crate) fn of_block(error: BlockError) -> Refusal
+        ensures { result ≡ block_refusal error }
+    {
+        match error {
+            BlockError::Row { place, cause } => Refusal::RowLine { place, cause },
+            BlockError::Full => Refusal::Full,
+            BlockError::Unfinished => Refusal::Unfinished,
+            BlockError::Next => Refusal::Next,
+        }
+    }
+
     /// Appends the text.
     fn print(&self, out: &mut Text) -> Result<(), NoMemory>
         ensures { OnOk result (out.new ≡ out.old ++ refusal_text self.now) }
@@ -112,6 +152,14 @@ impl Refusal {
             Refusal::Numbers => out.push_all(b"refused numbers")?,
             Refusal::NothingToUndo => out.push_all(b"refused nothing to undo")?,
             Refusal::NothingToRedo => out.push_all(b"refused nothing to redo")?,
+            Refusal::Unfinished => out.push_all(b"refused unfinished")?,
+            Refusal::Next => out.push_all(b"refused next")?,
+            Refusal::RowLine { place, cause } => {
+                out.push_all(b"refused row ")?;
+                out.push_number(*place)?;
+                out.push_all(b" ")?;
+                out.push_all(cause_word(*cause))?;
+            }
             Refusal::At { number, time } => {
                 out.push_all(b"refused at #")?;
                 out.push_number(*number)?;
@@ -120,5 +168,18 @@ impl Refusal {
             }
         }
         Ok(())
+    }
+}
+
+/// The word of a cause.
+fn cause_word(cause: RowCause) -> &'static [u8]
+    ensures { result.now ≡ cause_text cause }
+{
+    match cause {
+        RowCause::Syntax => b"syntax",
+        RowCause::Kind => b"kind",
+        RowCause::Number => b"number",
+        RowCause::Time => b"time",
+        RowCause::Replay => b"replay",
     }
 }

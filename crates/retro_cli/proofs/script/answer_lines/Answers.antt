@@ -3,7 +3,7 @@ use Rattle.std.proofs.lemmas.Result.{err_from_is_err_and}
 use Rattle.retro_io.specs.FlushLaws.{StaysUnflushed-more}
 use Rattle.retro_io.specs.LineReader.{held, line_of, has_ended, taken}
 use Rattle.retro_io.specs.ReaderLaws.{MovesOn-none, MovesOn-then}
-use Rattle.retro_cli.proofs.Ends.{answers_of_first, answers_of_taken, appends_output, first_answers, part_in_line, stands_at_answer, stands_at_error}
+use Rattle.retro_cli.proofs.Ends.{answers_of_first, answers_of_taken, appends_output, first_answers, part_at_end, part_in_line, stands_at_answer, stands_at_error}
 use Rattle.retro_cli.proofs.GoesOn.{GivenAs, before_end, goes_on_first, goes_on_next}
 use Rattle.retro_cli.proofs.Stops.{open_before_error, open_before_line}
 use Rattle.retro_cli.proofs.script.answer_lines.Goals as goal
@@ -17,14 +17,6 @@ returns-in-End-clause-moves g c = MovesOn-then c.args.reader.now c.loop-bench.re
 
 pub returns-in_err-refused-clause-moves : goal.returns-in_err-refused-clause-moves
 returns-in_err-refused-clause-moves g c = MovesOn-then c.args.reader.now c.loop-bench.reader c.next.new.self c.loop-bench.invariant.moves c.in_ok-next.ensures.moves
-
-pub returns-in-End-clause-output : goal.returns-in-End-clause-output
-returns-in-End-clause-output g c =
-    (appends_output _ _ _ _ _ _ _ _ (line_of c.next.new.self) (has_ended c.next.new.self) c.loop-bench.invariant.answers (rw c.in-End.is at c.in_ok-next.ensures.gives.lines)).0
-
-pub returns-in-End-clause-refusal : goal.returns-in-End-clause-refusal
-returns-in-End-clause-refusal g c =
-    (appends_output _ _ _ _ _ _ _ _ (line_of c.next.new.self) (has_ended c.next.new.self) c.loop-bench.invariant.answers (rw c.in-End.is at c.in_ok-next.ensures.gives.lines)).1
 
 pub returns-in_err-next-clause-stands : goal.returns-in_err-next-clause-stands
 returns-in_err-next-clause-stands g c =
@@ -55,9 +47,35 @@ returns-in_err-refused-clause-stands g c =
     as_given c.in_ok-next.ensures.gives.lines (before_end _ _ _ _ _ _ _ not_ended c.loop-bench.invariant.answers) (rw c.line.ensures at (c.in_err-refused.ensures.part is)))
     c.in_err-refused.ensures.last)
 
+pub returns-in_err-refused-in-End-clause-stands : goal.returns-in_err-refused-in-End-clause-stands
+returns-in_err-refused-in-End-clause-stands g c =
+    let p = err_from_is_err_and c.from_residual-in_err-refused-in-End.result c.from_residual-in_err-refused-in-End.ensures.1 in
+    let failed = c.in_err-refused-in-End.ensures in
+    rw (p.1, p.2)
+    (stands_at_answer g.K.Sink _ _ _ _ _ _ c.in_err-refused-in-End.field-0.0
+    (first_answers _ _ _ _ _ _ _ c.loop-bench.invariant.answers) c.loop-bench.invariant.unflushed failed.untouched failed.reads_nothing
+    (λ is. part_at_end _ _ _ _ _ _ _ _ _ (line_of c.next.new.self) (has_ended c.next.new.self) c.loop-bench.invariant.answers
+    (rw c.in-End.is at c.in_ok-next.ensures.gives.lines) (failed.part is))
+    failed.last)
+
+pub returns-in-End-clause-output : goal.returns-in-End-clause-output
+returns-in-End-clause-output g c =
+    (appends_output _ _ _ _ _ _ _ _ _ (line_of c.next.new.self) (has_ended c.next.new.self) c.loop-bench.invariant.answers
+    (rw c.in-End.is at c.in_ok-next.ensures.gives.lines) c.in_ok-refused-in-End.ensures.answered.1).0
+
+pub returns-in-End-clause-refusal : goal.returns-in-End-clause-refusal
+returns-in-End-clause-refusal g c =
+    rw c.in_ok-refused-in-End.ensures.answered.0
+    (appends_output _ _ _ _ _ _ _ _ _ (line_of c.next.new.self) (has_ended c.next.new.self) c.loop-bench.invariant.answers
+    (rw c.in-End.is at c.in_ok-next.ensures.gives.lines) c.in_ok-refused-in-End.ensures.answered.1).1
+
+pub returns-in-End-clause-unflushed : goal.returns-in-End-clause-unflushed
+returns-in-End-clause-unflushed g c = StaysUnflushed-more g.K.Sink _ _ _ c.loop-bench.invariant.unflushed c.in_ok-refused-in-End.ensures.unflushed
+
 pub loop-bench-init : goal.loop-bench-init
 loop-bench-init g c = record {
   moves = MovesOn-none c.args.reader.now c.args.reader.now.within;
+  unspent = rw c.new-bench.ensures refl;
   failed = c.requires;
   source_faults = refl;
   sink_faults = refl;
@@ -73,6 +91,7 @@ loop-bench-preserved g c =
     let answered = rw c.line.ensures at c.in_ok-refused.ensures.answered in
     record {
       moves = MovesOn-then c.args.reader.now c.loop-bench.reader c.next.new.self c.loop-bench.invariant.moves c.in_ok-next.ensures.moves;
+      unspent = rw answered.0 refl;
       failed = c.in_ok-next.ensures.failed;
       source_faults = c.in_ok-next.ensures.source_faults ∙ c.loop-bench.invariant.source_faults;
       sink_faults = c.in_ok-refused.ensures.sink_faults ∙ c.loop-bench.invariant.sink_faults;

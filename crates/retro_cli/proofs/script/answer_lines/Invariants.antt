@@ -8,12 +8,13 @@ use Rattle.retro_cli.proofs.script.answer_lines.Given as goal
 abbrev pub invariant-loop-bench : goal.invariant-loop-bench
 invariant-loop-bench g l = record {
   moves : MovesOn l.fn.reader l.reader;
+  unspent : l.bench.spent ≡ false;
   failed : has_failed l.reader ≡ false;
   source_faults : g.S.Source.faults (source_of l.reader) ≡ g.S.Source.faults (source_of l.fn.reader);
   sink_faults : g.K.Sink.faults l.sink ≡ g.K.Sink.faults l.fn.sink;
   unflushed : StaysUnflushed g.K.Sink l.fn.sink l.sink;
   answers : (bytes : List ℕ) → rest_of l.fn.reader ≡ Some bytes
-      → GoesOn bytes (g.K.Sink.written l.fn.sink) l.bench l.refused (has_ended l.reader) (rest_of l.reader) (g.K.Sink.written l.sink);
+      → GoesOn bytes (g.K.Sink.written l.fn.sink) l.bench.bench l.refused (has_ended l.reader) (rest_of l.reader) (g.K.Sink.written l.sink);
 }
 
 abbrev pub decreases-loop-bench : goal.decreases-loop-bench

@@ -18,3 +18,8 @@ returns-in_ok-push_all-in-Numbers c = rw c.in-Numbers.is c.in_ok-push_all-in-Num
 
 pub returns-in_ok-push_all-in-NoTimeline-2 : goal.returns-in_ok-push_all-in-NoTimeline-2
 returns-in_ok-push_all-in-NoTimeline-2 c = rw c.in-NoTimeline.is (search (rules, append_assoc))
+
+pub returns-in_ok-push_all-in-RowLine-3 : goal.returns-in_ok-push_all-in-RowLine-3
+returns-in_ok-push_all-in-RowLine-3 c =
+    rw (c.in-RowLine.is, c.in_ok-push_all-in-RowLine-3.ensures.ok, c.cause_word.ensures, c.in_ok-push_all-in-RowLine-2.ensures.ok, c.in_ok-push_number-in-RowLine.ensures.ok, c.in_ok-push_all-in-RowLine.ensures.ok)
+    (simp append_assoc)

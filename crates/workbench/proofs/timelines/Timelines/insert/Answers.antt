@@ -1,6 +1,6 @@
 use Rattle.workbench.specs.TimelineEffects.{inserts}
 use Rattle.workbench.proofs.Named.{changed, on_named_nowhere}
-use Rattle.workbench.proofs.bench.Bench.insert.Goals as goal
+use Rattle.workbench.proofs.timelines.Timelines.insert.Goals as goal
 
 pub returns-in-Some-clause-ok : goal.returns-in-Some-clause-ok
 returns-in-Some-clause-ok c =

@@ -1,16 +1,18 @@
 use Rattle.std.proofs.Common.{◌≡◌, false, sym, ◌∙◌}
-use Rattle.workbench.specs.Bench.{has_timeline}
-use Rattle.workbench.proofs.Named.{starts_full, starts_anew}
-use Rattle.workbench.proofs.bench.Bench.start.Goals as goal
+use Rattle.workbench.specs.Bench.{fresh, has_timeline}
+use Rattle.workbench.specs.Reaction.{with_timeline}
+use Rattle.workbench.proofs.Named.{no_room, startable}
+use Rattle.workbench.proofs.timelines.Timelines.start.Goals as goal
 
 pub returns-then-is_full-clause-ok : goal.returns-then-is_full-clause-ok
 returns-then-is_full-clause-ok c =
     let free : has_timeline c.args.name c.self.inside.timelines.items ≡ false = rw (← c.self.view_is) at (sym c.has.ensures ∙ c.if-has.false) in
     rw (← c.self.view_is, c.refused-then-is_full.ensures)
-    (starts_full c.self.inside.timelines.items c.args.name c.args.kind free (rw (← c.self.view_is) at (sym c.is_full.ensures ∙ c.if-is_full.true)))
+    (no_room c.self.inside.timelines.items c.args.name _ free (rw (← c.self.view_is) at (sym c.is_full.ensures ∙ c.if-is_full.true)))
 
 pub returns-clause-ok : goal.returns-clause-ok
 returns-clause-ok c =
     let free : has_timeline c.args.name c.self.inside.timelines.items ≡ false = rw (← c.self.view_is) at (sym c.has.ensures ∙ c.if-has.false) in
     rw (← c.self.view_is, c.in_ok-push.ensures.items, c.in_ok-timeline.ensures)
-    (starts_anew c.self.inside.timelines.items c.args.name c.args.kind free (rw (← c.self.view_is) at (sym c.is_full.ensures ∙ c.if-is_full.false)))
+    (startable c.self.inside.timelines.items c.args.name (with_timeline c.self.inside.timelines.items (fresh c.args.name c.args.kind)) free
+    (rw (← c.self.view_is) at (sym c.is_full.ensures ∙ c.if-is_full.false)))

@@ -1,6 +1,6 @@
 use Rattle.workbench.specs.TimelineEffects.{unchanged, answers}
 use Rattle.workbench.proofs.Named.{asked, on_named_nowhere}
-use Rattle.workbench.proofs.bench.Bench.ask.Goals as goal
+use Rattle.workbench.proofs.timelines.Timelines.ask.Goals as goal
 
 pub returns-in-Some-clause-ok : goal.returns-in-Some-clause-ok
 returns-in-Some-clause-ok c =

@@ -1,6 +1,6 @@
 use Rattle.workbench.specs.TimelineEffects.{redoes}
 use Rattle.workbench.proofs.Named.{changed, on_named_nowhere}
-use Rattle.workbench.proofs.bench.Bench.redo.Goals as goal
+use Rattle.workbench.proofs.timelines.Timelines.redo.Goals as goal
 
 pub returns-in-Some-clause-ok : goal.returns-in-Some-clause-ok
 returns-in-Some-clause-ok c =

@@ -1,6 +1,6 @@
 use Rattle.workbench.specs.TimelineEffects.{deletes}
 use Rattle.workbench.proofs.Named.{changed, on_named_nowhere}
-use Rattle.workbench.proofs.bench.Bench.delete.Goals as goal
+use Rattle.workbench.proofs.timelines.Timelines.delete.Goals as goal
 
 pub returns-in-Some-clause-ok : goal.returns-in-Some-clause-ok
 returns-in-Some-clause-ok c =

@@ -1,0 +1,7 @@
+use Rattle.std.proofs.Common.{◌≡◌, take}
+use Rattle.timeline_undo.specs.History.{no_history}
+use Rattle.timeline_undo.specs.Session.{SessionState}
+use Rattle.workbench.proofs.named_timeline.NamedTimeline.of_block.Given as goal
+
+abbrev pub invariant-loop-index : goal.invariant-loop-index
+invariant-loop-index l = ◌≡◌ {A = SessionState} l.session (record { kind = l.fn.kind; rows = take l.index l.rows; next = l.next; history = no_history })

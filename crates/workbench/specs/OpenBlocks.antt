@@ -1,0 +1,12 @@
+-- What an unclosed block makes at its close.
+use Rattle.std.specs.Prelude.{◌≡◌, Bool, List, Result, Ok, Err}
+use Rattle.retro_base.specs.declared.row.Row.{Row}
+use Rattle.timeline_file.specs.declared.block.BlockError.{BlockError}
+use Rattle.timeline_file.specs.Block.{finished}
+use Rattle.workbench.specs.Bench.{NamedTimeline, OpenBlock}
+use Rattle.workbench.specs.Reaction.{of_block}
+
+-- the timeline of the rows that the block comes to, or what is wrong with it
+abbrev pub ComesToTimeline : OpenBlock → Bool → Result NamedTimeline BlockError → Type 0
+ComesToTimeline unclosed ended (Ok timeline) = (rows : List Row) × (finished unclosed.block ended ≡ Ok rows) × (timeline ≡ of_block unclosed rows)
+ComesToTimeline unclosed ended (Err error) = finished unclosed.block ended ≡ Err error

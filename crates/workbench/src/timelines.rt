@@ -1,0 +1,223 @@
+ghost use Rattle.std.specs.Prelude.{◌≡◌, ◌≢◌, [], length, nat_le, position, Ok, IfOk, OnErr};
+ghost use Rattle.retro_base.specs.declared.kind.Kind.TheVariants.{Pq};
+ghost use Rattle.retro_base.specs.Limits.{most_timelines, next_limit};
+ghost use Rattle.retro_base.specs.Timeline.{IsTimeline};
+ghost use Rattle.script_grammar.specs.Command.{CanStart};
+ghost use Rattle.timeline_file.specs.Block.{finished};
+ghost use Rattle.workbench.specs.Bench.{has_timeline, is_named};
+ghost use Rattle.workbench.specs.Reaction.{closes, loads, obeys, of_block, on_named, starts};
+ghost use Rattle.workbench.specs.TimelineEffects.{answers, deletes, inserts, redoes, saves, undoes, unchanged};
+
+use crate::named_timeline::NamedTimeline;
+use crate::open_block::OpenBlock;
+use crate::outcome::{Outcome, Refusal};
+use retro_base::{Kind, Name, NoMemory, Op};
+use script_grammar::{Command, LineError, Moment, Query, Spot};
+use std::alloc::Global;
+use std::marker::Model;
+
+/// The most timelines of a bench.
+pub const MAX_TIMELINES: usize = 8;
+
+/// The timelines that a script has made, in the order in which it made them.
+#[derive(Drop)]
+pub(crate) struct Timelines {
+    alloc: Global,
+    timelines: Vec<NamedTimeline>,
+}
+
+impl Model for Timelines {
+    ghost use Rattle.std.specs.Prelude.{List};
+    ghost use Rattle.workbench.specs.Bench.{NamedTimeline};
+
+    ghost Value = { List NamedTimeline };
+
+    ghost view = { λ t. t.timelines.items };
+}
+
+impl Timelines {
+    /// No timelines.
+    pub(crate) fn new(alloc: Global) -> Timelines
+        ensures { result ≡ [] }
+    {
+        Timelines {
+            alloc,
+            timelines: Vec::new(alloc),
+        }
+    }
+
+    /// Does what a command asks for, or refuses a line that has none. After a refusal and after `NoMemory`
+    /// all is as before.
+    pub(crate) fn obey(&mut self, line: Result<Command, LineError>) -> Result<Outcome, NoMemory>
+        requires { IfOk line CanStart }
+        ensures ok { IfOk result (λ outcome. obeys self.old line ≡ record { timelines = self.new; outcome = outcome }) }
+        ensures err { OnErr result (self.new ≡ self.old) }
+    {
+        match line {
+            Err(LineError::Long) => Ok(Outcome::refused(Refusal::Long)),
+            Err(LineError::Syntax) => Ok(Outcome::refused(Refusal::Syntax)),
+            Ok(command) => self.perform(&command),
+        }
+    }
+
+    /// Does what a command asks for, by its form.
+    fn perform(&mut self, command: &Command) -> Result<Outcome, NoMemory>
+        requires { CanStart command.now }
+        ensures ok { IfOk result (λ outcome. obeys self.old (Ok command.now) ≡ record { timelines = self.new; outcome = outcome }) }
+        ensures err { OnErr result (self.new ≡ self.old) }
+    {
+        match command {
+            Command::Nothing => Ok(Outcome::Silent),
+            Command::New { name, kind } => self.start(*name, *kind),
+            Command::Insert { name, spot, op } => self.insert(*name, *spot, *op),
+            Command::Delete { name, number } => self.delete(*name, *number),
+            Command::Ask {
+                name,
+                moment,
+                query,
+            } => self.ask(*name, *moment, *query),
+            Command::Undo { name } => self.undo(*name),
+            Command::Redo { name } => self.redo(*name),
+            Command::Save { name } => self.save(*name),
+            Command::Header { .. } => Ok(Outcome::Silent),
+        }
+    }
+
+    /// Starts a timeline without rows, where the name is free and there is room for one more.
+    fn start(&mut self, name: Name, kind: Kind) -> Result<Outcome, NoMemory>
+        requires { kind ≢ Pq }
+        ensures ok { IfOk result (λ outcome. starts self.old name kind ≡ record { timelines = self.new; outcome = outcome }) }
+        ensures err { OnErr result (self.new ≡ self.old) }
+    {
+        if self.has(name) {
+            return Ok(Outcome::refused(Refusal::NameTaken));
+        }
+        if self.is_full() {
+            return Ok(Outcome::refused(Refusal::Timelines));
+        }
+        let timeline = NamedTimeline::new(self.alloc, name, kind)?;
+        self.timelines.push(timeline)?;
+        Ok(Outcome::Accepted)
+    }
+
+    /// Puts a row into the timeline of this name.
+    fn insert(&mut self, name: Name, spot: Spot, op: Op) -> Result<Outcome, NoMemory>
+        ensures ok { IfOk result (λ outcome. on_named name (λ timeline. inserts timeline spot op) self.old ≡ record { timelines = self.new; outcome = outcome }) }
+        ensures err { OnErr result (self.new ≡ self.old) }
+    {
+        match self.index_of(name) {
+            Some(index) => self.timelines[index].insert(spot, op),
+            None => Ok(Outcome::refused(Refusal::NoTimeline { name })),
+        }
+    }
+
+    /// Takes a row out of the timeline of this name.
+    fn delete(&mut self, name: Name, number: u32) -> Result<Outcome, NoMemory>
+        ensures ok { IfOk result (λ outcome. on_named name (λ timeline. deletes timeline number) self.old ≡ record { timelines = self.new; outcome = outcome }) }
+        ensures err { OnErr result (self.new ≡ self.old) }
+    {
+        match self.index_of(name) {
+            Some(index) => self.timelines[index].delete(number),
+            None => Ok(Outcome::refused(Refusal::NoTimeline { name })),
+        }
+    }
+
+    /// Undoes the newest step of the timeline of this name.
+    fn undo(&mut self, name: Name) -> Result<Outcome, NoMemory>
+        ensures ok { IfOk result (λ outcome. on_named name undoes self.old ≡ record { timelines = self.new; outcome = outcome }) }
+        ensures err { OnErr result (self.new ≡ self.old) }
+    {
+        match self.index_of(name) {
+            Some(index) => self.timelines[index].undo(),
+            None => Ok(Outcome::refused(Refusal::NoTimeline { name })),
+        }
+    }
+
+    /// Makes the step of the timeline of this name again that was undone last.
+    fn redo(&mut self, name: Name) -> Result<Outcome, NoMemory>
+        ensures ok { IfOk result (λ outcome. on_named name redoes self.old ≡ record { timelines = self.new; outcome = outcome }) }
+        ensures err { OnErr result (self.new ≡ self.old) }
+    {
+        match self.index_of(name) {
+            Some(index) => self.timelines[index].redo(),
+            None => Ok(Outcome::refused(Refusal::NoTimeline { name })),
+        }
+    }
+
+    /// Asks the timeline of this name. Nothing changes.
+    fn ask(&mut self, name: Name, moment: Moment, query: Query) -> Result<Outcome, NoMemory>
+        ensures ok { IfOk result (λ outcome. on_named name (λ timeline. unchanged timeline (answers timeline moment query)) self.old ≡ record { timelines = self.new; outcome = outcome }) }
+        ensures err { OnErr result (self.new ≡ self.old) }
+    {
+        match self.index_of(name) {
+            Some(index) => self.timelines[index].ask(moment, query),
+            None => Ok(Outcome::refused(Refusal::NoTimeline { name })),
+        }
+    }
+
+    /// Closes a block: its rows become a timeline, where its name is free, there is room for one more, and nothing is
+    /// wrong with it. After a refusal and after `NoMemory` all is as before.
+    pub(crate) fn close(&mut self, unclosed: OpenBlock, ended: bool) -> Result<Outcome, NoMemory>
+        ensures ok { IfOk result (λ outcome. closes self.old unclosed ended ≡ record { timelines = self.new; outcome = outcome }) }
+        ensures err { OnErr result (self.new ≡ self.old) }
+    {
+        if self.has(unclosed.name()) {
+            return Ok(Outcome::refused(Refusal::NameTaken));
+        }
+        if self.is_full() {
+            return Ok(Outcome::refused(Refusal::Timelines));
+        }
+        self.load(unclosed, ended)
+    }
+
+    /// Makes a timeline of what a block comes to.
+    fn load(&mut self, unclosed: OpenBlock, ended: bool) -> Result<Outcome, NoMemory>
+        ensures ok { IfOk result (λ outcome. loads self.old unclosed (finished unclosed.block ended) ≡ record { timelines = self.new; outcome = outcome }) }
+        ensures err { OnErr result (self.new ≡ self.old) }
+    {
+        match unclosed.into_timeline(self.alloc, ended)? {
+            Ok(timeline) => {
+                self.timelines.push(timeline)?;
+                Ok(Outcome::Accepted)
+            }
+            Err(error) => Ok(Outcome::refused(Refusal::of_block(error))),
+        }
+    }
+
+    /// Asks for the text of the timeline of this name. Nothing changes.
+    fn save(&mut self, name: Name) -> Result<Outcome, NoMemory>
+        ensures ok { IfOk result (λ outcome. on_named name (λ timeline. unchanged timeline (saves timeline)) self.old ≡ record { timelines = self.new; outcome = outcome }) }
+        ensures err { OnErr result (self.new ≡ self.old) }
+    {
+        let alloc = self.alloc;
+        match self.index_of(name) {
+            Some(index) => self.timelines[index].save(alloc),
+            None => Ok(Outcome::refused(Refusal::NoTimeline { name })),
+        }
+    }
+
+    /// Whether a timeline has the name.
+    fn has(&self, name: Name) -> bool
+        ensures { result ≡ has_timeline name self.now }
+    {
+        self.timelines
+            .iter()
+            .any(|timeline| timeline.name() == name)
+    }
+
+    /// Whether there are as many timelines as there may be.
+    fn is_full(&self) -> bool
+        ensures { result ≡ nat_le most_timelines (length self.now) }
+    {
+        self.timelines.as_slice().len() >= MAX_TIMELINES
+    }
+
+    /// The index of the timeline that has the name.
+    fn index_of(&self, name: Name) -> Option<usize>
+        ensures { result ≡ position (is_named name) self.now }
+    {
+        self.timelines
+            .iter()
+            .position(|timeline| timeline.name() == name)
+    }
+}
