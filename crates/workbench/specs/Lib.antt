@@ -8,3 +8,4 @@ pub mod Reaction
 pub mod OpenBlocks
 pub mod ReactionLaws
 pub mod Answers
+pub mod OwnLines

@@ -116,9 +116,13 @@ inside timelines unclosed bytes long =
     if (not long && is_end bytes) then ends timelines (Some unclosed) true
     else with_block (Some (with_line unclosed bytes long)) (leaves timelines Silent)
 
+-- what a line spells outside a block: a long one nothing
+abbrev pub spelled : List ℕ → Bool → Result Command LineError
+spelled bytes long = if long then Err errors.Long else command bytes
+
 -- a line, of which these are the bytes, or where it is long the first of them
 abbrev pub happens : List NamedTimeline → Option OpenBlock → List ℕ → Bool → BenchEffect
-happens timelines None bytes long = outside timelines (if long then Err errors.Long else command bytes)
+happens timelines None bytes long = outside timelines (spelled bytes long)
 happens timelines (Some unclosed) bytes long = inside timelines unclosed bytes long
 
 -- the reaction to a line: the bench afterwards, the lines that answer it, and whether they are a refusal

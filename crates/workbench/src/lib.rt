@@ -8,6 +8,7 @@
 #![tactic(auto)]
 
 mod bench;
+pub mod laws;
 mod named_timeline;
 mod open_block;
 mod outcome;

@@ -1,0 +1,70 @@
+-- What becomes of a timeline keeps its name.
+use Rattle.std.proofs.Common.{◌≡◌, ℕ, ◌+◌, Bool, true, false, cond, nat_le, List, length, refl, Option, Some, None}
+use Rattle.retro_base.specs.declared.op.Op.{Op}
+use Rattle.retro_base.specs.Limits.{most_rows, next_limit}
+use Rattle.retro_base.specs.Edits.{Edit, Step, add, edited}
+use Rattle.retro_base.specs.Replay.{failure}
+use Rattle.retro_base.specs.Kind.{kind_of, same_kind}
+use Rattle.script_grammar.specs.declared.command.Spot.{Spot}
+use Rattle.timeline_undo.specs.History.{newest_step}
+use Rattle.workbench.specs.declared.outcome.Outcome.{Outcome}
+use Rattle.workbench.specs.declared.outcome.Outcome.TheVariants.{Accepted, Inserted}
+use Rattle.workbench.specs.declared.outcome.Refusal.TheVariants as refusals
+use Rattle.workbench.specs.declared.position.Position.{Position}
+use Rattle.workbench.specs.Bench.{NamedTimeline}
+use Rattle.workbench.specs.TimelineEffects.{TimelineEffect, refuses, accepted_or_refused, after_edit, edits, new_row, row_named, position_of, inserts_there, inserts_at, cut_of, deletes_by, inserts, deletes, undoes_step, undoes, redoes_step, redoes}
+
+-- the effect keeps the name
+abbrev pub KeepsName : NamedTimeline → TimelineEffect → Type 0
+KeepsName timeline effect = effect.timeline.name ≡ timeline.name
+
+name_if : (b : Bool) (timeline : NamedTimeline) (x y : TimelineEffect) → KeepsName timeline x → KeepsName timeline y → KeepsName timeline (cond b x y)
+name_if true timeline x y first second = first
+name_if false timeline x y first second = second
+
+name_accepted_or_refused : (timeline after : NamedTimeline) (outcome : Outcome) (failing : Option ℕ) → after.name ≡ timeline.name
+    → KeepsName timeline (accepted_or_refused timeline after outcome failing)
+name_accepted_or_refused timeline after outcome None same = same
+name_accepted_or_refused timeline after outcome (Some index) same = refl
+
+name_edits : (timeline : NamedTimeline) (edit : Edit) (next : ℕ) (outcome : Outcome) → KeepsName timeline (edits timeline edit next outcome)
+name_edits timeline edit next outcome =
+    name_accepted_or_refused timeline (after_edit timeline edit next) outcome (failure timeline.kind (edited timeline.rows edit)) refl
+
+name_inserts_at : (timeline : NamedTimeline) (number : ℕ) (op : Op) (position : Option Position) → KeepsName timeline (inserts_at timeline number op position)
+name_inserts_at timeline number op None = refl
+name_inserts_at timeline number op (Some position) =
+    let made : TimelineEffect = edits timeline (add position.place (new_row timeline position op)) (timeline.next + 1) (Inserted timeline.next) in
+    name_if (nat_le most_rows (length timeline.rows)) timeline (refuses timeline refusals.Full) (cond (nat_le next_limit timeline.next) (refuses timeline refusals.Numbers) made) refl
+    (name_if (nat_le next_limit timeline.next) timeline (refuses timeline refusals.Numbers) made refl
+    (name_edits timeline (add position.place (new_row timeline position op)) (timeline.next + 1) (Inserted timeline.next)))
+
+pub inserts_keeps_name : (spot : Spot) (op : Op) (timeline : NamedTimeline) → KeepsName timeline (inserts timeline spot op)
+unfolding inserts
+inserts_keeps_name spot op timeline =
+    name_if (same_kind (kind_of op) timeline.kind) timeline (inserts_at timeline (row_named spot) op (position_of spot timeline.rows)) (refuses timeline refusals.Kind)
+    (name_inserts_at timeline (row_named spot) op (position_of spot timeline.rows)) refl
+
+name_deletes_by : (timeline : NamedTimeline) (number : ℕ) (edit : Option Edit) → KeepsName timeline (deletes_by timeline number edit)
+name_deletes_by timeline number None = refl
+name_deletes_by timeline number (Some edit) = name_edits timeline edit timeline.next Accepted
+
+pub deletes_keeps_name : (number : ℕ) (timeline : NamedTimeline) → KeepsName timeline (deletes timeline number)
+unfolding deletes
+deletes_keeps_name number timeline = name_deletes_by timeline number (cut_of number timeline.rows)
+
+name_undoes_step : (timeline : NamedTimeline) (step : Option Step) → KeepsName timeline (undoes_step timeline step)
+name_undoes_step timeline None = refl
+name_undoes_step timeline (Some step) = refl
+
+pub undoes_keeps_name : (timeline : NamedTimeline) → KeepsName timeline (undoes timeline)
+unfolding undoes
+undoes_keeps_name timeline = name_undoes_step timeline (newest_step timeline.history.undo)
+
+name_redoes_step : (timeline : NamedTimeline) (step : Option Step) → KeepsName timeline (redoes_step timeline step)
+name_redoes_step timeline None = refl
+name_redoes_step timeline (Some step) = refl
+
+pub redoes_keeps_name : (timeline : NamedTimeline) → KeepsName timeline (redoes timeline)
+unfolding redoes
+redoes_keeps_name timeline = name_redoes_step timeline (newest_step timeline.history.redo)

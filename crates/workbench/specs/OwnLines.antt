@@ -1,0 +1,85 @@
+-- The lines of a script that are about one timeline, and what is answered to them. Outside a block each line is an event of its
+-- own; a header with all lines up to the close of its block is one event.
+use Rattle.std.specs.Prelude.{◌≡◌, ◌≢◌, ℕ, Bool, true, false, not, ◌&&◌, List, [], ◌∷◌, ◌++◌, if◌then◌else◌}
+use Rattle.std.specs.Prelude.{Option, Some, None, option_map, Result, Ok, Err}
+use Rattle.std.specs.Str.{bytes_eq}
+use Rattle.script_grammar.specs.declared.command.Command.{Command}
+use Rattle.script_grammar.specs.declared.command.Command.TheVariants.{Nothing, New, Insert, Delete, Ask, Undo, Redo, Save, Header}
+use Rattle.script_grammar.specs.declared.command.LineError.{LineError}
+use Rattle.retro_base.specs.LineLength.{is_long}
+use Rattle.script_grammar.specs.BlockLines.{is_end}
+use Rattle.workbench.specs.declared.outcome.Outcome.{Outcome}
+use Rattle.workbench.specs.declared.outcome.Outcome.TheVariants.{Refused}
+use Rattle.workbench.specs.declared.outcome.Refusal.TheVariants.{Timelines}
+use Rattle.workbench.specs.Bench.{OpenBlock, Bench, empty_bench}
+use Rattle.workbench.specs.Reaction.{opened, spelled, happens, ends, reacts, closing}
+
+-- the timeline that a command names
+abbrev pub name_in : Result Command LineError → Option (List ℕ)
+name_in (Err error) = None
+name_in (Ok Nothing) = None
+name_in (Ok (New name kind)) = Some name
+name_in (Ok (Insert name spot op)) = Some name
+name_in (Ok (Delete name number)) = Some name
+name_in (Ok (Ask name moment query)) = Some name
+name_in (Ok (Undo name)) = Some name
+name_in (Ok (Redo name)) = Some name
+name_in (Ok (Save name)) = Some name
+name_in (Ok (Header name kind next)) = Some name
+
+-- the name that a block gives
+abbrev pub name_of_block : Option OpenBlock → Option (List ℕ)
+name_of_block block = option_map (λ (b : OpenBlock). b.name) block
+
+-- this is the name that is given, if one is
+abbrev pub names : List ℕ → Option (List ℕ) → Bool
+names name None = false
+names name (Some given) = bytes_eq given name
+
+-- the name of the event of a line, by the name of the block that is being read, if there is one
+abbrev pub event_of : Option (List ℕ) → List ℕ → Option (List ℕ)
+event_of (Some name) line = Some name
+event_of None line = name_in (spelled line (is_long line))
+
+-- the name of the block that is being read behind the line
+abbrev pub block_behind : Option (List ℕ) → List ℕ → Option (List ℕ)
+block_behind (Some name) line = if (not (is_long line) && is_end line) then None else Some name
+block_behind None line = name_of_block (opened (spelled line (is_long line)))
+
+-- the lines of the events that name a timeline, in order
+unfoldable pub own_from : List ℕ → Option (List ℕ) → List (List ℕ) → List (List ℕ)
+own_from name block [] = []
+own_from name block (line ∷ more) =
+    if names name (event_of block line) then line ∷ own_from name (block_behind block line) more
+    else own_from name (block_behind block line) more
+
+abbrev pub own : List ℕ → List (List ℕ) → List (List ℕ)
+own name lines = own_from name None lines
+
+-- the answers to the events that name a timeline; the end of the input ends the event of a block that is being read
+unfoldable pub told_from : List ℕ → Option (List ℕ) → Bench → List (List ℕ) → List ℕ
+told_from name block bench [] = if names name block then (closing bench).answer else []
+told_from name block bench (line ∷ more) =
+    (if names name (event_of block line) then (reacts bench line).answer else [])
+    ++ told_from name (block_behind block line) (reacts bench line).bench more
+
+abbrev pub told : List ℕ → List (List ℕ) → List ℕ
+told name lines = told_from name None empty_bench lines
+
+-- all answers to lines, that of the close included
+unfoldable pub answers_from : Bench → List (List ℕ) → List ℕ
+answers_from bench [] = (closing bench).answer
+answers_from bench (line ∷ more) = (reacts bench line).answer ++ answers_from (reacts bench line).bench more
+
+abbrev pub all_answers : List (List ℕ) → List ℕ
+all_answers lines = answers_from empty_bench lines
+
+-- no `new` and no block among the lines meets the limit of timelines
+abbrev pub MeetsNoLimit : Bench → List (List ℕ) → Type 0
+MeetsNoLimit bench [] = (ends bench.timelines bench.block false).outcome ≢ Refused Timelines
+MeetsNoLimit bench (line ∷ more) =
+    ((happens bench.timelines bench.block line (is_long line)).outcome ≢ Refused Timelines) × MeetsNoLimit (reacts bench line).bench more
+
+-- what is answered to a timeline's own lines among others is what is answered to them alone
+abbrev pub OwnLinesAlone : Type 0
+OwnLinesAlone = (name : List ℕ) (lines : List (List ℕ)) → MeetsNoLimit empty_bench lines → told name lines ≡ all_answers (own name lines)
