@@ -1,5 +1,5 @@
 -- What an insertion makes of the labels.
-use Rattle.std.proofs.Common.{◌≡◌, ℕ, zero, suc, ◌+◌, ◌-◌, ◌*◌, ◌<◌, ◌≤◌, true, false, Some, Ok, Err, Result, OnOk, OnErr, List, [], ◌∷◌, length, slice_get, refl, sym, subst, arith, inl, inr}
+use Rattle.std.proofs.Common.{ap, ◌≡◌, ℕ, zero, suc, ◌+◌, ◌-◌, ◌*◌, ◌<◌, ◌≤◌, true, false, Some, Ok, Err, Result, OnOk, OnErr, List, [], ◌∷◌, length, slice_get, refl, sym, subst, arith, inl, inr}
 use Rattle.std.proofs.lemmas.Bool.{cases_Bool, leb-true, leb-false}
 use Rattle.std.specs.List.{insert, remove}
 use Rattle.std.proofs.lemmas.List.Edits.{length-insert, length-remove}
@@ -68,3 +68,8 @@ pub labels_kept : {X E : Type 0} (labels behind : List ℕ) (place : ℕ) (resul
     → OnOk result (behind ≡ inserted labels place) → OnErr result (behind ≡ labels) → AreLabels behind
 labels_kept labels behind place (Ok x) within few are ok err = subst AreLabels (sym ok) (labels_with labels place within few are)
 labels_kept labels behind place (Err e) within few are ok err = subst AreLabels (sym err) are
+
+-- all rows are spread once one more is there
+pub length-spread_with : (labels more behind : List ℕ) (place label : ℕ) → place ≤ length labels → more ≡ insert labels place label → behind ≡ spread (length more) → length behind ≡ length labels + 1
+length-spread_with labels more behind place label within put all =
+    omega (arith, ap length all, length-multiples (gap_of (length more)) (length more), ap length put, length-insert labels place label within)

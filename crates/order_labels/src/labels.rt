@@ -1,5 +1,5 @@
-ghost use Rattle.std.specs.Prelude.{◌≡◌, ◌<◌, ◌≤◌, ◌==◌, [], length, slice_get, position, Some, IfSome, IfOk, OnOk, OnErr, not};
-ghost use Rattle.std.specs.List.{remove};
+ghost use Rattle.std.specs.Prelude.{◌≡◌, ◌+◌, false, ◌<◌, ◌≤◌, ◌==◌, [], length, slice_get, position, Some, IfSome, IfOk, OnOk, OnErr, not};
+ghost use Rattle.std.specs.List.{insert, remove};
 ghost use Rattle.order_labels.specs.Labels.{AreLabels, has_room, inserted, label_before, label_behind, label_limit};
 ghost use Rattle.retro_base.specs.Limits.{most_rows};
 
@@ -62,6 +62,8 @@ impl Labels {
         ensures labels { OnOk result (self.new ≡ inserted self.old place) }
         ensures label { IfOk result (λ fresh. slice_get self.new place ≡ Some fresh.label) }
         ensures relabelled { IfOk result (λ fresh. fresh.relabelled ≡ not (has_room self.old place)) }
+        ensures others { IfOk result (λ fresh. fresh.relabelled ≡ false → self.new ≡ insert self.old place fresh.label) }
+        ensures length { OnOk result (length self.new ≡ length self.old + 1) }
         ensures err { OnErr result (self.new ≡ self.old) }
     {
         put_in::<Brand>(&mut self.rows, place, Blank::new(1))
@@ -87,6 +89,7 @@ impl Labels {
     pub fn place_of_label(&self, label: u64) -> Option<u32>
         ensures place { result ≡ position (λ other. other == label) self.now }
         ensures within { IfSome result (λ place. place < length self.now) }
+        ensures labels { AreLabels self.now }
     {
         find::<Brand>(&self.rows, label, Blank::new(1))
     }
@@ -102,6 +105,8 @@ fn put_in<L: Ledger>(rows: &mut Tree<Label>, place: u32, blank: Blank) -> Result
     ensures labels { OnOk result (rows.new ≡ inserted rows.old place) }
     ensures label { IfOk result (λ fresh. slice_get rows.new place ≡ Some fresh.label) }
     ensures relabelled { IfOk result (λ fresh. fresh.relabelled ≡ not (has_room rows.old place)) }
+    ensures others { IfOk result (λ fresh. fresh.relabelled ≡ false → rows.new ≡ insert rows.old place fresh.label) }
+    ensures length { OnOk result (length rows.new ≡ length rows.old + 1) }
     ensures err { OnErr result (rows.new ≡ rows.old) }
 {
     let mut steps = Steps::<L>::new(blank);

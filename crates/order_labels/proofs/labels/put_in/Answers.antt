@@ -1,9 +1,7 @@
-use Rattle.std.proofs.Common.{Some, length, slice_get, ap, ◌∙◌, arith}
-use Rattle.std.proofs.lemmas.List.Edits.{length-insert}
-use Rattle.order_labels.specs.Labels.{label_limit, gap_of}
+use Rattle.std.proofs.Common.{Some, slice_get, ap, ◌∙◌, arith}
+use Rattle.order_labels.specs.Labels.{label_limit}
 use Rattle.order_labels.proofs.Apart.{gap_at, behind_within}
-use Rattle.order_labels.proofs.Rule.{read_back}
-use Rattle.order_labels.proofs.Spreading.{length-multiples}
+use Rattle.order_labels.proofs.Rule.{read_back, length-spread_with}
 use Rattle.order_labels.proofs.labels.put_in.Goals as goal
 
 pub overflow_sub-behind : goal.overflow_sub-behind
@@ -25,7 +23,8 @@ returns-then-behind-before-ge2-clause-label g c =
 
 pub get-requires : goal.get-requires
 get-requires g c = record {
-  within =
-      let size = length c.insert-2.new.self in
-      omega (arith, ap length c.spread.ensures, length-multiples (gap_of size) size, ap length c.in_ok-insert-2.ensures.ok, length-insert c.args.rows.now c.args.place c.new-2.result c.requires.within);
+  within = omega (arith, length-spread_with c.args.rows.now c.insert-2.new.self c.spread.new.rows c.args.place c.new-2.result c.requires.within c.in_ok-insert-2.ensures.ok c.spread.ensures);
 }
+
+pub returns-clause-length : goal.returns-clause-length
+returns-clause-length g c = length-spread_with c.args.rows.now c.insert-2.new.self c.spread.new.rows c.args.place c.new-2.result c.requires.within c.in_ok-insert-2.ensures.ok c.spread.ensures
