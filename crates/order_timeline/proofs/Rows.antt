@@ -1,5 +1,5 @@
 -- Rows stay in order where one comes whose time fits, and where one goes.
-use Rattle.std.proofs.Common.{ℕ, ◌<◌, ◌≤◌, List, length, arith}
+use Rattle.std.proofs.Common.{◌≡◌, ℕ, zero, suc, ◌<◌, ◌≤◌, List, [], ◌∷◌, length, refl, sym, ap, ◌∙◌, subst, arith}
 use Rattle.std.specs.List.{insert, remove}
 use Rattle.std.proofs.lemmas.List.Edits.{length-insert, length-remove}
 use Rattle.retro_base.specs.declared.row.Row.{Row}
@@ -23,3 +23,16 @@ ordered_without rows place ordered within = record {
   in_order = times_without rows place ordered.in_order;
   own_numbers = own_numbers_without rows place ordered.own_numbers;
 }
+
+-- where the row has just come
+pub ordered_more : (rows more : List Row) (place : ℕ) (row item : Row) → item ≡ row → more ≡ insert rows place item → IsOrdered rows → place ≤ length rows → length rows < most_rows
+    → IsFresh row.number rows → Fits rows place row.time → IsOrdered more
+ordered_more rows more place row item same is ordered within room fresh fits =
+    subst IsOrdered (sym (is ∙ ap (insert rows place) same)) (ordered_with rows place row ordered within room fresh fits)
+
+-- a row that has just come, and goes again
+pub taken_back : {A : Type 0} (xs : List A) (place : ℕ) (x : A) → place ≤ length xs → remove (insert xs place x) place ≡ xs
+taken_back [] zero x within = refl
+taken_back [] (suc place) x within = absurd (omega arith)
+taken_back (y ∷ xs) zero x within = refl
+taken_back (y ∷ xs) (suc place) x within = ap (λ rest. y ∷ rest) (taken_back xs place x (omega arith))

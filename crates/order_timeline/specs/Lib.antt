@@ -1,3 +1,4 @@
 pub use Rattle.retro_base.specs.Places
 pub use Rattle.retro_base.specs.Order
 pub mod Rows
+pub mod Numbers

@@ -6,26 +6,37 @@ ghost use Rattle.retro_base.specs.Places.{place_of_row, place_of_time};
 ghost use Rattle.retro_base.specs.Timeline.{IsFresh};
 ghost use Rattle.order_timeline.specs.Rows.{IsOrdered};
 
+use crate::edit::{put_in, take_out};
+use crate::find::{read, rows_up_to};
+use crate::numbers::Numbers;
+use crate::timed_row::TimedRow;
+use order_labels::Labels;
 use retro_base::{NoMemory, Row};
 use std::alloc::Global;
-use std::marker::Model;
+use std::collections::BTreeMap;
+use std::marker::{Brand, Model};
+use std::sync::ledger::Blank;
+use weighted_tree::Tree;
 
 /// Rows in order of time, each with a number of its own.
-#[derive(Debug, Drop)]
+#[derive(Drop)]
 pub struct Timeline {
-    rows: Vec<Row>,
+    rows: Tree<TimedRow>,
+    labels: Labels,
+    numbers: Numbers,
 }
 
 impl Model for Timeline {
     ghost use Rattle.std.specs.Prelude.{List};
     ghost use Rattle.retro_base.specs.declared.row.Row.{Row};
+    ghost use Rattle.order_timeline.specs.Numbers.{IsLabelled};
     ghost use Rattle.order_timeline.specs.Rows.{IsOrdered};
 
     ghost Value = { List Row };
 
-    ghost view = { λ timeline. timeline.rows.items };
+    ghost view = { λ timeline. timeline.rows };
 
-    ghost invariant = { λ timeline. IsOrdered timeline.rows.items };
+    ghost invariant = { λ timeline. IsOrdered timeline.rows × IsLabelled timeline.rows timeline.labels timeline.numbers };
 }
 
 impl Timeline {
@@ -34,7 +45,9 @@ impl Timeline {
         ensures { result ≡ [] }
     {
         Timeline {
-            rows: Vec::new(alloc),
+            rows: Tree::new(alloc),
+            labels: Labels::new(alloc),
+            numbers: BTreeMap::new(alloc),
         }
     }
 
@@ -43,7 +56,7 @@ impl Timeline {
         ensures length { result ≡ length self.now }
         ensures ordered { IsOrdered self.now }
     {
-        self.rows.as_slice().len() as u32
+        self.rows.len()
     }
 
     /// The row at a place.
@@ -51,7 +64,7 @@ impl Timeline {
         requires { place < length self.now }
         ensures { slice_get self.now place ≡ Some result }
     {
-        self.rows[place as usize]
+        read::<Brand>(&self.rows, place, Blank::new(1))
     }
 
     /// The place of a time: how many rows stand up to it.
@@ -60,7 +73,7 @@ impl Timeline {
         ensures within { result ≤ length self.now }
         ensures fits { Fits self.now result time }
     {
-        rows_up_to(self.rows.as_slice(), time) as u32
+        rows_up_to::<Brand>(&self.rows, time, Blank::new(1))
     }
 
     /// The place of the row with this number, where there is one.
@@ -69,8 +82,8 @@ impl Timeline {
         ensures within { IfSome result (λ place. place < length self.now) }
         ensures few { length self.now ≤ most_rows }
     {
-        let place = index_of_row(self.rows.as_slice(), number)?;
-        Some(place as u32)
+        let label = *self.numbers.get(&number)?;
+        self.labels.place_of_label(label)
     }
 
     /// Puts a row in at a place where its time fits. After `NoMemory` all is as before.
@@ -82,8 +95,14 @@ impl Timeline {
         ensures ok { OnOk result (self.new ≡ insert self.old place row) }
         ensures err { OnErr result (self.new ≡ self.old) }
     {
-        self.rows.insert(place as usize, row)?;
-        Ok(())
+        put_in::<Brand>(
+            &mut self.rows,
+            &mut self.labels,
+            &mut self.numbers,
+            place,
+            row,
+            Blank::new(1),
+        )
     }
 
     /// Takes the row at a place out, and gives it back.
@@ -92,22 +111,12 @@ impl Timeline {
         ensures row { slice_get self.old place ≡ Some result }
         ensures rows { self.new ≡ remove self.old place }
     {
-        self.rows.remove(place as usize)
+        take_out::<Brand>(
+            &mut self.rows,
+            &mut self.labels,
+            &mut self.numbers,
+            place,
+            Blank::new(1),
+        )
     }
-}
-
-/// How many rows stand up to this time.
-fn rows_up_to(rows: &[Row], time: u64) -> usize
-    ensures place { result ≡ place_of_time time rows.now }
-    ensures within { result ≤ length rows.now }
-{
-    rows.iter().filter(|row| row.time <= time).count()
-}
-
-/// The index of the row with this number, where there is one.
-fn index_of_row(rows: &[Row], number: u32) -> Option<usize>
-    ensures place { result ≡ place_of_row number rows.now }
-    ensures within { IfSome result (λ place. place < length rows.now) }
-{
-    rows.iter().position(|row| row.number == number)
 }

@@ -1,0 +1,55 @@
+-- Numbers that lie apart stay so where one comes between two of them, and where one goes.
+use Rattle.std.proofs.Common.{ℕ, zero, suc, ◌+◌, ◌*◌, ◌/◌, ◌<◌, ◌≤◌, List, [], ◌∷◌, ◌++◌, length, arith}
+use Rattle.std.specs.List.{insert, remove}
+use Rattle.order_labels.specs.Labels.{AreApart, label_before, label_behind}
+
+-- the labels beside a place
+pub gap_at : (distance first last : ℕ) (labels : List ℕ) (place : ℕ) → place ≤ length labels → AreApart distance first last labels → label_before first labels place + distance ≤ label_behind last labels place
+gap_at distance first last [] zero within apart = apart
+gap_at distance first last [] (suc place) within apart = absurd (omega arith)
+gap_at distance first last (label ∷ labels) zero within apart = apart.0
+gap_at distance first last (label ∷ labels) (suc place) within apart = gap_at distance label last labels place (omega arith) apart.1
+
+-- the first number is below the last
+pub in_order : (distance first last : ℕ) (labels : List ℕ) → AreApart distance first last labels → first + distance ≤ last
+in_order distance first last [] apart = apart
+in_order distance first last (label ∷ labels) apart = omega (arith, apart.0, in_order distance label last labels apart.1)
+
+-- no label behind a place is above the last number
+pub behind_within : (distance first last : ℕ) (labels : List ℕ) (place : ℕ) → AreApart distance first last labels → label_behind last labels place ≤ last
+behind_within distance first last [] place apart = omega arith
+behind_within distance first last (label ∷ labels) zero apart = omega (arith, in_order distance label last labels apart.1)
+behind_within distance first last (label ∷ labels) (suc place) apart = behind_within distance label last labels place apart.1
+
+-- a label that lies apart from both neighbours
+pub apart_with : (distance first last : ℕ) (labels : List ℕ) (place label : ℕ) → place ≤ length labels → AreApart distance first last labels
+    → label_before first labels place + distance ≤ label → label + distance ≤ label_behind last labels place → AreApart distance first last (insert labels place label)
+apart_with distance first last [] zero label within apart before behind = (before, behind)
+apart_with distance first last [] (suc place) label within apart before behind = absurd (omega arith)
+apart_with distance first last (next ∷ labels) zero label within apart before behind = (before, (behind, apart.1))
+apart_with distance first last (next ∷ labels) (suc place) label within apart before behind =
+    (apart.0, apart_with distance next last labels place label (omega arith) apart.1 before behind)
+
+from_lower : (distance first lower last : ℕ) (labels : List ℕ) → lower ≤ first → AreApart distance first last labels → AreApart distance lower last labels
+from_lower distance first lower last [] order apart = omega arith
+from_lower distance first lower last (label ∷ labels) order apart = (omega (arith, apart.0), apart.1)
+
+-- one label less
+pub apart_without : (distance first last : ℕ) (labels : List ℕ) (place : ℕ) → place < length labels → AreApart distance first last labels → AreApart distance first last (remove labels place)
+apart_without distance first last [] place within apart = absurd (omega arith)
+apart_without distance first last (label ∷ labels) zero within apart = from_lower distance label first last labels (omega (arith, apart.0)) apart.1
+apart_without distance first last (label ∷ labels) (suc place) within apart = (apart.0, apart_without distance label last labels place (omega arith) apart.1)
+
+-- they lie less far apart too
+pub less_apart : (distance lesser first last : ℕ) (labels : List ℕ) → lesser ≤ distance → AreApart distance first last labels → AreApart lesser first last labels
+less_apart distance lesser first last [] order apart = omega arith
+less_apart distance lesser first last (label ∷ labels) order apart = (omega (arith, apart.0), less_apart distance lesser label last labels order apart.1)
+
+-- one label more at the end
+pub apart_more : (distance first last : ℕ) (labels : List ℕ) (label : ℕ) → AreApart distance first label labels → label + distance ≤ last → AreApart distance first last (labels ++ label ∷ [])
+apart_more distance first last [] label apart behind = (apart, behind)
+apart_more distance first last (next ∷ labels) label apart behind = (apart.0, apart_more distance next last labels label apart.1 behind)
+
+-- the middle of two numbers lies half as far from both
+pub middle_apart : (distance before behind : ℕ) → before + 2 * distance ≤ behind → (before + distance ≤ (before + behind) / 2) × ((before + behind) / 2 + distance ≤ behind)
+middle_apart distance before behind far = (omega arith, omega arith)

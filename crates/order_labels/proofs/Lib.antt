@@ -1,0 +1,7 @@
+pub mod Apart
+pub mod Powers
+pub mod Spreading
+pub mod Rare
+pub mod Found
+pub mod Equal
+pub mod Rule

@@ -1,0 +1,7 @@
+use Rattle.order_labels.proofs.Rule.{labels_kept}
+use Rattle.order_labels.proofs.labels.Labels.insert.Goals as goal
+
+pub invariant_of-self : goal.invariant_of-self
+invariant_of-self c =
+    labels_kept c.self.inside.rows c.put_in.new.rows c.args.place c.put_in.result (rw (← c.self.view_is) at c.requires.within) (rw (← c.self.view_is) at c.requires.room)
+    c.self.invariant c.put_in.ensures.labels c.put_in.ensures.err

@@ -1,0 +1,30 @@
+use Rattle.std.proofs.Common.{Some, slice_get, ap, ◌∙◌, arith}
+use Rattle.order_labels.specs.Labels.{label_limit}
+use Rattle.order_labels.proofs.Apart.{gap_at, behind_within}
+use Rattle.order_labels.proofs.Rule.{read_back, length-spread_with}
+use Rattle.order_labels.proofs.labels.put_in.Goals as goal
+
+pub overflow_sub-behind : goal.overflow_sub-behind
+overflow_sub-behind g c = omega (arith, gap_at 1 0 label_limit c.args.rows.now c.args.place c.requires.within c.requires.labels.rising, c.label_before-before.ensures, c.label_behind-behind.ensures)
+
+pub overflow_add-label : goal.overflow_add-label
+overflow_add-label g c =
+    omega (
+      arith,
+      gap_at 1 0 label_limit c.args.rows.now c.args.place c.requires.within c.requires.labels.rising,
+      behind_within 1 0 label_limit c.args.rows.now c.args.place c.requires.labels.rising,
+      c.label_before-before.ensures,
+      c.label_behind-behind.ensures,
+    )
+
+pub returns-then-behind-before-ge2-clause-label : goal.returns-then-behind-before-ge2-clause-label
+returns-then-behind-before-ge2-clause-label g c =
+    ap (λ rows. slice_get rows c.args.place) c.in_ok-insert.ensures.ok ∙ read_back c.args.rows.now c.args.place c.new.result c.requires.within ∙ ap Some c.new.ensures
+
+pub get-requires : goal.get-requires
+get-requires g c = record {
+  within = omega (arith, length-spread_with c.args.rows.now c.insert-2.new.self c.spread.new.rows c.args.place c.new-2.result c.requires.within c.in_ok-insert-2.ensures.ok c.spread.ensures);
+}
+
+pub returns-clause-length : goal.returns-clause-length
+returns-clause-length g c = length-spread_with c.args.rows.now c.insert-2.new.self c.spread.new.rows c.args.place c.new-2.result c.requires.within c.in_ok-insert-2.ensures.ok c.spread.ensures

@@ -1,0 +1,6 @@
+pub use Rattle.retro_base.specs.Limits
+pub mod Labels
+pub mod LabelLaws
+pub mod Highest
+pub mod HighestLaws
+pub mod Order

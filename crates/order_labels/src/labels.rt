@@ -1,0 +1,194 @@
+ghost use Rattle.std.specs.Prelude.{◌≡◌, ◌+◌, false, ◌<◌, ◌≤◌, ◌==◌, [], length, slice_get, position, Some, IfSome, IfOk, OnOk, OnErr, not};
+ghost use Rattle.std.specs.List.{insert, remove};
+ghost use Rattle.order_labels.specs.Labels.{AreLabels, has_room, inserted, label_before, label_behind, label_limit};
+ghost use Rattle.retro_base.specs.Limits.{most_rows};
+
+use crate::label::Label;
+use crate::search::count_up_to;
+use crate::spread::{LIMIT, spread};
+use retro_base::{NoMemory, Steps};
+use std::alloc::Global;
+use std::marker::{Brand, Model};
+use std::sync::ledger::{Blank, Ledger};
+use weighted_tree::Tree;
+
+/// A list of labels that rise strictly, each above 0 and below 2^40.
+#[derive(Drop)]
+pub struct Labels {
+    rows: Tree<Label>,
+}
+
+impl Model for Labels {
+    ghost use Rattle.std.specs.Prelude.{List, ℕ};
+    ghost use Rattle.order_labels.specs.Labels.{AreLabels};
+
+    ghost Value = { List ℕ };
+
+    ghost view = { λ labels. labels.rows };
+
+    ghost invariant = { λ labels. AreLabels labels.rows };
+}
+
+/// The label of a row that was put in.
+#[derive(Clone, Copy, Debug, PartialEq, Eq)]
+pub struct Fresh {
+    pub label: u64,
+    /// Whether the other rows have got new labels too.
+    pub relabelled: bool,
+}
+
+impl Labels {
+    /// No labels.
+    pub fn new(alloc: Global) -> Labels
+        ensures { result ≡ [] }
+    {
+        Labels {
+            rows: Tree::new(alloc),
+        }
+    }
+
+    /// How many labels there are.
+    pub fn len(&self) -> u32
+        ensures length { result ≡ length self.now }
+        ensures labels { AreLabels self.now }
+    {
+        self.rows.len()
+    }
+
+    /// Labels a new row at a place. After `NoMemory` all is as before.
+    pub fn insert(&mut self, place: u32) -> Result<Fresh, NoMemory>
+        requires within { place ≤ length self.old }
+        requires room { length self.old < most_rows }
+        ensures labels { OnOk result (self.new ≡ inserted self.old place) }
+        ensures label { IfOk result (λ fresh. slice_get self.new place ≡ Some fresh.label) }
+        ensures relabelled { IfOk result (λ fresh. fresh.relabelled ≡ not (has_room self.old place)) }
+        ensures others { IfOk result (λ fresh. fresh.relabelled ≡ false → self.new ≡ insert self.old place fresh.label) }
+        ensures length { OnOk result (length self.new ≡ length self.old + 1) }
+        ensures err { OnErr result (self.new ≡ self.old) }
+    {
+        put_in::<Brand>(&mut self.rows, place, Blank::new(1))
+    }
+
+    /// Takes the label at a place out; the others stay.
+    pub fn remove(&mut self, place: u32)
+        requires { place < length self.old }
+        ensures { self.new ≡ remove self.old place }
+    {
+        take_out::<Brand>(&mut self.rows, place, Blank::new(1));
+    }
+
+    /// The label at a place.
+    pub fn label_at(&self, place: u32) -> u64
+        requires { place < length self.now }
+        ensures { slice_get self.now place ≡ Some result }
+    {
+        read::<Brand>(&self.rows, place, Blank::new(1))
+    }
+
+    /// The place of the row with this label, where there is one.
+    pub fn place_of_label(&self, label: u64) -> Option<u32>
+        ensures place { result ≡ position (λ other. other == label) self.now }
+        ensures within { IfSome result (λ place. place < length self.now) }
+        ensures labels { AreLabels self.now }
+    {
+        find::<Brand>(&self.rows, label, Blank::new(1))
+    }
+}
+
+fn put_in<L: Ledger>(rows: &mut Tree<Label>, place: u32, blank: Blank) -> Result<Fresh, NoMemory>
+    requires name { blank.name ≡ L.name }
+    requires parts { blank.parts ≡ L.parts }
+    requires shared { 0 < blank.parts }
+    requires within { place ≤ length rows.old }
+    requires room { length rows.old < most_rows }
+    requires labels { AreLabels rows.old }
+    ensures labels { OnOk result (rows.new ≡ inserted rows.old place) }
+    ensures label { IfOk result (λ fresh. slice_get rows.new place ≡ Some fresh.label) }
+    ensures relabelled { IfOk result (λ fresh. fresh.relabelled ≡ not (has_room rows.old place)) }
+    ensures others { IfOk result (λ fresh. fresh.relabelled ≡ false → rows.new ≡ insert rows.old place fresh.label) }
+    ensures length { OnOk result (length rows.new ≡ length rows.old + 1) }
+    ensures err { OnErr result (rows.new ≡ rows.old) }
+{
+    let mut steps = Steps::<L>::new(blank);
+    let before = label_before(rows, place, &mut steps);
+    let behind = label_behind(rows, place, &mut steps);
+    if behind - before >= 2 {
+        let label = (before + behind) / 2;
+        rows.insert(place, Label::new(label), &mut steps)?;
+        return Ok(Fresh {
+            label,
+            relabelled: false,
+        });
+    }
+    rows.insert(place, Label::new(behind), &mut steps)?;
+    spread(rows, &mut steps);
+    Ok(Fresh {
+        label: rows.get(place, &mut steps).number(),
+        relabelled: true,
+    })
+}
+
+/// The label before a place, or 0.
+fn label_before<L: Ledger>(rows: &Tree<Label>, place: u32, steps: &mut Steps<L>) -> u64
+    requires { place ≤ length rows.now }
+    ensures { result ≡ label_before 0 rows.now place }
+{
+    if place == 0 {
+        return 0;
+    }
+    rows.get(place - 1, steps).number()
+}
+
+/// The label behind a place, or the limit.
+fn label_behind<L: Ledger>(rows: &Tree<Label>, place: u32, steps: &mut Steps<L>) -> u64
+    requires { place ≤ length rows.now }
+    ensures { result ≡ label_behind label_limit rows.now place }
+{
+    if place == rows.len() {
+        return LIMIT;
+    }
+    rows.get(place, steps).number()
+}
+
+fn take_out<L: Ledger>(rows: &mut Tree<Label>, place: u32, blank: Blank)
+    requires name { blank.name ≡ L.name }
+    requires parts { blank.parts ≡ L.parts }
+    requires shared { 0 < blank.parts }
+    requires within { place < length rows.old }
+    ensures { rows.new ≡ remove rows.old place }
+{
+    let mut steps = Steps::<L>::new(blank);
+    rows.remove(place, &mut steps);
+}
+
+fn read<L: Ledger>(rows: &Tree<Label>, place: u32, blank: Blank) -> u64
+    requires name { blank.name ≡ L.name }
+    requires parts { blank.parts ≡ L.parts }
+    requires shared { 0 < blank.parts }
+    requires within { place < length rows.now }
+    ensures { slice_get rows.now place ≡ Some result }
+{
+    let mut steps = Steps::<L>::new(blank);
+    rows.get(place, &mut steps).number()
+}
+
+fn find<L: Ledger>(rows: &Tree<Label>, label: u64, blank: Blank) -> Option<u32>
+    requires name { blank.name ≡ L.name }
+    requires parts { blank.parts ≡ L.parts }
+    requires shared { 0 < blank.parts }
+    requires labels { AreLabels rows.now }
+    ensures place { result ≡ position (λ other. other == label) rows.now }
+    ensures within { IfSome result (λ place. place < length rows.now) }
+{
+    let mut steps = Steps::<L>::new(blank);
+    let count = count_up_to(rows, label, &mut steps);
+    if count == 0 {
+        return None;
+    }
+    let place = count - 1;
+    if rows.get(place, &mut steps).number() == label {
+        Some(place)
+    } else {
+        None
+    }
+}

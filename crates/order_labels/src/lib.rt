@@ -1,0 +1,39 @@
+//! Labels that tell which of two rows comes first, at the cost of a comparison.
+//!
+//! [`Labels`] is a list of numbers that rise strictly, one for each row, so that what is kept of a row by its label
+//! stays in order wherever rows are put in between. A new row takes the middle of the labels beside it, and where no
+//! number lies between these all rows are relabelled: order maintenance by labels of a fixed width (Dietz 1982; Bender,
+//! Cole, Demaine, Farach-Colton and Zito 2002), with the simplest rule of all. It is enough here, since a spread of few
+//! rows over many numbers can be halved often before it is used up: at least 23 insertions lie between two relabellings.
+//!
+//! | Call | Cost, with n rows |
+//! |---|---|
+//! | `len` | constant |
+//! | `label_at`, `place_of_label`, `remove` | log n |
+//! | `insert` | log n, and n log n where it relabels |
+//!
+//! Where something is kept by label, `insert` says whether the other labels have changed. It takes memory for one row, also
+//! where it relabels, and leaves all as it was where there is none; no other call takes any.
+//!
+//! What the layer above may rely on: the rule of specs/Labels.antt, which says what the labels are behind every insertion;
+//! the law of specs/LabelLaws.antt on the insertions between two relabellings. `Highest` and `count_up_to` serve any tree
+//! whose items never fall in some number, as rows do in their time.
+//!
+//! - `labels`: the type and its calls. `spread`: how all rows are relabelled. `laws`: how far, and how often.
+//! - `highest`: the greatest number of a range. `search`: how many items have a number up to some limit.
+#![tactic(auto)]
+
+mod highest;
+mod label;
+mod labels;
+mod laws;
+mod search;
+mod spread;
+
+pub use highest::Highest;
+pub use labels::{Fresh, Labels};
+pub use laws::{labels_are_spread_evenly, relabelling_is_rare};
+pub use search::count_up_to;
+
+#[cfg(test)]
+mod tests;

@@ -1,0 +1,47 @@
+ghost use Rattle.std.specs.Prelude.{◌≡◌, ◌+◌, ◌*◌, ◌^◌, ◌<◌, ◌≤◌, length};
+ghost use Rattle.order_labels.specs.Labels.{exponent, gap_of, spread, label_limit};
+ghost use Rattle.retro_base.specs.Limits.{most_rows};
+
+use crate::label::Label;
+use retro_base::Steps;
+use std::sync::ledger::Ledger;
+use weighted_tree::Tree;
+
+/// The number of the binary digits of a label.
+const WIDTH: u32 = 40;
+
+/// Labels are below it.
+pub(crate) const LIMIT: u64 = 1 << WIDTH;
+
+/// Relabels all rows.
+pub(crate) fn spread<L: Ledger>(rows: &mut Tree<Label>, steps: &mut Steps<L>)
+    requires { length rows.old ≤ most_rows }
+    ensures { rows.new ≡ spread (length rows.old) }
+{
+    let count = rows.len();
+    let gap = gap_of(count);
+    for place in 0..count {
+        rows.replace(place, Label::new((u64::from(place) + 1) * gap), steps);
+    }
+}
+
+/// How far the labels of so many rows are spread.
+pub(crate) fn gap_of(count: u32) -> u64
+    requires { count ≤ most_rows }
+    ensures value { result ≡ gap_of count }
+    ensures fits { (count + 1) * result ≤ label_limit }
+{
+    greatest_power(LIMIT / (u64::from(count) + 1))
+}
+
+/// The greatest power of two that is at most n.
+fn greatest_power(n: u64) -> u64
+    requires { 0 < n }
+    ensures { result ≡ 2 ^ exponent n }
+{
+    let mut power = 1;
+    while power <= n / 2 {
+        power *= 2;
+    }
+    power
+}
