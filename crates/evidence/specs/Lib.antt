@@ -1,0 +1,4 @@
+pub mod Spelling
+pub mod Evidence
+pub mod Reading
+pub mod Laws
