@@ -1,0 +1,5 @@
+pub mod PrefixSums
+pub mod SuffixSums
+pub mod Marks
+pub mod MeasuredSigns
+pub mod FoundPlaces

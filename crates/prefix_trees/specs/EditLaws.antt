@@ -1,0 +1,149 @@
+-- Where the sum of the signs falls first, were a row put in or taken out: the sums behind the place rise or fall
+-- by the row's sign, and those before it stay.
+use Rattle.std.proofs.Common.{◌≡◌, ℕ, zero, suc, ◌+◌, ◌-◌, ◌<◌, ◌≤◌, ℤ, pos, negsuc, ◌+ℤ◌, ◌-ℤ◌, ◌≤ℤ◌, ◌<ℤ◌, Bool, List, [], ◌∷◌, take, map, length, Option, Some, None, refl, sym, ap, ◌∙◌, arith, inl, inr, subst}
+use Rattle.std.specs.Prelude.{slice_get}
+use Rattle.std.specs.List.{insert, remove}
+use Rattle.std.specs.Option.{option_map}
+use Rattle.std.proofs.lemmas.Bool.{cases_lt}
+use Rattle.std.proofs.lemmas.Int.{ints}
+use Rattle.std.proofs.lemmas.List.Edits.{length-insert}
+use Rattle.monoid_laws.specs.Summed.{sum_of}
+use Rattle.retro_base.specs.declared.op.Op.{Op}
+use Rattle.retro_base.specs.declared.row.Row.{Row}
+use Rattle.prefix_trees.specs.Growth.{sign_of, grown, sign_and_mark}
+use Rattle.prefix_trees.specs.Falls.{NeverFalls, FallsFirst, FallsAtFrom}
+use Rattle.prefix_trees.specs.Prefixes.{signs_of, prefix, IsFirstAtMost, FindsFirstAtMost}
+
+-- the signs and marks of rows
+abbrev pub signs_and_marks : List Row → List (ℤ × Bool)
+signs_and_marks rows = map sign_and_mark rows
+
+signs-are : (rows : List Row) → signs_of (signs_and_marks rows) ≡ map (λ row. sign_of row.op) rows
+signs-are [] = refl
+signs-are (row ∷ rows) = ap (λ xs. sign_of row.op ∷ xs) (signs-are rows)
+
+-- their prefix sums are the growth of the line
+pub prefix-grown : (rows : List Row) (place : ℕ) → prefix (signs_and_marks rows) place ≡ grown sign_of rows place
+prefix-grown rows place = ap (λ xs. sum_of (take place xs)) (signs-are rows)
+
+module _ (growth : Op → ℤ) where
+  pub grown-insert-before : (rows : List Row) (place : ℕ) (row : Row) (k : ℕ) → k ≤ place → place ≤ length rows → grown growth (insert rows place row) k ≡ grown growth rows k
+  grown-insert-before rows place row zero before within = refl
+  grown-insert-before rows zero row (suc k) before within = absurd (omega arith)
+  grown-insert-before [] (suc place) row (suc k) before within = absurd (omega arith)
+  grown-insert-before (r ∷ rows) (suc place) row (suc k) before within = ap (λ s. growth r.op +ℤ s) (grown-insert-before rows place row k (omega arith) (omega arith))
+
+  first_and_next : (a b c : ℤ) → a +ℤ (b +ℤ c) ≡ (a +ℤ b) +ℤ c
+  first_and_next a b c = omega (arith, ints)
+
+  turned : (a b : ℤ) → a +ℤ b ≡ b +ℤ a
+  turned a b = omega (arith, ints)
+
+  pub grown-insert-behind : (rows : List Row) (place : ℕ) (row : Row) (k : ℕ) → place ≤ k → place ≤ length rows → grown growth (insert rows place row) (suc k) ≡ grown growth rows k +ℤ growth row.op
+  grown-insert-behind rows zero row k behind within = turned (growth row.op) (grown growth rows k)
+  grown-insert-behind rows (suc place) row zero behind within = absurd (omega arith)
+  grown-insert-behind [] (suc place) row (suc k) behind within = absurd (omega arith)
+  grown-insert-behind (r ∷ rows) (suc place) row (suc k) behind within =
+      ap (λ s. growth r.op +ℤ s) (grown-insert-behind rows place row k (omega arith) (omega arith)) ∙ first_and_next (growth r.op) (grown growth rows k) (growth row.op)
+
+  pub grown-remove-before : (rows : List Row) (place k : ℕ) → k ≤ place → grown growth (remove rows place) k ≡ grown growth rows k
+  grown-remove-before rows place zero before = refl
+  grown-remove-before rows zero (suc k) before = absurd (omega arith)
+  grown-remove-before [] (suc place) (suc k) before = refl
+  grown-remove-before (r ∷ rows) (suc place) (suc k) before = ap (λ s. growth r.op +ℤ s) (grown-remove-before rows place k (omega arith))
+
+  some_row : (first row : Row) → ◌≡◌ {A = Option Row} (Some first) (Some row) → first ≡ row
+  some_row first row same = cc
+
+  no_row : (row : Row) → ◌≡◌ {A = Option Row} None (Some row) → ⊥
+  no_row row same = cc
+
+  pub grown-remove-behind : (rows : List Row) (place : ℕ) (row : Row) (k : ℕ) → place ≤ k → slice_get rows place ≡ Some row → grown growth rows (suc k) ≡ grown growth (remove rows place) k +ℤ growth row.op
+  grown-remove-behind [] zero row k behind at = absurd (no_row row at)
+  grown-remove-behind [] (suc place) row k behind at = absurd (no_row row at)
+  grown-remove-behind (r ∷ rows) zero row k behind at = turned (growth r.op) (grown growth rows k) ∙ ap (λ (q : Row). grown growth rows k +ℤ growth q.op) (some_row r row at)
+  grown-remove-behind (r ∷ rows) (suc place) row zero behind at = absurd (omega arith)
+  grown-remove-behind (r ∷ rows) (suc place) row (suc k) behind at =
+      ap (λ s. growth r.op +ℤ s) (grown-remove-behind rows place row k (omega arith) at) ∙ first_and_next (growth r.op) (grown growth (remove rows place) k) (growth row.op)
+
+-- how the signs change where a row is put in or taken out
+pub signs-insert : (rows : List Row) (place : ℕ) (row : Row) → insert (signs_and_marks rows) place (sign_and_mark row) ≡ signs_and_marks (insert rows place row)
+signs-insert rows zero row = refl
+signs-insert [] (suc place) row = refl
+signs-insert (r ∷ rows) (suc place) row = ap (λ xs. sign_and_mark r ∷ xs) (signs-insert rows place row)
+
+pub signs-remove : (rows : List Row) (place : ℕ) → remove (signs_and_marks rows) place ≡ signs_and_marks (remove rows place)
+signs-remove rows zero = first_out rows where
+  first_out : (rows : List Row) → remove (signs_and_marks rows) 0 ≡ signs_and_marks (remove rows 0)
+  first_out [] = refl
+  first_out (r ∷ rows) = refl
+signs-remove [] (suc place) = refl
+signs-remove (r ∷ rows) (suc place) = ap (λ xs. sign_and_mark r ∷ xs) (signs-remove rows place)
+
+module _ (rows : List Row) (place : ℕ) (never : NeverFalls rows) where
+  enough : (k : ℕ) → k ≤ length rows → pos 0 ≤ℤ grown sign_of rows k
+  enough k within = omega (arith, ints, never k within)
+
+  -- a row is put in
+  module _ (row : Row) (within : place ≤ length rows) where
+    abbrev with_row : List Row
+    with_row = insert rows place row
+
+    enough_with : (k : ℕ) → ((earlier : ℕ) → place ≤ earlier → suc earlier ≤ k → (negsuc 0 -ℤ sign_of row.op) <ℤ grown sign_of rows earlier) → k ≤ length rows + 1 → pos 0 ≤ℤ (pos 0 +ℤ grown sign_of with_row k)
+    enough_with zero above small = omega (arith, ints)
+    enough_with (suc k) above small = elim (cases_lt k place) [
+      | inl before ↦ omega (arith, ints, grown-insert-before sign_of rows place row (suc k) (omega arith) within, enough (suc k) (omega arith))
+      | inr behind ↦ omega (arith, ints, grown-insert-behind sign_of rows place row k behind within, above k behind (omega arith))
+    ]
+
+    falls_with : (answer : Option ℕ) → FindsFirstAtMost (signs_and_marks rows) place (length rows) (negsuc 0 -ℤ sign_of row.op) answer → FallsFirst with_row answer
+    falls_with None none = λ k small.
+        enough_with k (λ earlier behind below. omega (arith, ints, none earlier behind (omega (arith, length-insert rows place row within)), prefix-grown rows earlier)) (omega (arith, length-insert rows place row within))
+    falls_with (Some index) first = record {
+      within = omega (arith, first.within, length-insert rows place row within);
+      falls = omega (arith, ints, grown-insert-behind sign_of rows place row index first.above within, first.reached, prefix-grown rows index);
+      not_before = λ k before. enough_with k (λ earlier behind below. omega (arith, ints, first.not_before earlier behind (omega arith), prefix-grown rows earlier)) (omega (arith, first.within));
+    }
+
+    pub falls-insert : (answer : Option ℕ) → FindsFirstAtMost (signs_and_marks rows) place (length rows) (negsuc 0 -ℤ sign_of row.op) answer → FallsFirst (insert rows place row) answer
+    falls-insert answer found = falls_with answer found
+
+  -- the row at the place is taken out
+  module _ (row : Row) (at : slice_get rows place ≡ Some row) (inside : place < length rows) where
+    enough_without : (k : ℕ) → ((later : ℕ) → place < later → later ≤ suc k → (sign_of row.op -ℤ pos 1) <ℤ grown sign_of rows later) → suc k ≤ length rows → pos 0 ≤ℤ (pos 0 +ℤ grown sign_of (remove rows place) k)
+    enough_without k above small = elim (cases_lt place k) [
+      | inl behind ↦ omega (arith, ints, grown-remove-behind sign_of rows place row k (omega arith) at, above (suc k) (omega arith) (omega arith))
+      | inr before ↦ omega (arith, ints, grown-remove-before sign_of rows place k before, enough k (omega arith))
+    ]
+
+    -- the sum falls no earlier than behind the row that follows
+    pub falls-later : (later : ℕ) → IsFirstAtMost (signs_and_marks rows) (place + 1) (length rows) (sign_of row.op -ℤ pos 1) later → place + 2 ≤ later
+    falls-later later first = elim (cases_lt (place + 1) later) [
+      | inl far ↦ omega arith
+      | inr near ↦
+          let same : later ≡ suc place = omega (arith, first.above) in
+          absurd (omega (arith, ints, first.reached, prefix-grown rows later, ap (grown sign_of rows) same, grown-remove-behind sign_of rows place row place (omega arith) at, grown-remove-before sign_of rows place place (omega arith), enough place (omega arith)))
+    ]
+
+    length_without : length (remove rows place) + 1 ≡ length rows
+    length_without = length_less rows place inside where
+      length_less : (rows : List Row) (place : ℕ) → place < length rows → length (remove rows place) + 1 ≡ length rows
+      length_less [] place inside = absurd (omega arith)
+      length_less (r ∷ rows) zero inside = omega arith
+      length_less (r ∷ rows) (suc place) inside = omega (arith, length_less rows place (omega arith))
+
+    pub falls-remove-none : FindsFirstAtMost (signs_and_marks rows) (place + 1) (length rows) (sign_of row.op -ℤ pos 1) None → FallsFirst (remove rows place) None
+    falls-remove-none none k small =
+        enough_without k (λ later behind below. omega (arith, ints, none later (omega arith) (omega (arith, length_without)), prefix-grown rows later)) (omega (arith, length_without))
+
+    falls_at : (index : ℕ) → IsFirstAtMost (signs_and_marks rows) (place + 1) (length rows) (sign_of row.op -ℤ pos 1) (suc (suc index)) → place ≤ index → FallsAtFrom (pos 0) (remove rows place) index
+    falls_at index first far = record {
+      within = omega (arith, first.within, length_without);
+      falls = omega (arith, ints, grown-remove-behind sign_of rows place row (suc index) (omega arith) at, first.reached, prefix-grown rows (suc (suc index)));
+      not_before = λ k before. enough_without k (λ later behind below. omega (arith, ints, first.not_before later (omega arith) (omega arith), prefix-grown rows later)) (omega (arith, first.within));
+    }
+
+    pub falls-remove-some : (later : ℕ) → IsFirstAtMost (signs_and_marks rows) (place + 1) (length rows) (sign_of row.op -ℤ pos 1) later → FallsFirst (remove rows place) (Some (later - 2))
+    falls-remove-some later first =
+        let far = falls-later later first in
+        falls_at (later - 2) (subst (IsFirstAtMost (signs_and_marks rows) (place + 1) (length rows) (sign_of row.op -ℤ pos 1)) (let same : later ≡ suc (suc (later - 2)) = omega arith in same) first) (omega arith)

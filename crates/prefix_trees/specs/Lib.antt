@@ -1,0 +1,9 @@
+pub mod Prefixes
+pub mod Walks
+pub mod Growth
+pub mod RunLaws
+pub mod LineLaws
+pub mod PositionLaws
+pub mod Falls
+pub mod FailureLaws
+pub mod EditLaws
