@@ -1,8 +1,7 @@
-ghost use Rattle.std.specs.Prelude.{◌≡◌, ◌≢◌, []};
-ghost use Rattle.retro_base.specs.declared.kind.Kind.TheVariants.{Pq};
+ghost use Rattle.std.specs.Prelude.{◌≡◌, []};
 ghost use Rattle.engine.specs.Engine.{kind_inside, rows_inside};
 
-use crate::{DequeList, DictList, QueueList, StackList};
+use crate::{DequeList, DictList, PqList, QueueList, StackList};
 use retro_base::{Answer, Change, Kind, Listing, NoMemory, Op, PlainList, Question, Retro, Row};
 use std::alloc::Global;
 
@@ -13,12 +12,12 @@ pub enum Engine {
     Stack { inner: StackList },
     Deque { inner: DequeList },
     Dict { inner: DictList },
+    Pq { inner: PqList },
 }
 
 impl Engine {
-    /// An empty structure of the kind, which has no priority queue yet.
+    /// An empty structure of the kind.
     pub fn new(alloc: Global, kind: Kind) -> Engine
-        requires { kind ≢ Pq }
         ensures kind { kind_inside result ≡ kind }
         ensures rows { rows_inside result ≡ [] }
     {
@@ -36,7 +35,9 @@ impl Engine {
             Kind::Dict => Engine::Dict {
                 inner: DictList { list },
             },
-            Kind::Pq => unreachable!(),
+            Kind::Pq => Engine::Pq {
+                inner: PqList { list },
+            },
         }
     }
 }
@@ -52,6 +53,7 @@ impl Retro for Engine {
             Engine::Stack { inner } => inner.list.kind(),
             Engine::Deque { inner } => inner.list.kind(),
             Engine::Dict { inner } => inner.list.kind(),
+            Engine::Pq { inner } => inner.list.kind(),
         }
     }
 
@@ -61,6 +63,7 @@ impl Retro for Engine {
             Engine::Stack { inner } => inner.list.len(),
             Engine::Deque { inner } => inner.list.len(),
             Engine::Dict { inner } => inner.list.len(),
+            Engine::Pq { inner } => inner.list.len(),
         }
     }
 
@@ -70,6 +73,7 @@ impl Retro for Engine {
             Engine::Stack { inner } => inner.list.failure_after_insert(place, op),
             Engine::Deque { inner } => inner.list.failure_after_insert(place, op),
             Engine::Dict { inner } => inner.list.failure_after_insert(place, op),
+            Engine::Pq { inner } => inner.list.failure_after_insert(place, op),
         }
     }
 
@@ -79,6 +83,7 @@ impl Retro for Engine {
             Engine::Stack { inner } => inner.list.failure_after_remove(place),
             Engine::Deque { inner } => inner.list.failure_after_remove(place),
             Engine::Dict { inner } => inner.list.failure_after_remove(place),
+            Engine::Pq { inner } => inner.list.failure_after_remove(place),
         }
     }
 
@@ -88,6 +93,7 @@ impl Retro for Engine {
             Engine::Stack { inner } => inner.list.insert(place, row),
             Engine::Deque { inner } => inner.list.insert(place, row),
             Engine::Dict { inner } => inner.list.insert(place, row),
+            Engine::Pq { inner } => inner.list.insert(place, row),
         }
     }
 
@@ -97,6 +103,7 @@ impl Retro for Engine {
             Engine::Stack { inner } => inner.list.remove(place),
             Engine::Deque { inner } => inner.list.remove(place),
             Engine::Dict { inner } => inner.list.remove(place),
+            Engine::Pq { inner } => inner.list.remove(place),
         }
     }
 
@@ -106,6 +113,7 @@ impl Retro for Engine {
             Engine::Stack { inner } => inner.list.ask_now(question),
             Engine::Deque { inner } => inner.list.ask_now(question),
             Engine::Dict { inner } => inner.list.ask_now(question),
+            Engine::Pq { inner } => inner.list.ask_now(question),
         }
     }
 
@@ -115,6 +123,7 @@ impl Retro for Engine {
             Engine::Stack { inner } => inner.list.ask(place, question),
             Engine::Deque { inner } => inner.list.ask(place, question),
             Engine::Dict { inner } => inner.list.ask(place, question),
+            Engine::Pq { inner } => inner.list.ask(place, question),
         }
     }
 
@@ -124,6 +133,7 @@ impl Retro for Engine {
             Engine::Stack { inner } => inner.list.all(place),
             Engine::Deque { inner } => inner.list.all(place),
             Engine::Dict { inner } => inner.list.all(place),
+            Engine::Pq { inner } => inner.list.all(place),
         }
     }
 }

@@ -1,5 +1,5 @@
--- Counting finds the first row of an edited history that cannot be performed, of every kind but the priority queue.
-use Rattle.std.proofs.Common.{◌≡◌, ◌≢◌, ℕ, ℤ, zero, suc, ◌≤◌, List, [], ◌∷◌, ◌++◌, length, map, take, drop, refl, ap, arith, Some, Ok, ◌+◌}
+-- Counting finds the first row of an edited history that cannot be performed.
+use Rattle.std.proofs.Common.{◌≡◌, ℕ, ℤ, zero, suc, ◌≤◌, List, [], ◌∷◌, ◌++◌, length, map, take, drop, refl, ap, arith, Some, Ok, ◌+◌}
 use Rattle.std.specs.List.{insert, remove, slice_get, AllByRecursion}
 use Rattle.std.specs.Result.{result_err}
 use Rattle.std.proofs.lemmas.List.{take-append-drop, length-map}
@@ -9,12 +9,14 @@ use Rattle.retro_base.specs.declared.kind.Kind.TheVariants.{Queue, Stack, Deque,
 use Rattle.retro_base.specs.declared.row.Row.{Row}
 use Rattle.retro_base.specs.declared.question.Item.TheVariants as contents
 use Rattle.retro_base.specs.Kind.{kind_of}
-use Rattle.retro_base.specs.State.{State, items, pairs, empty}
+use Rattle.retro_base.specs.declared.row.Entry.{Entry}
+use Rattle.retro_base.specs.State.{State, items, pairs, entries, empty}
 use Rattle.retro_base.specs.Answers.{content}
 use Rattle.retro_base.specs.Replay.{run, failure, IsValid}
 use Rattle.retro_base.specs.Timeline.{AreOfKind}
 use Rattle.retro_base.specs.Counting.{quantity_of, quantity_after, counted}
 use Rattle.retro_base.proofs.CountedLines.{IsLine, line_quantity, line_failure, line_few}
+use Rattle.retro_base.proofs.CountedEntries.{pq_quantity, pq_failure, pq_few}
 use Rattle.retro_base.proofs.CountedKeys.{all_keys, one_key, passed_in, passed_out, key_of_row, pairs_few}
 use Rattle.retro_base.specs.OrderLaws.{all_with, all_without}
 use Rattle.retro_base.proofs.SortedPairs.{sorted_nil}
@@ -60,27 +62,35 @@ dict_without rows place row all valid here at =
     (λ q apart. passed_out (λ r n. quantity_after (Key q) r.op n) row (λ n. key.2 q n apart) (take place rows) (drop (suc place) rows) 0
     (rw (← around rows place row at) (all_keys rows [] all sorted_nil valid q))))
 
--- were a row put in
-pub failure_with : (kind : Kind) (rows : List Row) (place : ℕ) (row : Row) → kind ≢ Pq → AreOfKind kind rows → IsValid kind rows → kind_of row.op ≡ kind
-    → failure kind (insert rows place row) ≡ result_err (counted (quantity_of row.op) (insert rows place row) 0)
-failure_with Queue rows place row served all valid here = line_with Queue rows place row tt all here
-failure_with Stack rows place row served all valid here = line_with Stack rows place row tt all here
-failure_with Deque rows place row served all valid here = line_with Deque rows place row tt all here
-failure_with Dict rows place row served all valid here = dict_with rows place row all valid here
-failure_with Pq rows place row served all valid here = absurd (served refl)
+pq_with : (rows : List Row) (place : ℕ) (row : Row) → AreOfKind Pq rows → kind_of row.op ≡ Pq
+    → result_err (run (insert rows place row) (entries [])) ≡ result_err (counted (quantity_of row.op) (insert rows place row) 0)
+pq_with rows place row all here = rw (pq_quantity row.op here) (pq_failure (insert rows place row) (all_with (λ r. kind_of r.op ≡ Pq) rows place row all here))
 
-without_at : (kind : Kind) (rows : List Row) (place : ℕ) (row : Row) → kind ≢ Pq → AreOfKind kind rows → IsValid kind rows → kind_of row.op ≡ kind → slice_get rows place ≡ Some row
+pq_without : (rows : List Row) (place : ℕ) (row : Row) → AreOfKind Pq rows → kind_of row.op ≡ Pq
+    → result_err (run (remove rows place) (entries [])) ≡ result_err (counted (quantity_of row.op) (remove rows place) 0)
+pq_without rows place row all here = rw (pq_quantity row.op here) (pq_failure (remove rows place) (all_without (λ r. kind_of r.op ≡ Pq) rows place all))
+
+-- were a row put in
+pub failure_with : (kind : Kind) (rows : List Row) (place : ℕ) (row : Row) → AreOfKind kind rows → IsValid kind rows → kind_of row.op ≡ kind
+    → failure kind (insert rows place row) ≡ result_err (counted (quantity_of row.op) (insert rows place row) 0)
+failure_with Queue rows place row all valid here = line_with Queue rows place row tt all here
+failure_with Stack rows place row all valid here = line_with Stack rows place row tt all here
+failure_with Deque rows place row all valid here = line_with Deque rows place row tt all here
+failure_with Dict rows place row all valid here = dict_with rows place row all valid here
+failure_with Pq rows place row all valid here = pq_with rows place row all here
+
+without_at : (kind : Kind) (rows : List Row) (place : ℕ) (row : Row) → AreOfKind kind rows → IsValid kind rows → kind_of row.op ≡ kind → slice_get rows place ≡ Some row
     → failure kind (remove rows place) ≡ result_err (counted (quantity_of row.op) (remove rows place) 0)
-without_at Queue rows place row served all valid here at = line_without Queue rows place row tt all here
-without_at Stack rows place row served all valid here at = line_without Stack rows place row tt all here
-without_at Deque rows place row served all valid here at = line_without Deque rows place row tt all here
-without_at Dict rows place row served all valid here at = dict_without rows place row all valid here at
-without_at Pq rows place row served all valid here at = absurd (served refl)
+without_at Queue rows place row all valid here at = line_without Queue rows place row tt all here
+without_at Stack rows place row all valid here at = line_without Stack rows place row tt all here
+without_at Deque rows place row all valid here at = line_without Deque rows place row tt all here
+without_at Dict rows place row all valid here at = dict_without rows place row all valid here at
+without_at Pq rows place row all valid here at = pq_without rows place row all here
 
 -- were the row at the place taken out
-pub failure_without : (kind : Kind) (rows : List Row) (place : ℕ) (row : Row) → kind ≢ Pq → AreOfKind kind rows → IsValid kind rows → slice_get rows place ≡ Some row
+pub failure_without : (kind : Kind) (rows : List Row) (place : ℕ) (row : Row) → AreOfKind kind rows → IsValid kind rows → slice_get rows place ≡ Some row
     → failure kind (remove rows place) ≡ result_err (counted (quantity_of row.op) (remove rows place) 0)
-failure_without kind rows place row served all valid at = without_at kind rows place row served all valid (of_kind_at kind rows place row all at) at
+failure_without kind rows place row all valid at = without_at kind rows place row all valid (of_kind_at kind rows place row all at) at
 
 length_map_of : {A B : Type 0} (f : A → B) (xs : List A) → length (map f xs) ≡ length xs
 length_map_of f xs = simp length-map
@@ -93,11 +103,38 @@ pairs_content : (rows : List Row) (state : State) → ((ps : List (ℤ × ℤ)) 
 unfolding content
 pairs_content rows state few = rw few.1 (omega (arith, few.2, length_map_of (λ pair. contents.Pair pair.0 pair.1) few.0))
 
+entries_content : (rows : List Row) (state : State) → ((es : List Entry) × (state ≡ entries es) × (length es ≤ length rows)) → length (content state) ≤ length rows
+unfolding content
+entries_content rows state few = rw few.1 (omega (arith, few.2, length_map_of (λ entry. contents.Single entry.key) few.0))
+
+-- of a priority queue these are entries, and of no other kind
+pub pq_holds_entries : (kind : Kind) (rows : List Row) (state : State) → kind ≡ Pq → AreOfKind kind rows → run rows (empty kind) ≡ Ok state
+    → (es : List Entry) × (state ≡ entries es)
+pq_holds_entries Pq rows state same all e = let few = pq_few rows state all e in (few.0, few.1)
+pq_holds_entries Queue rows state same all e = absurd (cc)
+pq_holds_entries Stack rows state same all e = absurd (cc)
+pq_holds_entries Deque rows state same all e = absurd (cc)
+pq_holds_entries Dict rows state same all e = absurd (cc)
+
+no_line : {xs : List ℤ} {es : List Entry} (state : State) → state ≡ items xs → state ≡ entries es → ⊥
+no_line state e f = cc
+
+no_pairs : {ps : List (ℤ × ℤ)} {es : List Entry} (state : State) → state ≡ pairs ps → state ≡ entries es → ⊥
+no_pairs state e f = cc
+
+pub entries_are_of_pq : (kind : Kind) (rows : List Row) (state : State) (es : List Entry) → state ≡ entries es → AreOfKind kind rows → run rows (empty kind) ≡ Ok state
+    → kind ≡ Pq
+entries_are_of_pq Queue rows state es same all e = let few = line_few rows state (all_lines Queue rows tt all) e in absurd (no_line state few.1 same)
+entries_are_of_pq Stack rows state es same all e = let few = line_few rows state (all_lines Stack rows tt all) e in absurd (no_line state few.1 same)
+entries_are_of_pq Deque rows state es same all e = let few = line_few rows state (all_lines Deque rows tt all) e in absurd (no_line state few.1 same)
+entries_are_of_pq Dict rows state es same all e = let few = pairs_few rows [] state all sorted_nil e in absurd (no_pairs state few.1 same)
+entries_are_of_pq Pq rows state es same all e = refl
+
 -- a structure holds no more than its rows
-pub content_few : (kind : Kind) (rows : List Row) (state : State) → kind ≢ Pq → AreOfKind kind rows → run rows (empty kind) ≡ Ok state
+pub content_few : (kind : Kind) (rows : List Row) (state : State) → AreOfKind kind rows → run rows (empty kind) ≡ Ok state
     → length (content state) ≤ length rows
-content_few Queue rows state served all e = line_content rows state (line_few rows state (all_lines Queue rows tt all) e)
-content_few Stack rows state served all e = line_content rows state (line_few rows state (all_lines Stack rows tt all) e)
-content_few Deque rows state served all e = line_content rows state (line_few rows state (all_lines Deque rows tt all) e)
-content_few Dict rows state served all e = pairs_content rows state (pairs_few rows [] state all sorted_nil e)
-content_few Pq rows state served all e = absurd (served refl)
+content_few Queue rows state all e = line_content rows state (line_few rows state (all_lines Queue rows tt all) e)
+content_few Stack rows state all e = line_content rows state (line_few rows state (all_lines Stack rows tt all) e)
+content_few Deque rows state all e = line_content rows state (line_few rows state (all_lines Deque rows tt all) e)
+content_few Dict rows state all e = pairs_content rows state (pairs_few rows [] state all sorted_nil e)
+content_few Pq rows state all e = entries_content rows state (pq_few rows state all e)

@@ -19,7 +19,6 @@ kept_with kind rows row s t keeps room fresh of_kind goes =
     let kept = fold_rows-last step rows row (empty kind) s t keeps.kept goes in
     let at_end : insert rows (length rows) row ≡ rows ++ row ∷ [] = insert_end rows row in
     record {
-      served = keeps.served;
       replayable = rw at_end at (replayable_with kind rows (length rows) row keeps.replayable room (omega arith) fresh of_kind (rw at_end (ap result_err kept)));
       kept = kept;
     }

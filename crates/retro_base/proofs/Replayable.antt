@@ -1,8 +1,7 @@
 -- A history stays one when a row is put in or taken out that leaves it valid.
-use Rattle.std.proofs.Common.{◌≡◌, ◌≢◌, ℕ, zero, suc, ◌<◌, ◌≤◌, List, [], ◌∷◌, ◌++◌, length, take, drop, refl, sym, ap, ◌∙◌, lit≤}
+use Rattle.std.proofs.Common.{◌≡◌, ◌≢◌, ℕ, zero, suc, ◌<◌, ◌≤◌, List, [], ◌∷◌, length, take, drop, refl, sym, ap, ◌∙◌, lit≤}
 use Rattle.std.specs.List.{insert, remove, AllByRecursion}
 use Rattle.std.proofs.lemmas.List.{take-append-drop}
-use Rattle.std.proofs.lemmas.List.Edits.{insert_end}
 use Rattle.retro_base.specs.declared.kind.Kind.{Kind}
 use Rattle.retro_base.specs.declared.kind.Kind.TheVariants.{Queue, Stack, Deque, Dict, Pq}
 use Rattle.retro_base.specs.declared.row.Change.TheVariants.{Plain}
@@ -31,15 +30,6 @@ replayable_seen_with now kind rows place row seen replayable room within fresh o
     let same_kind : now.kind ≡ kind = ap (λ (h : Structure). h.kind) (sym seen) in
     replayable_with kind rows place row replayable (rw same_rows at room) (rw same_rows at within) (rw same_rows at fresh)
     (of_kind ∙ same_kind) (rw (same_kind, same_rows) at valid)
-
--- the same at the end of the rows
-pub replayable_seen_at_end : (now : Structure) (kind : Kind) (rows : List Row) (place : ℕ) (row : Row)
-    → ◌≡◌ {A = Structure} (record { kind = kind; rows = rows }) now → IsReplayable kind rows
-    → length now.rows < most_rows → place ≤ length now.rows → IsFresh row.number now.rows
-    → kind_of row.op ≡ now.kind → IsValid now.kind (insert now.rows place row) → place ≡ length rows → IsReplayable kind (rows ++ row ∷ [])
-replayable_seen_at_end now kind rows place row seen replayable room within fresh of_kind valid end =
-    let at_end : insert rows place row ≡ rows ++ row ∷ [] = rw end (insert_end rows row) in
-    rw at_end at (replayable_seen_with now kind rows place row seen replayable room within fresh of_kind valid)
 
 -- what holds of all elements holds of those before a place
 pub all_before : {X : Type 0} (P : X → Type 0) (xs : List X) (place : ℕ) → AllByRecursion P xs → AllByRecursion P (take place xs)

@@ -28,3 +28,8 @@ pub mod LossTable
 -- the stated bridge and the change
 pub mod StatedBridges
 pub mod OneChange
+pub mod NamedChange
+-- passes over rows that find them
+pub mod Search
+pub mod BestSoFar
+pub mod FoundChange

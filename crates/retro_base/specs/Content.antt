@@ -1,11 +1,10 @@
 -- What a plain list keeps beside its rows.
-use Rattle.std.specs.Prelude.{◌≡◌, ◌≢◌, List, Ok}
+use Rattle.std.specs.Prelude.{◌≡◌, List, Ok}
 use Rattle.retro_base.specs.declared.kind.Kind.{Kind}
-use Rattle.retro_base.specs.declared.kind.Kind.TheVariants.{Pq}
 use Rattle.retro_base.specs.declared.row.Row.{Row}
 use Rattle.retro_base.specs.declared.content.Content.{Content}
-use Rattle.retro_base.specs.declared.content.Content.TheVariants.{Line, Pairs}
-use Rattle.retro_base.specs.State.{State, items, pairs, empty}
+use Rattle.retro_base.specs.declared.content.Content.TheVariants.{Line, Pairs, Entries}
+use Rattle.retro_base.specs.State.{State, items, pairs, entries, empty}
 use Rattle.retro_base.specs.Replay.{run}
 use Rattle.retro_base.specs.Timeline.{IsReplayable}
 
@@ -13,9 +12,9 @@ use Rattle.retro_base.specs.Timeline.{IsReplayable}
 abbrev pub state_of : Content → State
 state_of (Line line) = items line.items
 state_of (Pairs map) = pairs map.entries
+state_of (Entries held) = entries held
 
--- the rows of a structure of every kind but the priority queue, with the state behind them
+-- the rows of a structure, with the state behind them
 pub record IsKept (kind : Kind) (rows : List Row) (state : State) : Type 0 where
-  pub served : kind ≢ Pq
   pub replayable : IsReplayable kind rows
   pub kept : run rows (empty kind) ≡ Ok state

@@ -1,4 +1,4 @@
--- Counting decides which row cannot be performed: of a queue, a stack or a deque the number of items, and of a dictionary whether the key of the edited row is there.
+-- Counting decides which row cannot be performed: of a dictionary whether the key of the edited row is there, and of the other kinds the number of items.
 use Rattle.std.specs.Prelude.{ℕ, ℤ, zero, suc, List, if◌then◌else◌}
 use Rattle.std.specs.Prelude.{Option, Some, None, Result}
 use Rattle.std.specs.Ordering.{int_eq}

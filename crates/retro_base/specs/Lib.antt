@@ -22,7 +22,10 @@ pub mod CarriedLaws
 pub mod BridgeTable
 pub mod BridgeTableLaws
 pub mod ChangeLaws
+pub mod ChangeTableLaws
 pub mod Counting
+pub mod EntriesInOrder
+pub mod Better
 pub mod Content
 pub mod Text
 pub mod TextLaws

@@ -1,6 +1,7 @@
 ghost use Rattle.retro_base.specs.BridgeLaws.{WeightsCountTheDead, SumsAreNeverNegative, BridgesAreZeros, DeadComeFirst};
 ghost use Rattle.retro_base.specs.CarriedLaws.{GivingIsAccepted, OneIsCarried, PresentsDifferByOne, AddingCarriesOn, MissingStaysFromBridge};
 ghost use Rattle.retro_base.specs.BridgeTableLaws.{AddedEntryGains, CutTakeGains, AddedTakeLoses, CutDeadLoses, CutSurvivorLoses};
+ghost use Rattle.retro_base.specs.ChangeTableLaws.{AddedEntryChanges, CutTakeChanges, AddedTakeChanges, CutDeadChanges, CutSurvivorChanges, CutTakeLeavesDead};
 ghost use Rattle.retro_base.specs.ChangeLaws.{OneBridgeIsStated, OneChangeOfPq, OneChangeOfOthers};
 
 /// A law: the weights up to a place count the entries that are held there and do not survive. So the
@@ -53,4 +54,15 @@ pub fn one_change_is_named()
     ensures bridge { OneBridgeIsStated }
     ensures of_pq { OneChangeOfPq }
     ensures of_others { OneChangeOfOthers }
+{}
+
+/// A law: each line of the table names the change of its edit, so that a bridge and the entry that is
+/// taken from there are the change. Where a row that takes is cut there is such an entry.
+pub fn table_names_the_change()
+    ensures added_entry { AddedEntryChanges }
+    ensures cut_take { CutTakeChanges }
+    ensures added_take { AddedTakeChanges }
+    ensures cut_dead { CutDeadChanges }
+    ensures cut_survivor { CutSurvivorChanges }
+    ensures some_dead { CutTakeLeavesDead }
 {}

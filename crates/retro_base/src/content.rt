@@ -1,11 +1,11 @@
-ghost use Rattle.std.specs.Prelude.{◌≡◌, ◌≢◌, ◌^◌, ◌<◌, length, Some, None, Ok, IsSome, IfOk, OnOk, OnErr};
+ghost use Rattle.std.specs.Prelude.{◌≡◌, ◌^◌, ◌<◌, length, Some, None, Ok, IsSome, IfOk, OnOk, OnErr};
 ghost use Rattle.std.specs.Result.{result_err};
-ghost use Rattle.retro_base.specs.declared.kind.Kind.TheVariants.{Pq};
 ghost use Rattle.retro_base.specs.Content.{state_of};
 ghost use Rattle.retro_base.specs.State.{empty, step};
 ghost use Rattle.retro_base.specs.Replay.{run};
 ghost use Rattle.retro_base.specs.Answers.{answer_of, content};
 
+use crate::entries::{Entries, answer_from_entries, listing_of_entries, perform_on_entries};
 use crate::line::{answer_from_line, listing_of_line, perform_on_line};
 use crate::pairs::{answer_from_pairs, listing_of_pairs, perform_on_pairs};
 use crate::{Answer, Kind, Listing, NoMemory, Question, Row};
@@ -19,18 +19,19 @@ pub(crate) enum Content {
     Line(VecDeque<i64>),
     /// The pairs of a dictionary.
     Pairs(BTreeMap<i64, i64>),
+    /// The entries of a priority queue.
+    Entries(Entries),
 }
 
 impl Content {
     /// What a structure of the kind holds before its first row.
     pub(crate) fn new(alloc: Global, kind: Kind) -> Content
-        requires { kind ≢ Pq }
         ensures { state_of result ≡ empty kind }
     {
         match kind {
             Kind::Queue | Kind::Stack | Kind::Deque => Content::Line(VecDeque::new(alloc)),
             Kind::Dict => Content::Pairs(BTreeMap::new(alloc)),
-            Kind::Pq => unreachable!(),
+            Kind::Pq => Content::Entries(Entries::new(alloc)),
         }
     }
 
@@ -43,6 +44,7 @@ impl Content {
         match self {
             Content::Line(line) => perform_on_line(line, row),
             Content::Pairs(pairs) => perform_on_pairs(pairs, row),
+            Content::Entries(held) => perform_on_entries(held, row),
         }
     }
 
@@ -64,6 +66,7 @@ impl Content {
         match self {
             Content::Line(line) => answer_from_line(line, question),
             Content::Pairs(pairs) => answer_from_pairs(pairs, question),
+            Content::Entries(held) => answer_from_entries(held, question),
         }
     }
 
@@ -75,6 +78,7 @@ impl Content {
         match self {
             Content::Line(line) => listing_of_line(alloc, line),
             Content::Pairs(pairs) => listing_of_pairs(alloc, pairs),
+            Content::Entries(held) => listing_of_entries(alloc, held),
         }
     }
 }

@@ -10,7 +10,7 @@ use crate::{Op, Row};
 /// What is counted along the rows, to find the first one that cannot be performed.
 #[derive(Clone, Copy)]
 pub(crate) enum Quantity {
-    /// The items of a queue, a stack or a deque.
+    /// The items of a queue, a stack or a deque, or the entries of a priority queue.
     Items,
     /// The pair of this key of a dictionary: 1 where it is there, and else 0.
     Key { key: i64 },

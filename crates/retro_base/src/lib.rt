@@ -7,7 +7,7 @@
 //!
 //! The layers above rely on the trait `Retro`: whatever a structure keeps, it answers the replay of its rows.
 //! `PlainList` is the plain program whose contract is the definition; every faster structure is compared with
-//! it. It serves queues, stacks, deques and dictionaries.
+//! it.
 //!
 //! - Rows: `Kind`, `Op`, `Row`, `Rows`, `Entry`, `Change`. Questions: `Question`, `Answer`, `Item`, `Listing`.
 //! - Structures: `Retro`; `Partial`, which answers of the present alone and takes no memory to remove;
@@ -18,8 +18,10 @@
 #![tactic(auto)]
 
 mod bridge_laws;
+mod bridge_search;
 mod content;
 mod counting;
+mod entries;
 mod kind;
 mod limits;
 mod line;
@@ -41,7 +43,8 @@ mod text;
 
 pub use bridge_laws::{
     carried_entry_changes_at_takes, dead_come_first, greatest_from_bridge_is_gained,
-    least_before_bridge_is_lost, one_change_is_named, one_entry_is_carried, weights_count_the_dead,
+    least_before_bridge_is_lost, one_change_is_named, one_entry_is_carried, table_names_the_change,
+    weights_count_the_dead,
 };
 pub use kind::Kind;
 pub use limits::{MAX_NEXT, MAX_ROWS, limits_are_those_stated};

@@ -3,10 +3,11 @@ ghost use Rattle.retro_base.specs.declared.kind.Kind.TheVariants.{Pq};
 ghost use Rattle.retro_base.specs.Kind.{kind_of};
 ghost use Rattle.retro_base.specs.Limits.{most_rows};
 ghost use Rattle.retro_base.specs.Replay.{present};
-ghost use Rattle.retro_base.specs.State.{items, pairs, step};
+ghost use Rattle.retro_base.specs.State.{items, pairs, entries, step};
 ghost use Rattle.retro_base.specs.Timeline.{IsFresh, IsReplayable};
 
 use crate::content::Content;
+use crate::entries::Entries;
 use crate::{Kind, NoMemory, Op, Row, Rows};
 use std::alloc::Global;
 use std::collections::{BTreeMap, VecDeque};
@@ -22,6 +23,8 @@ pub struct PerformedRows {
 }
 
 impl Model for PerformedRows {
+    ghost use Rattle.std.specs.Prelude.{◌≢◌};
+    ghost use Rattle.retro_base.specs.declared.kind.Kind.TheVariants.{Pq};
     ghost use Rattle.retro_base.specs.Content.{state_of, IsKept};
     ghost use Rattle.retro_base.specs.Timeline.{Structure};
 
@@ -29,7 +32,7 @@ impl Model for PerformedRows {
 
     ghost view = { λ p. record { kind = p.kind; rows = p.rows } };
 
-    ghost invariant = { λ p. IsKept p.kind p.rows (state_of p.present) };
+    ghost invariant = { λ p. (p.kind ≢ Pq) × IsKept p.kind p.rows (state_of p.present) };
 }
 
 impl PerformedRows {
@@ -69,6 +72,7 @@ impl PerformedRows {
         match &self.present {
             Content::Line(line) => can_perform_on_line(line, row),
             Content::Pairs(held) => can_perform_on_pairs(held, row),
+            Content::Entries(held) => can_perform_on_entries(held, row),
         }
     }
 
@@ -117,6 +121,17 @@ fn can_perform_on_pairs(held: &BTreeMap<i64, i64>, row: Row) -> bool
     match row.op {
         Op::Put { .. } => true,
         Op::Del { key } => held.contains_key(&key),
+        _ => false,
+    }
+}
+
+/// Whether a row can be performed on entries.
+fn can_perform_on_entries(held: &Entries, row: Row) -> bool
+    ensures { result ≡ is_some (step row (entries held.now)) }
+{
+    match row.op {
+        Op::Ins { .. } => true,
+        Op::DelMin => held.len() != 0,
         _ => false,
     }
 }

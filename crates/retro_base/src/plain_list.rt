@@ -1,10 +1,15 @@
-ghost use Rattle.std.specs.Prelude.{◌≡◌, ◌≢◌, ◌<◌, ◌≤◌, [], ◌∷◌, ◌++◌, length, slice_get, Some, Ok, IfOk, OnOk, OnErr};
+ghost use Rattle.std.specs.Prelude.{◌≡◌, ◌<◌, ◌≤◌, [], ◌∷◌, ◌++◌, length, slice_get, Some, Ok, IfOk, OnOk, OnErr};
 ghost use Rattle.std.specs.List.{insert, remove};
-ghost use Rattle.retro_base.specs.declared.kind.Kind.TheVariants.{Pq};
-ghost use Rattle.retro_base.specs.Content.{state_of};
+ghost use Rattle.retro_base.specs.declared.row.Row.{Row};
+ghost use Rattle.retro_base.specs.Changes.{IsChange};
+ghost use Rattle.retro_base.specs.Content.{state_of, IsKept};
+ghost use Rattle.retro_base.specs.Edits.{add, cut};
+ghost use Rattle.retro_base.specs.Kind.{kind_of};
+ghost use Rattle.retro_base.specs.Timeline.{IsFresh};
 ghost use Rattle.retro_base.specs.State.{empty};
 ghost use Rattle.retro_base.specs.Replay.{run, IsValid};
 
+use crate::bridge_search::{change_with, change_without};
 use crate::content::Content;
 use crate::counting::{first_failure_with, first_failure_without};
 use crate::{Answer, Change, Kind, Listing, NoMemory, Op, Question, Retro, Row};
@@ -13,8 +18,7 @@ use std::marker::Model;
 
 /// What a structure of the kind holds behind these rows.
 fn replayed(alloc: Global, kind: Kind, rows: &[Row]) -> Result<Content, NoMemory>
-    requires served { kind ≢ Pq }
-    requires valid { IsValid kind rows.now }
+    requires { IsValid kind rows.now }
     ensures { IfOk result (λ content. run rows.now (empty kind) ≡ Ok (state_of content)) }
 {
     let mut content = Content::new(alloc, kind);
@@ -29,7 +33,6 @@ fn replayed_without(
     rows: &[Row],
     place: usize,
 ) -> Result<Content, NoMemory>
-    requires served { kind ≢ Pq }
     requires within { place < length rows.now }
     requires valid { IsValid kind (remove rows.now place) }
     ensures { IfOk result (λ content. run (remove rows.now place) (empty kind) ≡ Ok (state_of content)) }
@@ -65,7 +68,6 @@ fn insert_and_replay(
     place: usize,
     row: Row,
 ) -> Result<(), NoMemory>
-    requires served { kind ≢ Pq }
     requires within { place ≤ length rows.old.items }
     requires valid { IsValid kind (insert rows.old.items place row) }
     ensures rows { OnOk result (rows.new.items ≡ insert rows.old.items place row) }
@@ -85,6 +87,30 @@ fn insert_and_replay(
     }
 }
 
+/// Puts a row in at a place, and performs it at the end or all rows again. After `NoMemory` all is as
+/// before.
+fn put_in(
+    alloc: Global,
+    kind: Kind,
+    rows: &mut Vec<Row>,
+    present: &mut Content,
+    place: usize,
+    row: Row,
+) -> Result<(), NoMemory>
+    requires kept { run rows.old.items (empty kind) ≡ Ok (state_of present.old) }
+    requires within { place ≤ length rows.old.items }
+    requires valid { IsValid kind (insert rows.old.items place row) }
+    ensures rows { OnOk result (rows.new.items ≡ insert rows.old.items place row) }
+    ensures kept { OnOk result (run (insert rows.old.items place row) (empty kind) ≡ Ok (state_of present.new)) }
+    ensures err { OnErr result ((rows.new.items ≡ rows.old.items) × (state_of present.new ≡ state_of present.old)) }
+{
+    if place == rows.len() {
+        append(kind, rows, present, row)
+    } else {
+        insert_and_replay(alloc, kind, rows, present, place, row)
+    }
+}
+
 /// Takes the row at a place out, having performed all others again. After `NoMemory` all is as before.
 fn remove_and_replay(
     alloc: Global,
@@ -93,7 +119,6 @@ fn remove_and_replay(
     present: &mut Content,
     place: usize,
 ) -> Result<Row, NoMemory>
-    requires served { kind ≢ Pq }
     requires within { place < length rows.old.items }
     requires valid { IsValid kind (remove rows.old.items place) }
     ensures row { IfOk result (λ row. slice_get rows.old.items place ≡ Some row) }
@@ -105,12 +130,41 @@ fn remove_and_replay(
     Ok(rows.remove(place))
 }
 
+/// What changes in the present where a row is put in.
+fn change_of_insert(kind: Kind, rows: &[Row], present: &Content, place: usize, row: Row) -> Change
+    requires kept { IsKept kind rows.now (state_of present.now) }
+    requires within { place ≤ length rows.now }
+    requires fresh { IsFresh row.number rows.now }
+    requires of_kind { kind_of row.op ≡ kind }
+    requires replays { IsValid kind (insert rows.now place row) }
+    ensures { IsChange kind rows.now (add place row) result }
+{
+    match present {
+        Content::Entries(alive) => change_with(alive, rows, place, row),
+        Content::Line(_) | Content::Pairs(_) => Change::Plain,
+    }
+}
+
+/// What changes in the present where the row at a place is taken out.
+fn change_of_remove(kind: Kind, rows: &[Row], present: &Content, place: usize) -> Change
+    requires kept { IsKept kind rows.now (state_of present.now) }
+    requires within { place < length rows.now }
+    requires replays { IsValid kind (remove rows.now place) }
+    ensures { (row : Row) → slice_get rows.now place ≡ Some row
+        → IsChange kind rows.now (cut place row) result }
+{
+    match present {
+        Content::Entries(alive) => change_without(alive, rows, place, rows[place]),
+        Content::Line(_) | Content::Pairs(_) => Change::Plain,
+    }
+}
+
 /// A list of rows with the present state beside it: the plain program whose contract is the
-/// definition, and with which every faster structure is compared. It serves every kind but the
-/// priority queue.
+/// definition, and with which every faster structure is compared.
 ///
 /// A question about the present looks at the kept state, and a row that is put in at the end is
-/// performed on it. An edit of the past, and a question about it, perform the rows again.
+/// performed on it. An edit of the past, and a question about it, perform the rows again. What an
+/// edit changes in a priority queue is found before it, in one pass over the rows.
 #[derive(Drop)]
 pub struct PlainList {
     alloc: Global,
@@ -133,7 +187,6 @@ impl Model for PlainList {
 impl PlainList {
     /// An empty structure of the kind.
     pub fn new(alloc: Global, kind: Kind) -> PlainList
-        requires { kind ≢ Pq }
         ensures kind { result.kind ≡ kind }
         ensures rows { result.rows ≡ [] }
     {
@@ -169,30 +222,29 @@ impl Retro for PlainList {
 
     fn insert(&mut self, place: u32, row: Row) -> Result<Change, NoMemory> {
         let place = place as usize;
-        if place == self.rows.len() {
-            append(self.kind, &mut self.rows, &mut self.present, row)?;
-        } else {
-            insert_and_replay(
-                self.alloc,
-                self.kind,
-                &mut self.rows,
-                &mut self.present,
-                place,
-                row,
-            )?;
-        }
-        Ok(Change::Plain)
+        let change = change_of_insert(self.kind, self.rows.as_slice(), &self.present, place, row);
+        put_in(
+            self.alloc,
+            self.kind,
+            &mut self.rows,
+            &mut self.present,
+            place,
+            row,
+        )?;
+        Ok(change)
     }
 
     fn remove(&mut self, place: u32) -> Result<(Row, Change), NoMemory> {
+        let place = place as usize;
+        let change = change_of_remove(self.kind, self.rows.as_slice(), &self.present, place);
         let row = remove_and_replay(
             self.alloc,
             self.kind,
             &mut self.rows,
             &mut self.present,
-            place as usize,
+            place,
         )?;
-        Ok((row, Change::Plain))
+        Ok((row, change))
     }
 
     fn ask_now(&self, question: Question) -> Answer {
@@ -220,5 +272,7 @@ impl Retro for PlainList {
     }
 }
 
+#[cfg(test)]
+mod priority_tests;
 #[cfg(test)]
 mod tests;

@@ -1,5 +1,6 @@
 ghost use Rattle.std.specs.Prelude.{◌≡◌};
 ghost use Rattle.retro_base.specs.State.{comes_before};
+ghost use Rattle.retro_base.specs.Weights.{added_by};
 
 use crate::Op;
 
@@ -12,6 +13,21 @@ pub struct Row {
     pub time: u64,
     /// What the row does.
     pub op: Op,
+}
+
+impl Row {
+    /// The entry that the row adds to a priority queue, where it adds one.
+    pub fn added_entry(self) -> Option<Entry>
+        ensures { result ≡ added_by self }
+    {
+        match self.op {
+            Op::Ins { key } => Some(Entry {
+                key,
+                number: self.number,
+            }),
+            _ => None,
+        }
+    }
 }
 
 /// An entry of a priority queue: a key, and the number of the row that added it. Entries are ordered

@@ -14,7 +14,6 @@ struct First {
 }
 
 fn perform_first(rt: &impl Abort, alloc: Global, first: First) -> Result<(), Fail> {
-    assert!(rt; first.kind != Kind::Pq);
     let mut engine = Engine::new(alloc, first.kind);
     assert_eq!(rt; engine.kind(), first.kind);
     let row = Row {
@@ -67,6 +66,12 @@ fn each_kind_performs_its_first_row(rt: HostRuntime) -> Result<(), Fail> {
             op: Op::Put { key: 3, value },
             question: Question::Get { key: 3 },
             item: Item::Pair { key: 3, value },
+        },
+        First {
+            kind: Kind::Pq,
+            op: Op::Ins { key: value },
+            question: Question::Min,
+            item: single,
         },
     ];
     for first in firsts {

@@ -60,7 +60,7 @@ same_or_other a b = elim (same_entry a b) as (λ s. same_entry a b ≡ s → (a 
   | false ↦ λ differ. inr (λ same. let wrong : true ≡ false = sym (same_entry-refl a) ∙ (rw (← same) at differ) in absurd (cc))
 ] refl
 
-not_same : (a b : Entry) → a ≢ b → same_entry a b ≡ false
+pub not_same : (a b : Entry) → a ≢ b → same_entry a b ≡ false
 not_same a b other = elim (same_entry a b) as (λ s. same_entry a b ≡ s → s ≡ false) [
   | true ↦ λ same. absurd (other (same_entry-same a b same))
   | false ↦ λ differ. refl

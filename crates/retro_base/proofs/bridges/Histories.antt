@@ -143,10 +143,10 @@ kind_back : (a b : List Row) → AreOfKind Pq (a ++ b) → AreOfKind Pq b
 kind_back [] b of_kind = of_kind
 kind_back (row ∷ a) b of_kind = kind_back a b of_kind.1
 
-some_same : {X : Type 0} {x y : X} (o : Option X) → o ≡ Some x → o ≡ Some y → x ≡ y
+pub some_same : {X : Type 0} {x y : X} (o : Option X) → o ≡ Some x → o ≡ Some y → x ≡ y
 some_same o e f = cc
 
-none_some : {X : Type 0} {x : X} (o : Option X) → o ≡ None → o ≡ Some x → ⊥
+pub none_some : {X : Type 0} {x : X} (o : Option X) → o ≡ None → o ≡ Some x → ⊥
 none_some o e f = cc
 
 -- the entry that a row adds has its number

@@ -59,7 +59,7 @@ before_held rows bridge x history early =
     ]
 
 -- the first of what a bridge holds is the least survivor before it
-first_is_least : (rows : List Row) (bridge : ℕ) (y : Entry) (rest : List Entry) → IsPqHistory rows → IsBridge rows bridge → entries_at rows bridge ≡ y ∷ rest
+pub first_is_least : (rows : List Row) (bridge : ℕ) (y : Entry) (rest : List Entry) → IsPqHistory rows → IsBridge rows bridge → entries_at rows bridge ≡ y ∷ rest
     → IsLeast (IsSurvivorBefore rows bridge) y
 first_is_least rows bridge y rest history is_bridge holds =
     let ready : Ready (y ∷ rest) (moves_of (drop bridge rows)) = subst (λ l. Ready l (moves_of (drop bridge rows))) holds (history_at rows bridge history).ready in

@@ -53,7 +53,7 @@ lose_at None e = refl
 lose_at (Some n) e = refl
 
 -- an edit that gives looks for its bridge back from its place, and finds one
-added_looks_back : (op : Op) (number place : ℕ) → is_some (added_as op number) ≡ true → sought_for_added op place ≡ back_from place
+pub added_looks_back : (op : Op) (number place : ℕ) → is_some (added_as op number) ≡ true → sought_for_added op place ≡ back_from place
 added_looks_back (Enq v) number place gain = absurd (cc)
 added_looks_back Deq number place gain = absurd (cc)
 added_looks_back (Push v) number place gain = absurd (cc)
@@ -67,7 +67,7 @@ added_looks_back (Del k) number place gain = absurd (cc)
 added_looks_back (Ins k) number place gain = refl
 added_looks_back DelMin number place gain = absurd (cc)
 
-cut_looks_back : (rows : List Row) (op : Op) (number place : ℕ) → kind_of op ≡ Pq → not (is_some (added_as op number)) ≡ true
+pub cut_looks_back : (rows : List Row) (op : Op) (number place : ℕ) → kind_of op ≡ Pq → not (is_some (added_as op number)) ≡ true
     → sought_for_cut rows op number place ≡ back_from place
 cut_looks_back rows (Enq v) number place of_kind gain = absurd (cc)
 cut_looks_back rows Deq number place of_kind gain = absurd (cc)
@@ -82,7 +82,7 @@ cut_looks_back rows (Del k) number place of_kind gain = absurd (cc)
 cut_looks_back rows (Ins k) number place of_kind gain = absurd (cc)
 cut_looks_back rows DelMin number place of_kind gain = refl
 
-kind_there : (rows : List Row) (place : ℕ) (row : Row) → AreOfKind Pq rows → slice_get rows place ≡ Some row → kind_of row.op ≡ Pq
+pub kind_there : (rows : List Row) (place : ℕ) (row : Row) → AreOfKind Pq rows → slice_get rows place ≡ Some row → kind_of row.op ≡ Pq
 kind_there [] place row of_kind at = absurd (cc)
 kind_there (r ∷ rows) zero row of_kind at = subst (λ (x : Row). kind_of x.op ≡ Pq) (same_Some r row at) of_kind.0
 kind_there (r ∷ rows) (suc place) row of_kind at = kind_there rows place row of_kind.1 at

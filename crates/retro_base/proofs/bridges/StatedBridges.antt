@@ -17,7 +17,7 @@ use Rattle.retro_base.specs.ChangeLaws.{IsTheStatedBridge}
 use Rattle.retro_base.proofs.bridges.Entries.{In, in_contains}
 use Rattle.retro_base.proofs.bridges.Tests.{bridge_passes, passes_bridge}
 
-same_or_less : (a b : ℕ) → a ≤ suc b → (a ≡ suc b) ⊎ (a ≤ b)
+pub same_or_less : (a b : ℕ) → a ≤ suc b → (a ≡ suc b) ⊎ (a ≤ b)
 same_or_less a b within = grind arith
 
 same_or_more : (a b : ℕ) → b ≤ a → (a ≡ b) ⊎ (suc b ≤ a)
@@ -26,7 +26,7 @@ same_or_more a b within = grind arith
 neither_less : (a b : ℕ) → ¬ (a < b) → ¬ (b < a) → a ≡ b
 neither_less a b first second = omega arith
 
-start_is_bridge : (rows : List Row) → IsBridge rows zero
+pub start_is_bridge : (rows : List Row) → IsBridge rows zero
 unfolding fold_rows
 start_is_bridge [] = tt
 start_is_bridge (row ∷ rows) = tt
@@ -35,7 +35,7 @@ all_themselves : (all held : List Entry) → ((x : Entry) → In x held → In x
 all_themselves all [] inside = tt
 all_themselves all (x ∷ held) inside = (in_contains all x (inside x (inl refl)), all_themselves all held (λ y there. inside y (inr there)))
 
-end_is_bridge : (rows : List Row) → IsBridge rows (length rows)
+pub end_is_bridge : (rows : List Row) → IsBridge rows (length rows)
 end_is_bridge rows = subst (λ l. AllByRecursion (Contains (survivors rows)) (survivors l)) (sym (take-length rows)) (all_themselves (survivors rows) (survivors rows) (λ x there. there))
 
 no_bridge : (rows : List Row) (place : ℕ) → is_bridge rows place ≡ false → ¬ IsBridge rows place

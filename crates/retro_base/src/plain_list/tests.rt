@@ -1,6 +1,5 @@
-ghost use Rattle.std.specs.Prelude.{◌≡◌, ◌≢◌, ◌==◌, not, IsTrue};
+ghost use Rattle.std.specs.Prelude.{◌≡◌, ◌==◌, not, IsTrue};
 ghost use Rattle.std.specs.List.{list_all};
-ghost use Rattle.retro_base.specs.declared.kind.Kind.TheVariants.{Pq};
 ghost use Rattle.retro_base.specs.Timeline.{IsFresh};
 
 use super::PlainList;
@@ -51,7 +50,7 @@ fn have_other_numbers(rows: &[Row], number: u32) -> bool
 }
 
 /// Whether no row of the list has the number.
-fn is_fresh(list: &PlainList, number: u32) -> bool
+pub(super) fn is_fresh(list: &PlainList, number: u32) -> bool
     ensures { IsTrue result → IsFresh number list.now.rows }
 {
     have_other_numbers(list.rows.as_slice(), number)
@@ -135,9 +134,7 @@ fn pair(key: i64, value: i64) -> Item {
     Item::Pair { key, value }
 }
 
-fn play(rt: &impl Abort, alloc: Global, kind: Kind, steps: &[Step<'_>]) -> Result<(), Fail>
-    requires { kind ≢ Pq }
-{
+fn play(rt: &impl Abort, alloc: Global, kind: Kind, steps: &[Step<'_>]) -> Result<(), Fail> {
     let mut list = PlainList::new(alloc, kind);
     for step in steps {
         follow(rt, &mut list, *step)?;

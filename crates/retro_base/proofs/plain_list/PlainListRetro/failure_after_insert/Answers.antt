@@ -9,4 +9,4 @@ returns-clause-first c = λ row same.
     let of_kind : kind_of row.op ≡ c.self.inside.kind = ap kind_of same ∙ c.requires.of_kind ∙ sym (ap (λ (h : Structure). h.kind) c.self.view_is) in
     rw (← c.self.view_is)
     (rw (c.as_slice.ensures.value, ← same) at (c.first_failure_with.ensures.first row same)
-    ∙ sym (failure_with _ _ c.args.place row c.self.invariant.served c.self.invariant.replayable.of_kind c.self.invariant.replayable.valid of_kind))
+    ∙ sym (failure_with _ _ c.args.place row c.self.invariant.replayable.of_kind c.self.invariant.replayable.valid of_kind))

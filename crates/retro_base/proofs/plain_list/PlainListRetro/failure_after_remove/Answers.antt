@@ -13,4 +13,4 @@ returns-clause-first c =
     let seen : slice_get c.as_slice.result.now c.args.place ≡ Some row = rw c.as_slice.ensures.value at in
     rw (← c.self.view_is)
     (rw c.as_slice.ensures.value at (c.first_failure_without.ensures.first row seen)
-    ∙ sym (failure_without _ _ c.args.place row c.self.invariant.served c.self.invariant.replayable.of_kind c.self.invariant.replayable.valid at))
+    ∙ sym (failure_without _ _ c.args.place row c.self.invariant.replayable.of_kind c.self.invariant.replayable.valid at))

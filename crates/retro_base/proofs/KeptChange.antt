@@ -1,0 +1,71 @@
+-- What a plain list keeps of a priority queue are its survivors, and an edit of it is one that the laws on bridges speak of. Of
+-- the other kinds a change is `Plain`.
+use Rattle.std.proofs.Common.{◌≡◌, ℕ, ℤ, ◌≤◌, List, length, ap, sym, ◌∙◌, subst, Some, Ok}
+use Rattle.std.specs.List.{slice_get}
+use Rattle.std.specs.Result.{result_unwrap_or}
+use Rattle.retro_base.specs.declared.kind.Kind.{Kind}
+use Rattle.retro_base.specs.declared.kind.Kind.TheVariants.{Pq}
+use Rattle.retro_base.specs.declared.row.Change.{Change}
+use Rattle.retro_base.specs.declared.row.Change.TheVariants.{Plain}
+use Rattle.retro_base.specs.declared.row.Entry.{Entry}
+use Rattle.retro_base.specs.declared.row.Row.{Row}
+use Rattle.retro_base.specs.Content.{IsKept}
+use Rattle.retro_base.specs.Kind.{kind_of}
+use Rattle.retro_base.specs.State.{State, items, pairs, entries, empty}
+use Rattle.retro_base.specs.Replay.{run, IsValid}
+use Rattle.retro_base.specs.Timeline.{IsFresh}
+use Rattle.retro_base.specs.Edits.{Edit, add, cut}
+use Rattle.retro_base.specs.Bridges.{survivors, entries_of}
+use Rattle.retro_base.specs.Carried.{IsPqHistory, IsPqEdit}
+use Rattle.retro_base.specs.Changes.{IsChange, IsPqChange}
+use Rattle.retro_base.proofs.Counted.{pq_holds_entries, entries_are_of_pq}
+use Rattle.retro_base.proofs.Replayable.{plain_change}
+
+-- entries are kept of a priority queue alone
+pub kind_is : (kind : Kind) (rows : List Row) (state : State) (es : List Entry) → IsKept kind rows state → state ≡ entries es → kind ≡ Pq
+kind_is kind rows state es keeps same = entries_are_of_pq kind rows state es same keeps.replayable.of_kind keeps.kept
+
+pub kept_survivors : (kind : Kind) (rows : List Row) (state : State) (es : List Entry) → IsKept kind rows state → state ≡ entries es → es ≡ survivors rows
+kept_survivors kind rows state es keeps same =
+    let whole : run rows (empty Pq) ≡ Ok (entries es) = subst (λ k. run rows (empty k) ≡ Ok (entries es)) (kind_is kind rows state es keeps same) (keeps.kept ∙ ap (λ s. Ok s) same) in
+    sym (ap (λ r. entries_of (result_unwrap_or r (empty Pq))) whole)
+
+pub kept_history : (kind : Kind) (rows : List Row) (state : State) (es : List Entry) → IsKept kind rows state → state ≡ entries es → IsPqHistory rows
+kept_history kind rows state es keeps same =
+    let is = kind_is kind rows state es keeps same in
+    record {
+      of_kind = rw is at keeps.replayable.of_kind;
+      own_numbers = keeps.replayable.own_numbers;
+      valid = rw is at keeps.replayable.valid;
+    }
+
+pub kept_adds : (kind : Kind) (rows : List Row) (state : State) (es : List Entry) (place : ℕ) (row : Row) → IsKept kind rows state → state ≡ entries es
+    → place ≤ length rows → IsFresh row.number rows → kind_of row.op ≡ kind → IsPqEdit rows (add place row)
+kept_adds kind rows state es place row keeps same within fresh of_kind =
+    record { history = kept_history kind rows state es keeps same; within = within; own_row = (of_kind ∙ kind_is kind rows state es keeps same, fresh) }
+
+pub kept_cuts : (kind : Kind) (rows : List Row) (state : State) (es : List Entry) (place : ℕ) (row : Row) → IsKept kind rows state → state ≡ entries es
+    → slice_get rows place ≡ Some row → IsPqEdit rows (cut place row)
+kept_cuts kind rows state es place row keeps same there = record { history = kept_history kind rows state es keeps same; within = there; own_row = tt }
+
+pub kept_accepts : (kind : Kind) (rows edited : List Row) (state : State) (es : List Entry) → IsKept kind rows state → state ≡ entries es → IsValid kind edited → IsValid Pq edited
+kept_accepts kind rows edited state es keeps same valid = rw (kind_is kind rows state es keeps same) at valid
+
+pub kept_changes : (kind : Kind) (rows : List Row) (state : State) (es : List Entry) (edit : Edit) (change : Change) → IsKept kind rows state → state ≡ entries es
+    → IsPqChange rows edit change → IsChange kind rows edit change
+kept_changes kind rows state es edit change keeps same changes = subst (λ k. IsChange k rows edit change) (sym (kind_is kind rows state es keeps same)) changes
+
+-- where they are not entries the kind is another
+no_items : {xs : List ℤ} {es : List Entry} (state : State) → state ≡ items xs → state ≡ entries es → ⊥
+no_items state e f = cc
+
+no_pairs : {ps : List (ℤ × ℤ)} {es : List Entry} (state : State) → state ≡ pairs ps → state ≡ entries es → ⊥
+no_pairs state e f = cc
+
+pub plain_of_items : (kind : Kind) (rows : List Row) (state : State) (xs : List ℤ) (edit : Edit) → IsKept kind rows state → state ≡ items xs → IsChange kind rows edit Plain
+plain_of_items kind rows state xs edit keeps same = plain_change kind rows edit (λ is.
+    let held = pq_holds_entries kind rows state is keeps.replayable.of_kind keeps.kept in no_items state same held.1)
+
+pub plain_of_pairs : (kind : Kind) (rows : List Row) (state : State) (ps : List (ℤ × ℤ)) (edit : Edit) → IsKept kind rows state → state ≡ pairs ps → IsChange kind rows edit Plain
+plain_of_pairs kind rows state ps edit keeps same = plain_change kind rows edit (λ is.
+    let held = pq_holds_entries kind rows state is keeps.replayable.of_kind keeps.kept in no_pairs state same held.1)
