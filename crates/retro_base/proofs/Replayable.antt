@@ -53,7 +53,3 @@ plain_change Stack rows edit served = refl
 plain_change Deque rows edit served = refl
 plain_change Dict rows edit served = refl
 plain_change Pq rows edit served = absurd (served refl)
-
--- rows that replay whole do so up to any place
-pub valid_before : (kind : Kind) (rows : List Row) (place : ℕ) → IsValid kind rows → IsValid kind (take place rows)
-valid_before kind rows place valid = front_possible step (take place rows) (drop place rows) (empty kind) (rw (take-append-drop place rows) valid)

@@ -11,6 +11,7 @@ pub mod Order
 pub mod OrderLaws
 pub mod ReplayableLaws
 pub mod PrefixLaws
+pub mod MadeEdits
 pub mod TimelineLaws
 pub mod Questions
 pub mod Bridges

@@ -1,5 +1,4 @@
-ghost use Rattle.std.specs.Prelude.{◌≡◌, ◌≢◌, ◌<◌, [], ◌∷◌, ◌++◌, length, true, is_some, OnOk, OnErr};
-ghost use Rattle.retro_base.specs.declared.kind.Kind.TheVariants.{Pq};
+ghost use Rattle.std.specs.Prelude.{◌≡◌, ◌<◌, [], ◌∷◌, ◌++◌, length, true, is_some, OnOk, OnErr};
 ghost use Rattle.retro_base.specs.Kind.{kind_of};
 ghost use Rattle.retro_base.specs.Limits.{most_rows};
 ghost use Rattle.retro_base.specs.Replay.{present};
@@ -23,8 +22,6 @@ pub struct PerformedRows {
 }
 
 impl Model for PerformedRows {
-    ghost use Rattle.std.specs.Prelude.{◌≢◌};
-    ghost use Rattle.retro_base.specs.declared.kind.Kind.TheVariants.{Pq};
     ghost use Rattle.retro_base.specs.Content.{state_of, IsKept};
     ghost use Rattle.retro_base.specs.Timeline.{Structure};
 
@@ -32,13 +29,12 @@ impl Model for PerformedRows {
 
     ghost view = { λ p. record { kind = p.kind; rows = p.rows } };
 
-    ghost invariant = { λ p. (p.kind ≢ Pq) × IsKept p.kind p.rows (state_of p.present) };
+    ghost invariant = { λ p. IsKept p.kind p.rows (state_of p.present) };
 }
 
 impl PerformedRows {
     /// No rows, of this kind.
     pub fn new(alloc: Global, kind: Kind) -> PerformedRows
-        requires { kind ≢ Pq }
         ensures kind { result.kind ≡ kind }
         ensures rows { result.rows ≡ [] }
     {
@@ -52,7 +48,6 @@ impl PerformedRows {
     /// The kind.
     pub fn kind(&self) -> Kind
         ensures kind { result ≡ self.now.kind }
-        ensures served { result ≢ Pq }
         ensures replayable { IsReplayable self.now.kind self.now.rows }
     {
         self.kind

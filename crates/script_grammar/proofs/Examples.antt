@@ -2,7 +2,7 @@
 use Rattle.std.proofs.Common.{◌≡◌, [], pos, negsuc, refl}
 use Rattle.std.specs.Prelude.{Ok, Err, codes}
 use Rattle.retro_base.specs.Name.{is_name}
-use Rattle.retro_base.specs.declared.kind.Kind.TheVariants.{Queue, Dict}
+use Rattle.retro_base.specs.declared.kind.Kind.TheVariants.{Queue, Dict, Pq}
 use Rattle.retro_base.specs.declared.op.Op.TheVariants.{Enq, Deq, Put, DelMin}
 use Rattle.retro_base.specs.declared.question.Question.TheVariants.{Size, Min, Nth, Succ, Sum}
 use Rattle.script_grammar.specs.declared.command.Command.TheVariants.{Nothing, New, Insert, Delete, Ask}
@@ -22,7 +22,7 @@ new_dict : command (codes "new d dict") ≡ Ok (New (codes "d") Dict)
 unfolding command words is_name
 new_dict = refl
 
-new_pq : command (codes "new p pq") ≡ Err Syntax
+new_pq : command (codes "new p pq") ≡ Ok (New (codes "p") Pq)
 unfolding command words is_name
 new_pq = refl
 

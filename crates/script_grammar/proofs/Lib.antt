@@ -1,4 +1,4 @@
 pub mod Cutting
 pub mod Digits
-pub mod Served
+pub mod NextInRange
 mod Examples

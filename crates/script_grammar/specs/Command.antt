@@ -1,5 +1,5 @@
 -- The grammar of the script: what each line asks for. A form is read by place, so that a timeline may be called `at`.
-use Rattle.std.specs.Prelude.{◌≢◌, ℕ, ◌≤◌, ◌==◌, Bool, false, ◌||◌, List, [], ◌∷◌, codes, Option, Some, None, option_map, option_and_then, Result, Err, if◌then◌else◌}
+use Rattle.std.specs.Prelude.{ℕ, ◌≤◌, ◌==◌, Bool, false, ◌||◌, List, [], ◌∷◌, codes, Option, Some, None, option_map, option_and_then, Result, Err, if◌then◌else◌}
 use Rattle.std.specs.Option.{ok_or}
 use Rattle.std.specs.Str.{bytes_eq}
 use Rattle.retro_base.specs.Limits.{next_limit}
@@ -26,7 +26,8 @@ kind_of_word word =
     else (if bytes_eq word (codes "stack") then Some Stack
     else (if bytes_eq word (codes "deque") then Some Deque
     else (if bytes_eq word (codes "dict") then Some Dict
-    else None)))
+    else (if bytes_eq word (codes "pq") then Some Pq
+    else None))))
 
 -- KIND, as the last word
 abbrev pub kind_named : List (List ℕ) → Option Kind
@@ -131,12 +132,7 @@ command_of (word ∷ rest) =
 unfoldable pub command : List ℕ → Result Command LineError
 command line = ok_or (command_of (words line)) Syntax
 
--- a kind is served that is no priority queue
-abbrev pub IsServed : Kind → Type 0
-IsServed kind = kind ≢ Pq
-
--- what a command starts is served, and the number that a block gives to draw next is in its range
-abbrev pub CanStart : Command → Type 0
-CanStart (New name kind) = IsServed kind
-CanStart (Header name kind next) = IsServed kind × (1 ≤ next) × (next ≤ next_limit)
-CanStart other = Unit {0}
+-- the number that a header gives to draw next is in its range
+abbrev pub IsNextInRange : Command → Type 0
+IsNextInRange (Header name kind next) = (1 ≤ next) × (next ≤ next_limit)
+IsNextInRange other = Unit {0}

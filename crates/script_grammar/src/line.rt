@@ -2,7 +2,7 @@ ghost use Rattle.std.specs.Prelude.{◌≡◌, ◌≤◌, ◌∷◌, length, IsT
 ghost use Rattle.retro_base.specs.Limits.{longest_line};
 ghost use Rattle.script_grammar.specs.Operands.{alone};
 ghost use Rattle.script_grammar.specs.declared.command.Command.TheVariants.{Undo, Redo};
-ghost use Rattle.script_grammar.specs.Command.{about, begins_comment, command, command_of, delete_of, insert_of, kind_named, kind_of_word, new_of, save_of, CanStart};
+ghost use Rattle.script_grammar.specs.Command.{about, begins_comment, command, command_of, delete_of, insert_of, kind_named, kind_of_word, new_of, save_of, IsNextInRange};
 
 use crate::ask::read_ask;
 use crate::header::read_header;
@@ -20,7 +20,7 @@ pub fn read_line(line: &[u8], long: bool) -> Result<Command, LineError>
     requires within { length line.now ≤ longest_line }
     requires full { IsTrue long → length line.now ≡ longest_line }
     ensures exact { result ≡ (if long then Err LineError.Long else command line.now) }
-    ensures kind { IfOk result CanStart }
+    ensures next { IfOk result IsNextInRange }
 {
     if long {
         return Err(LineError::Long);
@@ -80,7 +80,7 @@ fn read_kind(mut words: Words) -> Option<Kind>
     words.is_empty().then_some(kind)
 }
 
-/// The kind that a word names, if it is served.
+/// The kind that a word names.
 pub fn kind_of_word(word: &[u8]) -> Option<Kind>
     ensures { result ≡ kind_of_word word.now }
 {
@@ -92,6 +92,8 @@ pub fn kind_of_word(word: &[u8]) -> Option<Kind>
         Some(Kind::Deque)
     } else if word == b"dict".as_slice() {
         Some(Kind::Dict)
+    } else if word == b"pq".as_slice() {
+        Some(Kind::Pq)
     } else {
         None
     }

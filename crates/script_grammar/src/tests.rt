@@ -22,7 +22,7 @@ fn commands(rt: HostRuntime) -> Result<(), Fail> {
     let q = Name::read(b"q").ok_or("q")?;
     let at = Name::read(b"at").ok_or("at")?;
     let long = Name::read(b"Abcdefghijklmnopqrstuvwxyz-_0123").ok_or("32 bytes")?;
-    let lines: [(&[u8], Command); 23] = [
+    let lines: [(&[u8], Command); 24] = [
         (b"", Command::Nothing),
         (b"   ", Command::Nothing),
         (b";note", Command::Nothing),
@@ -92,6 +92,13 @@ fn commands(rt: HostRuntime) -> Result<(), Fail> {
         (b"q delete #007", Command::Delete { name: q, number: 7 }),
         (b"q undo", Command::Undo { name: q }),
         (b" at  redo ", Command::Redo { name: at }),
+        (
+            b"new q pq",
+            Command::New {
+                name: q,
+                kind: Kind::Pq,
+            },
+        ),
         (b"save q", Command::Save { name: q }),
         (
             b"timeline at queue next 016777216",
@@ -223,10 +230,9 @@ fn questions(rt: HostRuntime) -> Result<(), Fail> {
 
 #[test]
 fn no_commands(rt: HostRuntime) {
-    let lines: [&[u8]; 64] = [
+    let lines: [&[u8]; 62] = [
         b"new",
         b"new q",
-        b"new q pq",
         b"new q heap",
         b"new q queue queue",
         b"new new queue",
@@ -246,7 +252,6 @@ fn no_commands(rt: HostRuntime) {
         b"timeline q queue next 16777217",
         b"timeline q queue next #1",
         b"timeline q queue 1",
-        b"timeline q pq next 1",
         b"timeline q queue next 1 ;",
         b"timeline save queue next 1",
         b"end",

@@ -1,5 +1,4 @@
-ghost use Rattle.std.specs.Prelude.{◌≡◌, ◌≢◌, ◌<◌, ◌≤◌, length, nat_eq, true, false, None, Some, Ok, IsTrue, IfSome, IfOk, OnOk, OnErr};
-ghost use Rattle.retro_base.specs.declared.kind.Kind.TheVariants.{Pq};
+ghost use Rattle.std.specs.Prelude.{◌≡◌, ◌<◌, ◌≤◌, length, nat_eq, true, false, None, Some, Ok, IsTrue, IfSome, IfOk, OnOk, OnErr};
 ghost use Rattle.retro_base.specs.Limits.{longest_line, most_rows, next_limit};
 ghost use Rattle.retro_base.specs.Timeline.{IsTimeline};
 ghost use Rattle.timeline_file.specs.Block.{are_below, begun, cause_of_row, fault_of, finished, grown, taken};
@@ -62,7 +61,6 @@ impl Model for BlockReader {
 impl BlockReader {
     /// A block of which nothing is read but its header.
     pub fn new(alloc: Global, kind: Kind, next: u32) -> BlockReader
-        requires { kind ≢ Pq }
         ensures { result ≡ begun kind next }
     {
         BlockReader {
@@ -76,8 +74,7 @@ impl BlockReader {
 
     /// The kind of the block.
     pub fn kind(&self) -> Kind
-        ensures kind { result ≡ self.now.kind }
-        ensures served { result ≢ Pq }
+        ensures { result ≡ self.now.kind }
     {
         self.rows.kind()
     }

@@ -3,27 +3,16 @@ use Rattle.std.proofs.Common.{◌≡◌, ◌≢◌, ℕ, zero, suc, ◌<◌, ◌
 use Rattle.std.specs.List.{insert, remove, AllByRecursion}
 use Rattle.retro_base.specs.declared.row.Row.{Row}
 use Rattle.retro_base.specs.Edits.{Edit, add, cut, edited, inverse, IsWithin}
+use Rattle.retro_base.specs.MadeEdits.{all_inserted}
 use Rattle.retro_base.specs.Order.{Fits}
-use Rattle.retro_base.specs.Timeline.{IsFresh, HaveOwnNumbers, TimesNeverFall}
+use Rattle.retro_base.specs.Timeline.{TimesNeverFall}
 
--- what holds of all elements holds of the one that was put in
-pub holds_of_new : {X : Type 0} (P : X → Type 0) (xs : List X) (place : ℕ) (x : X) → AllByRecursion P (insert xs place x) → P x
-holds_of_new P xs zero x all = all.0
-holds_of_new P [] (suc place) x all = all.0
-holds_of_new P (y ∷ ys) (suc place) x all = holds_of_new P ys place x all.1
-
--- a row that came among rows with numbers of their own was fresh, and its time did fit
-pub was_fresh : (rows : List Row) (place : ℕ) (row : Row) → HaveOwnNumbers (insert rows place row) → IsFresh row.number rows
-was_fresh rows zero row own = own.0
-was_fresh [] (suc place) row own = tt
-was_fresh (first ∷ rows) (suc place) row own =
-    (λ same. holds_of_new (λ r. r.number ≢ first.number) rows place row own.0 (sym same), was_fresh rows place row own.1)
-
+-- the time of a row that came did fit
 pub did_fit : (rows : List Row) (place : ℕ) (row : Row) → TimesNeverFall (insert rows place row) → Fits rows place row.time
 did_fit rows zero row never = never.0
 did_fit [] (suc place) row never = tt
 did_fit (first ∷ rows) (suc place) row never =
-    (holds_of_new (λ r. first.time ≤ r.time) rows place row never.0, did_fit rows place row never.1)
+    (all_inserted (λ r. first.time ≤ r.time) rows place row never.0, did_fit rows place row never.1)
 
 -- what was put in stands there, and is taken out again
 pub stands_there : {X : Type 0} (xs : List X) (place : ℕ) (x : X) → place ≤ length xs → slice_get (insert xs place x) place ≡ Some x

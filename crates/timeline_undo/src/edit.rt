@@ -2,6 +2,7 @@ ghost use Rattle.std.specs.Prelude.{◌≡◌, ◌+◌, ◌≤◌, ◌<◌, leng
 ghost use Rattle.std.specs.List.{insert, remove};
 ghost use Rattle.retro_base.specs.Changes.{IsChange};
 ghost use Rattle.retro_base.specs.Edits.{add, cut, edited, IsWithin};
+ghost use Rattle.retro_base.specs.MadeEdits.{IsMade};
 ghost use Rattle.retro_base.specs.Timeline.{IsReplayable, TimesNeverFall};
 ghost use Rattle.timeline_undo.specs.Kept.{edit_of};
 ghost use Rattle.timeline_undo.specs.Session.{edit_told};
@@ -18,6 +19,7 @@ pub(crate) fn make<R: Retro>(
     edit: Noted,
 ) -> Result<Turn, NoMemory>
     requires same { R.rows structure.old ≡ timeline.old }
+    requires before { IsReplayable (R.kind structure.old) timeline.old }
     requires within { IsWithin timeline.old (edit_of edit) }
     requires in_order { TimesNeverFall (edited timeline.old (edit_of edit)) }
     requires replayable { IsReplayable (R.kind structure.old) (edited timeline.old (edit_of edit)) }
@@ -25,7 +27,7 @@ pub(crate) fn make<R: Retro>(
     ensures same { R.rows structure.new ≡ timeline.new }
     ensures rows { IfOk result (λ _. timeline.new ≡ edited timeline.old (edit_of edit)) }
     ensures told { IfOk result (λ turn. edit_told turn ≡ edit_of edit) }
-    ensures change { IfOk result (λ turn. IsChange (R.kind structure.old) timeline.old (edit_of edit) turn.change) }
+    ensures made { IfOk result (λ turn. IsMade (R.kind structure.old) timeline.old (edit_told turn) turn.change) }
     ensures err { OnErr result (timeline.new ≡ timeline.old) }
 {
     match edit {

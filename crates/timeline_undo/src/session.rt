@@ -1,9 +1,9 @@
 ghost use Rattle.std.specs.Prelude.{◌≡◌, ◌↔◌, ◌+◌, ◌≤◌, ◌<◌, [], length, slice_get, Some, true, IfOk, IfErr, IfSome, OnErr, OnOk, IsErrOf, ◌∷◌, ◌++◌};
 ghost use Rattle.retro_base.specs.Answers.{answer_of, content};
-ghost use Rattle.retro_base.specs.Changes.{IsChange};
 ghost use Rattle.retro_base.specs.Edits.{add, cut, Step, inverse_step, IsAccepted};
 ghost use Rattle.retro_base.specs.Kind.{kind_of};
 ghost use Rattle.retro_base.specs.Limits.{most_rows, next_limit};
+ghost use Rattle.retro_base.specs.MadeEdits.{IsMade};
 ghost use Rattle.retro_base.specs.Order.{Fits};
 ghost use Rattle.retro_base.specs.Questions.{suits};
 ghost use Rattle.retro_base.specs.Replay.{present, state_at};
@@ -112,7 +112,7 @@ impl<R: Retro + Drop> Session<R> {
         ensures accepted { OnOk result (IsAccepted self.old.kind self.old.rows (add place (drawn self.old time op))) }
         ensures session { OnOk result (self.new ≡ with_insert self.old place (drawn self.old time op)) }
         ensures number { IfOk result (λ put. put.number ≡ self.old.next) }
-        ensures change { IfOk result (λ put. IsChange self.old.kind self.old.rows (add place (drawn self.old time op)) put.change) }
+        ensures made { IfOk result (λ put. IsMade self.old.kind self.old.rows (add place (drawn self.old time op)) put.change) }
         ensures cause { IfErr result (IsCause self.old.kind self.old.rows (add place (drawn self.old time op))) }
         ensures err { OnErr result (self.new ≡ self.old) }
     {
@@ -145,7 +145,7 @@ impl<R: Retro + Drop> Session<R> {
         requires accepted { IsAccepted self.old.kind self.old.rows (add (length self.old.rows) row) }
         requires history { self.old.history ≡ no_history }
         ensures session { OnOk result (self.new ≡ record self.old { rows = self.old.rows ++ row ∷ [] }) }
-        ensures change { IfOk result (IsChange self.old.kind self.old.rows (add (length self.old.rows) row)) }
+        ensures made { IfOk result (IsMade self.old.kind self.old.rows (add (length self.old.rows) row)) }
         ensures err { OnErr result (self.new ≡ self.old) }
     {
         let place = self.timeline.len();
@@ -161,7 +161,7 @@ impl<R: Retro + Drop> Session<R> {
         ensures told { IfOk result (λ turn. edit_told turn ≡ cut place turn.row) }
         ensures accepted { IfOk result (λ turn. IsAccepted self.old.kind self.old.rows (cut place turn.row)) }
         ensures session { IfOk result (λ turn. self.new ≡ with_edit self.old (cut place turn.row)) }
-        ensures change { IfOk result (λ turn. IsChange self.old.kind self.old.rows (cut place turn.row) turn.change) }
+        ensures made { IfOk result (λ turn. IsMade self.old.kind self.old.rows (edit_told turn) turn.change) }
         ensures cause { IfErr result (λ error. IfSome (slice_get self.old.rows place) (λ row. IsCause self.old.kind self.old.rows (cut place row) error)) }
         ensures err { OnErr result (self.new ≡ self.old) }
     {
@@ -178,7 +178,7 @@ impl<R: Retro + Drop> Session<R> {
     /// Takes the newest step back. After every error all is as before.
     pub fn undo(&mut self) -> Result<Turn, UndoError>
         ensures step { IfOk result (λ turn. (step : Step) × (newest_step self.old.history.undo ≡ Some step) × (inverse_step step ≡ edit_told turn ∷ []) × (self.new ≡ with_undo self.old step)) }
-        ensures change { IfOk result (λ turn. IsChange self.old.kind self.old.rows (edit_told turn) turn.change) }
+        ensures made { IfOk result (λ turn. IsMade self.old.kind self.old.rows (edit_told turn) turn.change) }
         ensures nothing { IsErrOf result UndoError.Nothing ↔ (self.old.history.undo ≡ []) }
         ensures err { OnErr result (self.new ≡ self.old) }
     {
@@ -193,7 +193,7 @@ impl<R: Retro + Drop> Session<R> {
     /// Makes the step again that was taken back last. After every error all is as before.
     pub fn redo(&mut self) -> Result<Turn, UndoError>
         ensures step { IfOk result (λ turn. (newest_step self.old.history.redo ≡ Some (edit_told turn ∷ [])) × (self.new ≡ with_redo self.old (edit_told turn ∷ []))) }
-        ensures change { IfOk result (λ turn. IsChange self.old.kind self.old.rows (edit_told turn) turn.change) }
+        ensures made { IfOk result (λ turn. IsMade self.old.kind self.old.rows (edit_told turn) turn.change) }
         ensures nothing { IsErrOf result UndoError.Nothing ↔ (self.old.history.redo ≡ []) }
         ensures err { OnErr result (self.new ≡ self.old) }
     {

@@ -5,3 +5,5 @@ pub mod OpenBlocks
 pub mod Names
 pub mod Shares
 pub mod OwnLines
+pub mod Loaded
+pub mod NamedChanges

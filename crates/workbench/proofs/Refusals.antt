@@ -1,8 +1,10 @@
 -- A line that is refused leaves the bench as it was.
 use Rattle.std.proofs.Common.{◌≡◌, ℕ, ◌+◌, Bool, true, false, cond, nat_le, List, [], ◌∷◌, ◌++◌, length, refl, sym, ap, ◌∙◌, Option, Some, None, Result, Ok, Err, IfOk}
+use Rattle.retro_base.specs.declared.kind.Kind.{Kind}
+use Rattle.retro_base.specs.declared.kind.Kind.TheVariants.{Queue, Stack, Deque, Dict, Pq}
 use Rattle.retro_base.specs.declared.op.Op.{Op}
 use Rattle.retro_base.specs.Limits.{most_rows, next_limit}
-use Rattle.retro_base.specs.Edits.{Edit, Step, add, edited}
+use Rattle.retro_base.specs.Edits.{Edit, Step, add, edited, inverse_step}
 use Rattle.retro_base.specs.Replay.{failure}
 use Rattle.retro_base.specs.Kind.{kind_of, same_kind}
 use Rattle.script_grammar.specs.declared.command.Command.{Command}
@@ -25,8 +27,9 @@ use Rattle.workbench.specs.declared.position.Position.{Position}
 use Rattle.workbench.specs.Bench.{NamedTimeline, OpenBlock, Bench, fresh, is_named, has_timeline}
 use Rattle.workbench.specs.Outcome.{is_refusal}
 use Rattle.workbench.specs.Reaction.{Effect, BenchEffect, leaves, if_startable, with_timeline, on_named, obeys, opened, outside, inside, happens, loads, closes, ends, with_line, with_block, without_block}
-use Rattle.workbench.specs.TimelineEffects.{TimelineEffect, refuses, accepted_or_refused, after_edit, edits, new_row, row_named, position_of, inserts_there, inserts_at, cut_of, deletes_by, inserts, deletes, unchanged, answers, undoes_step, undoes, redoes_step, redoes, saves}
+use Rattle.workbench.specs.TimelineEffects.{TimelineEffect, refuses, accepted_or_refused, after_edit, edits, tells, new_row, row_named, position_of, inserts_there, inserts_at, cut_of, deletes_by, inserts, deletes, unchanged, answers, undoes_step, undoes, redoes_step, redoes, saves}
 use Rattle.timeline_undo.specs.History.{newest_step}
+use Rattle.workbench.specs.Told.{told}
 
 -- the effect leaves the timeline as it was, where it is a refusal
 abbrev Keeps : NamedTimeline → TimelineEffect → Type 0
@@ -44,9 +47,20 @@ keeps_accepted_or_refused : (timeline after : NamedTimeline) (outcome : Outcome)
 keeps_accepted_or_refused timeline after outcome None accepted = λ refused. absurd (not_both (is_refusal outcome) accepted refused)
 keeps_accepted_or_refused timeline after outcome (Some index) accepted = λ refused. refl
 
+-- what is told of an accepted step is no refusal
+told_is_no_refusal : (name : List ℕ) (kind : Kind) (rows : List Row) (step : Step) (plain : Outcome) → is_refusal plain ≡ false
+    → is_refusal (told name kind rows step plain) ≡ false
+told_is_no_refusal name Queue rows step plain accepted = accepted
+told_is_no_refusal name Stack rows step plain accepted = accepted
+told_is_no_refusal name Deque rows step plain accepted = accepted
+told_is_no_refusal name Dict rows step plain accepted = accepted
+told_is_no_refusal name Pq rows [] plain accepted = accepted
+told_is_no_refusal name Pq rows (edit ∷ more) plain accepted = refl
+
 keeps_edits : (timeline : NamedTimeline) (edit : Edit) (next : ℕ) (outcome : Outcome) → is_refusal outcome ≡ false → Keeps timeline (edits timeline edit next outcome)
 keeps_edits timeline edit next outcome accepted =
-    keeps_accepted_or_refused timeline (after_edit timeline edit next) outcome (failure timeline.kind (edited timeline.rows edit)) accepted
+    keeps_accepted_or_refused timeline (after_edit timeline edit next) (tells timeline (edit ∷ []) outcome) (failure timeline.kind (edited timeline.rows edit))
+    (told_is_no_refusal timeline.name timeline.kind timeline.rows (edit ∷ []) outcome accepted)
 
 keeps_inserts_there : (timeline : NamedTimeline) (op : Op) (position : Position) → Keeps timeline (inserts_there timeline op position)
 keeps_inserts_there timeline op position =
@@ -77,7 +91,8 @@ keeps_deletes timeline number = keeps_deletes_by timeline number (cut_of number 
 
 keeps_undoes_step : (timeline : NamedTimeline) (step : Option Step) → Keeps timeline (undoes_step timeline step)
 keeps_undoes_step timeline None = λ refused. refl
-keeps_undoes_step timeline (Some step) = λ refused. absurd (not_both false refl refused)
+keeps_undoes_step timeline (Some step) =
+    λ refused. absurd (not_both _ (told_is_no_refusal timeline.name timeline.kind timeline.rows (inverse_step step) Accepted refl) refused)
 
 keeps_undoes : (timeline : NamedTimeline) → Keeps timeline (undoes timeline)
 unfolding undoes
@@ -85,7 +100,8 @@ keeps_undoes timeline = keeps_undoes_step timeline (newest_step timeline.history
 
 keeps_redoes_step : (timeline : NamedTimeline) (step : Option Step) → Keeps timeline (redoes_step timeline step)
 keeps_redoes_step timeline None = λ refused. refl
-keeps_redoes_step timeline (Some step) = λ refused. absurd (not_both false refl refused)
+keeps_redoes_step timeline (Some step) =
+    λ refused. absurd (not_both _ (told_is_no_refusal timeline.name timeline.kind timeline.rows step Accepted refl) refused)
 
 keeps_redoes : (timeline : NamedTimeline) → Keeps timeline (redoes timeline)
 unfolding redoes
@@ -132,7 +148,7 @@ refusal_keeps timelines (Err errors.Long) refused = record { kept = refl; opens_
 refusal_keeps timelines (Err errors.Syntax) refused = record { kept = refl; opens_nothing = refl }
 refusal_keeps timelines (Ok Nothing) refused = record { kept = refl; opens_nothing = refl }
 refusal_keeps timelines (Ok (New name kind)) refused = record {
-  kept = startable_leaves timelines name (with_timeline timelines (fresh name kind)) (λ e. absurd (not_both false refl e)) refused;
+  kept = startable_leaves timelines name (with_timeline timelines (fresh name kind) Accepted) (λ e. absurd (not_both false refl e)) refused;
   opens_nothing = refl;
 }
 refusal_keeps timelines (Ok (Insert name spot op)) refused = record {

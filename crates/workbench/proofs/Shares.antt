@@ -20,11 +20,12 @@ use Rattle.script_grammar.specs.BlockLines.{is_end}
 use Rattle.timeline_file.specs.declared.block.BlockError.{BlockError}
 use Rattle.timeline_file.specs.Block.{finished}
 use Rattle.workbench.specs.declared.outcome.Outcome.{Outcome}
-use Rattle.workbench.specs.declared.outcome.Outcome.TheVariants.{Silent, Refused}
+use Rattle.workbench.specs.declared.outcome.Outcome.TheVariants.{Silent, Accepted, Refused}
 use Rattle.workbench.specs.declared.outcome.Refusal.TheVariants as refusals
 use Rattle.workbench.specs.Bench.{NamedTimeline, OpenBlock, Bench, fresh, is_named, has_timeline}
 use Rattle.workbench.specs.OwnLines.{name_in, name_of_block, names}
 use Rattle.workbench.specs.Reaction.{Effect, BenchEffect, leaves, if_startable, with_timeline, with_first, on_named, starts, obeys, of_block, loads, closes, ends, opened, outside, inside, happens, spelled, with_block, with_line}
+use Rattle.workbench.specs.Told.{loaded}
 use Rattle.workbench.specs.TimelineEffects.{TimelineEffect, unchanged, inserts, deletes, answers, undoes, redoes, saves}
 use Rattle.workbench.proofs.Names.{KeepsName, inserts_keeps_name, deletes_keeps_name, undoes_keeps_name, redoes_keeps_name}
 
@@ -94,14 +95,14 @@ module _ (name : List ℕ) where
       ] refl
 
   -- a timeline that comes is in the share where it has the name
-  own_comes : (timelines : List NamedTimeline) (timeline : NamedTimeline) → is_named name timeline ≡ true
-      → share_of_effect name (with_timeline timelines timeline) ≡ with_timeline (share name timelines) timeline
-  own_comes timelines timeline is =
-      ap (λ ts. record (with_timeline [] timeline) { timelines = ts })
+  own_comes : (timelines : List NamedTimeline) (timeline : NamedTimeline) (outcome : Outcome) → is_named name timeline ≡ true
+      → share_of_effect name (with_timeline timelines timeline outcome) ≡ with_timeline (share name timelines) timeline outcome
+  own_comes timelines timeline outcome is =
+      ap (λ ts. leaves ts outcome)
       (filter-append (is_named name) timelines (timeline ∷ []) ∙ ap (λ ts. share name timelines ++ ts) (share-in timeline [] is))
 
   other_comes : (timelines : List NamedTimeline) (timeline : NamedTimeline) → is_named name timeline ≡ false
-      → share name (with_timeline timelines timeline).timelines ≡ share name timelines
+      → share name (timelines ++ timeline ∷ []) ≡ share name timelines
   other_comes timelines timeline is =
       filter-append (is_named name) timelines (timeline ∷ []) ∙ ap (λ ts. share name timelines ++ ts) (share-out timeline [] is) ∙ append-nil (share name timelines)
 
@@ -154,7 +155,7 @@ module _ (name : List ℕ) where
   -- the close of a block
   own_loads : (timelines : List NamedTimeline) (block : OpenBlock) (made : Result (List Row) BlockError) → bytes_eq block.name name ≡ true
       → share_of_effect name (loads timelines block made) ≡ loads (share name timelines) block made
-  own_loads timelines block (Ok rows) is = own_comes timelines (of_block block rows) is
+  own_loads timelines block (Ok rows) is = own_comes timelines (of_block block rows) (loaded block.name block.block.kind rows) is
   own_loads timelines block (Err error) is = refl
 
   pub own_closes : (timelines : List NamedTimeline) (block : OpenBlock) (ended : Bool) → bytes_eq block.name name ≡ true
@@ -180,8 +181,8 @@ module _ (name : List ℕ) where
   own_obeys timelines (Err error) is room = absurd (cc)
   own_obeys timelines (Ok Nothing) is room = absurd (cc)
   own_obeys timelines (Ok (New other kind)) is room =
-      own_startable_as other timelines (with_timeline timelines (fresh other kind)) (with_timeline (share name timelines) (fresh other kind))
-      (same_name other name is) (own_comes timelines (fresh other kind) is) room
+      own_startable_as other timelines (with_timeline timelines (fresh other kind) Accepted) (with_timeline (share name timelines) (fresh other kind) Accepted)
+      (same_name other name is) (own_comes timelines (fresh other kind) Accepted is) room
   own_obeys timelines (Ok (Insert other spot op)) is room =
       rw (same_name other name is) (own_named (λ timeline. inserts timeline spot op) (inserts_keeps_name spot op) timelines)
   own_obeys timelines (Ok (Delete other number)) is room =
@@ -201,7 +202,7 @@ module _ (name : List ℕ) where
   other_obeys timelines (Err errors.Syntax) apart = refl
   other_obeys timelines (Ok Nothing) apart = refl
   other_obeys timelines (Ok (New other kind)) apart =
-      other_startable timelines other (with_timeline timelines (fresh other kind)) (other_comes timelines (fresh other kind) apart)
+      other_startable timelines other (with_timeline timelines (fresh other kind) Accepted) (other_comes timelines (fresh other kind) apart)
   other_obeys timelines (Ok (Insert other spot op)) apart = other_named other (λ timeline. inserts timeline spot op) (inserts_keeps_name spot op) apart timelines
   other_obeys timelines (Ok (Delete other number)) apart = other_named other (λ timeline. deletes timeline number) (deletes_keeps_name number) apart timelines
   other_obeys timelines (Ok (Ask other moment query)) apart =

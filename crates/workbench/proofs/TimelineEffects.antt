@@ -29,7 +29,7 @@ use Rattle.workbench.specs.declared.outcome.Refusal.TheVariants as refusals
 use Rattle.workbench.specs.declared.position.Position.{Position}
 use Rattle.workbench.specs.Bench.{NamedTimeline}
 use Rattle.retro_base.specs.Order.{Fits}
-use Rattle.workbench.specs.TimelineEffects.{refuses, row_named, position_before, next_position, position_of, inserts_there, new_row, after_edit, edits, inserts, deletes, answers, undoes_step, undoes, redoes_step, redoes}
+use Rattle.workbench.specs.TimelineEffects.{refuses, row_named, position_before, next_position, position_of, inserts_there, new_row, after_edit, edits, tells, inserts, deletes, answers, undoes_step, undoes, redoes_step, redoes}
 use Rattle.retro_base.specs.OrderLaws.{time_fits, fits_before, fits_after}
 
 pub inserts_other_kind : (t : NamedTimeline) (spot : Spot) (op : Op) → same_kind (kind_of op) t.kind ≡ false → inserts t spot op ≡ refuses t refusals.Kind
@@ -57,7 +57,7 @@ edits_fails t edit next outcome number time (index, row, fails, at, same_number,
     rw (fails, at, ← same_number, ← same_time) refl
 
 pub edits_accepted : (t : NamedTimeline) (edit : Edit) (next : ℕ) (outcome : Outcome) → failure t.kind (edited t.rows edit) ≡ None
-    → edits t edit next outcome ≡ record { timeline = after_edit t edit next; outcome = outcome }
+    → edits t edit next outcome ≡ record { timeline = after_edit t edit next; outcome = tells t (edit ∷ []) outcome }
 edits_accepted t edit next outcome none = rw none refl
 
 -- a row is deleted that stands at a place

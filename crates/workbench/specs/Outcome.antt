@@ -1,6 +1,9 @@
 -- What a line is answered.
 use Rattle.std.specs.Prelude.{ℕ, Bool, true, false, List, [], ◌∷◌, ◌++◌, codes, decimal}
 use Rattle.retro_base.specs.Limits.{most_timelines}
+use Rattle.std.specs.List.{flat_map}
+use Rattle.evidence.specs.declared.evidence.Evidence.{Evidence}
+use Rattle.evidence.specs.Spelling.{spelling}
 use Rattle.script_grammar.specs.AnswerText.{answer_text, listing_text}
 use Rattle.timeline_file.specs.declared.block.BlockError.{BlockError}
 use Rattle.timeline_file.specs.declared.block.BlockError.TheVariants as blocks
@@ -8,7 +11,7 @@ use Rattle.timeline_file.specs.declared.block.RowCause.{RowCause}
 use Rattle.timeline_file.specs.declared.block.RowCause.TheVariants as causes
 use Rattle.timeline_file.specs.Saved.{saved}
 use Rattle.workbench.specs.declared.outcome.Outcome.{Outcome}
-use Rattle.workbench.specs.declared.outcome.Outcome.TheVariants.{Silent, Accepted, Inserted, Answered, Listed, Saved, Refused}
+use Rattle.workbench.specs.declared.outcome.Outcome.TheVariants.{Silent, Accepted, Inserted, Changed, Loaded, Answered, Listed, Saved, Refused}
 use Rattle.workbench.specs.declared.outcome.Refusal.{Refusal}
 use Rattle.workbench.specs.declared.outcome.Refusal.TheVariants.{Long, Syntax, NoTimeline, NameTaken, Timelines, Kind, NoRow, Full, Numbers, At, NothingToUndo, NothingToRedo, RowLine, Unfinished, Next}
 
@@ -49,11 +52,20 @@ refusal_text (At number time) = codes "refused at #" ++ decimal number ++ codes 
 abbrev pub as_line : List ℕ → List ℕ
 as_line text = text ++ 10 ∷ []
 
+-- evidence, each on a line of its own
+abbrev pub evidence_line : Evidence → List ℕ
+evidence_line evidence = as_line (spelling evidence)
+
+abbrev pub evidence_lines : List Evidence → List ℕ
+evidence_lines evidence = flat_map evidence_line evidence
+
 -- the lines that answer a line
 abbrev pub reply_text : Outcome → List ℕ
 reply_text Silent = []
 reply_text Accepted = as_line (codes "ok")
 reply_text (Inserted number) = as_line (codes "ok #" ++ decimal number)
+reply_text (Changed first more) = evidence_line first ++ evidence_lines more
+reply_text (Loaded evidence) = as_line (codes "ok") ++ evidence_lines evidence
 reply_text (Answered answer) = as_line (answer_text answer)
 reply_text (Listed listing) = as_line (listing_text listing)
 reply_text (Saved name kind next rows) = saved name kind next rows
@@ -64,6 +76,8 @@ abbrev pub is_refusal : Outcome → Bool
 is_refusal Silent = false
 is_refusal Accepted = false
 is_refusal (Inserted number) = false
+is_refusal (Changed first more) = false
+is_refusal (Loaded evidence) = false
 is_refusal (Answered answer) = false
 is_refusal (Listed listing) = false
 is_refusal (Saved name kind next rows) = false

@@ -19,6 +19,7 @@ use Rattle.workbench.specs.declared.outcome.Refusal.TheVariants as refusals
 use Rattle.retro_base.specs.Limits.{most_timelines}
 use Rattle.workbench.specs.Bench.{NamedTimeline, OpenBlock, Bench, fresh, with_rows, is_named, has_timeline}
 use Rattle.workbench.specs.Outcome.{block_refusal, reply_text, is_refusal}
+use Rattle.workbench.specs.Told.{loaded}
 use Rattle.workbench.specs.TimelineEffects.{TimelineEffect, unchanged, inserts, deletes, answers, undoes, redoes, saves}
 
 -- what becomes of the timelines: themselves afterwards, and the outcome
@@ -37,13 +38,13 @@ if_startable timelines name effect =
     else (if nat_le most_timelines (length timelines) then leaves timelines (Refused refusals.Timelines)
     else effect)
 
--- one more timeline
-abbrev pub with_timeline : List NamedTimeline → NamedTimeline → Effect
-with_timeline timelines timeline = record { timelines = timelines ++ timeline ∷ []; outcome = Accepted }
+-- one more timeline, with this answer
+abbrev pub with_timeline : List NamedTimeline → NamedTimeline → Outcome → Effect
+with_timeline timelines timeline outcome = record { timelines = timelines ++ timeline ∷ []; outcome = outcome }
 
 -- `new NAME KIND`
 abbrev pub starts : List NamedTimeline → List ℕ → Kind → Effect
-starts timelines name kind = if_startable timelines name (with_timeline timelines (fresh name kind))
+starts timelines name kind = if_startable timelines name (with_timeline timelines (fresh name kind) Accepted)
 
 -- the effect on timelines with one more in front
 abbrev pub with_first : NamedTimeline → Effect → Effect
@@ -76,7 +77,7 @@ of_block unclosed rows = with_rows unclosed.name unclosed.block.kind unclosed.bl
 
 -- what becomes of what a block comes to
 abbrev pub loads : List NamedTimeline → OpenBlock → Result (List Row) BlockError → Effect
-loads timelines unclosed (Ok rows) = with_timeline timelines (of_block unclosed rows)
+loads timelines unclosed (Ok rows) = with_timeline timelines (of_block unclosed rows) (loaded unclosed.name unclosed.block.kind rows)
 loads timelines unclosed (Err error) = leaves timelines (Refused (block_refusal error))
 
 -- the close of a block, by its `end` line or by the end of the input

@@ -23,6 +23,7 @@ use Rattle.workbench.specs.declared.outcome.Refusal.{Refusal}
 use Rattle.workbench.specs.declared.outcome.Refusal.TheVariants as refusals
 use Rattle.workbench.specs.declared.position.Position.{Position}
 use Rattle.workbench.specs.Bench.{NamedTimeline}
+use Rattle.workbench.specs.Told.{told}
 
 -- the position in front of the row with this number, which has that row's time
 abbrev pub position_before : ℕ → List Row → Option Position
@@ -73,10 +74,14 @@ abbrev pub after_edit : NamedTimeline → Edit → ℕ → NamedTimeline
 after_edit timeline edit next =
     record timeline { rows = edited timeline.rows edit; next = next; history = recorded (edit ∷ []) timeline.history }
 
+-- the answer to an accepted step of a timeline
+abbrev pub tells : NamedTimeline → Step → Outcome → Outcome
+tells timeline step plain = told timeline.name timeline.kind timeline.rows step plain
+
 -- what becomes of an edit
 abbrev pub edits : NamedTimeline → Edit → ℕ → Outcome → TimelineEffect
 edits timeline edit next outcome =
-    accepted_or_refused timeline (after_edit timeline edit next) outcome (failure timeline.kind (edited timeline.rows edit))
+    accepted_or_refused timeline (after_edit timeline edit next) (tells timeline (edit ∷ []) outcome) (failure timeline.kind (edited timeline.rows edit))
 
 -- the row of an operation at a position, which draws the timeline's next number
 abbrev pub new_row : NamedTimeline → Position → Op → Row
@@ -118,7 +123,7 @@ abbrev pub undoes_step : NamedTimeline → Option Step → TimelineEffect
 undoes_step timeline None = refuses timeline refusals.NothingToUndo
 undoes_step timeline (Some step) = record {
   timeline = record timeline { rows = edited_by timeline.rows (inverse_step step); history = undone step timeline.history };
-  outcome = Accepted;
+  outcome = tells timeline (inverse_step step) Accepted;
 }
 
 -- `NAME undo`
@@ -130,7 +135,7 @@ abbrev pub redoes_step : NamedTimeline → Option Step → TimelineEffect
 redoes_step timeline None = refuses timeline refusals.NothingToRedo
 redoes_step timeline (Some step) = record {
   timeline = record timeline { rows = edited_by timeline.rows step; history = redone step timeline.history };
-  outcome = Accepted;
+  outcome = tells timeline step Accepted;
 }
 
 -- `NAME redo`

@@ -1,6 +1,6 @@
 ghost use Rattle.std.specs.Prelude.{◌≡◌, ◌≤◌, ◌⊎◌, ◌++◌, length, is_err, is_some, true, false, None, Some, IsTrue, IfOk, OnOk, OnErr, option_map};
 ghost use Rattle.retro_base.specs.Limits.{longest_line};
-ghost use Rattle.script_grammar.specs.Command.{CanStart};
+ghost use Rattle.script_grammar.specs.Command.{IsNextInRange};
 ghost use Rattle.workbench.specs.Bench.{empty_bench};
 ghost use Rattle.workbench.specs.Outcome.{is_refusal, reply_text};
 ghost use Rattle.workbench.specs.Reaction.{closing, ends, happens, opened, outside, reacts_to, with_line, without_block};
@@ -140,7 +140,7 @@ impl Bench {
 
     /// Does what a line outside a block asks for.
     fn obey_outside(&mut self, line: Result<Command, LineError>) -> Result<Outcome, NoMemory>
-        requires { IfOk line CanStart }
+        requires { IfOk line IsNextInRange }
         ensures ok { IfOk result (λ outcome. outside self.old.bench.timelines line
             ≡ record { bench = self.new.bench; outcome = outcome }) }
         ensures err { OnErr result (self.new.bench.timelines ≡ self.old.bench.timelines) }
@@ -177,7 +177,7 @@ impl Bench {
 
 /// The block that a line opens, if it is a header.
 fn opened(alloc: Global, line: &Result<Command, LineError>) -> Option<OpenBlock>
-    requires { IfOk line.now CanStart }
+    requires { IfOk line.now IsNextInRange }
     ensures { result ≡ opened line.now }
 {
     match line {

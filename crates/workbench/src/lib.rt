@@ -8,6 +8,7 @@
 #![tactic(auto)]
 
 mod bench;
+mod evidence_lines;
 pub mod laws;
 mod named_timeline;
 mod open_block;
@@ -16,6 +17,7 @@ mod position;
 #[cfg(test)]
 mod tests;
 mod timelines;
+mod told;
 
 pub use bench::{Bench, Reply};
 pub use timelines::MAX_TIMELINES;

@@ -1,8 +1,12 @@
-ghost use Rattle.std.specs.Prelude.{◌≡◌, ◌≢◌, ◌≤◌, true, length, IfOk, OnErr};
-ghost use Rattle.retro_base.specs.declared.kind.Kind.TheVariants.{Pq};
+ghost use Rattle.std.specs.Prelude.{◌≡◌, ◌≤◌, true, length, List, [], ◌∷◌, IfOk, OnErr};
 ghost use Rattle.retro_base.specs.Kind.{kind_of, same_kind};
 ghost use Rattle.retro_base.specs.Answers.{content};
+ghost use Rattle.retro_base.specs.declared.row.Row.{Row};
+ghost use Rattle.retro_base.specs.Edits.{add};
+ghost use Rattle.retro_base.specs.MadeEdits.{IsMade};
 ghost use Rattle.retro_base.specs.Order.{Fits};
+ghost use Rattle.timeline_undo.specs.Session.{edit_told};
+ghost use Rattle.workbench.specs.Told.{loaded_evidence, told};
 ghost use Rattle.retro_base.specs.Questions.{suits};
 ghost use Rattle.retro_base.specs.Replay.{state_at};
 ghost use Rattle.retro_base.specs.Timeline.{IsTimeline};
@@ -12,21 +16,31 @@ ghost use Rattle.workbench.specs.declared.outcome.Outcome.TheVariants.{Listed, R
 ghost use Rattle.workbench.specs.declared.outcome.Refusal.TheVariants.{NoRow};
 ghost use Rattle.workbench.specs.EditErrors.{IsRefusedBy};
 
+use crate::evidence_lines::EvidenceLines;
 use crate::outcome::{Outcome, Refusal};
 use crate::position::{Position, position_of, row_named};
+use crate::told::{note, told};
 use engine::Engine;
 use order_timeline::Timeline;
-use retro_base::{Kind, MAX_NEXT, MAX_ROWS, Name, NoMemory, Op, Question, Rows};
+use retro_base::{Change, Kind, MAX_NEXT, MAX_ROWS, Name, NoMemory, Op, Question, Row, Rows};
 use script_grammar::{Moment, Query, Spot};
 use std::alloc::Global;
 use std::marker::Model;
-use timeline_undo::{EditError, Session, UndoError};
+use timeline_undo::{EditError, Session, Turn, UndoError};
 
 /// A timeline of the bench: its name, and the session that keeps and performs its rows.
 #[derive(Drop)]
 pub(crate) struct NamedTimeline {
+    alloc: Global,
     name: Name,
     session: Session<Engine>,
+}
+
+/// A timeline that a block has made, and the evidence of its rows.
+#[derive(Drop)]
+pub(crate) struct LoadedTimeline {
+    pub(crate) timeline: NamedTimeline,
+    pub(crate) evidence: EvidenceLines,
 }
 
 impl Model for NamedTimeline {
@@ -43,11 +57,14 @@ impl NamedTimeline {
 
     /// A timeline without rows.
     pub(crate) fn new(alloc: Global, name: Name, kind: Kind) -> Result<NamedTimeline, NoMemory>
-        requires { kind ≢ Pq }
         ensures { IfOk result (λ timeline. timeline ≡ fresh name kind) }
     {
         let session = Session::new(alloc, Engine::new(alloc, kind), 1)?;
-        Ok(NamedTimeline { name, session })
+        Ok(NamedTimeline {
+            alloc,
+            name,
+            session,
+        })
     }
 
     /// The timeline of a block that came to these rows.
@@ -57,16 +74,24 @@ impl NamedTimeline {
         kind: Kind,
         next: u32,
         rows: &Rows,
-    ) -> Result<NamedTimeline, NoMemory>
-        requires served { kind ≢ Pq }
-        requires timeline { IsTimeline kind rows.now next }
-        ensures { IfOk result (λ timeline. timeline ≡ with_rows name kind next rows.now) }
+    ) -> Result<LoadedTimeline, NoMemory>
+        requires { IsTimeline kind rows.now next }
+        ensures timeline { IfOk result (λ loaded. loaded.timeline ≡ with_rows name kind next rows.now) }
+        ensures evidence { IfOk result (λ loaded. loaded.evidence ≡ loaded_evidence name kind rows.now) }
     {
         let mut session = Session::new(alloc, Engine::new(alloc, kind), next)?;
+        let mut evidence = EvidenceLines::new(alloc);
         for index in 0..rows.len() {
-            session.append(rows.row(index))?;
+            let row = rows.row(index);
+            let change = session.append(row)?;
+            note(&mut evidence, name, kind, put_in(index, row, change))?;
         }
-        Ok(NamedTimeline { name, session })
+        let timeline = NamedTimeline {
+            alloc,
+            name,
+            session,
+        };
+        Ok(LoadedTimeline { timeline, evidence })
     }
 
     /// The name.
@@ -113,7 +138,16 @@ impl NamedTimeline {
             return Ok(Outcome::refused(Refusal::Numbers));
         }
         match self.session.put(position.place, position.time, op) {
-            Ok(put) => Ok(Outcome::Inserted { number: put.number }),
+            Ok(put) => {
+                let row = Row {
+                    number: put.number,
+                    time: position.time,
+                    op,
+                };
+                let turn = put_in(position.place, row, put.change);
+                let number = put.number;
+                Ok(self.tell(turn, Outcome::Inserted { number }))
+            }
             Err(error) => refused_by(error),
         }
     }
@@ -128,7 +162,7 @@ impl NamedTimeline {
             return Ok(no_row(number));
         };
         match self.session.cut(place) {
-            Ok(_) => Ok(Outcome::Accepted),
+            Ok(turn) => Ok(self.tell(turn, Outcome::Accepted)),
             Err(error) => refused_by(error),
         }
     }
@@ -139,7 +173,7 @@ impl NamedTimeline {
         ensures err { OnErr result (self.new ≡ self.old) }
     {
         match self.session.undo() {
-            Ok(_) => Ok(Outcome::Accepted),
+            Ok(turn) => Ok(self.tell(turn, Outcome::Accepted)),
             Err(UndoError::Nothing) => Ok(Outcome::refused(Refusal::NothingToUndo)),
             Err(UndoError::NoMemory) => Err(NoMemory),
         }
@@ -151,10 +185,18 @@ impl NamedTimeline {
         ensures err { OnErr result (self.new ≡ self.old) }
     {
         match self.session.redo() {
-            Ok(_) => Ok(Outcome::Accepted),
+            Ok(turn) => Ok(self.tell(turn, Outcome::Accepted)),
             Err(UndoError::Nothing) => Ok(Outcome::refused(Refusal::NothingToRedo)),
             Err(UndoError::NoMemory) => Err(NoMemory),
         }
+    }
+
+    /// The outcome of an accepted list edit.
+    fn tell(&self, turn: Turn, plain: Outcome) -> Outcome
+        ensures { (rows : List Row) → IsMade self.now.kind rows (edit_told turn) turn.change
+            → result ≡ told self.now.name self.now.kind rows (edit_told turn ∷ []) plain }
+    {
+        told(self.alloc, self.name, self.session.kind(), turn, plain)
     }
 
     /// The answer at a moment. The timeline stays as it is, whatever the answer.
@@ -237,6 +279,19 @@ impl NamedTimeline {
             next: self.session.next(),
             rows,
         })
+    }
+}
+
+/// The list edit that puts a row in.
+fn put_in(place: u32, row: Row, change: Change) -> Turn
+    ensures told { edit_told result ≡ add place row }
+    ensures change { result.change ≡ change }
+{
+    Turn {
+        added: true,
+        place,
+        row,
+        change,
     }
 }
 

@@ -1,11 +1,10 @@
-ghost use Rattle.std.specs.Prelude.{◌≡◌, ◌≢◌, ◌≤◌, length, IsTrue, IfOk, OnOk, OnErr, MatchResult, Ok, Err};
-ghost use Rattle.retro_base.specs.declared.kind.Kind.TheVariants.{Pq};
+ghost use Rattle.std.specs.Prelude.{◌≡◌, ◌≤◌, length, IsTrue, IfOk, OnOk, OnErr, MatchResult, Ok, Err};
 ghost use Rattle.retro_base.specs.Limits.{longest_line, next_limit};
 ghost use Rattle.timeline_file.specs.Block.{begun, finished};
 ghost use Rattle.workbench.specs.Reaction.{of_block, with_line};
 ghost use Rattle.workbench.specs.OpenBlocks.{ComesToTimeline};
 
-use crate::named_timeline::NamedTimeline;
+use crate::named_timeline::{LoadedTimeline, NamedTimeline};
 use retro_base::{Kind, Name, NoMemory};
 use std::alloc::Global;
 use std::marker::Model;
@@ -33,7 +32,6 @@ impl Model for OpenBlock {
 impl OpenBlock {
     /// A block of which nothing is read but its header.
     pub(crate) fn new(alloc: Global, name: Name, kind: Kind, next: u32) -> OpenBlock
-        requires served { kind ≢ Pq }
         requires least { 1 ≤ next }
         requires most { next ≤ next_limit }
         ensures { result ≡ record { name = name; block = begun kind next } }
@@ -66,7 +64,7 @@ impl OpenBlock {
         self,
         alloc: Global,
         ended: bool,
-    ) -> Result<Result<NamedTimeline, BlockError>, NoMemory>
+    ) -> Result<Result<LoadedTimeline, BlockError>, NoMemory>
         ensures { IfOk result (ComesToTimeline self ended) }
     {
         let name = self.name;
@@ -74,8 +72,8 @@ impl OpenBlock {
         let next = self.reader.next();
         match self.reader.finish(ended) {
             Ok(rows) => {
-                let timeline = NamedTimeline::of_block(alloc, name, kind, next, &rows)?;
-                Ok(Ok(timeline))
+                let loaded = NamedTimeline::of_block(alloc, name, kind, next, &rows)?;
+                Ok(Ok(loaded))
             }
             Err(error) => Ok(Err(error)),
         }

@@ -2,7 +2,9 @@ ghost use Rattle.std.specs.Prelude.{◌≡◌, ◌++◌, OnOk};
 ghost use Rattle.workbench.specs.Outcome.{block_refusal, cause_text, is_refusal, refusal_text, reply_text};
 ghost use Rattle.workbench.specs.declared.outcome.Outcome.TheVariants as outcomes;
 
+use crate::evidence_lines::{EvidenceLines, print_line};
 use crate::timelines::MAX_TIMELINES;
+use evidence::Evidence;
 use retro_base::{Answer, Kind, Listing, Name, NoMemory, Rows, Text};
 use script_grammar::{print_answer, print_listing};
 use timeline_file::{BlockError, RowCause, print_block};
@@ -17,6 +19,15 @@ pub(crate) enum Outcome {
     /// A row was inserted, and drew this number.
     Inserted {
         number: u32,
+    },
+    /// A priority queue was edited, by one list edit and maybe more.
+    Changed {
+        first: Evidence,
+        more: EvidenceLines,
+    },
+    /// A block has made a timeline; that of a priority queue tells the evidence of each row.
+    Loaded {
+        evidence: EvidenceLines,
     },
     /// A question was answered.
     Answered {
@@ -99,6 +110,14 @@ impl Outcome {
             Outcome::Inserted { number } => {
                 out.push_all(b"ok #")?;
                 out.push_number(*number)?;
+            }
+            Outcome::Changed { first, more } => {
+                print_line(first, out)?;
+                return more.print(out);
+            }
+            Outcome::Loaded { evidence } => {
+                out.push_all(b"ok\n")?;
+                return evidence.print(out);
             }
             Outcome::Answered { answer } => print_answer(*answer, out)?,
             Outcome::Listed { listing } => print_listing(listing, out)?,

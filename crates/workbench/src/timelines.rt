@@ -1,8 +1,7 @@
-ghost use Rattle.std.specs.Prelude.{◌≡◌, ◌≢◌, [], length, nat_le, position, Ok, IfOk, OnErr};
-ghost use Rattle.retro_base.specs.declared.kind.Kind.TheVariants.{Pq};
+ghost use Rattle.std.specs.Prelude.{◌≡◌, [], length, nat_le, position, Ok, IfOk, OnErr};
 ghost use Rattle.retro_base.specs.Limits.{most_timelines, next_limit};
 ghost use Rattle.retro_base.specs.Timeline.{IsTimeline};
-ghost use Rattle.script_grammar.specs.Command.{CanStart};
+ghost use Rattle.script_grammar.specs.Command.{IsNextInRange};
 ghost use Rattle.timeline_file.specs.Block.{finished};
 ghost use Rattle.workbench.specs.Bench.{has_timeline, is_named};
 ghost use Rattle.workbench.specs.Reaction.{closes, loads, obeys, of_block, on_named, starts};
@@ -49,7 +48,7 @@ impl Timelines {
     /// Does what a command asks for, or refuses a line that has none. After a refusal and after `NoMemory`
     /// all is as before.
     pub(crate) fn obey(&mut self, line: Result<Command, LineError>) -> Result<Outcome, NoMemory>
-        requires { IfOk line CanStart }
+        requires { IfOk line IsNextInRange }
         ensures ok { IfOk result (λ outcome. obeys self.old line ≡ record { timelines = self.new; outcome = outcome }) }
         ensures err { OnErr result (self.new ≡ self.old) }
     {
@@ -62,7 +61,7 @@ impl Timelines {
 
     /// Does what a command asks for, by its form.
     fn perform(&mut self, command: &Command) -> Result<Outcome, NoMemory>
-        requires { CanStart command.now }
+        requires { IsNextInRange command.now }
         ensures ok { IfOk result (λ outcome. obeys self.old (Ok command.now) ≡ record { timelines = self.new; outcome = outcome }) }
         ensures err { OnErr result (self.new ≡ self.old) }
     {
@@ -85,7 +84,6 @@ impl Timelines {
 
     /// Starts a timeline without rows, where the name is free and there is room for one more.
     fn start(&mut self, name: Name, kind: Kind) -> Result<Outcome, NoMemory>
-        requires { kind ≢ Pq }
         ensures ok { IfOk result (λ outcome. starts self.old name kind ≡ record { timelines = self.new; outcome = outcome }) }
         ensures err { OnErr result (self.new ≡ self.old) }
     {
@@ -176,9 +174,11 @@ impl Timelines {
         ensures err { OnErr result (self.new ≡ self.old) }
     {
         match unclosed.into_timeline(self.alloc, ended)? {
-            Ok(timeline) => {
-                self.timelines.push(timeline)?;
-                Ok(Outcome::Accepted)
+            Ok(loaded) => {
+                self.timelines.push(loaded.timeline)?;
+                Ok(Outcome::Loaded {
+                    evidence: loaded.evidence,
+                })
             }
             Err(error) => Ok(Outcome::refused(Refusal::of_block(error))),
         }

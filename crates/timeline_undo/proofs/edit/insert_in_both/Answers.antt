@@ -1,19 +1,20 @@
 use Rattle.std.proofs.Common.{◌≡◌, sym, ◌∙◌}
 use Rattle.retro_base.specs.Kind.{kind_of}
-use Rattle.timeline_undo.proofs.Edits.{holds_of_new, was_fresh, did_fit, taken_out_again}
+use Rattle.retro_base.specs.MadeEdits.{all_inserted, inserted_is_fresh}
+use Rattle.timeline_undo.proofs.Edits.{did_fit, taken_out_again}
 use Rattle.timeline_undo.proofs.edit.insert_in_both.Goals as goal
 
 pub insert-requires-clause-fresh : goal.insert-requires-clause-fresh
-insert-requires-clause-fresh g c = was_fresh _ c.args.place c.args.row c.requires.replayable.own_numbers
+insert-requires-clause-fresh g c = inserted_is_fresh _ c.args.place c.args.row c.requires.replayable.own_numbers
 
 pub insert-requires-clause-fits : goal.insert-requires-clause-fits
 insert-requires-clause-fits g c = did_fit _ c.args.place c.args.row c.requires.in_order
 
 pub insert-requires-2-clause-fresh : goal.insert-requires-2-clause-fresh
-insert-requires-2-clause-fresh g c = rw c.requires.same (was_fresh _ c.args.place c.args.row c.requires.replayable.own_numbers)
+insert-requires-2-clause-fresh g c = rw c.requires.same (inserted_is_fresh _ c.args.place c.args.row c.requires.replayable.own_numbers)
 
 pub insert-requires-2-clause-of_kind : goal.insert-requires-2-clause-of_kind
-insert-requires-2-clause-of_kind g c = holds_of_new (λ r. kind_of r.op ≡ _) _ c.args.place c.args.row c.requires.replayable.of_kind
+insert-requires-2-clause-of_kind g c = all_inserted (λ r. kind_of r.op ≡ _) _ c.args.place c.args.row c.requires.replayable.of_kind
 
 pub returns-in-Err-clause-same : goal.returns-in-Err-clause-same
 returns-in-Err-clause-same g c =

@@ -3,4 +3,4 @@ use Rattle.retro_base.proofs.performed_rows.PerformedRows.append.Goals as goal
 
 pub invariant_of-self-in_default : goal.invariant_of-self-in_default
 invariant_of-self-in_default c =
-    (c.self.invariant.0, rw c.in_ok-push.ensures.ok (kept_seen_with _ _ _ _ _ _ c.self.view_is c.self.invariant.1 c.requires.room c.requires.fresh c.requires.of_kind c.in_default.ensures.ok))
+    rw c.in_ok-push.ensures.ok (kept_seen_with _ _ _ _ _ _ c.self.view_is c.self.invariant c.requires.room c.requires.fresh c.requires.of_kind c.in_default.ensures.ok)

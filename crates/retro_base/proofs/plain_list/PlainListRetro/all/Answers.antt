@@ -4,12 +4,13 @@ use Rattle.retro_base.specs.State.{empty}
 use Rattle.retro_base.specs.Replay.{run}
 use Rattle.retro_base.specs.Answers.{content}
 use Rattle.retro_base.specs.Kind.{kind_of}
-use Rattle.retro_base.proofs.Replayable.{all_before, valid_before}
+use Rattle.retro_base.specs.PrefixLaws.{valid_take}
+use Rattle.retro_base.proofs.Replayable.{all_before}
 use Rattle.retro_base.proofs.Counted.{content_few}
 use Rattle.retro_base.proofs.plain_list.PlainListRetro.all.Goals as goal
 
 pub replayed-requires : goal.replayed-requires
-replayed-requires c = rw (c.split_at.ensures.front, c.as_slice.ensures.value) (valid_before _ _ c.args.place c.self.invariant.replayable.valid)
+replayed-requires c = rw (c.split_at.ensures.front, c.as_slice.ensures.value) (valid_take _ _ c.args.place c.self.invariant.replayable.valid)
 
 pub listing-requires-2 : goal.listing-requires-2
 listing-requires-2 c =

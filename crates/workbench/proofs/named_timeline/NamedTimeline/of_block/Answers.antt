@@ -1,18 +1,37 @@
-use Rattle.std.proofs.Common.{refl, sym, take}
+use Rattle.std.proofs.Common.{rules, refl, ap, take}
 use Rattle.retro_base.specs.PrefixLaws.{comes_next, take_more}
+use Rattle.timeline_undo.specs.Session.{SessionState}
+use Rattle.workbench.proofs.Loaded.{evidence_grows, loaded_none, put_in_behind}
 use Rattle.workbench.proofs.named_timeline.NamedTimeline.of_block.Goals as goal
 
 pub append-requires-clause-fresh : goal.append-requires-clause-fresh
-append-requires-clause-fresh c = rw c.loop-index.invariant (comes_next _ _ _ _ _ c.requires.timeline c.row.ensures).fresh
+append-requires-clause-fresh c = rw c.loop-index.invariant.session (comes_next _ _ _ _ _ c.requires c.row-row.ensures).fresh
 
 pub append-requires-clause-fits : goal.append-requires-clause-fits
-append-requires-clause-fits c = rw c.loop-index.invariant (comes_next _ _ _ _ _ c.requires.timeline c.row.ensures).fits
+append-requires-clause-fits c = rw c.loop-index.invariant.session (comes_next _ _ _ _ _ c.requires c.row-row.ensures).fits
 
 pub append-requires-clause-of_kind : goal.append-requires-clause-of_kind
-append-requires-clause-of_kind c = rw c.loop-index.invariant (comes_next _ _ _ _ _ c.requires.timeline c.row.ensures).of_kind
+append-requires-clause-of_kind c = rw c.loop-index.invariant.session (comes_next _ _ _ _ _ c.requires c.row-row.ensures).of_kind
 
 pub append-requires-clause-accepted : goal.append-requires-clause-accepted
-append-requires-clause-accepted c = rw c.loop-index.invariant (comes_next _ _ _ _ _ c.requires.timeline c.row.ensures).accepted
+append-requires-clause-accepted c = rw c.loop-index.invariant.session (comes_next _ _ _ _ _ c.requires c.row-row.ensures).accepted
+
+pub loop-index-init : goal.loop-index-init
+loop-index-init c = record {
+  session = search rules;
+  evidence = rw c.new-evidence.ensures (loaded_none c.args.name c.args.kind);
+}
 
 pub loop-index-preserved : goal.loop-index-preserved
-loop-index-preserved c = rw (c.in_ok-append.ensures.session, c.loop-index.invariant) (rw (take_more c.args.rows.now c.loop-index.index c.row.result c.row.ensures) refl)
+loop-index-preserved c =
+    let rows = c.args.rows.now in
+    let index = c.loop-index.index in
+    let row = c.row-row.result in
+    let kept = c.loop-index.invariant.session in
+    let made = put_in_behind c.args.kind _ rows _ index row _ _ c.put_in.result.change c.row-row.ensures (ap (λ (s : SessionState). s.kind) kept)
+    (ap (λ (s : SessionState). s.rows) kept) c.put_in.ensures.told c.put_in.ensures.change c.in_ok-change.ensures.made in
+    record {
+      session = rw (c.in_ok-change.ensures.session, kept) (rw (take_more rows index row c.row-row.ensures) refl);
+      evidence = evidence_grows c.args.name c.args.kind rows index row _ _ c.row-row.ensures c.loop-index.invariant.evidence
+          (rw c.put_in.ensures.told at (c.in_ok-note.ensures (take index rows) made));
+    }

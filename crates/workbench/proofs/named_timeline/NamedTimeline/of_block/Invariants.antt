@@ -1,7 +1,11 @@
-use Rattle.std.proofs.Common.{◌≡◌, take}
+use Rattle.std.proofs.Common.{◌≡◌, List, take}
 use Rattle.timeline_undo.specs.History.{no_history}
 use Rattle.timeline_undo.specs.Session.{SessionState}
+use Rattle.workbench.specs.Told.{loaded_evidence}
 use Rattle.workbench.proofs.named_timeline.NamedTimeline.of_block.Given as goal
 
 abbrev pub invariant-loop-index : goal.invariant-loop-index
-invariant-loop-index l = ◌≡◌ {A = SessionState} l.session (record { kind = l.fn.kind; rows = take l.index l.rows; next = l.next; history = no_history })
+invariant-loop-index l = record {
+  session : ◌≡◌ {A = SessionState} l.session (record { kind = l.fn.kind; rows = take l.index l.rows; next = l.next; history = no_history });
+  evidence : l.evidence ≡ loaded_evidence l.name l.fn.kind (take l.index l.rows);
+}

@@ -1,16 +1,13 @@
 use Rattle.std.proofs.Common.{refl}
 use Rattle.workbench.proofs.TimelineEffects.{redoes_nothing, redoes_newest}
 use Rattle.workbench.proofs.named_timeline.NamedTimeline.redo.Goals as goal
-use Rattle.workbench.proofs.named_timeline.NamedTimeline.redo.Goals.{in-Ok, in-Err-Nothing, in-Err-NoMemory}
 
-pub returns-clause-ok : goal.returns-clause-ok
-returns-clause-ok c =
-    elim c.match-redo.branch [
-      | in-Ok w ↦
-          let found = w.in-Ok.ensures.step in
-          rw w.result-is (rw (← c.self.view_is, found.1) (redoes_newest _ _ found.0))
-      | in-Err-Nothing w ↦
-          rw w.result-is
-          (rw (← c.self.view_is, w.in-Err-Nothing.ensures.err, w.refused.ensures) (redoes_nothing _ (w.in-Err-Nothing.ensures.nothing.0 (rw w.in-Err-Nothing.field-0-is refl))))
-      | in-Err-NoMemory w ↦ rw w.result-is tt
-    ]
+pub returns-in-Ok-clause-ok : goal.returns-in-Ok-clause-ok
+returns-in-Ok-clause-ok c =
+    let found = c.in-Ok.ensures.step in
+    rw (← c.self.view_is, c.tell.ensures c.self.inside.session.rows (rw found.1 c.in-Ok.ensures.made), found.1) (redoes_newest _ _ found.0)
+
+pub returns-in-Err-Nothing-clause-ok : goal.returns-in-Err-Nothing-clause-ok
+returns-in-Err-Nothing-clause-ok c =
+    rw (← c.self.view_is, c.in-Err-Nothing.ensures.err, c.refused.ensures)
+    (redoes_nothing _ (c.in-Err-Nothing.ensures.nothing.0 (rw c.in-Err-Nothing.field-0-is refl)))

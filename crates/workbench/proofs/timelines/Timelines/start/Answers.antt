@@ -1,4 +1,5 @@
 use Rattle.std.proofs.Common.{◌≡◌, false, sym, ◌∙◌}
+use Rattle.workbench.specs.declared.outcome.Outcome.TheVariants.{Accepted}
 use Rattle.workbench.specs.Bench.{fresh, has_timeline}
 use Rattle.workbench.specs.Reaction.{with_timeline}
 use Rattle.workbench.proofs.Named.{no_room, startable}
@@ -14,5 +15,5 @@ pub returns-clause-ok : goal.returns-clause-ok
 returns-clause-ok c =
     let free : has_timeline c.args.name c.self.inside.timelines.items ≡ false = rw (← c.self.view_is) at (sym c.has.ensures ∙ c.if-has.false) in
     rw (← c.self.view_is, c.in_ok-push.ensures.items, c.in_ok-timeline.ensures)
-    (startable c.self.inside.timelines.items c.args.name (with_timeline c.self.inside.timelines.items (fresh c.args.name c.args.kind)) free
+    (startable c.self.inside.timelines.items c.args.name (with_timeline c.self.inside.timelines.items (fresh c.args.name c.args.kind) Accepted) free
     (rw (← c.self.view_is) at (sym c.is_full.ensures ∙ c.if-is_full.false)))

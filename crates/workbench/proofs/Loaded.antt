@@ -1,0 +1,74 @@
+-- The evidence of the rows of a block, row by row.
+use Rattle.std.proofs.Common.{◌≡◌, ℕ, zero, suc, ◌+◌, List, [], ◌∷◌, ◌++◌, length, take, slice_get, Some, refl, sym, ap, ◌∙◌, subst, arith, append_assoc, append-nil, length-append}
+use Rattle.std.specs.List.{insert}
+use Rattle.std.proofs.lemmas.List.Edits.{insert_end}
+use Rattle.evidence.specs.declared.evidence.Evidence.{Evidence}
+use Rattle.retro_base.specs.declared.kind.Kind.{Kind}
+use Rattle.retro_base.specs.declared.kind.Kind.TheVariants.{Queue, Stack, Deque, Dict, Pq}
+use Rattle.retro_base.specs.declared.row.Change.{Change}
+use Rattle.retro_base.specs.declared.row.Row.{Row}
+use Rattle.retro_base.specs.Edits.{Edit, Step, add, edited, edited_by}
+use Rattle.retro_base.specs.MadeEdits.{IsMade}
+use Rattle.retro_base.specs.PrefixLaws.{take_more, taken_below}
+use Rattle.workbench.specs.Told.{evidence_of, evidence_of_step, appends_from, loaded_evidence, noted}
+
+-- the evidence of one more edit
+evidence_more : (name : List ℕ) (rows : List Row) (step : Step) (edit : Edit)
+    → evidence_of_step name rows (step ++ edit ∷ []) ≡ evidence_of_step name rows step ++ evidence_of name (edited_by rows step) edit ∷ []
+unfolding evidence_of_step
+evidence_more name rows [] edit = refl
+evidence_more name rows (first ∷ step) edit = ap (λ more. evidence_of name rows first ∷ more) (evidence_more name (edited rows first) step edit)
+
+appends_more : (place : ℕ) (rows : List Row) (row : Row) → appends_from place (rows ++ row ∷ []) ≡ appends_from place rows ++ add (place + length rows) row ∷ []
+unfolding appends_from
+appends_more place [] row = ap (λ n. add n row ∷ []) (omega arith)
+appends_more place (first ∷ rows) row =
+    ap (λ more. add place first ∷ more) (appends_more (suc place) rows row ∙ ap (λ n. appends_from (suc place) rows ++ add n row ∷ []) (omega arith))
+
+-- rows that are put in one after another stand there
+appends_lead : (rows more : List Row) → edited_by rows (appends_from (length rows) more) ≡ rows ++ more
+unfolding appends_from
+appends_lead rows [] = sym (append-nil rows)
+appends_lead rows (row ∷ more) =
+    let longer : suc (length rows) ≡ length (rows ++ row ∷ []) = omega (arith, length-append rows (row ∷ [])) in
+    ap (λ rs. edited_by rs (appends_from (suc (length rows)) more)) (insert_end rows row)
+    ∙ ap (λ n. edited_by (rows ++ row ∷ []) (appends_from n more)) longer
+    ∙ appends_lead (rows ++ row ∷ []) more ∙ append_assoc rows (row ∷ []) more
+
+-- the evidence of one more row
+pub loaded_more : (name : List ℕ) (kind : Kind) (rows : List Row) (row : Row)
+    → loaded_evidence name kind (rows ++ row ∷ []) ≡ loaded_evidence name kind rows ++ noted name kind rows (add (length rows) row)
+loaded_more name Queue rows row = refl
+loaded_more name Stack rows row = refl
+loaded_more name Deque rows row = refl
+loaded_more name Dict rows row = refl
+loaded_more name Pq rows row =
+    ap (evidence_of_step name []) (appends_more 0 rows row) ∙ evidence_more name [] (appends_from 0 rows) (add (0 + length rows) row)
+    ∙ ap (λ rs. evidence_of_step name [] (appends_from 0 rows) ++ evidence_of name rs (add (0 + length rows) row) ∷ []) (appends_lead [] rows)
+    ∙ ap (λ n. evidence_of_step name [] (appends_from 0 rows) ++ evidence_of name rows (add n row) ∷ []) (omega arith)
+
+pub loaded_none : (name : List ℕ) (kind : Kind) → [] ≡ loaded_evidence name kind []
+unfolding appends_from evidence_of_step
+loaded_none name Queue = refl
+loaded_none name Stack = refl
+loaded_none name Deque = refl
+loaded_none name Dict = refl
+loaded_none name Pq = refl
+
+pub evidence_grows : (name : List ℕ) (kind : Kind) (rows : List Row) (index : ℕ) (row : Row) (old new : List Evidence) → slice_get rows index ≡ Some row
+    → old ≡ loaded_evidence name kind (take index rows) → new ≡ old ++ noted name kind (take index rows) (add index row)
+    → new ≡ loaded_evidence name kind (take (index + 1) rows)
+evidence_grows name kind rows index row old new there old_is new_is =
+    let before = take index rows in
+    new_is ∙ ap (λ es. es ++ noted name kind before (add index row)) old_is
+    ∙ ap (λ n. loaded_evidence name kind before ++ noted name kind before (add n row)) (sym (taken_below rows index row there).0)
+    ∙ sym (loaded_more name kind before row) ∙ ap (loaded_evidence name kind) (sym (take_more rows index row there))
+
+-- a row of a block was put in behind those before it
+pub put_in_behind : (kind session_kind : Kind) (rows session_rows : List Row) (index : ℕ) (row : Row) (edit : Edit) (change told : Change) → slice_get rows index ≡ Some row
+    → session_kind ≡ kind → session_rows ≡ take index rows → edit ≡ add index row → told ≡ change
+    → IsMade session_kind session_rows (add (length session_rows) row) change → IsMade kind (take index rows) edit told
+put_in_behind kind session_kind rows session_rows index row edit change told there same_kind same_rows same_edit same_change made =
+    rw (same_edit, same_change, ← same_kind)
+    (subst (λ n. IsMade session_kind (take index rows) (add n row) change) (taken_below rows index row there).0
+    (subst (λ rs. IsMade session_kind rs (add (length rs) row) change) same_rows made))
