@@ -19,7 +19,15 @@ fn judgement(rt: &impl Abort, alloc: Global, lines: &[u8]) -> Result<u32, (u32, 
 
 #[test]
 fn what_is_made_of_lines(rt: HostRuntime) -> Result<(), Fail> {
-    let cases: [(&[u8], Result<u32, (u32, CheckError)>); 29] = [
+    let cases: [(&[u8], Result<u32, (u32, CheckError)>); 31] = [
+        (
+            b"edit p add 0 #1 ins 4 bridge 0 gain #1 4\nedit p add 1 #2 ins 2 bridge 1 gain #2 2\nedit p add 2 #3 delmin bridge 2 lose #2 2\nedit p add 3 #4 delmin bridge 3 lose #1 4\nedit p add 4 #5 ins 3 bridge 4 gain #5 3\nedit p add 1 #6 ins 1 bridge 0 gain #1 4",
+            Ok(6),
+        ),
+        (
+            b"edit p add 0 #1 ins 4 bridge 0 gain #1 4\nedit p add 1 #2 ins 2 bridge 1 gain #2 2\nedit p add 2 #3 delmin bridge 2 lose #2 2\nedit p add 3 #4 delmin bridge 3 lose #1 4\nedit p add 4 #5 ins 3 bridge 4 gain #5 3\nedit p add 1 #6 ins 1 bridge 4 gain #1 4",
+            Err((6, CheckError::Bridge)),
+        ),
         (
             b"ok\nedit p add 0 #1 ins 4 bridge 0 gain #1 4\nedit p add 1 #2 delmin bridge 1 lose #1 4\nedit p add 0 #3 ins 2 bridge 0 gain #1 4\n= 4\n= 2",
             Ok(3),
