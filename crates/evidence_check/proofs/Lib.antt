@@ -1,0 +1,16 @@
+pub mod EntryOrder
+pub mod Members
+pub mod Best
+pub mod Marking
+pub mod Weighing
+pub mod Shown
+pub mod Fresh
+pub mod Accepted
+pub mod Possible
+pub mod Kept
+pub mod TellingRows
+pub mod TellingLists
+pub mod ChangesRead
+pub mod ChangeCauses
+pub mod Mapped
+pub mod TrueEvidence

@@ -1,0 +1,36 @@
+-- Marked rows, and the rows that are marked.
+use Rattle.std.proofs.Common.{◌≡◌, ℕ, zero, suc, ◌<◌, Bool, true, false, ◌||◌, List, [], ◌∷◌, length, take, drop, map, refl, sym, ap, ◌∙◌, arith, Option, Some, None}
+use Rattle.std.specs.Prelude.{◌==◌, slice_get, insert, remove}
+use Rattle.std.specs.List.{list_any}
+use Rattle.std.proofs.lemmas.List.{take-map}
+use Rattle.evidence_check.specs.declared.marked_row.MarkedRow.{MarkedRow}
+use Rattle.evidence_check.specs.Marks.{row_of, rows_of}
+use Rattle.evidence_check.specs.Truth.{has_number}
+
+pub length_rows : (marked : List MarkedRow) → length (rows_of marked) ≡ length marked
+length_rows [] = refl
+length_rows (first ∷ others) = ap (λ n. suc n) (length_rows others)
+
+pub has_number_marked : (number : ℕ) (marked : List MarkedRow) → has_number number (rows_of marked) ≡ list_any (λ row. row.number == number) marked
+has_number_marked number [] = refl
+has_number_marked number (first ∷ others) = ap (λ b. (first.number == number) || b) (has_number_marked number others)
+
+pub take_rows : (place : ℕ) (marked : List MarkedRow) → take place (rows_of marked) ≡ rows_of (take place marked)
+take_rows place marked = take-map row_of place marked
+
+pub drop_rows : (place : ℕ) (marked : List MarkedRow) → drop place (rows_of marked) ≡ rows_of (drop place marked)
+drop_rows zero marked = refl
+drop_rows (suc place) [] = refl
+drop_rows (suc place) (first ∷ others) = drop_rows place others
+
+-- an edit of the marked rows is one of the rows
+pub insert_rows : (place : ℕ) (marked : List MarkedRow) (row : MarkedRow) → rows_of (insert marked place row) ≡ insert (rows_of marked) place (row_of row)
+insert_rows zero marked row = refl
+insert_rows (suc place) [] row = refl
+insert_rows (suc place) (first ∷ others) row = ap (λ rows. row_of first ∷ rows) (insert_rows place others row)
+
+pub remove_rows : (place : ℕ) (marked : List MarkedRow) → rows_of (remove marked place) ≡ remove (rows_of marked) place
+remove_rows zero [] = refl
+remove_rows zero (first ∷ others) = refl
+remove_rows (suc place) [] = refl
+remove_rows (suc place) (first ∷ others) = ap (λ rows. row_of first ∷ rows) (remove_rows place others)

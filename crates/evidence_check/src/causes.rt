@@ -1,0 +1,97 @@
+//! Why evidence is refused, by the tests in their order.
+
+ghost use Rattle.std.specs.Prelude.{◌≡◌, ◌==◌};
+ghost use Rattle.std.specs.List.{list_any};
+ghost use Rattle.evidence.specs.Evidence.{IsEvidence};
+ghost use Rattle.evidence_check.specs.Marks.{IsKept, rows_of};
+ghost use Rattle.evidence_check.specs.Truth.{cause_of, has_wrong_number, has_wrong_op, is_full, is_outside, same_op};
+
+use crate::CheckError;
+use crate::changes::change_cause;
+use crate::marked_row::MarkedRow;
+use evidence::Evidence;
+use retro_base::{MAX_ROWS, Op};
+
+/// Why evidence is refused behind these rows, if it is.
+#[tactic(auto, unfolding(crate::specs::Truth::cause_of))]
+pub(crate) fn cause_of(rows: &[MarkedRow], evidence: &Evidence) -> Option<CheckError>
+    requires kept { IsKept rows.now }
+    requires evidence { IsEvidence evidence.now }
+    ensures { result ≡ cause_of (rows_of rows.now) evidence.now }
+{
+    if is_full(evidence.added, rows) {
+        Some(CheckError::Full)
+    } else if is_outside(evidence.added, evidence.place, rows) {
+        Some(CheckError::Place)
+    } else if has_wrong_number(evidence.added, evidence.number, evidence.place, rows) {
+        Some(CheckError::Number)
+    } else if has_wrong_op(evidence.added, evidence.op, evidence.place, rows) {
+        Some(CheckError::Row)
+    } else {
+        change_cause(rows, evidence)
+    }
+}
+
+/// Whether there is no room for one more row.
+fn is_full(added: bool, rows: &[MarkedRow]) -> bool
+    ensures { result ≡ is_full added (rows_of rows.now) }
+{
+    added && rows.len() >= MAX_ROWS as usize
+}
+
+/// Whether no row can be put in at the place, or none stands there to be taken out.
+fn is_outside(added: bool, place: u32, rows: &[MarkedRow]) -> bool
+    ensures { result ≡ is_outside added place (rows_of rows.now) }
+{
+    if added {
+        rows.len() < place as usize
+    } else {
+        rows.len() <= place as usize
+    }
+}
+
+/// Whether a row that is put in has the number of another one, or the one that is taken out has another number.
+fn has_wrong_number(added: bool, number: u32, place: u32, rows: &[MarkedRow]) -> bool
+    ensures { result ≡ has_wrong_number added number place (rows_of rows.now) }
+{
+    if added {
+        has_number(number, rows)
+    } else {
+        match rows.get(place as usize) {
+            None => true,
+            Some(row) => row.number != number,
+        }
+    }
+}
+
+/// Whether one of the rows has the number.
+fn has_number(number: u32, rows: &[MarkedRow]) -> bool
+    ensures { result ≡ list_any (λ row. row.number == number) rows.now }
+{
+    rows.iter().any(|row| row.number == number)
+}
+
+/// Whether the row that is taken out does something else.
+fn has_wrong_op(added: bool, op: Op, place: u32, rows: &[MarkedRow]) -> bool
+    ensures { result ≡ has_wrong_op added op place (rows_of rows.now) }
+{
+    if added {
+        false
+    } else {
+        match rows.get(place as usize) {
+            None => true,
+            Some(row) => !is_same_op(row.op, op),
+        }
+    }
+}
+
+/// Whether two operations of a priority queue are one.
+fn is_same_op(op: Op, other: Op) -> bool
+    ensures { result ≡ same_op op other }
+{
+    match (op, other) {
+        (Op::Ins { key: first }, Op::Ins { key: second }) => first == second,
+        (Op::DelMin, Op::DelMin) => true,
+        _ => false,
+    }
+}

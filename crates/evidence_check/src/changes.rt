@@ -1,0 +1,154 @@
+//! What an edit changes, read off the marks of the rows before it.
+
+ghost use Rattle.std.specs.Prelude.{◌≡◌, ◌≤◌, false, length};
+ghost use Rattle.retro_base.specs.Carried.{IsPqEdit};
+ghost use Rattle.retro_base.specs.Weights.{added_as};
+ghost use Rattle.evidence.specs.Evidence.{IsEvidence};
+ghost use Rattle.evidence_check.specs.Marks.{IsKept, cause_against, gained, is_alive_at, lost, marked_change, rows_of};
+ghost use Rattle.evidence_check.specs.Truth.{bridge_of, change_cause, is_outside, same_bridge, same_change, told_edit};
+
+use crate::CheckError;
+use crate::bridges::{first_bridge, greatest_dead, last_bridge, least_alive};
+use crate::marked_row::{MarkedRow, added_entry, is_same};
+use evidence::Evidence;
+use retro_base::{
+    Change, Entry, greatest_from_bridge_is_gained, least_before_bridge_is_lost,
+    one_change_is_named, one_entry_is_carried,
+};
+
+/// Why evidence is refused that tells of an edit which can be made in these rows, if it is.
+pub(crate) fn change_cause(rows: &[MarkedRow], evidence: &Evidence) -> Option<CheckError>
+    requires kept { IsKept rows.now }
+    requires evidence { IsEvidence evidence.now }
+    requires possible { IsPqEdit (rows_of rows.now) (told_edit evidence.now) }
+    requires inside { is_outside evidence.now.added evidence.now.place (rows_of rows.now) ≡ false }
+    ensures { result ≡ change_cause (rows_of rows.now) (told_edit evidence.now) evidence.now.change }
+{
+    one_entry_is_carried();
+    greatest_from_bridge_is_gained();
+    least_before_bridge_is_lost();
+    one_change_is_named();
+    cause_against(evidence.change, marked_change(rows, evidence))
+}
+
+/// Why a change is refused where this one was read off the marks, or none.
+fn cause_against(stated: Change, read: Option<Change>) -> Option<CheckError>
+    ensures { result ≡ cause_against stated read }
+{
+    match read {
+        None => Some(CheckError::Replay),
+        Some(change) => {
+            if !is_same_bridge(bridge_of(stated), bridge_of(change)) {
+                Some(CheckError::Bridge)
+            } else if !is_same_change(stated, change) {
+                Some(CheckError::Entry)
+            } else {
+                None
+            }
+        }
+    }
+}
+
+/// What the edit changes. There is none where the rows after it do not replay.
+fn marked_change(rows: &[MarkedRow], evidence: &Evidence) -> Option<Change>
+    requires kept { IsKept rows.now }
+    requires inside { is_outside evidence.now.added evidence.now.place (rows_of rows.now) ≡ false }
+    ensures { result ≡ marked_change rows.now evidence.now.added evidence.now.place (added_as evidence.now.op evidence.now.number) }
+{
+    let place = evidence.place;
+    let entry = added_entry(evidence.op, evidence.number);
+    match (evidence.added, entry) {
+        (true, None) => lost(rows, place),
+        (false, None) => gained(rows, place, None),
+        (true, Some(_)) => gained(rows, place, entry),
+        (false, Some(entry)) => {
+            if is_alive_at(rows, place) {
+                Some(Change::Lose {
+                    bridge: None,
+                    entry,
+                })
+            } else {
+                lost(rows, place + 1)
+            }
+        }
+    }
+}
+
+/// The greatest of an entry and the dead ones from the last bridge up to a place is gained.
+fn gained(rows: &[MarkedRow], place: u32, new: Option<Entry>) -> Option<Change>
+    requires kept { IsKept rows.now }
+    requires within { place ≤ length rows.now }
+    ensures { result ≡ gained rows.now place new }
+{
+    let bridge = last_bridge(rows, place);
+    let entry = greatest_dead(new, &rows[bridge as usize..])?;
+    Some(Change::Gain { bridge, entry })
+}
+
+/// The least entry that survives from before the first bridge from a place on is lost.
+fn lost(rows: &[MarkedRow], place: u32) -> Option<Change>
+    requires kept { IsKept rows.now }
+    requires within { place ≤ length rows.now }
+    ensures { result ≡ lost rows.now place }
+{
+    let bridge = first_bridge(rows, place);
+    let entry = least_alive(&rows[..bridge as usize])?;
+    Some(Change::Lose {
+        bridge: Some(bridge),
+        entry,
+    })
+}
+
+/// Whether the entry of the row at a place survives.
+fn is_alive_at(rows: &[MarkedRow], place: u32) -> bool
+    ensures { result ≡ is_alive_at rows.now place }
+{
+    match rows.get(place as usize) {
+        None => false,
+        Some(row) => row.alive,
+    }
+}
+
+/// The bridge that a change states.
+fn bridge_of(change: Change) -> Option<u32>
+    ensures { result ≡ bridge_of change }
+{
+    match change {
+        Change::Plain => None,
+        Change::Gain { bridge, .. } => Some(bridge),
+        Change::Lose { bridge, .. } => bridge,
+    }
+}
+
+fn is_same_bridge(bridge: Option<u32>, other: Option<u32>) -> bool
+    ensures { result ≡ same_bridge bridge other }
+{
+    match (bridge, other) {
+        (None, None) => true,
+        (Some(first), Some(second)) => first == second,
+        _ => false,
+    }
+}
+
+fn is_same_change(change: Change, other: Change) -> bool
+    ensures { result ≡ same_change change other }
+{
+    match (change, other) {
+        (Change::Plain, Change::Plain) => true,
+        (
+            Change::Gain { bridge, entry },
+            Change::Gain {
+                bridge: stated,
+                entry: changed,
+            },
+        ) => bridge == stated && is_same(entry, changed),
+        (
+            Change::Lose { bridge, entry },
+            Change::Lose {
+                bridge: stated,
+                entry: changed,
+            },
+        ) => is_same_bridge(bridge, stated) && is_same(entry, changed),
+        _ => false,
+    }
+}

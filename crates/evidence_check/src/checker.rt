@@ -1,0 +1,129 @@
+ghost use Rattle.std.specs.Prelude.{◌≡◌, ◌≤◌, ◌<◌, ◌^◌, [], length, position, None, Ok, IsOk, IsTrue, OnOk, OnErr, false};
+ghost use Rattle.evidence.specs.Evidence.{IsEvidence};
+ghost use Rattle.retro_base.specs.Limits.{longest_line};
+ghost use Rattle.evidence_check.specs.Judgement.{decided, first_cause, is_evidence_line, is_named, judged_line, nothing_told, told_after};
+
+use crate::CheckError;
+use crate::told::Told;
+use evidence::{Evidence, read_evidence};
+use retro_base::Name;
+use std::alloc::Global;
+use std::marker::Model;
+
+/// The most timelines that evidence may name.
+const MAX_TIMELINES: usize = 8;
+
+/// Takes the lines of an output one after another, and accepts the evidence among them as long as it is true.
+/// Contracts see what was told, and in how many lines, as a judge of `specs/Judgement.antt`.
+#[derive(Drop)]
+pub struct Checker {
+    alloc: Global,
+    told: Vec<Told>,
+    accepted: u32,
+}
+
+impl Model for Checker {
+    ghost use Rattle.evidence_check.specs.Judgement.{Judge};
+
+    ghost Value = { Judge };
+
+    ghost view = { λ c. record { told = c.told.items; accepted = c.accepted } };
+}
+
+impl Checker {
+    ghost use Rattle.evidence_check.specs.Refused.{IsRefused, cause_in};
+
+    /// A checker of no line.
+    pub fn new(alloc: Global) -> Checker
+        ensures { result ≡ nothing_told }
+    {
+        Checker {
+            alloc,
+            told: Vec::new(alloc),
+            accepted: 0,
+        }
+    }
+
+    /// How many lines of evidence were accepted.
+    pub fn accepted(&self) -> u32
+        ensures { result ≡ self.now.accepted }
+    {
+        self.accepted
+    }
+
+    /// Takes a line. Of a line that is too long its first bytes are given, as many as a line may have, and `long`
+    /// says that it has more. A line that is no evidence is passed over; after an error all is as before.
+    #[tactic(auto, unfolding(crate::specs::Judgement::judged_line))]
+    pub fn take(&mut self, line: &[u8], long: bool) -> Result<(), CheckError>
+        requires within { length line.now ≤ longest_line }
+        requires full { IsTrue long → length line.now ≡ longest_line }
+        requires count { self.old.accepted < 2 ^ 31 }
+        ensures ok { OnOk result (judged_line self.old line.now long ≡ Ok self.new) }
+        ensures err { OnErr result (self.new ≡ self.old) }
+        ensures cause { IsRefused result (cause_in (judged_line self.old line.now long)) }
+        ensures other { is_evidence_line line.now ≡ false → IsOk result × (self.new ≡ self.old) }
+    {
+        if !line.starts_with(b"edit ") {
+            return Ok(());
+        }
+        if long {
+            return Err(CheckError::Syntax);
+        }
+        match read_evidence(line) {
+            None => Err(CheckError::Syntax),
+            Some(evidence) => self.take_evidence(&evidence),
+        }
+    }
+
+    /// Takes evidence, and counts it.
+    fn take_evidence(&mut self, evidence: &Evidence) -> Result<(), CheckError>
+        requires evidence { IsEvidence evidence.now }
+        requires count { self.old.accepted < 2 ^ 31 }
+        ensures ok { OnOk result (decided (first_cause self.old.told evidence.now) self.old evidence.now ≡ Ok self.new) }
+        ensures err { OnErr result (self.new ≡ self.old) }
+        ensures cause { IsRefused result (first_cause self.old.told evidence.now) }
+    {
+        self.tell(evidence)?;
+        self.accepted += 1;
+        Ok(())
+    }
+
+    /// Adds what evidence tells.
+    fn tell(&mut self, evidence: &Evidence) -> Result<(), CheckError>
+        requires { IsEvidence evidence.now }
+        ensures truth { OnOk result (first_cause self.old.told evidence.now ≡ None) }
+        ensures told { OnOk result (self.new ≡ record self.old { told = told_after self.old.told evidence.now }) }
+        ensures err { OnErr result (self.new ≡ self.old) }
+        ensures cause { IsRefused result (first_cause self.old.told evidence.now) }
+    {
+        match self.index_of(evidence.name) {
+            Some(index) => self.told[index].take(evidence),
+            None => self.tell_first(evidence),
+        }
+    }
+
+    /// Adds what evidence tells of a timeline of which nothing was told yet.
+    fn tell_first(&mut self, evidence: &Evidence) -> Result<(), CheckError>
+        requires evidence { IsEvidence evidence.now }
+        requires fresh { position (is_named evidence.now.name) self.old.told ≡ None }
+        ensures truth { OnOk result (first_cause self.old.told evidence.now ≡ None) }
+        ensures told { OnOk result (self.new ≡ record self.old { told = told_after self.old.told evidence.now }) }
+        ensures err { OnErr result (self.new ≡ self.old) }
+        ensures cause { IsRefused result (first_cause self.old.told evidence.now) }
+    {
+        if self.told.as_slice().len() >= MAX_TIMELINES {
+            return Err(CheckError::Timelines);
+        }
+        let mut told = Told::new(self.alloc, evidence.name);
+        told.take(evidence)?;
+        self.told.push(told)?;
+        Ok(())
+    }
+
+    /// The index of what was told under the name.
+    fn index_of(&self, name: Name) -> Option<usize>
+        ensures { result ≡ position (is_named name) self.now.told }
+    {
+        self.told.iter().position(|told| told.name() == name)
+    }
+}

@@ -1,0 +1,14 @@
+//! Laws over the definition of true evidence.
+
+ghost use Rattle.evidence_check.specs.Laws.{ToldStays, TrueIsAccepted};
+
+use retro_base::one_change_is_named;
+
+/// Evidence is accepted exactly where it tells of an edit that is accepted and of the one change that this edit
+/// makes; and the rows that are told by it are a history again.
+pub fn true_evidence_is_accepted()
+    ensures accepted { TrueIsAccepted }
+    ensures stays { ToldStays }
+{
+    one_change_is_named();
+}

@@ -1,0 +1,99 @@
+"""Draws docs/bridges.svg: a history of a priority queue as the staircase of its weights, before and after one edit.
+
+    python3 docs/bridges.py > docs/bridges.svg
+
+A row that adds a dead entry weighs 1, one that adds a survivor weighs 0, and one that takes weighs -1. The line is the
+sum of the weights up to each place; where it touches the ground the place is a bridge.
+"""
+
+STEP, LEVEL, LEFT, GROUND, PANEL = 92, 34, 60, 132, 232
+
+BEFORE = [("#1", 4), ("#2", 2), ("#3", None), ("#4", None), ("#5", 3)]
+AFTER = BEFORE[:1] + [("#6", 1)] + BEFORE[1:]
+PANELS = [
+    (BEFORE, None, "before: the present is 3"),
+    (AFTER, 1, "after add 1 #6 ins 1: the present is 3 and 4, so #1 4 is gained"),
+]
+
+STYLE = """
+  text { font: 14px sans-serif; fill: #222 }
+  .title { font-weight: bold }
+  .small { font-size: 12px }
+  .ground { stroke: #888; stroke-width: 1 }
+  .stairs { fill: none; stroke: #1f5fa8; stroke-width: 3 }
+  .bridge { fill: #b3541e }
+  .place { fill: #1f5fa8 }
+  .new { fill: #b3541e; font-weight: bold }
+  .dead { fill: #777 }
+  .paper { fill: #fff }
+  @media (prefers-color-scheme: dark) {
+    text { fill: #ddd } .dead { fill: #999 } .paper { fill: #1b1b1b }
+    .stairs { stroke: #7db4f0 } .place { fill: #7db4f0 } .bridge, .new { fill: #f0a070 }
+  }
+"""
+
+
+def survivors(rows):
+    """The numbers of the rows whose entries are left when all rows are performed."""
+    held = []
+    for number, key in rows:
+        if key is None:
+            held.remove(min(held))
+        else:
+            held.append((key, int(number[1:])))
+    return {f"#{number}" for _, number in held}
+
+
+def weight(row, alive):
+    number, key = row
+    if key is None:
+        return -1
+    return 0 if number in alive else 1
+
+
+def panel(top, rows, new, title):
+    alive = survivors(rows)
+    sums = [0]
+    for row in rows:
+        sums.append(sums[-1] + weight(row, alive))
+    ground = top + GROUND
+
+    def x(place):
+        return LEFT + STEP * place
+
+    def y(total):
+        return ground - LEVEL * total
+
+    yield f'<text class="title" x="{LEFT - 10}" y="{top + 24}">{title}</text>'
+    yield f'<line class="ground" x1="{LEFT - 20}" y1="{ground}" x2="{x(len(rows)) + 20}" y2="{ground}"/>'
+    path = f"M {x(0)} {y(0)}"
+    for place in range(len(rows)):
+        middle = x(place) + STEP // 2
+        path += f" H {middle} V {y(sums[place + 1])}"
+    yield f'<path class="stairs" d="{path} H {x(len(rows))}"/>'
+    for place, total in enumerate(sums):
+        kind, radius = ("bridge", 6) if total == 0 else ("place", 4)
+        yield f'<circle class="{kind}" cx="{x(place)}" cy="{y(total)}" r="{radius}"/>'
+        yield f'<text class="small" x="{x(place) - 4}" y="{ground + 20}">{place}</text>'
+    for place, row in enumerate(rows):
+        number, key = row
+        what = "delmin" if key is None else f"ins {key}"
+        style = "new" if place == new else "dead" if weight(row, alive) == 1 else ""
+        middle = x(place) + STEP // 2
+        yield f'<text class="{style}" text-anchor="middle" x="{middle}" y="{ground + 44}">{what}</text>'
+        yield f'<text class="small" text-anchor="middle" x="{middle}" y="{ground + 62}">{number}, weight {weight(row, alive)}</text>'
+
+
+def picture():
+    width = LEFT + STEP * len(AFTER) + 60
+    height = PANEL * len(PANELS) + 10
+    yield f'<svg xmlns="http://www.w3.org/2000/svg" width="{width}" height="{height}" viewBox="0 0 {width} {height}">'
+    yield f"<style>{STYLE}</style>"
+    yield f'<rect class="paper" width="{width}" height="{height}"/>'
+    for index, (rows, new, title) in enumerate(PANELS):
+        yield from panel(PANEL * index, rows, new, title)
+    yield "</svg>"
+
+
+if __name__ == "__main__":
+    print("\n".join(picture()))
