@@ -19,6 +19,19 @@ use workbench::Bench;
 /// The most bytes of an input.
 const MAX_BYTES: u64 = 1 << 30;
 
+/// Writes a text, by calls of `write` alone.
+pub(crate) fn send<K: Sink>(text: &[u8], sink: &mut K) -> Result<(), Stop>
+    ensures appended { OnOk result (Appends (K.written sink.old) text.now (K.written sink.new)) }
+    ensures unflushed { OnOk result (StaysUnflushed ⟦<K as Sink>⟧ sink.old sink.new) }
+    ensures failed { IfErr result (λ stop. stop ≡ Stop.WriteFault) }
+    ensures part { OnErr result (AppendsProperPrefix (K.written sink.old) text.now (K.written sink.new)) }
+    ensures last { OnErr result (EndsWithFailedWrite ⟦<K as Sink>⟧ sink.old sink.new) }
+    ensures faults { Counts (stops_at_write result) (K.faults sink.old) (K.faults sink.new) }
+{
+    put_all(sink, text)?;
+    Ok(())
+}
+
 /// Does what one line asks for, and writes the answer.
 fn answer_line<K: Sink>(
     line: &[u8],
@@ -41,7 +54,7 @@ fn answer_line<K: Sink>(
     ensures reads_nothing { (IsErrOf result Stop.ReadFault → ⊥) × (IsErrOf result Stop.TooLong → ⊥) }
 {
     let reply = bench.line(line, long)?;
-    put_all(sink, reply.text.as_bytes())?;
+    send(reply.text.as_bytes(), sink)?;
     Ok(reply.refused)
 }
 
@@ -59,7 +72,7 @@ fn answer_end<K: Sink>(bench: &mut Bench, sink: &mut K) -> Result<bool, Stop>
     ensures reads_nothing { (IsErrOf result Stop.ReadFault → ⊥) × (IsErrOf result Stop.TooLong → ⊥) }
 {
     let reply = bench.end()?;
-    put_all(sink, reply.text.as_bytes())?;
+    send(reply.text.as_bytes(), sink)?;
     Ok(reply.refused)
 }
 
