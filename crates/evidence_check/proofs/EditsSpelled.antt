@@ -21,7 +21,7 @@ use Rattle.retro_base.specs.OrderLaws.{all_weaker, all_with, all_without}
 use Rattle.retro_base.specs.Timeline.{AreOfKind}
 use Rattle.retro_base.specs.Weights.{added_as}
 use Rattle.evidence.specs.Evidence.{IsEvidence, IsPqEntry, IsPqOp, IsRowNumber, IsStatedChange}
-use Rattle.evidence_check.specs.Laws.{IsInRange, evidence_for, row_of}
+use Rattle.evidence_check.specs.Laws.{IsInRange, evidence_for, edit_row}
 use Rattle.evidence_check.proofs.Possible.{of_pq}
 use Rattle.evidence_check.proofs.Survivors.{Adds, all_survivors, of_joined}
 
@@ -77,14 +77,14 @@ bridge_within : (rows : List Row) (edit : Edit) (bridge : ℕ) → IsPqEdit rows
 bridge_within rows (add place row) bridge possible is = add_within rows row.op place row.number row.time bridge possible.within is
 bridge_within rows (cut place row) bridge possible is = cut_within rows row.op place row.number row.time bridge (slice_get_within rows place row possible.within) is
 
-edited_in_range : (rows : List Row) (edit : Edit) → AllByRecursion IsInRange rows → IsInRange (row_of edit) → AllByRecursion IsInRange (edited rows edit)
+edited_in_range : (rows : List Row) (edit : Edit) → AllByRecursion IsInRange rows → IsInRange (edit_row edit) → AllByRecursion IsInRange (edited rows edit)
 edited_in_range rows (add place row) ranges range = all_with IsInRange rows place row ranges range
 edited_in_range rows (cut place row) ranges range = all_without IsInRange rows place ranges
 
 in_range_kind : (rows : List Row) → AllByRecursion IsInRange rows → AreOfKind Pq rows
 in_range_kind rows ranges = all_weaker IsInRange (λ row. kind_of row.op ≡ Pq) rows (λ row range. of_pq row.op range.1) ranges
 
-change_in_range : (rows : List Row) (edit : Edit) (change : Change) → IsPqEdit rows edit → length rows ≤ most_rows → AllByRecursion IsInRange rows → IsInRange (row_of edit)
+change_in_range : (rows : List Row) (edit : Edit) (change : Change) → IsPqEdit rows edit → length rows ≤ most_rows → AllByRecursion IsInRange rows → IsInRange (edit_row edit)
     → IsPqChange rows edit change → IsStatedChange change
 change_in_range rows edit Plain possible few ranges range is = absurd is
 change_in_range rows edit (Gain bridge entry) possible few ranges range is =
@@ -101,7 +101,7 @@ change_in_range rows edit (Lose (Some bridge) entry) possible few ranges range i
   of_joined IsPqEntry entry (survivors (edited rows edit)) (rw is.1.joined at (survivors_in_range rows possible.history.of_kind ranges)),
 )
 
-in_ranges : (rows : List Row) (edit : Edit) (name : List ℕ) (change : Change) → IsPqEdit rows edit → length rows ≤ most_rows → is_name name ≡ true → IsInRange (row_of edit)
+in_ranges : (rows : List Row) (edit : Edit) (name : List ℕ) (change : Change) → IsPqEdit rows edit → length rows ≤ most_rows → is_name name ≡ true → IsInRange (edit_row edit)
     → IsStatedChange change → IsEvidence (evidence_for name edit change)
 in_ranges rows (add place row) name change possible few named range stated = record {
   named = named;
@@ -119,7 +119,7 @@ in_ranges rows (cut place row) name change possible few named range stated = rec
 }
 
 pub edit_is_spelled : OneChangeOfPq → (rows : List Row) (edit : Edit) (name : List ℕ) → IsPqEdit rows edit → IsAccepted Pq rows edit → length rows ≤ most_rows → is_name name ≡ true
-    → AllByRecursion IsInRange rows → IsInRange (row_of edit) → IsEvidence (evidence_for name edit (change_of Pq rows edit))
+    → AllByRecursion IsInRange rows → IsInRange (edit_row edit) → IsEvidence (evidence_for name edit (change_of Pq rows edit))
 edit_is_spelled one rows edit name possible accepted few named ranges range =
     in_ranges rows edit name (change_of Pq rows edit) possible few named range
     (change_in_range rows edit (change_of Pq rows edit) possible few ranges range ((one rows edit possible accepted).meets))

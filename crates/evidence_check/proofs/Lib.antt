@@ -17,3 +17,4 @@ pub mod TrueEvidence
 pub mod Timeless
 pub mod EditsTold
 pub mod EditsSpelled
+mod Examples

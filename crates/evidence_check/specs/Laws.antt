@@ -65,11 +65,11 @@ EditsAreTold = (rows : List Row) (edit : Edit) (name : List ℕ) → IsPqEdit ro
 abbrev pub IsInRange : Row → Type 0
 IsInRange row = IsRowNumber row.number × IsPqOp row.op
 
-abbrev pub row_of : Edit → Row
-row_of (add place row) = row
-row_of (cut place row) = row
+abbrev pub edit_row : Edit → Row
+edit_row (add place row) = row
+edit_row (cut place row) = row
 
 -- where rows are in range the evidence of an accepted edit can be spelled
 abbrev pub EditsAreSpelled : Type 0
 EditsAreSpelled = (rows : List Row) (edit : Edit) (name : List ℕ) → IsPqEdit rows edit → IsAccepted Pq rows edit → length rows ≤ most_rows
-    → is_name name ≡ true → AllByRecursion IsInRange rows → IsInRange (row_of edit) → IsEvidence (evidence_for name edit (change_of Pq rows edit))
+    → is_name name ≡ true → AllByRecursion IsInRange rows → IsInRange (edit_row edit) → IsEvidence (evidence_for name edit (change_of Pq rows edit))
