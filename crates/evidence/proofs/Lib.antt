@@ -6,3 +6,4 @@ pub mod ReadsBack
 pub mod PrintedPart
 pub mod Lines
 pub mod Short
+mod Examples

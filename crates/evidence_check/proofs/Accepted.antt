@@ -1,5 +1,5 @@
 -- What holds of evidence against which no cause is found.
-use Rattle.std.proofs.Common.{◌≡◌, ℕ, Bool, true, false, not, ◌&&◌, cond, List, refl, sym, ap, ◌∙◌, Option, Some, None}
+use Rattle.std.proofs.Common.{◌≡◌, ℕ, Bool, true, false, not, cond, List, refl, ap, Option, Some, None}
 use Rattle.std.specs.Prelude.{◌==◌, is_some}
 use Rattle.std.proofs.lemmas.Bool.Decides.{Decides-eqb}
 use Rattle.retro_base.specs.declared.kind.Kind.TheVariants.{Pq}
@@ -11,8 +11,7 @@ use Rattle.retro_base.specs.Bridges.{same_entry, stated_bridge}
 use Rattle.retro_base.specs.Changes.{change_of}
 use Rattle.retro_base.specs.Replay.{failure}
 use Rattle.evidence.specs.declared.evidence.Evidence.{Evidence}
-use Rattle.evidence_check.specs.declared.error.CheckError.{CheckError}
-use Rattle.evidence_check.specs.Truth.{bridge_of, cause_of, change_cause, has_wrong_number, has_wrong_op, is_full, is_outside, same_bridge, same_change, told_edit}
+use Rattle.evidence_check.specs.Truth.{bridge_of, cause_of, has_wrong_number, has_wrong_op, is_full, is_outside, same_bridge, same_change, told_edit}
 use Rattle.evidence_check.proofs.EntryOrder.{both_true, same_is}
 
 passes : {X : Type 0} (test : Bool) (x : X) (o : Option X) → cond test (Some x) o ≡ None → (test ≡ false) × (o ≡ None)

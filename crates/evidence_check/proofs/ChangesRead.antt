@@ -1,6 +1,6 @@
 -- The change that is read off the marks is the change of the edit; where none is read, the rows after it do not replay.
-use Rattle.std.proofs.Common.{◌≡◌, ◌≢◌, ℕ, suc, ◌-◌, ℤ, Bool, true, false, not, cond, List, [], ◌∷◌, take, drop, refl, sym, ap, ◌∙◌, subst, inl, inr, Option, Some, None}
-use Rattle.std.specs.Prelude.{◌⊎◌, Contains, is_some, slice_get, option_map}
+use Rattle.std.proofs.Common.{◌≡◌, ◌≢◌, ℕ, suc, ◌-◌, ℤ, Bool, true, false, cond, List, take, drop, refl, sym, ap, ◌∙◌, subst, inl, inr, Option, Some, None}
+use Rattle.std.specs.Prelude.{◌⊎◌, is_some, slice_get, option_map}
 use Rattle.std.specs.Option.{option_map_or}
 use Rattle.std.proofs.lemmas.Option.{slice_get-map}
 use Rattle.retro_base.specs.declared.kind.Kind.TheVariants.{Pq}
@@ -10,7 +10,6 @@ use Rattle.retro_base.specs.declared.row.Change.{Change}
 use Rattle.retro_base.specs.declared.row.Change.TheVariants.{Gain, Lose}
 use Rattle.retro_base.specs.declared.row.Entry.{Entry}
 use Rattle.retro_base.specs.declared.row.Row.{Row}
-use Rattle.retro_base.specs.State.{comes_before}
 use Rattle.retro_base.specs.Replay.{failure}
 use Rattle.retro_base.specs.Edits.{Edit, add, cut, edited, IsAccepted}
 use Rattle.retro_base.specs.Bridges.{IsFound, IsLastBridge, IsFirstBridge, IsStatedBridge, first_bridge, is_among, last_bridge, on_from, sought, stated_bridge, survivors}
@@ -23,10 +22,10 @@ use Rattle.retro_base.specs.Weights.{added_as, added_by}
 use Rattle.evidence.specs.Evidence.{IsPqOp}
 use Rattle.retro_base.specs.Changes.{Gains, Loses, change_of}
 use Rattle.evidence_check.specs.declared.marked_row.MarkedRow.{MarkedRow}
-use Rattle.evidence_check.specs.Marks.{IsKept, IsMarked, alive_entry, cut_change, dead_entry, entry_of, gained, greatest_dead, is_alive_at, is_greater, is_less, least_alive, lost, marked_change, row_of, rows_of}
+use Rattle.evidence_check.specs.Marks.{IsKept, IsMarked, alive_entry, cut_change, dead_entry, gained, greatest_dead, is_alive_at, is_greater, is_less, least_alive, lost, marked_change, row_of, rows_of}
 use Rattle.evidence_check.specs.Truth.{bridge_of, edit_with}
 use Rattle.evidence_check.proofs.EntryOrder.{not_itself, one_way, passed_on}
-use Rattle.evidence_check.proofs.Best.{IsBest, Shown, best_is, none_shown}
+use Rattle.evidence_check.proofs.Best.{best_is, none_shown}
 use Rattle.evidence_check.proofs.Members.{among_absent, among_contains}
 use Rattle.evidence_check.proofs.Shown.{is_dead_from, dead_from_shown, is_survivor_before, survivor_before_shown}
 use Rattle.evidence_check.proofs.Weighing.{all_at}

@@ -1,6 +1,5 @@
 -- Rows keep their marks behind an edit.
-use Rattle.std.proofs.Common.{◌≡◌, ◌≢◌, ℕ, ◌<◌, ◌≤◌, Bool, true, false, not, ◌&&◌, ◌||◌, cond, List, [], ◌∷◌, length, map, refl, sym, ap, ◌∙◌, subst, arith, inl, inr, Option, Some, None}
-use Rattle.std.specs.Prelude.{◌⊎◌, nat_le, nat_lt, insert, remove}
+use Rattle.std.proofs.Common.{◌≡◌, ℕ, Bool, true, false, List, [], ◌∷◌, length, map, refl, sym, ap, ◌∙◌, arith, Option, Some, None}
 use Rattle.std.specs.Option.{option_map_or}
 use Rattle.std.specs.List.{AllByRecursion}
 use Rattle.std.proofs.lemmas.Bool.{leb-false, ltb-false}
@@ -16,10 +15,9 @@ use Rattle.retro_base.specs.Carried.{IsPqEdit}
 use Rattle.retro_base.specs.ChangeLaws.{OneChangeOfPq}
 use Rattle.retro_base.specs.Changes.{IsPqChange}
 use Rattle.retro_base.specs.Edits.{IsAccepted, edited}
-use Rattle.retro_base.specs.Kind.{kind_of}
 use Rattle.retro_base.specs.Limits.{most_rows}
 use Rattle.retro_base.specs.OrderLaws.{all_with, all_without}
-use Rattle.retro_base.specs.Replay.{IsValid, fold_rows}
+use Rattle.retro_base.specs.Replay.{fold_rows}
 use Rattle.retro_base.specs.ReplayableLaws.{replayable_with, replayable_without}
 use Rattle.retro_base.specs.State.{with_entry}
 use Rattle.retro_base.specs.Timeline.{AreOfKind, IsFresh, IsReplayable}
@@ -27,10 +25,10 @@ use Rattle.evidence.specs.declared.evidence.Evidence.{Evidence}
 use Rattle.evidence.specs.Evidence.{IsEvidence, IsPqOp}
 use Rattle.evidence_check.specs.declared.marked_row.MarkedRow.{MarkedRow}
 use Rattle.evidence_check.specs.Marks.{IsKept, IsMarked, adds, changed_marks, edited_rows, entry_of, marked_row, row_of, rows_of, with_mark}
-use Rattle.evidence_check.specs.Truth.{cause_of, edit_with, is_full, is_outside, has_wrong_number, has_wrong_op, rows_after, told_edit}
-use Rattle.evidence_check.proofs.Accepted.{Accepted, accepted_from}
+use Rattle.evidence_check.specs.Truth.{cause_of, edit_with, is_full, is_outside, has_wrong_number, rows_after, told_edit}
+use Rattle.evidence_check.proofs.Accepted.{accepted_from}
 use Rattle.evidence_check.proofs.EntryOrder.{is_itself, same_is}
-use Rattle.evidence_check.proofs.Fresh.{fresh_entry}
+use Rattle.evidence_check.proofs.Survivors.{fresh_entry}
 use Rattle.evidence_check.proofs.Marking.{insert_rows, length_rows, remove_rows}
 use Rattle.evidence_check.proofs.Members.{absent_among, among_with}
 use Rattle.evidence_check.proofs.Possible.{is_fresh, of_pq, possible}

@@ -4,7 +4,7 @@ pub mod Best
 pub mod Marking
 pub mod Weighing
 pub mod Shown
-pub mod Fresh
+pub mod Survivors
 pub mod Accepted
 pub mod Possible
 pub mod Kept
@@ -14,3 +14,7 @@ pub mod ChangesRead
 pub mod ChangeCauses
 pub mod Mapped
 pub mod TrueEvidence
+pub mod Timeless
+pub mod EditsTold
+pub mod EditsSpelled
+mod Examples

@@ -1,5 +1,5 @@
 -- A list whose first elements are mapped: what a walk that writes has made of it so far.
-use Rattle.std.proofs.Common.{◌≡◌, ℕ, zero, suc, ◌+◌, ◌<◌, List, [], ◌∷◌, length, map, get_or, set, refl, sym, ap, ◌∙◌, add-one, arith}
+use Rattle.std.proofs.Common.{◌≡◌, ℕ, zero, suc, ◌+◌, ◌<◌, List, [], ◌∷◌, length, map, get_or, set, refl, ap, add-one, arith}
 
 module _ {X : Type 0} (f : X → X) where
   abbrev pub mapped_up_to : ℕ → List X → List X

@@ -1,6 +1,6 @@
 -- Marked rows, and the rows that are marked.
-use Rattle.std.proofs.Common.{◌≡◌, ℕ, zero, suc, ◌<◌, Bool, true, false, ◌||◌, List, [], ◌∷◌, length, take, drop, map, refl, sym, ap, ◌∙◌, arith, Option, Some, None}
-use Rattle.std.specs.Prelude.{◌==◌, slice_get, insert, remove}
+use Rattle.std.proofs.Common.{◌≡◌, ℕ, zero, suc, ◌||◌, List, [], ◌∷◌, length, take, drop, refl, ap}
+use Rattle.std.specs.Prelude.{◌==◌, insert, remove}
 use Rattle.std.specs.List.{list_any}
 use Rattle.std.proofs.lemmas.List.{take-map}
 use Rattle.evidence_check.specs.declared.marked_row.MarkedRow.{MarkedRow}

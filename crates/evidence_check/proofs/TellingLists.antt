@@ -1,6 +1,6 @@
 -- What was told under the names, behind evidence that names one of them or a new one.
-use Rattle.std.proofs.Common.{◌≡◌, ◌≢◌, ℕ, zero, suc, ◌+◌, ◌<◌, ◌≤◌, Bool, true, false, List, [], ◌∷◌, ◌++◌, length, get_or, set, position, refl, sym, ap, ◌∙◌, arith, inl, inr, Option, Some, None, Result, Ok, Err}
-use Rattle.std.specs.Prelude.{OnOk, ◌⊎◌, is_none, nat_le, unwrap_or}
+use Rattle.std.proofs.Common.{◌≡◌, ℕ, zero, suc, ◌+◌, ◌<◌, ◌≤◌, true, false, List, [], ◌∷◌, ◌++◌, length, get_or, set, position, refl, sym, ap, ◌∙◌, arith, Option, Some, None, Result, Ok, Err}
+use Rattle.std.specs.Prelude.{OnOk}
 use Rattle.std.specs.List.{position_from}
 use Rattle.std.proofs.lemmas.Bool.{le-leb, lt-leb}
 use Rattle.std.proofs.lemmas.Iterator.Adapters.{position_from-zero}
@@ -11,7 +11,6 @@ use Rattle.evidence.specs.declared.evidence.Evidence.{Evidence}
 use Rattle.evidence_check.specs.declared.error.CheckError.{CheckError}
 use Rattle.evidence_check.specs.declared.error.CheckError.TheVariants as causes
 use Rattle.evidence_check.specs.Judgement.{Judge, Told, first_cause, is_named, rows_of, told_after, with_rows}
-use Rattle.evidence_check.specs.Refused.{IsRefused}
 use Rattle.evidence_check.specs.Truth.{cause_of, rows_after}
 
 -- the rows of a name that was told

@@ -1,5 +1,5 @@
 -- What was told of a timeline, behind evidence that is taken or refused.
-use Rattle.std.proofs.Common.{◌≡◌, ℕ, List, refl, sym, ap, ◌∙◌, Result, Ok, Err, None}
+use Rattle.std.proofs.Common.{◌≡◌, ℕ, List, ap, Result, Ok, Err, None}
 use Rattle.std.specs.Prelude.{OnOk, OnErr}
 use Rattle.retro_base.specs.declared.row.Row.{Row}
 use Rattle.retro_base.specs.ChangeLaws.{OneChangeOfPq}

@@ -1,7 +1,6 @@
 -- Evidence is accepted exactly where it is true.
-use Rattle.std.proofs.Common.{◌≡◌, ℕ, Bool, true, false, List, length, refl, sym, ap, ◌∙◌, subst, Option, Some, None}
-use Rattle.std.specs.Prelude.{◌==◌, ◌↔◌}
-use Rattle.std.specs.List.{AllByRecursion}
+use Rattle.std.proofs.Common.{◌≡◌, ℕ, Bool, true, false, List, refl, Option, Some, None}
+use Rattle.std.specs.Prelude.{◌↔◌}
 use Rattle.std.proofs.lemmas.Bool.Decides.{Decides-eqb}
 use Rattle.retro_base.specs.declared.kind.Kind.TheVariants.{Pq}
 use Rattle.retro_base.specs.declared.op.Op.{Op}
@@ -9,7 +8,7 @@ use Rattle.retro_base.specs.declared.row.Change.{Change}
 use Rattle.retro_base.specs.declared.row.Change.TheVariants.{Plain, Gain, Lose}
 use Rattle.retro_base.specs.declared.row.Row.{Row}
 use Rattle.retro_base.specs.Bridges.{IsStatedBridge, stated_bridge}
-use Rattle.retro_base.specs.Carried.{IsPqEdit, IsPqHistory}
+use Rattle.retro_base.specs.Carried.{IsPqEdit}
 use Rattle.retro_base.specs.ChangeLaws.{OneBridgeIsStated, OneChangeOfPq}
 use Rattle.retro_base.specs.Changes.{IsPqChange, change_of}
 use Rattle.retro_base.specs.Edits.{Edit, IsAccepted, edited}
@@ -23,17 +22,17 @@ use Rattle.evidence_check.proofs.Accepted.{accepted_from}
 use Rattle.evidence_check.proofs.EntryOrder.{is_itself}
 use Rattle.evidence_check.proofs.Possible.{is_fresh, of_pq, possible_in}
 
-bridge_itself : (bridge : Option ℕ) → same_bridge bridge bridge ≡ true
+pub bridge_itself : (bridge : Option ℕ) → same_bridge bridge bridge ≡ true
 bridge_itself None = refl
 bridge_itself (Some bridge) = (Decides-eqb bridge bridge).1 refl
 
-change_itself : (change : Change) → same_change change change ≡ true
+pub change_itself : (change : Change) → same_change change change ≡ true
 change_itself Plain = refl
 change_itself (Gain bridge entry) = rw ((Decides-eqb bridge bridge).1 refl, is_itself entry) refl
 change_itself (Lose bridge entry) = rw (bridge_itself bridge, is_itself entry) refl
 
 -- a change states the bridge of its edit
-states : (rows : List Row) (edit : Edit) (change : Change) → IsPqChange rows edit change → IsStatedBridge rows edit (bridge_of change)
+pub states : (rows : List Row) (edit : Edit) (change : Change) → IsPqChange rows edit change → IsStatedBridge rows edit (bridge_of change)
 states rows edit Plain is = absurd is
 states rows edit (Gain bridge entry) is = is.0
 states rows edit (Lose bridge entry) is = is.0

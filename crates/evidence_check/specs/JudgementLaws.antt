@@ -1,12 +1,16 @@
 -- Laws of the judgement of a line, which the proofs of the layer above may cite.
-use Rattle.std.proofs.Common.{◌≡◌, ◌≤◌, ℕ, zero, suc, Bool, true, false, List, [], ◌∷◌, codes, length, take, refl, sym, ap, arith}
+use Rattle.std.proofs.Common.{◌≡◌, ◌≤◌, ℕ, zero, suc, Bool, true, false, List, [], ◌∷◌, codes, length, take, refl, sym, ap, arith, Ok}
 use Rattle.std.specs.Prelude.{nat_eq}
 use Rattle.std.specs.Cmp.Lexicographic.{pointwise}
-use Rattle.std.proofs.lemmas.Bool.{ltb-false}
+use Rattle.std.proofs.lemmas.Bool.{le-ltb, ltb-false}
 use Rattle.std.proofs.lemmas.List.{take_all}
 use Rattle.retro_base.specs.Limits.{longest_line}
 use Rattle.retro_base.specs.LineLength.{is_long}
-use Rattle.evidence_check.specs.Judgement.{Judge, is_evidence_line, judged, judged_line}
+use Rattle.evidence.specs.declared.evidence.Evidence.{Evidence}
+use Rattle.evidence.specs.Evidence.{IsEvidence}
+use Rattle.evidence.specs.Laws.{LinesAreShort, PrintedReadsBack}
+use Rattle.evidence.specs.Spelling.{spelling}
+use Rattle.evidence_check.specs.Judgement.{Judge, decided, first_cause, is_evidence_line, judged, judged_line}
 
 -- what stands behind the first bytes of a long line has no effect
 judged-long : (judge : Judge) (line first : List ℕ) (long : Bool) → is_evidence_line first ≡ is_evidence_line line → (long ≡ false → first ≡ line)
@@ -28,3 +32,20 @@ begins_first line = ap (λ front. pointwise nat_eq (codes "edit ") front) (take_
 pub judged-first : (judge : Judge) (line : List ℕ) → judged judge line ≡ judged_line judge (take longest_line line) (is_long line)
 judged-first judge line =
     judged-long judge line (take longest_line line) (is_long line) (begins_first line) (λ short. take_all longest_line line (ltb-false longest_line (length line) short))
+
+-- a line that is no evidence is passed over
+pub judged-other : (judge : Judge) (line : List ℕ) → is_evidence_line line ≡ false → judged judge line ≡ Ok judge
+unfolding judged_line
+judged-other judge line other = rw other refl
+
+spelling_begins : (e : Evidence) → is_evidence_line (spelling e) ≡ true
+unfolding spelling
+spelling_begins e = refl
+
+-- evidence that is spelled is judged as what it says; the premises are laws of `evidence`
+pub judged-spelling : PrintedReadsBack → LinesAreShort → (judge : Judge) (e : Evidence) → IsEvidence e → judged judge (spelling e) ≡ decided (first_cause judge.told e) judge e
+unfolding judged_line
+judged-spelling back short judge e is =
+    let fits : length (spelling e) ≤ 160 = short e is in
+    let whole : is_long (spelling e) ≡ false = le-ltb longest_line (length (spelling e)) (omega arith) in
+    rw (spelling_begins e, whole, back e is) refl

@@ -1,6 +1,6 @@
 //! Laws over the definition of true evidence.
 
-ghost use Rattle.evidence_check.specs.Laws.{ToldStays, TrueIsAccepted};
+ghost use Rattle.evidence_check.specs.Laws.{EditsAreSpelled, EditsAreTold, ToldStays, TrueIsAccepted};
 
 use retro_base::one_change_is_named;
 
@@ -9,6 +9,15 @@ use retro_base::one_change_is_named;
 pub fn true_evidence_is_accepted()
     ensures accepted { TrueIsAccepted }
     ensures stays { ToldStays }
+{
+    one_change_is_named();
+}
+
+/// The evidence of every accepted edit can be spelled, and is accepted behind the rows before it without their times:
+/// it tells the rows after the edit.
+pub fn accepted_edits_are_told()
+    ensures told { EditsAreTold }
+    ensures spelled { EditsAreSpelled }
 {
     one_change_is_named();
 }

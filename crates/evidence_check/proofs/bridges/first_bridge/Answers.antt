@@ -1,7 +1,4 @@
-use Rattle.std.proofs.Common.{◌≡◌, ◌≢◌, ◌+◌, ◌≤◌, refl, sym, ◌∙◌, ap, arith, inl, inr}
-use Rattle.std.specs.Prelude.{◌⊎◌}
-use Rattle.retro_base.specs.Bridges.{first_bridge}
-use Rattle.evidence_check.specs.Marks.{rows_of}
+use Rattle.std.proofs.Common.{◌+◌, arith}
 use Rattle.evidence_check.proofs.Weighing.{Counted, counted_start, held_there, next_there, first_found, first_later, first_starts, first_ends}
 use Rattle.evidence_check.proofs.bridges.first_bridge.Goals as goal
 use Rattle.evidence_check.proofs.bridges.first_bridge.Goals.{else-place-index-via-then-place-index+else-dead-eq0, else-place-index-via-else-place-index}

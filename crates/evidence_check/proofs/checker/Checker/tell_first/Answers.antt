@@ -1,9 +1,7 @@
-use Rattle.std.proofs.Common.{◌≡◌, ◌≤◌, ◌<◌, [], None, Some, length, sym, ap, ◌∙◌, arith, inl, inr, rules}
-use Rattle.std.specs.Prelude.{position, ◌⊎◌}
-use Rattle.retro_base.specs.Limits.{most_timelines}
+use Rattle.std.proofs.Common.{◌≡◌, [], Some, length, ap, arith, inr, rules}
+use Rattle.std.specs.Prelude.{◌⊎◌}
 use Rattle.evidence_check.specs.declared.error.CheckError.TheVariants.{NoMemory}
-use Rattle.evidence_check.specs.Judgement.{first_cause, is_named}
-use Rattle.evidence_check.specs.Refused.{IsRefused}
+use Rattle.evidence_check.specs.Judgement.{first_cause}
 use Rattle.evidence_check.specs.Truth.{cause_of}
 use Rattle.evidence_check.proofs.TellingLists.{cause_anew, judge_anew, one_too_many}
 use Rattle.evidence_check.proofs.checker.Checker.tell_first.Goals as goal
