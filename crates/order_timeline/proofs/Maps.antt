@@ -1,14 +1,14 @@
 -- What the map of labels keeps.
-use Rattle.std.proofs.Common.{◌≡◌, ℕ, zero, suc, ◌+◌, ◌<◌, ◌≤◌, cond, Option, Some, None, IsSome, List, [], ◌∷◌, ◌++◌, length, slice_get, get_or, set, take, ◌==◌, refl, sym, ap, ◌∙◌, subst, arith, inl, inr, eqb-true}
+use Rattle.std.proofs.Common.{◌≡◌, ℕ, zero, suc, ◌+◌, ◌-◌, ◌<◌, ◌≤◌, cond, Option, Some, None, IsSome, List, [], ◌∷◌, ◌++◌, length, slice_get, get_or, set, take, drop, replicate, ◌==◌, refl, sym, ap, ◌∙◌, subst, arith, inl, inr, eqb-true}
 use Rattle.std.proofs.lemmas.Bool.{cases_Bool}
-use Rattle.std.proofs.lemmas.List.{length-set, take_more_set, take_more, take_all}
+use Rattle.std.proofs.lemmas.List.{drop_more, set_at, length-append, length-take-le, length-replicate, append_assoc, append-nil, replicate_more, take-append-drop, length-set}
 use Rattle.std.proofs.lemmas.List.Edits.{length-insert, length-remove}
 use Rattle.std.specs.List.{insert, remove}
 use Rattle.std.specs.BTreeMap.{BTreeMap, get}
 use Rattle.std.specs.Ordering.{nat_cmp}
 use Rattle.retro_base.specs.declared.row.Row.{Row}
 use Rattle.retro_base.specs.Timeline.{IsFresh, HaveOwnNumbers}
-use Rattle.order_timeline.specs.Numbers.{IsLabelled, HasSomeLabels, Changes, Writes, IsSame}
+use Rattle.order_timeline.specs.Numbers.{IsLabelled, written, Changes, Writes, IsSame}
 use Rattle.order_timeline.proofs.Labelled.{none_of, label_with, label_without, label_set, label_at}
 
 -- the last change of a number counts
@@ -55,47 +55,44 @@ labelled_without rows labels before after place row read within own labelled cha
   filed = λ number. changes number ∙ ap (λ rest. cond (row.number == number) None rest) (labelled.filed number) ∙ sym (label_without number rows labels place row read labelled.beside own);
 }
 
--- the labels of the rows before a place are written, whatever the others are
-abbrev pub IsWrittenTo : ℕ → List Row → List ℕ → BTreeMap ℕ ℕ → Type 0
-IsWrittenTo place rows labels numbers = (partly : List ℕ) × IsLabelled rows partly numbers × (take place partly ≡ take place labels)
-
 read_there : (xs : List ℕ) (place : ℕ) → place < length xs → (x : ℕ) × (slice_get xs place ≡ Some x)
 read_there [] place within = absurd (omega arith)
 read_there (x ∷ xs) zero within = (x, refl)
 read_there (x ∷ xs) (suc place) within = read_there xs place (omega arith)
 
-read_or : (xs : List ℕ) (place x : ℕ) → slice_get xs place ≡ Some x → get_or xs place x ≡ x
-read_or [] place x read = cc
-read_or (y ∷ xs) zero x read = cc
-read_or (y ∷ xs) (suc place) x read = read_or xs place x read
-
-pub written_start : (rows : List Row) (labels : List ℕ) (numbers : BTreeMap ℕ ℕ) → HasSomeLabels rows numbers → IsWrittenTo 0 rows labels numbers
-written_start rows labels numbers some = (some.0, some.1, refl)
-
 -- a row's number is there
-pub number_there : (place : ℕ) (rows : List Row) (labels : List ℕ) (numbers : BTreeMap ℕ ℕ) (row : Row) → HaveOwnNumbers rows → IsWrittenTo place rows labels numbers → slice_get rows place ≡ Some row → IsSome (get nat_cmp numbers row.number)
-number_there place rows labels numbers row own so_far read =
-    let there = read_there so_far.0 place (omega (arith, read_within rows place row read, so_far.1.beside)) in
-    subst IsSome (sym (so_far.1.filed row.number ∙ label_at rows so_far.0 place row there.0 read there.1 own)) refl
+pub number_there : (place : ℕ) (rows : List Row) (labels : List ℕ) (numbers : BTreeMap ℕ ℕ) (row : Row) → HaveOwnNumbers rows → IsLabelled rows labels numbers → slice_get rows place ≡ Some row → IsSome (get nat_cmp numbers row.number)
+number_there place rows labels numbers row own labelled read =
+    let there = read_there labels place (omega (arith, read_within rows place row read, labelled.beside)) in
+    subst IsSome (sym (labelled.filed row.number ∙ label_at rows labels place row there.0 read there.1 own)) refl
 
-pub written_more : (place : ℕ) (rows : List Row) (labels : List ℕ) (before after : BTreeMap ℕ ℕ) (row : Row) (label : ℕ) → HaveOwnNumbers rows → IsWrittenTo place rows labels before
-    → slice_get rows place ≡ Some row → slice_get labels place ≡ Some label → Writes before after row.number label → IsWrittenTo (place + 1) rows labels after
-written_more place rows labels before after row label own written read beside writes =
-    let partly = written.0 in
-    let within : place < length partly = omega (arith, read_within rows place row read, written.1.beside) in
-    let labelled : IsLabelled rows (set partly place label) after = record {
-      beside = omega (arith, length-set partly place label, written.1.beside);
-      filed = λ number. writes number ∙ ap (λ rest. cond (row.number == number) (Some label) rest) (written.1.filed number) ∙ sym (label_set number rows partly place row label read written.1.beside own);
-    } in
-    let one_more : take (place + 1) (set partly place label) ≡ take (place + 1) labels =
-    take_more_set partly place label within
-    ∙ ap (λ first. first ++ label ∷ []) written.2
-    ∙ ap (λ x. take place labels ++ x ∷ []) (sym (read_or labels place label beside))
-    ∙ sym (take_more labels place label (read_within labels place label beside))
-    in (set partly place label, labelled, one_more)
+set_written : (labels : List ℕ) (from count label : ℕ) → from + count < length labels → set (written labels from count label) (from + count) label ≡ written labels from (count + 1) label
+set_written labels from count label within =
+    let front = take from labels ++ replicate count label in
+    let rest = drop (from + (count + 1)) labels in
+    ap (λ xs. set (front ++ xs) (from + count) label) (drop_more labels (from + count) 0 within ∙ ap (λ n. get_or labels (from + count) 0 ∷ drop n labels) (let same : from + count + 1 ≡ from + (count + 1) = omega arith in same))
+    ∙ set_at front (get_or labels (from + count) 0) rest label (from + count) (omega (arith, length-append (take from labels) (replicate count label), length-take-le from labels (omega arith), length-replicate count label))
+    ∙ sym (append_assoc front (label ∷ []) rest)
+    ∙ ap (λ xs. xs ++ rest) (append_assoc (take from labels) (replicate count label) (label ∷ []) ∙ ap (λ xs. take from labels ++ xs) (replicate_more count label))
 
-pub written_end : (place : ℕ) (rows : List Row) (labels : List ℕ) (numbers : BTreeMap ℕ ℕ) → length labels ≡ length rows → length rows ≤ place → IsWrittenTo place rows labels numbers → IsLabelled rows labels numbers
-written_end place rows labels numbers beside all written =
-    subst (λ partly. IsLabelled rows partly numbers)
-    (sym (take_all place written.0 (omega (arith, written.1.beside))) ∙ written.2 ∙ take_all place labels (omega arith))
-    written.1
+-- one row more has the label
+pub written_more : (rows : List Row) (labels : List ℕ) (before after : BTreeMap ℕ ℕ) (from place label : ℕ) (row : Row) → HaveOwnNumbers rows → from ≤ place → slice_get rows place ≡ Some row
+    → IsLabelled rows (written labels from (place - from) label) before → length labels ≡ length rows → Writes before after row.number label → IsLabelled rows (written labels from (place + 1 - from) label) after
+written_more rows labels before after from place label row own order read labelled long writes =
+    let count = place - from in
+    let within : from + count < length labels = omega (arith, read_within rows place row read) in
+    let partly = written labels from count label in
+    let same : set partly place label ≡ written labels from (place + 1 - from) label =
+    ap (λ n. set partly n label) (let here : place ≡ from + count = omega arith in here) ∙ set_written labels from count label within
+    ∙ ap (λ n. written labels from n label) (let more : count + 1 ≡ place + 1 - from = omega arith in more) in
+    subst (λ xs. IsLabelled rows xs after) same (record {
+      beside = omega (arith, length-set partly place label, labelled.beside);
+      filed = λ number. writes number ∙ ap (λ rest. cond (row.number == number) (Some label) rest) (labelled.filed number) ∙ sym (label_set number rows partly place row label read labelled.beside own);
+    })
+
+pub written_none : (labels : List ℕ) (from label : ℕ) → written labels from (from - from) label ≡ labels
+written_none labels from label =
+    ap (λ n. written labels from n label) (let none : from - from ≡ 0 = omega arith in none)
+    ∙ ap (λ xs. xs ++ drop (from + 0) labels) (append-nil (take from labels))
+    ∙ ap (λ n. take from labels ++ drop n labels) (let same : from + 0 ≡ from = omega arith in same)
+    ∙ take-append-drop from labels

@@ -1,5 +1,5 @@
 -- The label of each row, by the row's number.
-use Rattle.std.specs.Prelude.{◌≡◌, ℕ, Option, Some, None, List, [], ◌∷◌, length, ◌==◌, if◌then◌else◌}
+use Rattle.std.specs.Prelude.{◌≡◌, ℕ, Option, Some, None, ◌+◌, List, [], ◌∷◌, ◌++◌, length, take, drop, replicate, ◌==◌, if◌then◌else◌}
 use Rattle.std.specs.BTreeMap.{BTreeMap, get}
 use Rattle.std.specs.Ordering.{nat_cmp}
 use Rattle.retro_base.specs.declared.row.Row.{Row}
@@ -30,3 +30,7 @@ Writes before after number label = Changes before after number (Some label)
 -- every number keeps its entry
 abbrev pub IsSame : BTreeMap ℕ ℕ → BTreeMap ℕ ℕ → Type 0
 IsSame before after = (number : ℕ) → get nat_cmp after number ≡ get nat_cmp before number
+
+-- so many labels from a place on are all this one
+abbrev pub written : List ℕ → ℕ → ℕ → ℕ → List ℕ
+written labels from count label = take from labels ++ replicate count label ++ drop (from + count) labels

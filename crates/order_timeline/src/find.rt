@@ -1,9 +1,14 @@
-ghost use Rattle.std.specs.Prelude.{◌≡◌, ◌<◌, ◌≤◌, length, slice_get, Some};
-ghost use Rattle.retro_base.specs.Places.{place_of_time};
+ghost use Rattle.std.specs.Prelude.{◌≡◌, ◌<◌, ◌≤◌, length, slice_get, Some, IfSome};
+ghost use Rattle.order_timeline.specs.Runs.{IsInRuns, IsNotBefore};
+ghost use Rattle.order_timeline.specs.Rows.{IsOrdered};
+ghost use Rattle.retro_base.specs.Places.{place_of_row, place_of_time};
 ghost use Rattle.retro_base.specs.Timeline.{TimesNeverFall};
 
+use crate::numbers::Numbers;
+use crate::run::Run;
+use crate::runs::start_of;
 use crate::timed_row::TimedRow;
-use order_labels::count_up_to;
+use order_labels::{Labels, count_up_to};
 use retro_base::{Row, Steps};
 use std::sync::ledger::{Blank, Ledger};
 use weighted_tree::Tree;
@@ -31,4 +36,45 @@ pub(crate) fn rows_up_to<L: Ledger>(rows: &Tree<TimedRow>, time: u64, blank: Bla
 {
     let mut steps = Steps::<L>::new(blank);
     count_up_to(rows, time, &mut steps)
+}
+
+/// The place of the row with this number, where there is one.
+pub(crate) fn place_of<L: Ledger>(
+    rows: &Tree<TimedRow>,
+    runs: &Tree<Run>,
+    labels: &Labels,
+    numbers: &Numbers,
+    number: u32,
+    blank: Blank,
+) -> Option<u32>
+    requires name { blank.name ≡ L.name }
+    requires parts { blank.parts ≡ L.parts }
+    requires shared { 0 < blank.parts }
+    requires ordered { IsOrdered rows.now }
+    requires in_runs { IsInRuns rows.now runs.now labels.now numbers.now }
+    ensures { result ≡ place_of_row number rows.now }
+{
+    let mut steps = Steps::<L>::new(blank);
+    let label = *numbers.get(&number)?;
+    let run = labels.place_of_label(label)?;
+    let start = start_of(runs, run, &mut steps);
+    place_from(rows, start, number, &mut steps)
+}
+
+/// The same from a place on.
+fn place_from<L: Ledger>(
+    rows: &Tree<TimedRow>,
+    from: u32,
+    number: u32,
+    steps: &mut Steps<L>,
+) -> Option<u32>
+    requires { IsNotBefore rows.now from number }
+    ensures { result ≡ place_of_row number rows.now }
+{
+    for place in from..rows.len() {
+        if rows.get(place, steps).row().number == number {
+            return Some(place);
+        }
+    }
+    None
 }

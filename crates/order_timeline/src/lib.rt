@@ -5,26 +5,32 @@
 //! a time is the number of rows up to it; a row is named by its number, which it keeps wherever it stands. What the
 //! rows do is no matter here: they are performed by a structure of the kind.
 //!
-//! The rows stand in a balanced tree, where a place is found by counting and a time by the greatest time of a range. Beside
-//! it each row has a label in a list of order labels: a map from numbers to labels finds the label of a row, and the label
-//! its place. Where an insertion relabels, every entry of the map is written again in place, once there is the memory for
-//! the new row.
+//! The rows stand in a balanced tree, where a place is found by counting and a time by the greatest time of a range. To
+//! find a number they are divided into runs of at most 32 neighbours, each with an order label: a map has the label of
+//! each number, the label gives the place of the run, and the row is looked for among those of the run. So a label is
+//! wanted only where a run is divided, and the relabelling of all rows, which a list of labels asks for now and then, is
+//! as rare as it is dear: at least 23 runs are divided between two, and each has had 16 insertions since it began.
 //!
 //! | Call | Cost, with n rows |
 //! |---|---|
 //! | `len` | constant |
 //! | `row_at`, `place_at`, `place_of`, `remove` | log n |
-//! | `insert` | log n, and n log n where it relabels: at least 23 insertions lie between two such |
+//! | `insert` | log n, and n log n where all rows are relabelled |
 //!
-//! - `timeline`: the type and its calls. `edit`: a row comes or goes, in all three parts. `find`: rows, times and numbers.
-//! - `numbers`: the map of labels. `timed_row`: what the tree holds.
+//! - `timeline`: the type and its calls. `edit`: a row comes or goes. `find`: rows, times and numbers.
+//! - `runs`: which run has a place, and where a run begins. `divide`: a run that has grown too long.
+//! - `numbers`: the map of labels. `timed_row`, `run`, `total`: what the trees hold, and what runs add up to.
 #![tactic(auto)]
 
+mod divide;
 mod edit;
 mod find;
 mod numbers;
+mod run;
+mod runs;
 mod timed_row;
 mod timeline;
+mod total;
 
 pub use timeline::Timeline;
 

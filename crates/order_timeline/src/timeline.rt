@@ -7,8 +7,9 @@ ghost use Rattle.retro_base.specs.Timeline.{IsFresh};
 ghost use Rattle.order_timeline.specs.Rows.{IsOrdered};
 
 use crate::edit::{put_in, take_out};
-use crate::find::{read, rows_up_to};
+use crate::find::{place_of, read, rows_up_to};
 use crate::numbers::Numbers;
+use crate::run::Run;
 use crate::timed_row::TimedRow;
 use order_labels::Labels;
 use retro_base::{NoMemory, Row};
@@ -22,6 +23,7 @@ use weighted_tree::Tree;
 #[derive(Drop)]
 pub struct Timeline {
     rows: Tree<TimedRow>,
+    runs: Tree<Run>,
     labels: Labels,
     numbers: Numbers,
 }
@@ -29,14 +31,14 @@ pub struct Timeline {
 impl Model for Timeline {
     ghost use Rattle.std.specs.Prelude.{List};
     ghost use Rattle.retro_base.specs.declared.row.Row.{Row};
-    ghost use Rattle.order_timeline.specs.Numbers.{IsLabelled};
+    ghost use Rattle.order_timeline.specs.Runs.{IsInRuns};
     ghost use Rattle.order_timeline.specs.Rows.{IsOrdered};
 
     ghost Value = { List Row };
 
     ghost view = { λ timeline. timeline.rows };
 
-    ghost invariant = { λ timeline. IsOrdered timeline.rows × IsLabelled timeline.rows timeline.labels timeline.numbers };
+    ghost invariant = { λ timeline. IsOrdered timeline.rows × IsInRuns timeline.rows timeline.runs timeline.labels timeline.numbers };
 }
 
 impl Timeline {
@@ -46,6 +48,7 @@ impl Timeline {
     {
         Timeline {
             rows: Tree::new(alloc),
+            runs: Tree::new(alloc),
             labels: Labels::new(alloc),
             numbers: BTreeMap::new(alloc),
         }
@@ -82,8 +85,14 @@ impl Timeline {
         ensures within { IfSome result (λ place. place < length self.now) }
         ensures few { length self.now ≤ most_rows }
     {
-        let label = *self.numbers.get(&number)?;
-        self.labels.place_of_label(label)
+        place_of::<Brand>(
+            &self.rows,
+            &self.runs,
+            &self.labels,
+            &self.numbers,
+            number,
+            Blank::new(1),
+        )
     }
 
     /// Puts a row in at a place where its time fits. After `NoMemory` all is as before.
@@ -97,6 +106,7 @@ impl Timeline {
     {
         put_in::<Brand>(
             &mut self.rows,
+            &mut self.runs,
             &mut self.labels,
             &mut self.numbers,
             place,
@@ -113,6 +123,7 @@ impl Timeline {
     {
         take_out::<Brand>(
             &mut self.rows,
+            &mut self.runs,
             &mut self.labels,
             &mut self.numbers,
             place,

@@ -1,17 +1,34 @@
-use Rattle.std.proofs.Common.{Some, sym, ap, ◌∙◌, subst}
+use Rattle.std.proofs.Common.{Some, slice_set, sym, ap, ◌∙◌, subst, arith}
 use Rattle.std.specs.List.{remove}
-use Rattle.order_timeline.specs.Numbers.{IsLabelled}
+use Rattle.order_timeline.specs.Runs.{IsInRuns}
 use Rattle.order_timeline.specs.Rows.{IsOrdered}
-use Rattle.order_timeline.proofs.Maps.{labelled_without}
+use Rattle.order_timeline.proofs.InRuns.{all_rows, read_index, in_runs_without, in_runs_gone}
 use Rattle.order_timeline.proofs.Rows.{ordered_without}
 use Rattle.order_timeline.proofs.edit.take_out.Goals as goal
+
+pub run_of-run-requires : goal.run_of-run-requires
+run_of-run-requires g c = omega (arith, all_rows c.args.rows.now c.args.runs.now c.args.labels.now c.args.numbers.now c.requires.in_runs, c.requires.within)
+
+pub overflow_sub-count : goal.overflow_sub-count
+overflow_sub-count g c = omega (arith, c.run_of-run.ensures, read_index c.args.runs.now c.run_of-run.result c.rows-count.result (c.get.ensures.item ∙ ap Some (sym c.rows-count.ensures)))
+
+pub returns-then-count-eq1-clause-ordered : goal.returns-then-count-eq1-clause-ordered
+returns-then-count-eq1-clause-ordered g c = subst IsOrdered (sym c.remove.ensures.items) (ordered_without c.args.rows.now c.args.place c.requires.ordered c.requires.within)
+
+pub returns-then-count-eq1-clause-in_runs : goal.returns-then-count-eq1-clause-in_runs
+returns-then-count-eq1-clause-in_runs g c =
+    let gone = in_runs_gone c.args.rows.now c.args.runs.now c.args.labels.now c.args.numbers.now c.forget.new.numbers c.run_of-run.result c.args.place c.row-row.result c.rows-count.result c.requires.in_runs c.requires.within c.requires.ordered.own_numbers
+    (c.remove.ensures.item ∙ ap Some (sym c.row-row.ensures)) c.run_of-run.ensures (c.get.ensures.item ∙ ap Some (sym c.rows-count.ensures)) c.if-count-eq1.true c.forget.ensures in
+    subst (λ rows. IsInRuns rows c.remove-then-count-eq1.new.self c.remove-then-count-eq1-2.new.self c.forget.new.numbers) (sym c.remove.ensures.items)
+    (subst (λ runs. IsInRuns (remove c.args.rows.now c.args.place) runs c.remove-then-count-eq1-2.new.self c.forget.new.numbers) (sym c.remove-then-count-eq1.ensures.items)
+    (subst (λ labels. IsInRuns (remove c.args.rows.now c.args.place) (remove c.args.runs.now c.run_of-run.result) labels c.forget.new.numbers) (sym c.remove-then-count-eq1-2.ensures) gone))
 
 pub returns-clause-ordered : goal.returns-clause-ordered
 returns-clause-ordered g c = subst IsOrdered (sym c.remove.ensures.items) (ordered_without c.args.rows.now c.args.place c.requires.ordered c.requires.within)
 
-pub returns-clause-labelled : goal.returns-clause-labelled
-returns-clause-labelled g c =
-    subst (λ rows. IsLabelled rows c.remove-2.new.self c.forget.new.numbers) (sym c.remove.ensures.items)
-    (subst (λ labels. IsLabelled (remove c.args.rows.now c.args.place) labels c.forget.new.numbers) (sym c.remove-2.ensures)
-    (labelled_without c.args.rows.now c.args.labels.now c.args.numbers.now c.forget.new.numbers c.args.place c.row-row.result
-    (c.remove.ensures.item ∙ ap Some (sym c.row-row.ensures)) c.requires.within c.requires.ordered.own_numbers c.requires.labelled c.forget.ensures))
+pub returns-clause-in_runs : goal.returns-clause-in_runs
+returns-clause-in_runs g c =
+    let stays = in_runs_without c.args.rows.now c.args.runs.now c.args.labels.now c.args.numbers.now c.forget.new.numbers c.run_of-run.result c.args.place c.row-row.result c.rows-count.result c.requires.in_runs c.requires.within c.requires.ordered.own_numbers
+    (c.remove.ensures.item ∙ ap Some (sym c.row-row.ensures)) c.run_of-run.ensures (c.get.ensures.item ∙ ap Some (sym c.rows-count.ensures)) c.forget.ensures in
+    subst (λ rows. IsInRuns rows c.replace.new.self c.args.labels.now c.forget.new.numbers) (sym c.remove.ensures.items)
+    (subst (λ runs. IsInRuns (remove c.args.rows.now c.args.place) runs c.args.labels.now c.forget.new.numbers) (sym (c.replace.ensures.items ∙ ap (slice_set c.args.runs.now c.run_of-run.result) c.new.ensures)) stays)

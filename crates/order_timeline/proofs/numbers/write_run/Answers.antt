@@ -1,0 +1,14 @@
+use Rattle.std.proofs.Common.{Some, sym, ap, ◌∙◌, arith}
+use Rattle.order_timeline.proofs.Maps.{number_there, written_more}
+use Rattle.order_timeline.proofs.numbers.write_run.Goals as goal
+
+pub write-requires : goal.write-requires
+write-requires g c =
+    let some = c.requires.some in
+    number_there c.loop-place.place c.args.rows.now _ c.loop-place.numbers c.row-number.result c.requires.own (c.loop-place.invariant some.0 some.1)
+    (c.get.ensures.item ∙ ap Some (sym c.row-number.ensures))
+
+pub loop-place-preserved : goal.loop-place-preserved
+loop-place-preserved g c = λ labels labelled.
+    written_more c.args.rows.now labels c.loop-place.numbers c.write.new.numbers c.args.from c.loop-place.place c.args.label c.row-number.result c.requires.own (omega arith)
+    (c.get.ensures.item ∙ ap Some (sym c.row-number.ensures)) (c.loop-place.invariant labels labelled) labelled.beside c.write.ensures

@@ -1,0 +1,42 @@
+-- Rows in runs of neighbours, each with a label.
+use Rattle.std.specs.Prelude.{◌≡◌, ℕ, ◌+◌, ◌<◌, ◌≤◌, List, [], ◌∷◌, ◌++◌, length, take, replicate, slice_index, ◌==◌}
+use Rattle.std.specs.List.{position_or_len}
+use Rattle.std.specs.BTreeMap.{BTreeMap}
+use Rattle.retro_base.specs.declared.row.Row.{Row}
+use Rattle.order_timeline.specs.Numbers.{IsLabelled}
+
+-- how many rows runs of these lengths have
+abbrev pub rows_in : List ℕ → ℕ
+rows_in [] = 0
+rows_in (run ∷ runs) = run + rows_in runs
+
+-- where the run with this index begins
+abbrev pub start_of : List ℕ → ℕ → ℕ
+start_of runs index = rows_in (take index runs)
+
+-- the place lies in the run with this index
+pub record IsInRun (runs : List ℕ) (index place : ℕ) : Type 0 where
+  pub there : index < length runs
+  pub begun : start_of runs index ≤ place
+  pub lasts : place < start_of runs index + slice_index runs index
+
+-- a row at this place may be one of the run with this index
+pub record TakesRow (runs : List ℕ) (index place : ℕ) : Type 0 where
+  pub there : index < length runs
+  pub begun : start_of runs index ≤ place
+  pub lasts : place ≤ start_of runs index + slice_index runs index
+
+-- the label beside each row: that of its run
+abbrev pub beside : List ℕ → List ℕ → List ℕ
+beside [] labels = []
+beside (run ∷ runs) [] = []
+beside (run ∷ runs) (label ∷ labels) = replicate run label ++ beside runs labels
+
+-- each run has a label, and the map has the label of each row's run at the row's number
+pub record IsInRuns (rows : List Row) (runs labels : List ℕ) (numbers : BTreeMap ℕ ℕ) : Type 0 where
+  pub each : length labels ≡ length runs
+  pub labelled : IsLabelled rows (beside runs labels) numbers
+
+-- no row before the place has the number
+abbrev pub IsNotBefore : List Row → ℕ → ℕ → Type 0
+IsNotBefore rows place number = place ≤ position_or_len (λ row. row.number == number) rows

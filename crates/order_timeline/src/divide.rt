@@ -1,0 +1,55 @@
+ghost use Rattle.std.specs.Prelude.{◌≡◌, ◌<◌, ◌≤◌, length};
+ghost use Rattle.order_timeline.specs.Runs.{IsInRuns};
+ghost use Rattle.retro_base.specs.Limits.{most_rows};
+ghost use Rattle.retro_base.specs.Timeline.{HaveOwnNumbers};
+
+use crate::numbers::{Numbers, write_all, write_run};
+use crate::run::Run;
+use crate::runs::start_of;
+use crate::timed_row::TimedRow;
+use order_labels::Labels;
+use retro_base::{MAX_ROWS, NoMemory, Steps};
+use std::sync::ledger::Ledger;
+use weighted_tree::Tree;
+
+/// A run that is longer is divided.
+pub(crate) const LONGEST_RUN: u32 = 32;
+
+/// Divides a run in its middle. Where there is no memory for another run, all stays.
+pub(crate) fn divide<L: Ledger>(
+    rows: &Tree<TimedRow>,
+    runs: &mut Tree<Run>,
+    labels: &mut Labels,
+    numbers: &mut Numbers,
+    run: u32,
+    steps: &mut Steps<L>,
+)
+    requires in_runs { IsInRuns rows.now runs.old labels.old numbers.old }
+    requires there { run < length runs.old }
+    requires few { length rows.now ≤ most_rows }
+    requires own { HaveOwnNumbers rows.now }
+    ensures { IsInRuns rows.now runs.new labels.new numbers.new }
+{
+    if labels.len() >= MAX_ROWS {
+        return;
+    }
+    let count = runs.get(run, steps).rows();
+    let half = count / 2;
+    if runs.insert(run + 1, Run::new(count - half), steps).is_err() {
+        return;
+    }
+    match labels.insert(run + 1) {
+        Ok(fresh) => {
+            runs.replace(run, Run::new(half), steps);
+            if fresh.relabelled {
+                write_all(numbers, rows, runs, labels, steps);
+            } else {
+                let from = start_of(runs, run + 1, steps);
+                write_run(numbers, rows, from, count - half, fresh.label, steps);
+            }
+        }
+        Err(NoMemory) => {
+            runs.remove(run + 1, steps);
+        }
+    }
+}
