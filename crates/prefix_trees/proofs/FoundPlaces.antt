@@ -1,15 +1,15 @@
 -- From where a search of the tree turns to the place that was asked for.
-use Rattle.std.proofs.Common.{◌≡◌, ℕ, suc, ◌+◌, ◌-◌, ◌<◌, ◌≤◌, ℤ, pos, ◌<ℤ◌, Bool, true, false, List, take, length, refl, sym, ap, ◌∙◌, arith, inl, inr}
+use Rattle.std.proofs.Common.{◌≡◌, ℕ, suc, ◌-◌, ◌<◌, ◌≤◌, ℤ, pos, Bool, true, false, List, take, length, ap, arith, inl, inr}
 use Rattle.std.proofs.lemmas.Bool.{cases_lt}
 use Rattle.std.proofs.lemmas.Int.{ints}
 use Rattle.std.proofs.lemmas.List.{take_all}
 use Rattle.std.specs.Int.Signed.{lt_z}
 use Rattle.weighted_tree.specs.Search.{HoldsNowhere, IsFirstPlace, IsLastPlace, IsRising}
-use Rattle.prefix_trees.specs.Prefixes.{signs_of, prefix, IsFirstAtMost, IsLastAtMost, NoneAtMost, marks_in, IsKthMarked}
+use Rattle.prefix_trees.specs.Prefixes.{signs_of, IsFirstAtMost, IsLastAtMost, NoneAtMost, marks_in, IsKthMarked}
 use Rattle.prefix_trees.specs.Walks.{falls_to, keeps_at, has_more_marks}
 use Rattle.prefix_trees.proofs.PrefixSums as prefixes
 use Rattle.prefix_trees.proofs.SuffixSums as suffixes
-use Rattle.prefix_trees.proofs.Marks.{marks-le, marks-rise, kth-is}
+use Rattle.prefix_trees.specs.MarkLaws.{marks-rise, kth-is}
 
 module _ (items : List (ℤ × Bool)) (from to : ℕ) (value : ℤ) where
   -- no sum falls to the value

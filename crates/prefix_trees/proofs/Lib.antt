@@ -1,5 +1,6 @@
 pub mod PrefixSums
 pub mod SuffixSums
-pub mod Marks
 pub mod MeasuredSigns
 pub mod FoundPlaces
+pub mod RowFailures
+pub mod LineAnswers

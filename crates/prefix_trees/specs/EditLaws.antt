@@ -1,9 +1,8 @@
 -- Where the sum of the signs falls first, were a row put in or taken out: the sums behind the place rise or fall
 -- by the row's sign, and those before it stay.
-use Rattle.std.proofs.Common.{◌≡◌, ℕ, zero, suc, ◌+◌, ◌-◌, ◌<◌, ◌≤◌, ℤ, pos, negsuc, ◌+ℤ◌, ◌-ℤ◌, ◌≤ℤ◌, ◌<ℤ◌, Bool, List, [], ◌∷◌, take, map, length, Option, Some, None, refl, sym, ap, ◌∙◌, arith, inl, inr, subst}
+use Rattle.std.proofs.Common.{◌≡◌, ℕ, zero, suc, ◌+◌, ◌-◌, ◌<◌, ◌≤◌, ℤ, pos, negsuc, ◌+ℤ◌, ◌-ℤ◌, ◌≤ℤ◌, ◌<ℤ◌, Bool, List, [], ◌∷◌, take, map, length, Option, Some, None, refl, ap, ◌∙◌, arith, inl, inr, subst}
 use Rattle.std.specs.Prelude.{slice_get}
 use Rattle.std.specs.List.{insert, remove}
-use Rattle.std.specs.Option.{option_map}
 use Rattle.std.proofs.lemmas.Bool.{cases_lt}
 use Rattle.std.proofs.lemmas.Int.{ints}
 use Rattle.std.proofs.lemmas.List.Edits.{length-insert}
@@ -21,6 +20,10 @@ signs_and_marks rows = map sign_and_mark rows
 signs-are : (rows : List Row) → signs_of (signs_and_marks rows) ≡ map (λ row. sign_of row.op) rows
 signs-are [] = refl
 signs-are (row ∷ rows) = ap (λ xs. sign_of row.op ∷ xs) (signs-are rows)
+
+pub length-signs : (rows : List Row) → length (signs_and_marks rows) ≡ length rows
+length-signs [] = refl
+length-signs (row ∷ rows) = ap suc (length-signs rows)
 
 -- their prefix sums are the growth of the line
 pub prefix-grown : (rows : List Row) (place : ℕ) → prefix (signs_and_marks rows) place ≡ grown sign_of rows place

@@ -1,22 +1,19 @@
 -- Rows of a line replay exactly where the sum of their signs never falls below 0, and the first one behind which
 -- it does is the first that cannot be performed.
-use Rattle.std.proofs.Common.{◌≡◌, ℕ, zero, suc, ◌+◌, ◌<◌, ◌≤◌, ℤ, pos, negsuc, ◌+ℤ◌, ◌≤ℤ◌, List, [], ◌∷◌, take, map, length, Option, Some, None, Result, Ok, Err, refl, sym, ap, ◌∙◌, arith, subst, length-take-le}
+use Rattle.std.proofs.Common.{◌≡◌, ℕ, zero, suc, ◌≤◌, ℤ, pos, negsuc, ◌+ℤ◌, ◌≤ℤ◌, List, [], ◌∷◌, take, length, Option, Some, None, Result, Ok, Err, refl, sym, ap, ◌∙◌, arith, subst, length-take-le}
 use Rattle.std.specs.Result.{result_err, result_unwrap_or}
 use Rattle.std.specs.Option.{option_map}
-use Rattle.std.specs.List.{AllByRecursion}
 use Rattle.std.proofs.lemmas.Int.{ints}
 use Rattle.std.proofs.lemmas.List.{take_all}
-use Rattle.monoid_laws.specs.Summed.{sum_of}
 use Rattle.retro_base.specs.declared.kind.Kind.{Kind}
 use Rattle.retro_base.specs.declared.kind.Kind.TheVariants.{Queue, Stack, Deque, Dict, Pq}
 use Rattle.retro_base.specs.declared.op.Op.{Op}
 use Rattle.retro_base.specs.declared.row.Row.{Row}
-use Rattle.retro_base.specs.Kind.{kind_of}
 use Rattle.retro_base.specs.State.{State, items, empty, step}
 use Rattle.retro_base.specs.Replay.{one_later, run, failure, IsValid, state_at, present}
 use Rattle.retro_base.specs.Timeline.{AreOfKind}
 use Rattle.prefix_trees.specs.Growth.{IsLine, left_growth, right_growth, sign_of, value_of, grown}
-use Rattle.prefix_trees.specs.Falls.{NeverFallsFrom, FallsAtFrom, FallsFirstFrom, NeverFalls, FallsFirst}
+use Rattle.prefix_trees.specs.Falls.{FallsFirstFrom, NeverFalls, FallsFirst}
 use Rattle.prefix_trees.specs.RunLaws.{run-first, run-nil, run-step, run-stop, run-empty, run-take}
 use Rattle.prefix_trees.specs.LineLaws.{Moves, line_step, line_stop, growth_is}
 
@@ -90,7 +87,7 @@ sizes kind (row ∷ rows) xs state line all is =
     let rest = sizes kind rows moved.0 state line all.1 (ap (run rows) (sym moved.1) ∙ first.2) in
     (rest.0, rest.1, omega (arith, ints, rest.2, size_next row.op xs moved.0 moved.2))
 
-all_taken : (kind : Kind) (rows : List Row) (place : ℕ) → AreOfKind kind rows → AreOfKind kind (take place rows)
+pub all_taken : (kind : Kind) (rows : List Row) (place : ℕ) → AreOfKind kind rows → AreOfKind kind (take place rows)
 all_taken kind rows zero all = tt
 all_taken kind [] (suc place) all = tt
 all_taken kind (row ∷ rows) (suc place) all = (all.0, all_taken kind rows place all.1)

@@ -1,6 +1,6 @@
 -- A row of a line that finds nothing to take is one before which all items were taken: behind it the sum of the
 -- signs would be below 0.
-use Rattle.std.specs.Prelude.{◌≡◌, ℕ, suc, ◌<◌, ◌≤◌, ℤ, pos, ◌+ℤ◌, ◌<ℤ◌, ◌≤ℤ◌, List, length}
+use Rattle.std.specs.Prelude.{ℕ, suc, ◌<◌, ◌≤◌, ℤ, pos, ◌+ℤ◌, ◌<ℤ◌, ◌≤ℤ◌, List, length}
 use Rattle.std.specs.Prelude.{Option, MatchOption}
 use Rattle.retro_base.specs.declared.row.Row.{Row}
 use Rattle.prefix_trees.specs.Growth.{sign_of, grown}

@@ -1,5 +1,6 @@
 pub mod Prefixes
 pub mod Walks
+pub mod MarkLaws
 pub mod Growth
 pub mod RunLaws
 pub mod LineLaws
@@ -7,3 +8,8 @@ pub mod PositionLaws
 pub mod Falls
 pub mod FailureLaws
 pub mod EditLaws
+pub mod SizeLaws
+pub mod WriterLaws
+pub mod FoundLaws
+pub mod EditedLists
+pub mod Asked

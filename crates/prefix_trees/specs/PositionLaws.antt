@@ -9,17 +9,16 @@
 -- such place: that row made its end grow over it, and no row since has taken it. So the later of two rows wrote
 -- it, the last one in front of which the right end did not reach the position, and the last one in front of which
 -- the left end did not.
-use Rattle.std.proofs.Common.{◌≡◌, ℕ, zero, suc, ◌+◌, ◌-◌, ◌<◌, ◌≤◌, ℤ, pos, negsuc, ◌+ℤ◌, ◌<ℤ◌, ◌≤ℤ◌, List, [], ◌∷◌, take, map, length, Option, Some, Ok, refl, sym, ap, ◌∙◌, arith, subst}
+use Rattle.std.proofs.Common.{◌≡◌, ℕ, zero, suc, ◌<◌, ◌≤◌, ℤ, pos, negsuc, ◌+ℤ◌, ◌<ℤ◌, ◌≤ℤ◌, List, [], ◌∷◌, length, Some, Ok, refl, sym, ap, ◌∙◌, arith, subst}
 use Rattle.std.specs.Prelude.{slice_get}
 use Rattle.std.proofs.lemmas.Int.{ints}
 use Rattle.retro_base.specs.declared.kind.Kind.{Kind}
-use Rattle.retro_base.specs.declared.op.Op.{Op}
 use Rattle.retro_base.specs.declared.row.Row.{Row}
 use Rattle.retro_base.specs.Kind.{kind_of}
-use Rattle.retro_base.specs.State.{State, items, step}
+use Rattle.retro_base.specs.State.{items}
 use Rattle.retro_base.specs.Replay.{run}
 use Rattle.retro_base.specs.Timeline.{AreOfKind}
-use Rattle.prefix_trees.specs.Growth.{IsLine, left_growth, right_growth, sign_of, value_of, grown}
+use Rattle.prefix_trees.specs.Growth.{IsLine, left_growth, right_growth, value_of, grown}
 use Rattle.prefix_trees.specs.RunLaws.{run-first, run-nil}
 use Rattle.prefix_trees.specs.LineLaws.{Moves, line_step}
 
@@ -101,7 +100,7 @@ module _ (kind : Kind) (line : IsLine kind) (position : ℤ) where
       ∙ first.move.kept i middle.0 (omega (arith, ints, at, size, now.to_right)) (omega (arith, ints, middle.1, size', next.to_right)) (omega (arith, ints, middle.1, at))
 
   -- what stands there was written by the row at the last place at which the position was outside
-  written_from : (rows : List Row) (left right : ℤ) (xs zs : List ℤ) (j place : ℕ) → AreOfKind kind rows → run rows (items xs) ≡ Ok (items zs) → pos (length xs) ≡ left +ℤ right
+  pub written_from : (rows : List Row) (left right : ℤ) (xs zs : List ℤ) (j place : ℕ) → AreOfKind kind rows → run rows (items xs) ≡ Ok (items zs) → pos (length xs) ≡ left +ℤ right
       → j < length zs → pos j ≡ (left +ℤ grown left_growth rows (length rows)) +ℤ position
       → place ≤ length rows → (InsideAt left right rows place → ⊥) → ((later : ℕ) → place < later → later ≤ length rows → InsideAt left right rows later)
       → (row : Row) × (slice_get rows place ≡ Some row) × (slice_get zs j ≡ value_of row.op)

@@ -1,4 +1,4 @@
-use Rattle.std.proofs.Common.{◌≡◌, ℤ, length, w64, subst}
+use Rattle.std.proofs.Common.{length, w64, subst}
 use Rattle.std.proofs.lemmas.Int.{to_z-of_z}
 use Rattle.prefix_trees.specs.Prefixes.{IsFirstAtMost, NoneAtMost}
 use Rattle.prefix_trees.proofs.FoundPlaces.{none-falls, first-falls, falls-beyond}

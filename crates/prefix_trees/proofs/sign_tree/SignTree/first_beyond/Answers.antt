@@ -1,4 +1,4 @@
-use Rattle.std.proofs.Common.{◌≡◌, pos, ◌∙◌, ap, sym, rules}
+use Rattle.std.proofs.Common.{◌≡◌, pos, ◌∙◌, ap, rules}
 use Rattle.std.specs.List.{slice_range}
 use Rattle.std.specs.Int.Signed.{lt_z}
 use Rattle.monoid_laws.specs.Walk.{end_of}

@@ -1,4 +1,4 @@
-use Rattle.std.proofs.Common.{◌≡◌, ℤ, w64, subst}
+use Rattle.std.proofs.Common.{w64, subst}
 use Rattle.std.proofs.lemmas.Int.{to_z-of_z}
 use Rattle.prefix_trees.specs.Prefixes.{IsLastAtMost, NoneAtMost}
 use Rattle.prefix_trees.proofs.FoundPlaces.{none-keeps, last-keeps, keeps-before}

@@ -1,5 +1,5 @@
--- The place of a mark, by the number of marks in front of a place.
-use Rattle.std.proofs.Common.{◌≡◌, ℕ, zero, suc, ◌+◌, ◌<◌, ◌≤◌, ℤ, Bool, true, false, List, [], ◌∷◌, take, length, Some, refl, ap, sym, ◌∙◌, arith}
+-- The place of a mark, by the number of marks in front of a place. The layers above cite these laws.
+use Rattle.std.proofs.Common.{◌≡◌, ℕ, zero, suc, ◌+◌, ◌<◌, ◌≤◌, ℤ, Bool, true, false, List, [], ◌∷◌, take, Option, Some, None, refl, ap, sym, ◌∙◌, arith}
 use Rattle.std.specs.Prelude.{slice_get, if◌then◌else◌}
 use Rattle.prefix_trees.specs.Prefixes.{marks_in, IsKthMarked}
 
@@ -50,3 +50,16 @@ kth-is (item ∷ items) k zero few more = first_is item items k more
 kth-is (item ∷ items) k (suc place) few more =
     let less = less_one (if item.1 then 1 else 0) k (omega (arith, few)) in
     one_further item items less.0 k place less.1 (kth-is items less.0 place (omega (arith, few, less.1)) (omega (arith, more, less.1)))
+
+some_item : (item other : ℤ × Bool) → ◌≡◌ {A = Option (ℤ × Bool)} (Some item) (Some other) → item ≡ other
+some_item item other same = cc
+
+no_item : (item : ℤ × Bool) → ◌≡◌ {A = Option (ℤ × Bool)} None (Some item) → ⊥
+no_item item same = cc
+
+-- a marked place has one mark more behind it
+pub marks-next : (items : List (ℤ × Bool)) (place : ℕ) (sign : ℤ) → slice_get items place ≡ Some (sign, true) → marks_in (take (suc place) items) ≡ suc (marks_in (take place items))
+marks-next [] zero sign is = absurd (no_item (sign, true) is)
+marks-next [] (suc place) sign is = absurd (no_item (sign, true) is)
+marks-next (item ∷ items) zero sign is = ap (λ (i : ℤ × Bool). (if i.1 then 1 else 0) + 0) (some_item item (sign, true) is)
+marks-next (item ∷ items) (suc place) sign is = omega (arith, marks-next items place sign is)

@@ -1,0 +1,28 @@
+use Rattle.std.proofs.Common.{◌∙◌, ap, rules}
+use Rattle.prefix_trees.specs.EditLaws.{signs_and_marks}
+use Rattle.prefix_trees.proofs.RowFailures.{without_none, without_some, two_on, within_rest}
+use Rattle.prefix_trees.proofs.signed_rows.SignedRows.failure_after_remove.Goals as goal
+
+pub returns-in_err-later-clause-first : goal.returns-in_err-later-clause-first
+returns-in_err-later-clause-first g c =
+    rw c.from_residual.ensures (without_none c.args.self.now c.self.inside.signs (c.self.invariant ∙ ap signs_and_marks c.self.view_is) c.requires.never
+    c.args.place c.len-end.result (search rules) _ c.row_at-row.result (search rules) c.requires.within (search rules)
+    c.in_err-later.ensures.first)
+
+pub overflow_sub-result : goal.overflow_sub-result
+overflow_sub-result g c =
+    two_on c.args.self.now c.self.inside.signs (c.self.invariant ∙ ap signs_and_marks c.self.view_is) c.requires.never
+    c.args.place c.len-end.result (search rules) _ c.row_at-row.result (search rules) c.requires.within (search rules)
+    c.in_ok-later.later c.in_ok-later.ensures.first
+
+pub returns-clause-first : goal.returns-clause-first
+returns-clause-first g c =
+    without_some c.args.self.now c.self.inside.signs (c.self.invariant ∙ ap signs_and_marks c.self.view_is) c.requires.never
+    c.args.place c.len-end.result (search rules) _ c.row_at-row.result (search rules) c.requires.within (search rules)
+    c.in_ok-later.later c.in_ok-later.ensures.first
+
+pub returns-clause-index : goal.returns-clause-index
+returns-clause-index g c =
+    within_rest c.args.self.now c.self.inside.signs (c.self.invariant ∙ ap signs_and_marks c.self.view_is) c.requires.never
+    c.args.place c.len-end.result (search rules) _ c.row_at-row.result (search rules) c.requires.within (search rules)
+    c.in_ok-later.later c.in_ok-later.ensures.first

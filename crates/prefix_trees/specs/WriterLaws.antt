@@ -1,0 +1,74 @@
+-- Which row wrote an item of the line at a place.
+use Rattle.std.proofs.Common.{◌≡◌, ℕ, zero, suc, ◌<◌, ◌≤◌, ℤ, pos, ◌+ℤ◌, ◌-ℤ◌, List, [], ◌∷◌, take, length, Option, Some, None, sym, ap, ◌∙◌, arith, subst, length-take-le}
+use Rattle.std.specs.Prelude.{slice_get}
+use Rattle.std.proofs.lemmas.Int.{ints}
+use Rattle.retro_base.specs.declared.kind.Kind.{Kind}
+use Rattle.retro_base.specs.declared.row.Row.{Row}
+use Rattle.retro_base.specs.Timeline.{AreOfKind}
+use Rattle.prefix_trees.specs.Growth.{IsLine, left_growth, right_growth, value_of, grown}
+use Rattle.prefix_trees.specs.PositionLaws.{IsInside, written_from}
+use Rattle.prefix_trees.specs.FailureLaws.{LineAt, grown-take, all_taken}
+
+-- the row at the place wrote the item at the index
+pub record IsWrittenAt (rows : List Row) (items : List ℤ) (index place : ℕ) : Type 0 where
+  pub there : index < length items
+  pub within : place < length rows
+  pub writes : (row : Row) → slice_get rows place ≡ Some row → slice_get items index ≡ value_of row.op
+
+-- behind so many rows, the position of the item at the index of the line at a place is between the ends
+abbrev pub InsideBehind : List Row → ℕ → ℕ → ℕ → Type 0
+InsideBehind rows place index earlier = IsInside (grown left_growth rows earlier) (grown right_growth rows earlier) (pos index -ℤ grown left_growth rows place)
+
+same_row : (row other : Row) → ◌≡◌ {A = Option Row} (Some row) (Some other) → row ≡ other
+same_row row other same = cc
+
+no_row : (row : Row) → ◌≡◌ {A = Option Row} None (Some row) → ⊥
+no_row row same = cc
+
+get_within : (rows : List Row) (place : ℕ) (row : Row) → slice_get rows place ≡ Some row → place < length rows
+get_within [] zero row is = absurd (no_row row is)
+get_within [] (suc place) row is = absurd (no_row row is)
+get_within (r ∷ rows) zero row is = omega arith
+get_within (r ∷ rows) (suc place) row is = omega (arith, get_within rows place row is)
+
+get_taken : (rows : List Row) (place earlier : ℕ) (row : Row) → slice_get (take place rows) earlier ≡ Some row → slice_get rows earlier ≡ Some row
+get_taken rows zero zero row is = absurd (no_row row is)
+get_taken rows zero (suc earlier) row is = absurd (no_row row is)
+get_taken [] (suc place) earlier row is = is
+get_taken (r ∷ rows) (suc place) zero row is = is
+get_taken (r ∷ rows) (suc place) (suc earlier) row is = get_taken rows place earlier row is
+
+from_start : (a : ℤ) → pos 0 +ℤ a ≡ a
+from_start a = omega (arith, ints)
+
+module _ (kind : Kind) (line : IsLine kind) (rows : List Row) (place index : ℕ) (items : List ℤ) (all : AreOfKind kind rows) (within : place ≤ length rows) (at : LineAt kind rows place items) (there : index < length items) where
+  behind_start : (earlier : ℕ) → earlier ≤ place → InsideBehind rows place index earlier
+      → IsInside (pos 0 +ℤ grown left_growth (take place rows) earlier) (pos 0 +ℤ grown right_growth (take place rows) earlier) (pos index -ℤ grown left_growth rows place)
+  behind_start earlier before inside =
+      subst (λ (s : ℤ). IsInside s (pos 0 +ℤ grown right_growth (take place rows) earlier) (pos index -ℤ grown left_growth rows place)) (sym (from_start (grown left_growth (take place rows) earlier) ∙ grown-take left_growth rows place earlier before))
+      (subst (λ (s : ℤ). IsInside (grown left_growth rows earlier) s (pos index -ℤ grown left_growth rows place)) (sym (from_start (grown right_growth (take place rows) earlier) ∙ grown-take right_growth rows place earlier before)) inside)
+
+  from_behind : (earlier : ℕ) → earlier ≤ place → IsInside (pos 0 +ℤ grown left_growth (take place rows) earlier) (pos 0 +ℤ grown right_growth (take place rows) earlier) (pos index -ℤ grown left_growth rows place)
+      → InsideBehind rows place index earlier
+  from_behind earlier before inside =
+      subst (λ (s : ℤ). IsInside s (grown right_growth rows earlier) (pos index -ℤ grown left_growth rows place)) (from_start (grown left_growth (take place rows) earlier) ∙ grown-take left_growth rows place earlier before)
+      (subst (λ (s : ℤ). IsInside (pos 0 +ℤ grown left_growth (take place rows) earlier) s (pos index -ℤ grown left_growth rows place)) (from_start (grown right_growth (take place rows) earlier) ∙ grown-take right_growth rows place earlier before) inside)
+
+  size : length (take place rows) ≡ place
+  size = length-take-le place rows within
+
+  -- it was written by the row at the last place at which its position was outside
+  pub written-at : (written : ℕ) → written ≤ place → (InsideBehind rows place index written → ⊥) → ((later : ℕ) → written < later → later ≤ place → InsideBehind rows place index later)
+      → IsWrittenAt rows items index written
+  written-at written before outside inside =
+      let found = written_from kind line (pos index -ℤ grown left_growth rows place) (take place rows) (pos 0) (pos 0) [] items index written (all_taken kind rows place all) at.replayed (omega (arith, ints)) there
+      (omega (arith, ints, ap (grown left_growth (take place rows)) size, grown-take left_growth rows place place (omega arith)))
+      (omega (arith, size))
+      (λ there. outside (from_behind written before there))
+      (λ later after below. behind_start later (omega (arith, size)) (inside later after (omega (arith, size)))) in
+      let row = get_taken rows place written found.0 found.1 in
+      record {
+        there = there;
+        within = get_within rows written found.0 row;
+        writes = λ other is. found.2 ∙ ap (λ (r : Row). value_of r.op) (same_row found.0 other (sym row ∙ is));
+      }

@@ -1,0 +1,51 @@
+use Rattle.std.proofs.Common.{◌≡◌, ◌<◌, ◌≤◌, length, false, List, ◌∙◌, ap, sym, rules, subst}
+use Rattle.std.specs.List.{insert, remove}
+use Rattle.retro_base.specs.declared.kind.Kind.TheVariants.{Deque}
+use Rattle.retro_base.specs.Limits.{most_rows}
+use Rattle.retro_base.specs.Replay.{IsValid}
+use Rattle.retro_base.specs.Timeline.{IsFresh}
+use Rattle.prefix_trees.specs.Growth.{left_growth, right_growth}
+use Rattle.prefix_trees.specs.EditedLists.{remove-insert}
+use Rattle.retro_deque.specs.Kept.{IsKept}
+use Rattle.retro_deque.proofs.KeptEdits.{kept_with, kept_same}
+use Rattle.retro_deque.proofs.deque.RetroDequePartial.insert.Goals as goal
+
+pub invariant_of-self-in-Ok : goal.invariant_of-self-in-Ok
+invariant_of-self-in-Ok g c =
+    let rows = c.self.inside.rows in
+    let placed : c.insert.new.self ≡ insert rows c.args.place c.args.row = search rules in
+    kept_with rows c.self.inside.lefts c.self.inside.rights c.self.invariant c.insert.new.self c.put_in.new.lefts c.put_in.new.rights c.args.place c.args.row
+    (subst (λ l. length l < most_rows) (sym c.self.view_is) c.requires.room)
+    (subst (λ l. c.args.place ≤ length l) (sym c.self.view_is) c.requires.within)
+    (subst (IsFresh c.args.row.number) (sym c.self.view_is) c.requires.fresh)
+    c.requires.of_kind
+    (subst (λ l. IsValid Deque (insert l c.args.place c.args.row)) (sym c.self.view_is) c.requires.replays)
+    placed c.in-Ok.ensures.lefts c.in-Ok.ensures.rights
+
+pub invariant_of-self-in-Err : goal.invariant_of-self-in-Err
+invariant_of-self-in-Err g c =
+    let rows = c.self.inside.rows in
+    let placed : c.insert.new.self ≡ insert rows c.args.place c.args.row = search rules in
+    let back : c.remove.new.self ≡ rows = c.remove.ensures.rows ∙ ap (λ l. remove l c.args.place) placed ∙ remove-insert rows c.args.place c.args.row (search rules) in
+    kept_same rows c.self.inside.lefts c.self.inside.rights c.self.invariant c.remove.new.self c.put_in.new.lefts c.put_in.new.rights c.args.place
+    back c.in-Err.ensures.err.0 c.in-Err.ensures.err.1
+
+pub returns-in-Ok-clause-replayable : goal.returns-in-Ok-clause-replayable
+returns-in-Ok-clause-replayable g c =
+    let rows = c.self.inside.rows in
+    let placed : c.insert.new.self ≡ insert rows c.args.place c.args.row = search rules in
+    let kept : IsKept c.insert.new.self c.put_in.new.lefts c.put_in.new.rights =
+    kept_with rows c.self.inside.lefts c.self.inside.rights c.self.invariant c.insert.new.self c.put_in.new.lefts c.put_in.new.rights c.args.place c.args.row
+    (subst (λ l. length l < most_rows) (sym c.self.view_is) c.requires.room)
+    (subst (λ l. c.args.place ≤ length l) (sym c.self.view_is) c.requires.within)
+    (subst (IsFresh c.args.row.number) (sym c.self.view_is) c.requires.fresh)
+    c.requires.of_kind
+    (subst (λ l. IsValid Deque (insert l c.args.place c.args.row)) (sym c.self.view_is) c.requires.replays)
+    placed c.in-Ok.ensures.lefts c.in-Ok.ensures.rights in
+    kept.replayable
+
+pub returns-in-Err-clause-err : goal.returns-in-Err-clause-err
+returns-in-Err-clause-err g c =
+    let rows = c.self.inside.rows in
+    let placed : c.insert.new.self ≡ insert rows c.args.place c.args.row = search rules in
+    c.remove.ensures.rows ∙ ap (λ l. remove l c.args.place) placed ∙ remove-insert rows c.args.place c.args.row (search rules) ∙ c.self.view_is

@@ -1,0 +1,22 @@
+//! A deque whose past can be edited, and which answers at any place of it.
+//!
+//! An item has a position that never changes while it is there: the right end has grown over it, or the left
+//! one. So it was written by the later of two rows, the last one before which the right end did not reach the
+//! position, and the last one before which the left end did not: two searches among prefix sums, however long
+//! the history is (Demaine, Iacono and Langerman, "Retroactive Data Structures", section 5).
+//! specs/EndLaws.antt says why, over lists of rows alone.
+//!
+//! `RetroDeque` is seen as its rows. It implements `Partial` and `Retro` of `retro_base`; each call of `Partial`
+//! that takes a counter, and `ask_past`, visits at most 144 nodes for each binary digit of one more than the
+//! number of rows, and only `insert`, `copy` and the listings take memory.
+//!
+//! - `RetroDeque`. What each row does to the two ends: `ends.rt`.
+#![tactic(auto)]
+
+mod deque;
+mod ends;
+
+pub use deque::RetroDeque;
+
+#[cfg(test)]
+mod tests;

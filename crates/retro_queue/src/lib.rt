@@ -1,0 +1,20 @@
+//! A queue whose past can be edited, and which answers at any place of it.
+//!
+//! Rows take items in the order in which rows put them in. So with d rows that take before a place, the front
+//! there is the item of the row that puts in number d, from 0, and the item at index i that of number d + i: two
+//! searches in a tree of marked signs, however long the history is (Demaine, Iacono and Langerman,
+//! "Retroactive Data Structures", section 5). specs/FrontLaws.antt says why, over lists of rows alone.
+//!
+//! `RetroQueue` is seen as its rows. It implements `Partial` and `Retro` of `retro_base`; each call of `Partial`
+//! that takes a counter, and `ask_past`, visits at most 144 nodes for each binary digit of one more than the
+//! number of rows, and only `insert`, `copy` and the listings take memory.
+//!
+//! - `RetroQueue`.
+#![tactic(auto)]
+
+mod queue;
+
+pub use queue::RetroQueue;
+
+#[cfg(test)]
+mod tests;

@@ -1,0 +1,72 @@
+ghost use Rattle.std.specs.Prelude.{◌≡◌, ◌<◌, ◌≤◌, length, OnOk};
+ghost use Rattle.std.specs.List.{insert, remove};
+ghost use Rattle.retro_base.specs.Timeline.{IsFresh};
+
+use crate::RetroQueue;
+use retro_base::{Answer, Item, Kind, Listing, Op, Partial, Question, Retro, Row};
+use std::process::Abort;
+use std::test::Fail;
+
+/// Puts a row in that can be performed.
+fn put(rt: &impl Abort, queue: &mut RetroQueue, place: u32, row: Row) -> Result<(), Fail>
+    requires within { place ≤ length queue.old }
+    requires few { length queue.old < 9 }
+    requires fresh { IsFresh row.number queue.old }
+    ensures { OnOk result (queue.new ≡ insert queue.old place row) }
+{
+    assert!(rt; row.op.kind() == Kind::Queue);
+    assert_eq!(rt; Retro::failure_after_insert(queue, place, row.op), None);
+    Retro::insert(queue, place, row)?;
+    Ok(())
+}
+
+fn expect_items(rt: &impl Abort, listing: &Listing, values: &[i64]) {
+    assert_eq!(rt; listing.len() as usize, values.len());
+    for (index, value) in values.iter().enumerate() {
+        assert!(rt; index < listing.len() as usize);
+        assert_eq!(rt; listing.item(index as u32), Item::Single { value: *value });
+    }
+}
+
+fn row(number: u32, time: u64, op: Op) -> Row
+    ensures { result.number ≡ number }
+{
+    Row { number, time, op }
+}
+
+fn number(value: i128) -> Answer {
+    Answer::Number { value }
+}
+
+#[test]
+fn a_row_of_the_past_takes_the_front(rt: HostRuntime) -> Result<(), Fail> {
+    let mut queue = RetroQueue::new(rt.alloc());
+    put(&rt, &mut queue, 0, row(1, 10, Op::Enq { value: 5 }))?;
+    put(&rt, &mut queue, 1, row(2, 20, Op::Enq { value: 7 }))?;
+    assert_eq!(rt; Retro::ask_now(&queue, Question::Front), number(5));
+    put(&rt, &mut queue, 1, row(3, 15, Op::Deq))?;
+    assert_eq!(rt; Retro::ask_now(&queue, Question::Front), number(7));
+    put(&rt, &mut queue, 0, row(4, 5, Op::Enq { value: 9 }))?;
+    assert_eq!(rt; Retro::ask_now(&queue, Question::Front), number(5));
+    Ok(())
+}
+
+#[test]
+fn each_place_of_the_past_has_its_content(rt: HostRuntime) -> Result<(), Fail> {
+    let mut queue = RetroQueue::new(rt.alloc());
+    put(&rt, &mut queue, 0, row(1, 5, Op::Enq { value: 1 }))?;
+    put(&rt, &mut queue, 1, row(2, 5, Op::Enq { value: 2 }))?;
+    put(&rt, &mut queue, 0, row(3, 5, Op::Enq { value: 3 }))?;
+    expect_items(&rt, &Retro::all(&mut queue, 3)?, &[3, 1, 2]);
+    expect_items(&rt, &Retro::all(&mut queue, 1)?, &[3]);
+    let size = Retro::ask(&mut queue, 2, Question::Size)?;
+    assert_eq!(rt; size, number(2));
+    expect_items(&rt, &Retro::all(&mut queue, 0)?, &[]);
+    let copy = Partial::copy(&queue)?;
+    assert_eq!(rt; Retro::failure_after_remove(&queue, 2), None);
+    let (taken, _) = Retro::remove(&mut queue, 2)?;
+    assert_eq!(rt; taken, row(2, 5, Op::Enq { value: 2 }));
+    expect_items(&rt, &Partial::all_now(&queue)?, &[3, 1]);
+    expect_items(&rt, &Partial::all_now(&copy)?, &[3, 1, 2]);
+    Ok(())
+}

@@ -1,0 +1,20 @@
+//! A stack whose past can be edited, and which answers at any place of it.
+//!
+//! The item that lies on d others came when the stack had d items, and has stayed since. So at a place where the
+//! stack has h items, the item at index i from the top is that of the row at the last place before it whose
+//! depth is at most h - 1 - i: one search among prefix sums, however long the history is (Demaine, Iacono and
+//! Langerman, "Retroactive Data Structures", section 5). specs/TopLaws.antt says why, over lists of rows alone.
+//!
+//! `RetroStack` is seen as its rows. It implements `Partial` and `Retro` of `retro_base`; each call of `Partial`
+//! that takes a counter, and `ask_past`, visits at most 144 nodes for each binary digit of one more than the
+//! number of rows, and only `insert`, `copy` and the listings take memory.
+//!
+//! - `RetroStack`.
+#![tactic(auto)]
+
+mod stack;
+
+pub use stack::RetroStack;
+
+#[cfg(test)]
+mod tests;
