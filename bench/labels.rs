@@ -66,17 +66,48 @@ impl<T: Item> Link<T> {
     }
 
     /// How many items there are before the measure from the first one on is above `limit`.
-    fn up_to(&self, before: u64, limit: u64) -> u32 {
+    fn up_to(&self, limit: u64) -> u32 {
+        match self.turn(&|measure| measure > limit) {
+            Ok(count) => count - 1,
+            Err(_) => self.size,
+        }
+    }
+
+    /// How many items on the test holds of the measure from the first one on, or that of all where it does not.
+    fn turn(&self, test: &impl Fn(u64) -> bool) -> Result<u32, u64> {
+        let Some(node) = &self.node else {
+            return if test(0) { Ok(0) } else { Err(0) };
+        };
+        let through = match node.left.turn(test) {
+            Ok(count) => return Ok(count),
+            Err(through) => through,
+        };
+        let here = T::join(through, node.item.number());
+        let count = node.left.size + 1;
+        if test(here) {
+            return Ok(count);
+        }
+        let all = T::join(here, node.right.measure);
+        if test(all) {
+            Ok(count + node.right.turn_within(here, test))
+        } else {
+            Err(all)
+        }
+    }
+
+    /// The same behind what was passed before, where the test holds at the end.
+    fn turn_within(&self, before: u64, test: &impl Fn(u64) -> bool) -> u32 {
         let Some(node) = &self.node else { return 0 };
-        let left = T::join(before, node.left.measure);
-        if left > limit {
-            return node.left.up_to(before, limit);
+        let through = T::join(before, node.left.measure);
+        if test(through) {
+            return node.left.turn_within(before, test);
         }
-        let here = T::join(left, node.item.number());
-        if here > limit {
-            return node.left.size;
+        let here = T::join(through, node.item.number());
+        let count = node.left.size + 1;
+        if test(here) {
+            return count;
         }
-        node.left.size + 1 + node.right.up_to(here, limit)
+        count + node.right.turn_within(here, test)
     }
 
     /// The measure of the items before a place.
@@ -229,8 +260,16 @@ impl Trees {
     /// The label of a new run, and whether the others have changed.
     fn label(&mut self, place: u32) -> (u64, bool) {
         let count = self.labels.size;
-        let before = if place == 0 { 0 } else { self.labels.get(place - 1) };
-        let behind = if place == count { LIMIT } else { self.labels.get(place) };
+        let before = if place == 0 {
+            0
+        } else {
+            self.labels.get(place - 1)
+        };
+        let behind = if place == count {
+            LIMIT
+        } else {
+            self.labels.get(place)
+        };
         let middle = (before + behind) / 2;
         self.labels.insert(place, alone(middle));
         if behind - before >= 2 {
@@ -291,7 +330,7 @@ impl Timeline for Trees {
         }
         let run = match place {
             0 => 0,
-            _ => self.runs.up_to(0, u64::from(place - 1)),
+            _ => self.runs.up_to(u64::from(place - 1)),
         };
         self.numbers.insert(row.number, self.labels.get(run));
         self.rows.insert(place, alone(row));
@@ -304,13 +343,13 @@ impl Timeline for Trees {
 
     fn place_of(&self, number: u32) -> Option<u32> {
         let label = *self.numbers.get(&number)?;
-        let run = self.labels.up_to(0, label).checked_sub(1)?;
+        let run = self.labels.up_to(label).checked_sub(1)?;
         let start = self.runs.before(run) as u32;
         (start..self.rows.size).find(|place| self.rows.get(*place).number == number)
     }
 
     fn place_at(&self, time: u64) -> u32 {
-        self.rows.up_to(0, time)
+        self.rows.up_to(time)
     }
 }
 
@@ -328,7 +367,9 @@ impl Timeline for Vec<Row> {
     }
 
     fn place_of(&self, number: u32) -> Option<u32> {
-        self.iter().position(|row| row.number == number).map(|place| place as u32)
+        self.iter()
+            .position(|row| row.number == number)
+            .map(|place| place as u32)
     }
 
     fn place_at(&self, time: u64) -> u32 {
@@ -338,7 +379,9 @@ impl Timeline for Vec<Row> {
 
 /// The next draw, and a number below `bound` from it.
 fn draw(x: &mut u64, bound: u32) -> u32 {
-    *x = x.wrapping_mul(6364136223846793005).wrapping_add(1442695040888963407);
+    *x = x
+        .wrapping_mul(6364136223846793005)
+        .wrapping_add(1442695040888963407);
     ((*x >> 32) % u64::from(bound)) as u32
 }
 
@@ -381,7 +424,10 @@ fn read<T: Timeline>(what: &str, rows: u32, more: u32) {
             _ => timeline.place_at(u64::from(any)),
         });
     }
-    println!("{} (seen {seen})", start.elapsed().as_nanos() / u128::from(more.max(1)));
+    println!(
+        "{} (seen {seen})",
+        start.elapsed().as_nanos() / u128::from(more.max(1))
+    );
 }
 
 fn main() {
