@@ -7,8 +7,9 @@ use Rattle.std.proofs.lemmas.List.Edits.{length-insert, length-remove}
 use Rattle.retro_base.specs.declared.row.Row.{Row}
 use Rattle.retro_base.specs.Timeline.{IsFresh, HaveOwnNumbers}
 use Rattle.order_timeline.specs.Numbers.{IsLabelled, HasSomeLabels, Changes, Writes, written}
-use Rattle.order_timeline.specs.Runs.{rows_in, start_of, beside, IsInRun, TakesRow, IsInRuns}
-use Rattle.order_timeline.proofs.Rows.{taken_back}
+use Rattle.order_timeline.specs.Runs.{rows_in, start_of, beside, IsInRun, TakesRow, IsInRuns, IsKept}
+use Rattle.order_timeline.specs.Rows.{MayCome}
+use Rattle.order_timeline.proofs.Rows.{taken_back, ordered_more}
 use Rattle.order_timeline.proofs.Maps.{labelled_with, labelled_without, labelled_again}
 use Rattle.order_timeline.proofs.Totals.{start_more, start_within}
 use Rattle.order_timeline.proofs.Beside.{length-beside, beside_with, beside_without, beside_gone, beside_divided, beside_more}
@@ -168,3 +169,20 @@ in_runs_put rows more runs longer labels before after index place row item count
     subst (λ xs. IsInRuns xs longer labels after) (sym (more_is ∙ ap (insert rows place) item_is))
     (subst (λ xs. IsInRuns (insert rows place row) xs labels after) (sym (longer_is ∙ ap (slice_set runs index) run_is))
     (in_runs_with rows runs labels before after index place row count label is within fresh takes long there writes))
+
+-- a timeline with a row more
+pub kept_put : (rows more : List Row) (first firsts runs longer labels : List ℕ) (before after : BTreeMap ℕ ℕ) (index place : ℕ) (row item : Row) (count label run : ℕ) → IsKept rows first firsts before → MayCome rows place row
+    → length labels ≡ length runs → beside runs labels ≡ beside first firsts → TakesRow runs index place → slice_get runs index ≡ Some count → slice_get labels index ≡ Some label → Writes before after row.number label
+    → item ≡ row → more ≡ insert rows place item → run ≡ count + 1 → longer ≡ slice_set runs index run → IsKept more longer labels after
+kept_put rows more first firsts runs longer labels before after index place row item count label run kept comes each same takes long there writes item_is more_is run_is longer_is = record {
+  ordered = ordered_more rows more place row item item_is more_is kept.ordered comes.within comes.room comes.fresh comes.fits;
+  in_runs = in_runs_put rows more runs longer labels before after index place row item count label run (in_runs_same rows first firsts runs labels before kept.in_runs each same)
+      comes.within comes.fresh takes long there writes item_is more_is run_is longer_is;
+}
+
+-- a timeline as before, once a number was noted and forgotten
+pub kept_again : (rows more : List Row) (first firsts runs labels : List ℕ) (before after : BTreeMap ℕ ℕ) (number : ℕ) → IsKept rows first firsts before → IsFresh number rows
+    → length labels ≡ length runs → beside runs labels ≡ beside first firsts → more ≡ rows → Changes before after number None → IsKept more runs labels after
+kept_again rows more first firsts runs labels before after number kept fresh each same same_rows changes =
+    subst (λ xs. IsKept xs runs labels after) (sym same_rows)
+    (record { ordered = kept.ordered; in_runs = in_runs_again rows runs labels before after number fresh (in_runs_same rows first firsts runs labels before kept.in_runs each same) changes })

@@ -4,6 +4,7 @@ use Rattle.std.specs.List.{position_or_len}
 use Rattle.std.specs.BTreeMap.{BTreeMap}
 use Rattle.retro_base.specs.declared.row.Row.{Row}
 use Rattle.order_timeline.specs.Numbers.{IsLabelled}
+use Rattle.order_timeline.specs.Rows.{IsOrdered}
 
 -- how many rows runs of these lengths have
 abbrev pub rows_in : List ℕ → ℕ
@@ -36,6 +37,11 @@ beside (run ∷ runs) (label ∷ labels) = replicate run label ++ beside runs la
 pub record IsInRuns (rows : List Row) (runs labels : List ℕ) (numbers : BTreeMap ℕ ℕ) : Type 0 where
   pub each : length labels ≡ length runs
   pub labelled : IsLabelled rows (beside runs labels) numbers
+
+-- what a timeline keeps: rows in order, in runs
+pub record IsKept (rows : List Row) (runs labels : List ℕ) (numbers : BTreeMap ℕ ℕ) : Type 0 where
+  pub ordered : IsOrdered rows
+  pub in_runs : IsInRuns rows runs labels numbers
 
 -- no row before the place has the number
 abbrev pub IsNotBefore : List Row → ℕ → ℕ → Type 0

@@ -1,10 +1,7 @@
 ghost use Rattle.std.specs.Prelude.{◌≡◌, ◌<◌, ◌≤◌, length, slice_get, Some, OnOk, OnErr};
 ghost use Rattle.std.specs.List.{insert, remove};
-ghost use Rattle.order_timeline.specs.Runs.{IsInRuns, beside};
-ghost use Rattle.order_timeline.specs.Rows.{IsOrdered};
-ghost use Rattle.retro_base.specs.Limits.{most_rows};
-ghost use Rattle.retro_base.specs.Order.{Fits};
-ghost use Rattle.retro_base.specs.Timeline.{IsFresh};
+ghost use Rattle.order_timeline.specs.Runs.{IsKept, beside};
+ghost use Rattle.order_timeline.specs.Rows.{MayCome};
 
 use crate::divide::{LONGEST_RUN, divide};
 use crate::numbers::{Numbers, add, forget};
@@ -29,14 +26,9 @@ pub(crate) fn put_in<L: Ledger>(
     requires name { blank.name ≡ L.name }
     requires parts { blank.parts ≡ L.parts }
     requires shared { 0 < blank.parts }
-    requires ordered { IsOrdered rows.old }
-    requires in_runs { IsInRuns rows.old runs.old labels.old numbers.old }
-    requires within { place ≤ length rows.old }
-    requires room { length rows.old < most_rows }
-    requires fresh { IsFresh row.number rows.old }
-    requires fits { Fits rows.old place row.time }
-    ensures ordered { IsOrdered rows.new }
-    ensures in_runs { IsInRuns rows.new runs.new labels.new numbers.new }
+    requires kept { IsKept rows.old runs.old labels.old numbers.old }
+    requires comes { MayCome rows.old place row }
+    ensures kept { IsKept rows.new runs.new labels.new numbers.new }
     ensures ok { OnOk result (rows.new ≡ insert rows.old place row) }
     ensures err { OnErr result (rows.new ≡ rows.old) }
 {
@@ -90,11 +82,9 @@ pub(crate) fn take_out<L: Ledger>(
     requires name { blank.name ≡ L.name }
     requires parts { blank.parts ≡ L.parts }
     requires shared { 0 < blank.parts }
-    requires ordered { IsOrdered rows.old }
-    requires in_runs { IsInRuns rows.old runs.old labels.old numbers.old }
+    requires kept { IsKept rows.old runs.old labels.old numbers.old }
     requires within { place < length rows.old }
-    ensures ordered { IsOrdered rows.new }
-    ensures in_runs { IsInRuns rows.new runs.new labels.new numbers.new }
+    ensures kept { IsKept rows.new runs.new labels.new numbers.new }
     ensures row { slice_get rows.old place ≡ Some result }
     ensures rows { rows.new ≡ remove rows.old place }
 {

@@ -31,14 +31,13 @@ pub struct Timeline {
 impl Model for Timeline {
     ghost use Rattle.std.specs.Prelude.{List};
     ghost use Rattle.retro_base.specs.declared.row.Row.{Row};
-    ghost use Rattle.order_timeline.specs.Runs.{IsInRuns};
-    ghost use Rattle.order_timeline.specs.Rows.{IsOrdered};
+    ghost use Rattle.order_timeline.specs.Runs.{IsKept};
 
     ghost Value = { List Row };
 
     ghost view = { λ timeline. timeline.rows };
 
-    ghost invariant = { λ timeline. IsOrdered timeline.rows × IsInRuns timeline.rows timeline.runs timeline.labels timeline.numbers };
+    ghost invariant = { λ timeline. IsKept timeline.rows timeline.runs timeline.labels timeline.numbers };
 }
 
 impl Timeline {
