@@ -3,15 +3,16 @@
 //! An `Engine` is made for a kind and stays of it. It implements `Retro` of `retro_base`: its rows are those
 //! of the structure inside, which its variant names, and each answer is the replay of these rows.
 //!
-//! Queue, stack, deque and dictionary are kept in plain lists, which are as slow as they are plain: an edit of
-//! the past, and a question about it, perform the rows again. The variants are where each kind's own structure
-//! takes the place of its list.
+//! Queue, stack and deque are kept in trees of their own, in which an edit and a question about any place visit
+//! a few nodes. A dictionary is kept in a plain list, which is as slow as it is plain: an edit of the past, and
+//! a question about it, perform the rows again. Its variant is where its own structure takes the place of its
+//! list.
 //!
-//! - `Engine`. The lists inside: `QueueList`, `StackList`, `DequeList`, `DictList`.
+//! - `Engine`. The list inside: `DictList`.
 #![tactic(auto)]
 
 mod engine;
 mod lists;
 
 pub use engine::Engine;
-pub use lists::{DequeList, DictList, QueueList, StackList};
+pub use lists::DictList;
