@@ -1,16 +1,19 @@
 ghost use Rattle.std.specs.Prelude.{◌≡◌, []};
 ghost use Rattle.engine.specs.Engine.{kind_inside, rows_inside};
 
-use crate::{DequeList, DictList, PqList, QueueList, StackList};
+use crate::{DictList, PqList};
 use retro_base::{Answer, Change, Kind, Listing, NoMemory, Op, PlainList, Question, Retro, Row};
+use retro_deque::RetroDeque;
+use retro_queue::RetroQueue;
+use retro_stack::RetroStack;
 use std::alloc::Global;
 
 /// The structure of a kind. No call changes the variant.
 #[derive(Drop)]
 pub enum Engine {
-    Queue { inner: QueueList },
-    Stack { inner: StackList },
-    Deque { inner: DequeList },
+    Queue { inner: RetroQueue },
+    Stack { inner: RetroStack },
+    Deque { inner: RetroDeque },
     Dict { inner: DictList },
     Pq { inner: PqList },
 }
@@ -21,22 +24,25 @@ impl Engine {
         ensures kind { kind_inside result ≡ kind }
         ensures rows { rows_inside result ≡ [] }
     {
-        let list = PlainList::new(alloc, kind);
         match kind {
             Kind::Queue => Engine::Queue {
-                inner: QueueList { list },
+                inner: RetroQueue::new(alloc),
             },
             Kind::Stack => Engine::Stack {
-                inner: StackList { list },
+                inner: RetroStack::new(alloc),
             },
             Kind::Deque => Engine::Deque {
-                inner: DequeList { list },
+                inner: RetroDeque::new(alloc),
             },
             Kind::Dict => Engine::Dict {
-                inner: DictList { list },
+                inner: DictList {
+                    list: PlainList::new(alloc, kind),
+                },
             },
             Kind::Pq => Engine::Pq {
-                inner: PqList { list },
+                inner: PqList {
+                    list: PlainList::new(alloc, kind),
+                },
             },
         }
     }
@@ -49,9 +55,9 @@ impl Retro for Engine {
 
     fn kind(&self) -> Kind {
         match self {
-            Engine::Queue { inner } => inner.list.kind(),
-            Engine::Stack { inner } => inner.list.kind(),
-            Engine::Deque { inner } => inner.list.kind(),
+            Engine::Queue { inner } => inner.kind(),
+            Engine::Stack { inner } => inner.kind(),
+            Engine::Deque { inner } => inner.kind(),
             Engine::Dict { inner } => inner.list.kind(),
             Engine::Pq { inner } => inner.list.kind(),
         }
@@ -59,9 +65,9 @@ impl Retro for Engine {
 
     fn len(&self) -> u32 {
         match self {
-            Engine::Queue { inner } => inner.list.len(),
-            Engine::Stack { inner } => inner.list.len(),
-            Engine::Deque { inner } => inner.list.len(),
+            Engine::Queue { inner } => inner.len(),
+            Engine::Stack { inner } => inner.len(),
+            Engine::Deque { inner } => inner.len(),
             Engine::Dict { inner } => inner.list.len(),
             Engine::Pq { inner } => inner.list.len(),
         }
@@ -69,9 +75,9 @@ impl Retro for Engine {
 
     fn failure_after_insert(&self, place: u32, op: Op) -> Option<u32> {
         match self {
-            Engine::Queue { inner } => inner.list.failure_after_insert(place, op),
-            Engine::Stack { inner } => inner.list.failure_after_insert(place, op),
-            Engine::Deque { inner } => inner.list.failure_after_insert(place, op),
+            Engine::Queue { inner } => inner.failure_after_insert(place, op),
+            Engine::Stack { inner } => inner.failure_after_insert(place, op),
+            Engine::Deque { inner } => inner.failure_after_insert(place, op),
             Engine::Dict { inner } => inner.list.failure_after_insert(place, op),
             Engine::Pq { inner } => inner.list.failure_after_insert(place, op),
         }
@@ -79,9 +85,9 @@ impl Retro for Engine {
 
     fn failure_after_remove(&self, place: u32) -> Option<u32> {
         match self {
-            Engine::Queue { inner } => inner.list.failure_after_remove(place),
-            Engine::Stack { inner } => inner.list.failure_after_remove(place),
-            Engine::Deque { inner } => inner.list.failure_after_remove(place),
+            Engine::Queue { inner } => inner.failure_after_remove(place),
+            Engine::Stack { inner } => inner.failure_after_remove(place),
+            Engine::Deque { inner } => inner.failure_after_remove(place),
             Engine::Dict { inner } => inner.list.failure_after_remove(place),
             Engine::Pq { inner } => inner.list.failure_after_remove(place),
         }
@@ -89,9 +95,9 @@ impl Retro for Engine {
 
     fn insert(&mut self, place: u32, row: Row) -> Result<Change, NoMemory> {
         match self {
-            Engine::Queue { inner } => inner.list.insert(place, row),
-            Engine::Stack { inner } => inner.list.insert(place, row),
-            Engine::Deque { inner } => inner.list.insert(place, row),
+            Engine::Queue { inner } => inner.insert(place, row),
+            Engine::Stack { inner } => inner.insert(place, row),
+            Engine::Deque { inner } => inner.insert(place, row),
             Engine::Dict { inner } => inner.list.insert(place, row),
             Engine::Pq { inner } => inner.list.insert(place, row),
         }
@@ -99,9 +105,9 @@ impl Retro for Engine {
 
     fn remove(&mut self, place: u32) -> Result<(Row, Change), NoMemory> {
         match self {
-            Engine::Queue { inner } => inner.list.remove(place),
-            Engine::Stack { inner } => inner.list.remove(place),
-            Engine::Deque { inner } => inner.list.remove(place),
+            Engine::Queue { inner } => inner.remove(place),
+            Engine::Stack { inner } => inner.remove(place),
+            Engine::Deque { inner } => inner.remove(place),
             Engine::Dict { inner } => inner.list.remove(place),
             Engine::Pq { inner } => inner.list.remove(place),
         }
@@ -109,9 +115,9 @@ impl Retro for Engine {
 
     fn ask_now(&self, question: Question) -> Answer {
         match self {
-            Engine::Queue { inner } => inner.list.ask_now(question),
-            Engine::Stack { inner } => inner.list.ask_now(question),
-            Engine::Deque { inner } => inner.list.ask_now(question),
+            Engine::Queue { inner } => inner.ask_now(question),
+            Engine::Stack { inner } => inner.ask_now(question),
+            Engine::Deque { inner } => inner.ask_now(question),
             Engine::Dict { inner } => inner.list.ask_now(question),
             Engine::Pq { inner } => inner.list.ask_now(question),
         }
@@ -119,9 +125,9 @@ impl Retro for Engine {
 
     fn ask(&mut self, place: u32, question: Question) -> Result<Answer, NoMemory> {
         match self {
-            Engine::Queue { inner } => inner.list.ask(place, question),
-            Engine::Stack { inner } => inner.list.ask(place, question),
-            Engine::Deque { inner } => inner.list.ask(place, question),
+            Engine::Queue { inner } => inner.ask(place, question),
+            Engine::Stack { inner } => inner.ask(place, question),
+            Engine::Deque { inner } => inner.ask(place, question),
             Engine::Dict { inner } => inner.list.ask(place, question),
             Engine::Pq { inner } => inner.list.ask(place, question),
         }
@@ -129,9 +135,9 @@ impl Retro for Engine {
 
     fn all(&mut self, place: u32) -> Result<Listing, NoMemory> {
         match self {
-            Engine::Queue { inner } => inner.list.all(place),
-            Engine::Stack { inner } => inner.list.all(place),
-            Engine::Deque { inner } => inner.list.all(place),
+            Engine::Queue { inner } => inner.all(place),
+            Engine::Stack { inner } => inner.all(place),
+            Engine::Deque { inner } => inner.all(place),
             Engine::Dict { inner } => inner.list.all(place),
             Engine::Pq { inner } => inner.list.all(place),
         }
