@@ -1,7 +1,6 @@
 -- A history stays one when a row is put in or taken out that leaves it valid.
-use Rattle.std.proofs.Common.{◌≡◌, ◌≢◌, ℕ, zero, suc, ◌<◌, ◌≤◌, List, [], ◌∷◌, length, take, drop, refl, sym, ap, ◌∙◌, lit≤}
+use Rattle.std.proofs.Common.{◌≡◌, ◌≢◌, ℕ, zero, suc, ◌<◌, ◌≤◌, List, [], ◌∷◌, length, take, refl, sym, ap, ◌∙◌, lit≤}
 use Rattle.std.specs.List.{insert, remove, AllByRecursion}
-use Rattle.std.proofs.lemmas.List.{take-append-drop}
 use Rattle.retro_base.specs.declared.kind.Kind.{Kind}
 use Rattle.retro_base.specs.declared.kind.Kind.TheVariants.{Queue, Stack, Deque, Dict, Pq}
 use Rattle.retro_base.specs.declared.row.Change.TheVariants.{Plain}
@@ -9,12 +8,10 @@ use Rattle.retro_base.specs.declared.row.Row.{Row}
 use Rattle.retro_base.specs.Limits.{most_rows}
 use Rattle.retro_base.specs.Kind.{kind_of}
 use Rattle.retro_base.specs.Replay.{fold_rows, IsValid}
-use Rattle.retro_base.specs.State.{step, empty}
 use Rattle.retro_base.specs.Edits.{Edit}
 use Rattle.retro_base.specs.Changes.{IsChange}
 use Rattle.retro_base.specs.Timeline.{Structure, IsFresh, IsReplayable}
 use Rattle.retro_base.specs.ReplayableLaws.{replayable_with, replayable_without}
-use Rattle.retro_base.proofs.Folds.{front_possible}
 
 pub empty_replayable : (kind : Kind) → IsReplayable kind []
 unfolding fold_rows

@@ -1,5 +1,5 @@
 -- An edit that was made in rows that replay, and left rows that replay.
-use Rattle.std.proofs.Common.{◌≡◌, ◌≢◌, ℕ, zero, suc, ◌≤◌, List, [], ◌∷◌, length, sym, arith}
+use Rattle.std.proofs.Common.{◌≡◌, ◌≢◌, ℕ, zero, suc, List, [], ◌∷◌, sym}
 use Rattle.std.specs.List.{insert, AllByRecursion}
 use Rattle.retro_base.specs.declared.kind.Kind.{Kind}
 use Rattle.retro_base.specs.declared.kind.Kind.TheVariants.{Pq}
@@ -7,9 +7,9 @@ use Rattle.retro_base.specs.declared.row.Change.{Change}
 use Rattle.retro_base.specs.declared.row.Row.{Row}
 use Rattle.retro_base.specs.Carried.{AddsOwnRow, IsPqEdit}
 use Rattle.retro_base.specs.Changes.{IsChange}
-use Rattle.retro_base.specs.Edits.{Edit, add, cut, edited, IsWithin, IsAccepted}
+use Rattle.retro_base.specs.Edits.{Edit, add, cut, edited, IsWithin}
 use Rattle.retro_base.specs.Kind.{kind_of}
-use Rattle.retro_base.specs.Timeline.{AreOfKind, HaveOwnNumbers, IsFresh, IsReplayable}
+use Rattle.retro_base.specs.Timeline.{HaveOwnNumbers, IsFresh, IsReplayable}
 
 -- the edit could be made, and this is its change
 pub record IsMade (kind : Kind) (rows : List Row) (edit : Edit) (change : Change) : Type 0 where

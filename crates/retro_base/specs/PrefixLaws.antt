@@ -1,6 +1,6 @@
 -- The first rows of a timeline, and the row that comes next: what is needed to append one after another.
-use Rattle.std.proofs.Common.{◌≡◌, ◌≢◌, ℕ, zero, suc, ◌+◌, ◌<◌, ◌≤◌, List, [], ◌∷◌, ◌++◌, length, take, drop, refl, sym, ap, ◌∙◌, arith, add-one, Option, Some, None, Result, Ok, Err}
-use Rattle.std.specs.List.{insert, AllByRecursion}
+use Rattle.std.proofs.Common.{◌≡◌, ◌≢◌, ℕ, zero, suc, ◌+◌, ◌<◌, ◌≤◌, List, [], ◌∷◌, ◌++◌, length, take, refl, sym, ap, ◌∙◌, arith, add-one, Option, Some, None, Result, Ok, Err}
+use Rattle.std.specs.List.{insert}
 use Rattle.std.specs.Result.{result_err}
 use Rattle.std.specs.Option.{option_map_or}
 use Rattle.std.proofs.lemmas.List.Edits.{insert_end}
@@ -12,7 +12,7 @@ use Rattle.retro_base.specs.Limits.{most_rows}
 use Rattle.retro_base.specs.Order.{Fits}
 use Rattle.retro_base.specs.OrderLaws.{all_at}
 use Rattle.retro_base.specs.Replay.{fold_rows, one_later, IsValid}
-use Rattle.retro_base.specs.State.{State, step, empty}
+use Rattle.retro_base.specs.State.{step, empty}
 use Rattle.retro_base.specs.Timeline.{IsFresh, HaveOwnNumbers, TimesNeverFall, IsTimeline}
 
 -- an outcome that is no failure still is none one place earlier

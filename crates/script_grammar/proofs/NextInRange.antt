@@ -1,17 +1,15 @@
 -- The number that a header gives to draw next is in its range.
-use Rattle.std.proofs.Common.{◌≡◌, ◌≢◌, ◌⊎◌, inl, inr, ℕ, ◌≤◌, nat_le, ◌&&◌, Bool, true, false, cond, refl, List, [], ◌∷◌}
+use Rattle.std.proofs.Common.{◌≡◌, inl, inr, ℕ, ◌≤◌, nat_le, ◌&&◌, Bool, true, false, cond, refl, List, [], ◌∷◌}
 use Rattle.std.specs.Prelude.{codes, Option, Some, None, option_map, option_and_then, Result, IfSome, IfOk}
 use Rattle.std.specs.Option.{ok_or}
 use Rattle.std.specs.Str.{bytes_eq}
-use Rattle.retro_base.specs.Name.{name_of}
 use Rattle.retro_base.specs.declared.kind.Kind.{Kind}
-use Rattle.retro_base.specs.declared.kind.Kind.TheVariants.{Pq}
 use Rattle.script_grammar.specs.declared.command.Command.{Command}
-use Rattle.script_grammar.specs.declared.command.Command.TheVariants.{New, Undo, Redo, Header}
+use Rattle.script_grammar.specs.declared.command.Command.TheVariants.{Undo, Redo, Header}
 use Rattle.script_grammar.specs.declared.command.LineError.{LineError}
 use Rattle.script_grammar.specs.declared.command.LineError.TheVariants.{Syntax}
 use Rattle.script_grammar.specs.declared.command.Spot.{Spot}
-use Rattle.script_grammar.specs.Command.{IsNextInRange, about, ask_at, ask_of, ask_then, command_of, delete_of, header_end, header_kind, header_next, header_of, insert_of, kind_named, kind_of_word, new_of, save_of}
+use Rattle.script_grammar.specs.Command.{IsNextInRange, about, ask_at, ask_of, ask_then, command_of, delete_of, header_end, header_kind, header_next, header_of, insert_of, kind_of_word, new_of, save_of}
 use Rattle.script_grammar.specs.Numbers.{between, natural_of, next_of}
 use Rattle.script_grammar.specs.Operands.{alone}
 use Rattle.retro_base.specs.Limits.{next_limit}

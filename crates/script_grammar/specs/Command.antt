@@ -1,5 +1,5 @@
 -- The grammar of the script: what each line asks for. A form is read by place, so that a timeline may be called `at`.
-use Rattle.std.specs.Prelude.{ℕ, ◌≤◌, ◌==◌, Bool, false, ◌||◌, List, [], ◌∷◌, codes, Option, Some, None, option_map, option_and_then, Result, Err, if◌then◌else◌}
+use Rattle.std.specs.Prelude.{ℕ, ◌≤◌, ◌==◌, Bool, false, ◌||◌, List, [], ◌∷◌, codes, Option, Some, None, option_map, option_and_then, Result, if◌then◌else◌}
 use Rattle.std.specs.Option.{ok_or}
 use Rattle.std.specs.Str.{bytes_eq}
 use Rattle.retro_base.specs.Limits.{next_limit}
