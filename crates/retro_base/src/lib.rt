@@ -10,7 +10,8 @@
 //! it.
 //!
 //! - Rows: `Kind`, `Op`, `Row`, `Rows`, `Entry`, `Change`. Questions: `Question`, `Answer`, `Item`, `Listing`.
-//! - Structures: `Retro`, `PlainList`, `PerformedRows`.
+//! - Structures: `Retro`; `Partial`, which answers of the present alone and takes no memory to remove;
+//!   `PlainList`, `PerformedRows`.
 //! - Texts: `Name`, `Text`, `print_op`. Costs: `Steps`. Memory: `NoMemory`.
 //! - Laws on the bridges of a priority queue: the functions of `bridge_laws.rt`, which have no body.
 //! - Limits: `MAX_ROWS`, `MAX_NEXT`, which are those of `specs/Limits.antt`.
@@ -30,6 +31,7 @@ mod name;
 mod op;
 mod op_text;
 mod pairs;
+mod partial;
 mod performed_rows;
 mod plain_list;
 mod question;
@@ -51,6 +53,7 @@ pub use memory::NoMemory;
 pub use name::Name;
 pub use op::Op;
 pub use op_text::print_op;
+pub use partial::Partial;
 pub use performed_rows::PerformedRows;
 pub use plain_list::PlainList;
 pub use question::{Answer, Item, Question};
