@@ -46,6 +46,11 @@ impl<T: Measured> Tree<T> {
         self.root.len()
     }
 
+    /// Where the nodes take their memory.
+    pub fn alloc(&self) -> Global {
+        self.alloc
+    }
+
     /// The item at a place.
     pub fn get<L: Ledger>(&self, place: u32, steps: &mut Steps<L>) -> T
         requires within { place < length self.now }
