@@ -1,0 +1,236 @@
+-- Entries in their order, as they are measured: where one of them has its place, and which is the k-th of the present.
+use Rattle.std.proofs.Common.{◌≡◌, ◌≢◌, ℕ, zero, suc, ◌+◌, ◌-◌, ◌<◌, ◌≤◌, ℤ, pos, ◌+ℤ◌, Bool, true, false, List, [], ◌∷◌, map, take, drop, length, cond, ◌⊎◌, inl, inr, refl, sym, ap, ◌∙◌, arith, subst, Option, Some, None}
+use Rattle.std.specs.Prelude.{not, slice_index_or, Contains, if◌then◌else◌}
+use Rattle.std.specs.List.{AllByRecursion, AllWithin, slice_get, slice_range, slice_set, insert, remove, filter}
+use Rattle.std.specs.Int.Signed.{lt_z}
+use Rattle.std.specs.Ordering.{flip_args}
+use Rattle.std.proofs.lemmas.Bool.{cases_lt}
+use Rattle.std.proofs.lemmas.Int.{ints}
+use Rattle.std.proofs.lemmas.List.{take_all, length-map}
+use Rattle.monoid_laws.specs.Both.{joined_both}
+use Rattle.monoid_laws.specs.Extreme.{Extreme, no_extreme, joined_extreme, one_element, extreme_of, first_greatest, greater_of, moved, at_start}
+use Rattle.monoid_laws.specs.Measure.{measure_of}
+use Rattle.monoid_laws.specs.Summed.{Summed, no_sum, joined_sum, one_sum}
+use Rattle.retro_base.specs.declared.row.Entry.{Entry}
+use Rattle.retro_base.specs.EntriesInOrder.{AreInOrder}
+use Rattle.retro_base.specs.OrderLaws.{all_weaker}
+use Rattle.retro_base.specs.State.{comes_before}
+use Rattle.retro_base.proofs.EntrySteps.{partitioned}
+use Rattle.retro_base.proofs.bridges.EntryOrder.{before_one_way}
+use Rattle.weighted_tree.specs.Search.{HoldsNowhere, IsFirstPlace, IsRising, IsFirstOrNone}
+use Rattle.bridge_pq.specs.declared.marked_entry.MarkedEntry.{MarkedEntry}
+use Rattle.bridge_pq.specs.MarkedEntries.{entries_in, present_in, Rise, entry_measure, reaches}
+use Rattle.bridge_pq.proofs.EntryCmp.{entry_order, before-less}
+
+-- what a range measures, part by part
+abbrev pub measures_in : List MarkedEntry → Summed × Extreme Entry
+measures_in items = measure_of (no_sum, no_extreme) (joined_both joined_sum (joined_extreme entry_order)) entry_measure items
+
+abbrev pub somes : List MarkedEntry → List (Option Entry)
+somes items = map (λ item. Some item.entry) items
+
+pub extreme-part : (items : List MarkedEntry) → (measures_in items).1 ≡ extreme_of entry_order (somes items)
+extreme-part [] = refl
+extreme-part (item ∷ items) = ap (joined_extreme entry_order (one_element (Some item.entry))) (extreme-part items)
+
+one_more : (b : Bool) (item : MarkedEntry) (rest : List Entry) (z : ℤ) → z ≡ pos (length rest) → pos (if b then 1 else 0) +ℤ z ≡ pos (length (if b then item.entry ∷ rest else rest))
+one_more true item rest z is = omega (arith, ints)
+one_more false item rest z is = omega (arith, ints)
+
+pub sum-part : (items : List MarkedEntry) → (measures_in items).0.sum ≡ pos (length (present_in items))
+sum-part [] = refl
+sum-part (item ∷ items) = one_more item.present item (present_in items) (measures_in items).0.sum (sum-part items)
+
+range-is : (items : List MarkedEntry) (place : ℕ) → slice_range items 0 place ≡ take place items
+range-is items place = ap (λ n. take n items) (let same : place - 0 ≡ place = omega arith in same)
+
+pub rise_in_order : (xs : List Entry) → Rise xs → AreInOrder xs
+rise_in_order [] rise = tt
+rise_in_order (x ∷ xs) rise = (all_weaker (λ y. comes_before x y ≡ true) (λ y. comes_before y x ≡ false) xs (λ y before. before_one_way x y before) rise.0, rise_in_order xs rise.1)
+
+-- the greatest of entries in order is the last
+abbrev last_in : MarkedEntry → List MarkedEntry → Entry
+last_in item [] = item.entry
+last_in item (next ∷ items) = last_in next items
+
+last_above : (e : Entry) (item : MarkedEntry) (items : List MarkedEntry) → AllByRecursion (λ y. comes_before e y ≡ true) (entries_in (item ∷ items)) → comes_before e (last_in item items) ≡ true
+last_above e item [] above = above.0
+last_above e item (next ∷ items) above = last_above e next items above.1
+
+overtaken : (e l : Entry) (k : ℕ) (first : Option (Entry × ℕ)) → comes_before e l ≡ true → first ≡ Some (l, k) → first_greatest entry_order (Some (e, 0)) (moved 1 first) ≡ Some (l, 1 + k)
+overtaken e l k first before is = rw (is, before-less e l before) refl
+
+greatest_last : (item : MarkedEntry) (items : List MarkedEntry) → Rise (entries_in (item ∷ items))
+    → (k : ℕ) × ((extreme_of entry_order (somes (item ∷ items))).first ≡ Some (last_in item items, k))
+greatest_last item [] rise = (0, refl)
+greatest_last item (next ∷ items) rise =
+    let rest = greatest_last next items rise.1 in
+    (1 + rest.0, overtaken item.entry (last_in next items) rest.0 (extreme_of entry_order (somes (next ∷ items))).first (last_above item.entry next items rise.0) rest.1)
+
+above_take : (e : Entry) (items : List MarkedEntry) (n : ℕ) → AllByRecursion (λ y. comes_before e y ≡ true) (entries_in items) → AllByRecursion (λ y. comes_before e y ≡ true) (entries_in (take n items))
+above_take e items zero above = tt
+above_take e [] (suc n) above = tt
+above_take e (item ∷ items) (suc n) above = (above.0, above_take e items n above.1)
+
+rise_take : (items : List MarkedEntry) (n : ℕ) → Rise (entries_in items) → Rise (entries_in (take n items))
+rise_take items zero rise = tt
+rise_take [] (suc n) rise = tt
+rise_take (item ∷ items) (suc n) rise = (above_take item.entry items n rise.0, rise_take items n rise.1)
+
+last_at : (item : MarkedEntry) (items : List MarkedEntry) (n : ℕ) (d : Entry) → n ≤ length items → last_in item (take n items) ≡ slice_index_or (entries_in (item ∷ items)) n d
+last_at item items zero d within = refl
+last_at item [] (suc n) d within = absurd (omega arith)
+last_at item (next ∷ items) (suc n) d within = last_at next items n d (omega arith)
+
+not_false : (b : Bool) → not b ≡ false → b ≡ true
+not_false true is = refl
+not_false false is = absurd (cc)
+
+not_true : (b : Bool) → not b ≡ true → b ≡ false
+not_true false is = refl
+not_true true is = absurd (cc)
+
+module _ (e : Entry) (items : List MarkedEntry) (rise : Rise (entries_in items)) where
+  -- the first so many reach it
+  abbrev pub reached : ℕ → Bool
+  reached place = reaches e (extreme_of entry_order (somes (take place items))).first
+
+  reached_by : (all : List MarkedEntry) (n : ℕ) (d : Entry) → Rise (entries_in all) → n < length all
+      → reaches e (extreme_of entry_order (somes (take (suc n) all))).first ≡ not (comes_before (slice_index_or (entries_in all) n d) e)
+  reached_by [] n d order within = absurd (omega arith)
+  reached_by (item ∷ rest) n d order within =
+      let last = greatest_last item (take n rest) (rise_take (item ∷ rest) (suc n) order) in
+      ap (reaches e) last.1 ∙ ap (λ l. not (comes_before l e)) (last_at item rest n d (omega arith))
+
+  reached_at : (n : ℕ) (d : Entry) → n < length items → reached (suc n) ≡ not (comes_before (slice_index_or (entries_in items) n d) e)
+  reached_at n d within = reached_by items n d rise within
+
+  entries_length : length (entries_in items) ≡ length items
+  entries_length = simp length-map
+
+  parted : (i j : ℕ) (d : Entry) → i ≤ j → j < length items → comes_before (slice_index_or (entries_in items) j d) e ≡ true → comes_before (slice_index_or (entries_in items) i d) e ≡ true
+  parted i j d up within before = partitioned e (entries_in items) (rise_in_order (entries_in items) rise) i j d up (omega (arith, entries_length)) before
+
+  rises_by : (n m : ℕ) (d : Entry) → n ≤ m → m < length items → reached (suc n) ≡ true → reached (suc m) ≡ true
+  rises_by n m d up within holds =
+      let here = not_true (comes_before (slice_index_or (entries_in items) n d) e) (sym (reached_at n d (omega arith)) ∙ holds) in
+      elim (comes_before (slice_index_or (entries_in items) m d) e) as (λ b. comes_before (slice_index_or (entries_in items) m d) e ≡ b → reached (suc m) ≡ true) [
+        | true ↦ λ before. let wrong : true ≡ false = sym (parted n m d up within before) ∙ here in absurd (cc)
+        | false ↦ λ behind. reached_at m d within ∙ ap not behind
+      ] refl
+
+  pub reached-rises : IsRising reached 0 (length items)
+  reached-rises zero later above up within holds = absurd (cc)
+  reached-rises (suc n) zero above up within holds = absurd (omega arith)
+  reached-rises (suc n) (suc m) above up within holds = rises_by n m e (omega arith) (omega arith) holds
+
+  pub record IsPlace (place : ℕ) : Type 0 where
+    pub within : place ≤ length items
+    pub before : AllWithin (λ other. comes_before other e ≡ true) (entries_in items) 0 place
+    pub behind : AllWithin (λ other. comes_before other e ≡ false) (entries_in items) place (length items)
+
+  place_at : (n : ℕ) → IsFirstPlace reached 0 (length items) (suc n) → IsPlace n
+  place_at n first = record {
+    within = let inside : suc n ≤ length items = first.within in omega arith;
+    before = λ k d low high.
+        let inside : suc n ≤ length items = first.within in
+        not_false (comes_before (slice_index_or (entries_in items) k d) e) (sym (reached_at k d (omega arith)) ∙ first.not_before (suc k) (omega arith) (omega arith));
+    behind = λ k d low high.
+        not_true (comes_before (slice_index_or (entries_in items) k d) e) (sym (reached_at k d high) ∙ rises_by n k d low high first.holds_there);
+  }
+
+  pub place-some : (end : ℕ) → IsFirstPlace reached 0 (length items) end → 1 ≤ end
+  place-some zero first = let wrong : false ≡ true = first.holds_there in absurd (cc)
+  place-some (suc n) first = omega arith
+
+  pub place-before : (end : ℕ) → IsFirstPlace reached 0 (length items) end → IsPlace (end - 1)
+  place-before zero first = let wrong : false ≡ true = first.holds_there in absurd (cc)
+  place-before (suc n) first = let same : n ≡ suc n - 1 = omega arith in subst IsPlace same (place_at n first)
+
+  pub place-none : HoldsNowhere reached 0 (length items) → IsPlace (length items)
+  place-none nowhere = record {
+    within = omega arith;
+    before = λ k d low high. not_false (comes_before (slice_index_or (entries_in items) k d) e) (sym (reached_at k d high) ∙ nowhere (suc k) (omega arith) (omega arith));
+    behind = λ k d low high. absurd (omega arith);
+  }
+
+  pub reached-told : (place : ℕ) → reaches e (measures_in (slice_range items 0 place)).1.first ≡ reached place
+  reached-told place = ap (λ m. reaches e m.first) (extreme-part (slice_range items 0 place) ∙ ap (λ l. extreme_of entry_order (somes l)) (range-is items place))
+
+-- the k-th of the present
+more_is : (k m : ℕ) → lt_z (pos k) (pos m) ≡ true → k < m
+more_is k m more = grind (arith, ints)
+
+no_more : (k m : ℕ) → lt_z (pos k) (pos m) ≡ false → m ≤ k
+no_more k m few = grind (arith, ints)
+
+is_more : (k m : ℕ) → k < m → lt_z (pos k) (pos m) ≡ true
+is_more k m more = grind (arith, ints)
+
+abbrev count_to : List MarkedEntry → ℕ → ℕ
+count_to items place = length (present_in (take place items))
+
+count_more : (b : Bool) (x : Entry) (xs ys : List Entry) → length xs ≤ length ys → length (if b then x ∷ xs else xs) ≤ length (if b then x ∷ ys else ys)
+count_more true x xs ys few = omega arith
+count_more false x xs ys few = few
+
+count_rises : (items : List MarkedEntry) (place later : ℕ) → place ≤ later → count_to items place ≤ count_to items later
+count_rises items zero later up = omega arith
+count_rises [] (suc place) later up = omega arith
+count_rises (item ∷ items) (suc place) zero up = absurd (omega arith)
+count_rises (item ∷ items) (suc place) (suc later) up = count_more item.present item.entry (present_in (take place items)) (present_in (take later items)) (count_rises items place later (omega arith))
+
+first_present : (b : Bool) (x : Entry) (rest : List Entry) (k : ℕ) → k < length (if b then x ∷ [] else []) → slice_get (if b then x ∷ rest else rest) k ≡ Some x
+first_present true x rest zero below = refl
+first_present true x rest (suc k) below = absurd (omega arith)
+first_present false x rest k below = absurd (omega arith)
+
+later_present : (b : Bool) (x e : Entry) (xs ys rest : List Entry) (k : ℕ) → length (if b then x ∷ xs else xs) ≤ k → k < length (if b then x ∷ ys else ys)
+    → ((j : ℕ) → length xs ≤ j → j < length ys → slice_get rest j ≡ Some e) → slice_get (if b then x ∷ rest else rest) k ≡ Some e
+later_present true x e xs ys rest zero low high there = absurd (omega arith)
+later_present true x e xs ys rest (suc k) low high there = there k (omega arith) (omega arith)
+later_present false x e xs ys rest k low high there = there k low high
+
+item_same : (x y : MarkedEntry) → Some x ≡ Some y → x ≡ y
+item_same x y same = cc
+
+kth_is : (items : List MarkedEntry) (n k : ℕ) (item : MarkedEntry) → slice_get items n ≡ Some item → count_to items n ≤ k → k < count_to items (suc n) → slice_get (present_in items) k ≡ Some item.entry
+kth_is [] n k item at low high = absurd (cc)
+kth_is (x ∷ items) zero k item at low high =
+    first_present x.present x.entry (present_in items) k high ∙ ap (λ (y : MarkedEntry). Some y.entry) (item_same x item at)
+kth_is (x ∷ items) (suc n) k item at low high =
+    later_present x.present x.entry item.entry (present_in (take n items)) (present_in (take (suc n) items)) (present_in items) k low high
+    (λ j below above. kth_is items n j item at below above)
+
+get_beyond : (xs : List Entry) (k : ℕ) → length xs ≤ k → slice_get xs k ≡ None
+get_beyond [] k beyond = refl
+get_beyond (x ∷ xs) zero beyond = absurd (omega arith)
+get_beyond (x ∷ xs) (suc k) beyond = get_beyond xs k (omega arith)
+
+module _ (items : List MarkedEntry) (k : ℕ) where
+  abbrev pub has_more : ℕ → Bool
+  has_more place = lt_z (pos k) (pos (count_to items place))
+
+  pub more-told : (place : ℕ) → lt_z (pos k) (measures_in (slice_range items 0 place)).0.sum ≡ has_more place
+  more-told place = ap (lt_z (pos k)) (sum-part (slice_range items 0 place) ∙ ap (λ l. pos (length (present_in l))) (range-is items place))
+
+  pub more-rises : IsRising has_more 0 (length items)
+  more-rises place later above up within holds = is_more k (count_to items later) (omega (arith, more_is k (count_to items place) holds, count_rises items place later up))
+
+  pub none-more : HoldsNowhere has_more 0 (length items) → slice_get (present_in items) k ≡ None
+  none-more nowhere =
+      let few = no_more k (count_to items (length items)) (nowhere (length items) (omega arith) (omega arith)) in
+      get_beyond (present_in items) k (subst (λ l. length (present_in l) ≤ k) (take_all (length items) items (omega arith)) few)
+
+  pub some-more : (end : ℕ) → IsFirstPlace has_more 0 (length items) end → 1 ≤ end
+  some-more zero first = absurd (omega (arith, more_is k 0 first.holds_there))
+  some-more (suc n) first = omega arith
+
+  pub kth-before : (end : ℕ) (item : MarkedEntry) → IsFirstPlace has_more 0 (length items) end → slice_get items (end - 1) ≡ Some item → slice_get (present_in items) k ≡ Some item.entry
+  kth-before zero item first at = absurd (omega (arith, more_is k 0 first.holds_there))
+  kth-before (suc n) item first at =
+      let same : suc n - 1 ≡ n = omega arith in
+      kth_is items n k item (sym (ap (slice_get items) same) ∙ at) (no_more k (count_to items n) (first.not_before n (omega arith) (omega arith))) (more_is k (count_to items (suc n)) first.holds_there)
+
+pub size-told : (items : List MarkedEntry) → (measures_in (slice_range items 0 (length items))).0.sum ≡ pos (length (present_in items))
+size-told items = sum-part (slice_range items 0 (length items)) ∙ ap (λ l. pos (length (present_in l))) (range-is items (length items) ∙ take_all (length items) items (omega arith))

@@ -1,0 +1,16 @@
+pub mod Costs
+pub mod PrefixSums
+pub mod SuffixSums
+pub mod RowMeasures
+pub mod EntryCmp
+pub mod EntryPlaces
+pub mod EntryEdits
+pub mod Places
+pub mod TurnedRows
+pub mod RowExtremes
+pub mod FoundTurns
+pub mod HeldEntries
+pub mod Edited
+pub mod FoundBridges
+pub mod Failures
+pub mod Present

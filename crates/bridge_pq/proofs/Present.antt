@@ -1,0 +1,143 @@
+-- What a queue by bridges answers of the present, and its empty start.
+use Rattle.std.proofs.Common.{◌≡◌, ℕ, ℤ, zero, suc, ◌+◌, ◌<◌, ◌≤◌, pos, true, false, Bool, cond, List, [], ◌∷◌, ◌++◌, length, map, drop, refl, sym, ap, ◌∙◌, arith, subst, inl, inr, Some, None, length-append}
+use Rattle.std.specs.Prelude.{Contains, not}
+use Rattle.std.specs.List.{remove, slice_get, AllByRecursion}
+use Rattle.std.specs.Option.{option_map}
+use Rattle.std.specs.Result.{result_err}
+use Rattle.std.specs.Prelude.{Result, Ok, Err}
+use Rattle.std.proofs.lemmas.List.{length-map, append_assoc, append-nil, drop_all}
+use Rattle.std.proofs.lemmas.List.Edits.{length-remove}
+use Rattle.retro_base.specs.declared.kind.Kind.TheVariants.{Pq}
+use Rattle.retro_base.specs.declared.question.Answer.TheVariants.{Number}
+use Rattle.retro_base.specs.declared.question.Item.{Item}
+use Rattle.retro_base.specs.declared.question.Item.TheVariants.{Single}
+use Rattle.retro_base.specs.declared.question.Question.TheVariants.{Size, Min, Nth}
+use Rattle.retro_base.specs.declared.row.Entry.{Entry}
+use Rattle.retro_base.specs.declared.row.Row.{Row}
+use Rattle.retro_base.specs.Answers.{answer_of, number_of, key_of, content}
+use Rattle.retro_base.specs.Bridges.{survivors, is_among}
+use Rattle.retro_base.specs.Limits.{most_rows}
+use Rattle.retro_base.specs.Replay.{run, failure, present}
+use Rattle.retro_base.specs.State.{State, step, empty, entries}
+use Rattle.retro_base.specs.Weights.{added_by}
+use Rattle.retro_base.proofs.Folds.{err_within}
+use Rattle.retro_base.proofs.Replayable.{empty_replayable}
+use Rattle.retro_base.proofs.bridges.Entries.{contains_in, in_contains}
+use Rattle.retro_base.proofs.bridges.Tests.{in_is_among, is_among_in}
+use Rattle.bridge_pq.specs.declared.marked_row.MarkedRow.{MarkedRow}
+use Rattle.bridge_pq.specs.declared.marked_entry.MarkedEntry.{MarkedEntry}
+use Rattle.bridge_pq.specs.Bridged.{IsBridged}
+use Rattle.bridge_pq.specs.MarkedEntries.{present_in}
+use Rattle.bridge_pq.specs.MarkedRows.{rows_of, is_one_of}
+use Rattle.bridge_pq.proofs.Edited.{history-of, few-entries, rows-length}
+use Rattle.bridge_pq.proofs.HeldEntries.{present-is, present-state}
+
+-- nothing is kept of no rows
+pub empty-bridged : IsBridged [] []
+empty-bridged = record {
+  replayable = empty_replayable Pq;
+  marked = tt;
+  holds = record { rise = tt; as_many = refl; same = λ entry. ((λ has. has), (λ has. has)); tell = tt };
+}
+
+-- a failure is that of a row
+err_of : {S : Type 0} (r : Result S ℕ) (i : ℕ) → result_err r ≡ Some i → r ≡ Err i
+err_of (Ok state) i fails = absurd (cc)
+err_of (Err j) i fails = let same : j ≡ i = cc in ap (λ k. Err k) same
+
+pub fails-without : (rows : List Row) (place i : ℕ) → place < length rows → failure Pq (remove rows place) ≡ Some i → i + 1 < length rows
+fails-without rows place i within fails =
+    omega (arith, length-remove rows place within, err_within step (remove rows place) (empty Pq) i (err_of (run (remove rows place) (empty Pq)) i fails))
+
+all_at : {X : Type 0} (P : X → Type 0) (xs : List X) (index : ℕ) (x : X) → AllByRecursion P xs → slice_get xs index ≡ Some x → P x
+all_at P [] index x all there = absurd (cc)
+all_at P (y ∷ ys) zero x all there = let same : y ≡ x = cc in rw same at all.0
+all_at P (y ∷ ys) (suc index) x all there = all_at P ys index x all.1 there
+
+module _ (items : List MarkedRow) (kept : List MarkedEntry) (bridged : IsBridged items kept) where
+  -- the present is told by the marks
+  pub present-told : present Pq (rows_of items) ≡ entries (present_in kept)
+  present-told = present-state (rows_of items) (history-of items kept bridged) ∙ ap (λ es. entries es) (sym (present-is (rows_of items) kept (history-of items kept bridged) bridged.holds))
+
+  pub size-answer : answer_of (present Pq (rows_of items)) Size ≡ Number (pos (length (present_in kept)))
+  unfolding answer_of
+  size-answer = ap (λ state. answer_of state Size) present-told
+
+  pub min-answer : answer_of (present Pq (rows_of items)) Min ≡ number_of (option_map key_of (slice_get (present_in kept) 0))
+  unfolding answer_of
+  min-answer = ap (λ state. answer_of state Min) present-told
+
+  pub nth-answer : (index : ℕ) → answer_of (present Pq (rows_of items)) (Nth index) ≡ number_of (option_map key_of (slice_get (present_in kept) index))
+  unfolding answer_of
+  nth-answer index = ap (λ state. answer_of state (Nth index)) present-told
+
+  pub keys-told : content (present Pq (rows_of items)) ≡ map (λ entry. Single entry.key) (present_in kept)
+  unfolding content
+  keys-told = ap content present-told
+
+  -- a mark tells whether the entry of the row at a place survives
+  module _ (place : ℕ) (item : MarkedRow) (own : Entry) (there : slice_get items place ≡ Some item) (adds : added_by item.row ≡ Some own) where
+    told : item.survives ≡ is_among (survivors (rows_of items)) own
+    told = all_at (λ (one : MarkedRow). one.survives ≡ is_one_of (survivors (rows_of items)) (added_by one.row)) items place item bridged.marked there ∙ ap (is_one_of (survivors (rows_of items))) adds
+
+    pub mark-lives : item.survives ≡ true → Contains (survivors (rows_of items)) own
+    mark-lives set = in_contains _ own (is_among_in own (survivors (rows_of items)) (sym told ∙ set))
+
+    pub mark-dead : item.survives ≡ false → ¬ Contains (survivors (rows_of items)) own
+    mark-dead set lives =
+        let wrong : true ≡ false = sym (in_is_among own (survivors (rows_of items)) (contains_in _ own lives)) ∙ sym told ∙ set in
+        absurd (cc)
+
+  pub entries-few : length kept ≤ length (rows_of items)
+  entries-few = omega (arith, few-entries items kept bridged, rows-length items)
+
+pub unmarked : (mark : Bool) → not mark ≡ true → mark ≡ false
+unmarked true clear = sym clear
+unmarked false clear = refl
+
+pub marked-set : (mark : Bool) → not mark ≡ false → mark ≡ true
+marked-set true set = refl
+marked-set false set = sym set
+
+-- the keys of the present, entry by entry
+abbrev pub keys_in : List MarkedEntry → List Item
+keys_in items = map (λ entry. Single entry.key) (present_in items)
+
+keys-few : (items : List MarkedEntry) → length (keys_in items) ≤ length items
+keys-few [] = omega arith
+keys-few (item ∷ items) = elim item.present as (λ b. length (map (λ entry. Single entry.key) (cond b (item.entry ∷ present_in items) (present_in items))) ≤ suc (length items)) [
+  | true ↦ omega (arith, keys-few items)
+  | false ↦ omega (arith, keys-few items)
+]
+
+dropped : (items : List MarkedEntry) (place : ℕ) (item : MarkedEntry) → slice_get items place ≡ Some item → drop place items ≡ item ∷ drop (suc place) items
+dropped [] place item there = absurd (cc)
+dropped (first ∷ items) zero item there = let same : first ≡ item = cc in ap (λ i. i ∷ items) same
+dropped (first ∷ items) (suc place) item there = dropped items place item there
+
+keys_step : (item : MarkedEntry) (b : Bool) (rest : List MarkedEntry) → item.present ≡ b → keys_in (item ∷ rest) ≡ map (λ entry. Single entry.key) (cond b (item.entry ∷ present_in rest) (present_in rest))
+keys_step item b rest mark = ap (λ m. map (λ entry. Single entry.key) (cond m (item.entry ∷ present_in rest) (present_in rest))) mark
+
+pub keys-room : (items : List MarkedEntry) (listing : List Item) (place : ℕ) → listing ++ keys_in (drop place items) ≡ keys_in items → length items ≤ most_rows → length listing ≤ most_rows
+keys-room items listing place so_far few = omega (arith, ap length so_far, length-append listing (keys_in (drop place items)), keys-few items, few)
+
+pub keys-pushed : (items : List MarkedEntry) (listing after : List Item) (place next : ℕ) (item : MarkedEntry) → next ≡ place + 1 → listing ++ keys_in (drop place items) ≡ keys_in items
+    → slice_get items place ≡ Some item → item.present ≡ true → after ≡ listing ++ Single item.entry.key ∷ [] → after ++ keys_in (drop next items) ≡ keys_in items
+keys-pushed items listing after place next item on so_far there mark pushed =
+    let later : next ≡ suc place = omega (arith, on) in
+    ap (λ l. l ++ keys_in (drop next items)) pushed
+    ∙ append_assoc listing (Single item.entry.key ∷ []) (keys_in (drop next items))
+    ∙ ap (λ n. listing ++ Single item.entry.key ∷ keys_in (drop n items)) later
+    ∙ ap (λ l. listing ++ l) (sym (keys_step item true (drop (suc place) items) mark) ∙ ap keys_in (sym (dropped items place item there)))
+    ∙ so_far
+
+pub keys-passed : (items : List MarkedEntry) (listing : List Item) (place next : ℕ) (item : MarkedEntry) → next ≡ place + 1 → listing ++ keys_in (drop place items) ≡ keys_in items
+    → slice_get items place ≡ Some item → item.present ≡ false → listing ++ keys_in (drop next items) ≡ keys_in items
+keys-passed items listing place next item on so_far there mark =
+    let later : next ≡ suc place = omega (arith, on) in
+    ap (λ n. listing ++ keys_in (drop n items)) later
+    ∙ ap (λ l. listing ++ l) (sym (keys_step item false (drop (suc place) items) mark) ∙ ap keys_in (sym (dropped items place item there)))
+    ∙ so_far
+
+pub keys-whole : (items : List MarkedEntry) (listing : List Item) (place : ℕ) → listing ++ keys_in (drop place items) ≡ keys_in items → length items ≤ place → listing ≡ keys_in items
+keys-whole items listing place so_far all = sym (append-nil listing) ∙ ap (λ l. listing ++ keys_in l) (sym (drop_all place items all)) ∙ so_far

@@ -1,0 +1,31 @@
+use Rattle.std.proofs.Common.{◌≡◌, sym, ap, ◌∙◌, subst, Some}
+use Rattle.std.specs.Prelude.{slice_get}
+use Rattle.bridge_pq.specs.declared.marked_row.MarkedRow.{MarkedRow}
+use Rattle.bridge_pq.specs.Bridged.{IsBridged}
+use Rattle.bridge_pq.specs.MarkedRows.{rows_of}
+use Rattle.bridge_pq.proofs.Places.{get-map}
+use Rattle.bridge_pq.proofs.Present.{mark-lives, mark-dead}
+use Rattle.bridge_pq.proofs.bridge_queue.BridgeQueuePartial.remove.Goals.{in-Some, in-Some-2, in-None}
+use Rattle.bridge_pq.proofs.bridge_queue.BridgeQueuePartial.remove.Goals as goal
+
+pub remove_survivor-change-requires-clause-lives : goal.remove_survivor-change-requires-clause-lives
+remove_survivor-change-requires-clause-lives g c = mark-lives c.self.inside.rows c.self.inside.entries c.self.invariant c.args.place c.get-item.result c.in-Some.own c.get-item.ensures.item (sym c.added_entry.ensures ∙ c.in-Some.is) c.if-item.true
+
+pub remove_dead-change-requires-clause-there : goal.remove_dead-change-requires-clause-there
+remove_dead-change-requires-clause-there g c = get-map (λ (item : MarkedRow). item.row) c.self.inside.rows c.args.place c.get-item.result c.get-item.ensures.item
+
+pub remove_dead-change-requires-clause-dead : goal.remove_dead-change-requires-clause-dead
+remove_dead-change-requires-clause-dead g c = mark-dead c.self.inside.rows c.self.inside.entries c.self.invariant c.args.place c.get-item.result c.in-Some.own c.get-item.ensures.item (sym c.added_entry.ensures ∙ c.in-Some.is) c.if-item.false
+
+pub remove_taking-change-requires-clause-there : goal.remove_taking-change-requires-clause-there
+remove_taking-change-requires-clause-there g c = get-map (λ (item : MarkedRow). item.row) c.self.inside.rows c.args.place c.get-item.result c.get-item.ensures.item
+
+pub invariant_of-self : goal.invariant_of-self
+invariant_of-self g c = elim c.match-added_entry.branch [
+  | in-Some w ↦ rw w.self-inside-is w.remove_survivor-change.ensures.bridged
+  | in-Some-2 w ↦ rw w.self-inside-is w.remove_dead-change.ensures.bridged
+  | in-None w ↦ rw w.self-inside-is w.remove_taking-change.ensures.bridged
+]
+
+pub returns-clause-row : goal.returns-clause-row
+returns-clause-row g c = ap (λ l. slice_get l c.args.place) (sym c.self.view_is) ∙ get-map (λ (item : MarkedRow). item.row) c.self.inside.rows c.args.place c.get-item.result c.get-item.ensures.item

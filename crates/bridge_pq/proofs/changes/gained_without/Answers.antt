@@ -1,0 +1,17 @@
+use Rattle.std.proofs.Common.{◌≡◌, ◌≤◌, ◌<◌, ◌+◌, length, sym, ◌∙◌, arith, refl}
+use Rattle.std.proofs.lemmas.List.{length-map}
+use Rattle.std.proofs.lemmas.Option.{slice_get_within}
+use Rattle.retro_base.proofs.bridges.EntryOrder.{before_one_way}
+use Rattle.bridge_pq.specs.MarkedRows.{rows_of}
+use Rattle.bridge_pq.proofs.FoundTurns.{gain-without, dead-without, greatest-at}
+use Rattle.bridge_pq.proofs.RowExtremes.{adds-within}
+use Rattle.bridge_pq.proofs.changes.gained_without.Goals as goal
+
+pub unreachable-requires : goal.unreachable-requires
+unreachable-requires g c = dead-without (rows_of c.args.rows.now) c.args.place c.args.row c.last_bridge-bridge.result c.requires.possible c.requires.takes
+    c.last_bridge-bridge.ensures.bridge c.in_default.ensures.dead
+
+pub returns-clause-turns : goal.returns-clause-turns
+returns-clause-turns g c =
+    rw c.place_without.ensures (gain-without (rows_of c.args.rows.now) c.args.place c.args.row c.last_bridge-bridge.result c.in-Some.dead c.entry_at-entry.result c.requires.possible c.requires.takes
+    c.last_bridge-bridge.ensures.bridge c.entry_at-entry.ensures.entry (greatest-at _ c.in-Some.dead _ _ c.in-Some.ensures.dead c.entry_at-entry.ensures.entry))

@@ -1,0 +1,40 @@
+use Rattle.std.proofs.Common.{◌≡◌, ◌≤◌, ◌<◌, ◌+◌, length, ap, sym, ◌∙◌, arith, false}
+use Rattle.std.proofs.lemmas.List.Edits.{length-insert, length-remove}
+use Rattle.std.specs.List.{insert, remove}
+use Rattle.retro_base.specs.Bridges.{survivors}
+use Rattle.retro_base.specs.VisitsLaws.{visits-add, visits-longer}
+use Rattle.bridge_pq.specs.MarkedRows.{rows_of}
+use Rattle.bridge_pq.specs.MarkedEntries.{entries_in, put_marked}
+use Rattle.bridge_pq.proofs.Costs.{visits-more}
+use Rattle.bridge_pq.proofs.Edited.{cut-within, few-entries, own-among, cut-adding, turn-within, turn-few, turn-among, turn-done}
+use Rattle.bridge_pq.proofs.edit.remove_dead.Goals as goal
+
+pub take_entry-requires-clause-among : goal.take_entry-requires-clause-among
+take_entry-requires-clause-among g c = own-among c.args.rows.now c.args.entries.now c.requires.bridged c.args.place c.args.row c.requires.there c.requires.replays c.args.own c.requires.adds
+
+pub turn-requires-clause-within : goal.turn-requires-clause-within
+turn-requires-clause-within g c = turn-within (remove (rows_of c.args.rows.now) c.args.place) (survivors (rows_of c.args.rows.now)) c.remove.new.self c.take_entry.new.entries (cut-adding c.args.rows.now c.args.entries.now c.requires.bridged c.args.place c.args.row c.requires.there c.requires.replays c.args.own c.requires.adds c.remove.new.self c.take_entry.new.entries c.remove.ensures.items c.take_entry.ensures.taken) c.lost_without-turned.result.place c.lost_without-turned.result.entry c.lost_without-turned.ensures.turns.there
+
+pub turn-requires-clause-few : goal.turn-requires-clause-few
+turn-requires-clause-few g c = turn-few (remove (rows_of c.args.rows.now) c.args.place) (survivors (rows_of c.args.rows.now)) c.remove.new.self c.take_entry.new.entries (cut-adding c.args.rows.now c.args.entries.now c.requires.bridged c.args.place c.args.row c.requires.there c.requires.replays c.args.own c.requires.adds c.remove.new.self c.take_entry.new.entries c.remove.ensures.items c.take_entry.ensures.taken) c.lost_without-turned.result.place c.lost_without-turned.result.entry c.lost_without-turned.ensures.turns.there
+
+pub turn-requires-clause-rise : goal.turn-requires-clause-rise
+turn-requires-clause-rise g c = (cut-adding c.args.rows.now c.args.entries.now c.requires.bridged c.args.place c.args.row c.requires.there c.requires.replays c.args.own c.requires.adds c.remove.new.self c.take_entry.new.entries c.remove.ensures.items c.take_entry.ensures.taken).holds.rise
+
+pub turn-requires-clause-among : goal.turn-requires-clause-among
+turn-requires-clause-among g c = turn-among (remove (rows_of c.args.rows.now) c.args.place) (survivors (rows_of c.args.rows.now)) c.remove.new.self c.take_entry.new.entries (cut-adding c.args.rows.now c.args.entries.now c.requires.bridged c.args.place c.args.row c.requires.there c.requires.replays c.args.own c.requires.adds c.remove.new.self c.take_entry.new.entries c.remove.ensures.items c.take_entry.ensures.taken) c.lost_without-turned.result.place c.lost_without-turned.result.entry c.lost_without-turned.ensures.turns.there
+
+pub returns-clause-bridged : goal.returns-clause-bridged
+returns-clause-bridged g c = (turn-done (remove (rows_of c.args.rows.now) c.args.place) (survivors (rows_of c.args.rows.now)) c.remove.new.self c.take_entry.new.entries (cut-adding c.args.rows.now c.args.entries.now c.requires.bridged c.args.place c.args.row c.requires.there c.requires.replays c.args.own c.requires.adds c.remove.new.self c.take_entry.new.entries c.remove.ensures.items c.take_entry.ensures.taken) c.lost_without-turned.result.place c.lost_without-turned.result.entry c.lost_without-turned.ensures.turns.there c.lost_without-turned.result.survives c.lost_without-turned.ensures.turns.marks c.turn.new.rows c.turn.new.entries c.turn.ensures.rows c.turn.ensures.entries).0
+
+pub returns-clause-rows : goal.returns-clause-rows
+returns-clause-rows g c = (turn-done (remove (rows_of c.args.rows.now) c.args.place) (survivors (rows_of c.args.rows.now)) c.remove.new.self c.take_entry.new.entries (cut-adding c.args.rows.now c.args.entries.now c.requires.bridged c.args.place c.args.row c.requires.there c.requires.replays c.args.own c.requires.adds c.remove.new.self c.take_entry.new.entries c.remove.ensures.items c.take_entry.ensures.taken) c.lost_without-turned.result.place c.lost_without-turned.result.entry c.lost_without-turned.ensures.turns.there c.lost_without-turned.result.survives c.lost_without-turned.ensures.turns.marks c.turn.new.rows c.turn.new.entries c.turn.ensures.rows c.turn.ensures.entries).1
+
+pub returns-clause-visits : goal.returns-clause-visits
+returns-clause-visits g c =
+    let shorter : length c.remove.new.self ≤ length c.args.rows.now = omega (arith, ap length c.remove.ensures.items, length-remove c.args.rows.now c.args.place (cut-within c.args.rows.now c.args.entries.now c.requires.bridged c.args.place c.args.row c.requires.there c.requires.replays)) in
+    visits-add 84 48 (length c.args.rows.now) _ _ _
+    (visits-add 60 24 (length c.args.rows.now) _ _ _
+    (visits-add 48 12 (length c.args.rows.now) _ _ _ c.lost_without-turned.ensures.visits c.remove.ensures.visits)
+    (visits-longer 24 (length c.args.entries.now) _ _ _ (few-entries c.args.rows.now c.args.entries.now c.requires.bridged) c.take_entry.ensures.visits))
+    (visits-longer 48 (length c.remove.new.self) _ _ _ shorter c.turn.ensures.visits)

@@ -1,0 +1,19 @@
+use Rattle.std.proofs.Common.{◌≡◌, ◌≤◌, ◌+◌, length, subst, arith}
+use Rattle.std.specs.Prelude.{OnOk, false}
+use Rattle.retro_base.specs.VisitsLaws.{visits-longer, visits-add}
+use Rattle.retro_base.proofs.bridges.Entries.{in_contains}
+use Rattle.bridge_pq.proofs.EntryEdits.{put-at, no_longer}
+use Rattle.bridge_pq.proofs.entry_tree.put_entry.Goals as goal
+
+pub returns-clause-ok : goal.returns-clause-ok
+returns-clause-ok g c =
+    subst (λ l. OnOk c.insert.result (c.insert.new.self ≡ l))
+    (put-at (record { entry = c.args.entry; present = false }) c.args.entries.now c.place_of-place.result (λ inside. c.requires.absent (in_contains _ c.args.entry inside))
+    c.place_of-place.ensures.within c.place_of-place.ensures.before c.place_of-place.ensures.behind)
+    c.insert.ensures.ok
+
+pub returns-clause-visits : goal.returns-clause-visits
+returns-clause-visits g c =
+    let longer : length c.insert.new.self ≤ length c.args.entries.now + 1 = no_longer c.insert.result c.args.entries.now c.insert.new.self c.place_of-place.result _ c.place_of-place.ensures.within c.insert.ensures.ok c.insert.ensures.err in
+    visits-add 12 12 (length c.args.entries.now + 1) _ _ _ (visits-longer 12 (length c.args.entries.now) _ _ _ (omega arith) c.place_of-place.ensures.visits)
+    (visits-longer 12 (length c.insert.new.self) _ _ _ longer c.insert.ensures.visits)

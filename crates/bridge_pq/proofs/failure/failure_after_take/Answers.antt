@@ -1,0 +1,18 @@
+use Rattle.std.proofs.Common.{◌≡◌, ◌≤◌, length, sym, ap, arith}
+use Rattle.bridge_pq.specs.MarkedRows.{rows_of}
+use Rattle.bridge_pq.proofs.Edited.{rows-length}
+use Rattle.bridge_pq.proofs.Failures.{take-goes, take-fails}
+use Rattle.bridge_pq.proofs.failure.failure_after_take.Goals as goal
+
+pub returns-in-Some-clause-first : goal.returns-in-Some-clause-first
+returns-in-Some-clause-first g c = λ row of_kind takes.
+    sym (take-goes (rows_of c.args.rows.now) c.args.place row c.requires.history (omega (arith, c.requires.within, rows-length c.args.rows.now)) of_kind
+    c.first_bridge-bridge.result c.in-Some.ensures.survivor.0 takes c.first_bridge-bridge.ensures.bridge c.in-Some.ensures.survivor.2.one)
+
+pub returns-in-None-clause-first : goal.returns-in-None-clause-first
+returns-in-None-clause-first g c = λ row of_kind takes.
+    sym (take-fails (rows_of c.args.rows.now) c.args.place row c.requires.history (omega (arith, c.requires.within, rows-length c.args.rows.now)) of_kind
+    c.first_bridge-bridge.result takes c.first_bridge-bridge.ensures.bridge c.in-None.ensures.survivor)
+
+pub returns-in-None-clause-index : goal.returns-in-None-clause-index
+returns-in-None-clause-index g c = omega (arith, c.first_bridge-bridge.ensures.bridge.within, rows-length c.args.rows.now)

@@ -1,0 +1,4 @@
+pub mod MarkedRows
+pub mod MarkedEntries
+pub mod Bridged
+pub mod Turns

@@ -1,0 +1,75 @@
+-- Rows with a mark that tells whether the entry that they add survives: what they weigh, and what a range of them measures.
+use Rattle.std.specs.Prelude.{◌≡◌, ℕ, ℤ, pos, negsuc, Bool, true, false, List, [], ◌∷◌, map, take, if◌then◌else◌, refl}
+use Rattle.std.specs.Prelude.{Option, Some, None}
+use Rattle.std.specs.List.{AllByRecursion, slice_range}
+use Rattle.std.specs.Int.Signed.{le_z}
+use Rattle.std.specs.Prelude.{◌+ℤ◌, ◌-ℤ◌}
+use Rattle.monoid_laws.specs.Extreme.{Extreme, one_element}
+use Rattle.monoid_laws.specs.Summed.{sum_of}
+use Rattle.monoid_laws.specs.Walk.{Walk, one_step, walk_of, lowest_of}
+use Rattle.retro_base.specs.declared.row.Entry.{Entry}
+use Rattle.retro_base.specs.declared.row.Row.{Row}
+use Rattle.retro_base.specs.Bridges.{is_among}
+use Rattle.retro_base.specs.Weights.{added_by}
+use Rattle.bridge_pq.specs.declared.marked_row.MarkedRow.{MarkedRow}
+
+-- the rows alone
+abbrev pub rows_of : List MarkedRow → List Row
+rows_of items = map (λ item. item.row) items
+
+-- whether an added entry is among these
+abbrev pub is_one_of : List Entry → Option Entry → Bool
+is_one_of alive None = false
+is_one_of alive (Some entry) = is_among alive entry
+
+-- each mark tells whether the entry that the row adds is among these
+abbrev pub AreMarked : List Entry → List MarkedRow → Type 0
+AreMarked alive items = AllByRecursion (λ item. item.survives ≡ is_one_of alive (added_by item.row)) items
+
+-- by its mark, what a row weighs that adds this entry, or takes one
+abbrev pub weight_in : Bool → Option Entry → ℤ
+weight_in survives None = negsuc 0
+weight_in survives (Some entry) = if survives then pos 0 else pos 1
+
+-- the added entry, if it is dead, and if it survives
+abbrev pub dead_in : Bool → Option Entry → Option Entry
+dead_in true added = None
+dead_in false added = added
+
+abbrev pub alive_in : Bool → Option Entry → Option Entry
+alive_in true added = added
+alive_in false added = None
+
+-- the weights of marked rows
+abbrev pub weights_of : List MarkedRow → List ℤ
+weights_of items = map (λ item. weight_in item.survives (added_by item.row)) items
+
+-- what one marked row measures
+abbrev pub row_measure : MarkedRow → Walk × (Extreme Entry × Extreme Entry)
+row_measure item = (
+  one_step (weight_in item.survives (added_by item.row)),
+  (one_element (dead_in item.survives (added_by item.row)), one_element (alive_in item.survives (added_by item.row))),
+)
+
+one_step-items : (x : ℤ) → (one_step x).items ≡ 1
+one_step-items (pos n) = refl
+one_step-items (negsuc n) = refl
+
+pub row_measure-items : (item : MarkedRow) → (row_measure item).0.items ≡ 1
+row_measure-items item = one_step-items (weight_in item.survives (added_by item.row))
+
+-- the sum of the first so many numbers
+abbrev pub sum_to : List ℤ → ℕ → ℤ
+sum_to xs place = sum_of (take place xs)
+
+-- how high a walk ends above its lowest point
+abbrev pub height_of : Walk → ℤ
+height_of walk = pos walk.rises
+
+-- on the way from one place to another the sum falls to 0
+abbrev pub falls_from : List ℤ → ℕ → ℕ → Bool
+falls_from xs from place = le_z (sum_to xs from +ℤ lowest_of (walk_of (slice_range xs from place))) (pos 0)
+
+-- on the way from a place to another the sum is at 0 or below
+abbrev pub keeps_up_to : List ℤ → ℕ → ℕ → Bool
+keeps_up_to xs to place = le_z (sum_to xs to -ℤ height_of (walk_of (slice_range xs place to))) (pos 0)

@@ -1,0 +1,225 @@
+ghost use Rattle.std.specs.Prelude.{◌≡◌, ◌+◌, ◌^◌, ◌<◌, ◌≤◌, length, slice_get, slice_set, Contains, false, Some, None, IfOk, OnOk, OnErr};
+ghost use Rattle.std.specs.List.{insert, remove};
+ghost use Rattle.retro_base.specs.declared.kind.Kind.TheVariants.{Pq};
+ghost use Rattle.retro_base.specs.Bridges.{survivors};
+ghost use Rattle.retro_base.specs.Changes.{IsPqChange};
+ghost use Rattle.retro_base.specs.Edits.{add, cut};
+ghost use Rattle.retro_base.specs.Kind.{kind_of};
+ghost use Rattle.retro_base.specs.Limits.{most_rows};
+ghost use Rattle.retro_base.specs.Replay.{IsValid};
+ghost use Rattle.retro_base.specs.Timeline.{IsFresh};
+ghost use Rattle.retro_base.specs.Visits.{VisitsWithin};
+ghost use Rattle.retro_base.specs.Weights.{added_by};
+ghost use Rattle.bridge_pq.specs.declared.marked_row.MarkedRow.{MarkedRow};
+ghost use Rattle.bridge_pq.specs.Bridged.{IsBridged};
+ghost use Rattle.bridge_pq.specs.MarkedEntries.{entries_in, Rise, put_marked, marked_so};
+ghost use Rattle.bridge_pq.specs.MarkedRows.{rows_of};
+
+use crate::changes::{gained_with, gained_without, lost_with, lost_without};
+use crate::entry_tree::{mark_entry, put_entry, take_entry};
+use crate::marked_entry::MarkedEntry;
+use crate::marked_row::MarkedRow;
+use crate::row_search::mark_row;
+use crate::turned::Turned;
+use retro_base::{Change, Entry, NoMemory, Row, Steps};
+use std::sync::ledger::Ledger;
+use weighted_tree::Tree;
+
+/// Turns the marks of a changed entry and of its row.
+fn turn<L: Ledger>(
+    rows: &mut Tree<MarkedRow>,
+    entries: &mut Tree<MarkedEntry>,
+    turned: Turned,
+    steps: &mut Steps<L>,
+)
+    requires within { turned.place < length rows.old }
+    requires few { length entries.old ≤ length rows.old }
+    requires rise { Rise (entries_in entries.old) }
+    requires among { Contains (entries_in entries.old) turned.entry }
+    ensures rows { (item : MarkedRow) → slice_get rows.old turned.place ≡ Some item
+        → rows.new ≡ slice_set rows.old turned.place (record { row = item.row; survives = turned.survives }) }
+    ensures entries { entries.new ≡ marked_so turned.entry turned.survives entries.old }
+    ensures visits { VisitsWithin 48 (length rows.old) steps.old steps.new }
+{
+    mark_row(rows, turned.place, turned.survives, steps);
+    mark_entry(entries, turned.entry, turned.survives, steps);
+}
+
+/// Puts a row in whose mark is not set. After `NoMemory` all is as before.
+fn put_row<L: Ledger>(
+    rows: &mut Tree<MarkedRow>,
+    place: u32,
+    row: Row,
+    steps: &mut Steps<L>,
+) -> Result<(), NoMemory>
+    requires within { place ≤ length rows.old }
+    requires room { length rows.old < 2 ^ 31 }
+    ensures ok { OnOk result (rows.new ≡ insert rows.old place (record { row = row; survives = false })) }
+    ensures err { OnErr result (rows.new ≡ rows.old) }
+    ensures visits { VisitsWithin 12 (length rows.old + 1) steps.old steps.new }
+{
+    let item = MarkedRow {
+        row,
+        survives: false,
+    };
+    rows.insert(place, item, steps)
+}
+
+/// Puts a row in with its entry, whose marks are not set. After `NoMemory` all is as before.
+fn put_row_with_entry<L: Ledger>(
+    rows: &mut Tree<MarkedRow>,
+    entries: &mut Tree<MarkedEntry>,
+    place: u32,
+    row: Row,
+    entry: Entry,
+    steps: &mut Steps<L>,
+) -> Result<(), NoMemory>
+    requires within { place ≤ length rows.old }
+    requires room { length rows.old < 2 ^ 31 }
+    requires few { length entries.old ≤ length rows.old }
+    requires rise { Rise (entries_in entries.old) }
+    requires absent { ¬ Contains (entries_in entries.old) entry }
+    ensures rows { OnOk result (rows.new ≡ insert rows.old place (record { row = row; survives = false })) }
+    ensures entries { OnOk result (entries.new ≡ put_marked (record { entry = entry; present = false }) entries.old) }
+    ensures err { OnErr result ((rows.new ≡ rows.old) × (entries.new ≡ entries.old)) }
+    ensures ok_visits { OnOk result (VisitsWithin 36 (length rows.old + 1) steps.old steps.new) }
+    ensures visits { VisitsWithin 60 (length rows.old + 1) steps.old steps.new }
+{
+    put_entry(entries, entry, steps)?;
+    if let Err(error) = put_row(rows, place, row, steps) {
+        take_entry(entries, entry, steps);
+        return Err(error);
+    }
+    Ok(())
+}
+
+/// Puts in a row that adds an entry.
+pub(crate) fn insert_adding<L: Ledger>(
+    rows: &mut Tree<MarkedRow>,
+    entries: &mut Tree<MarkedEntry>,
+    place: u32,
+    row: Row,
+    new: Entry,
+    steps: &mut Steps<L>,
+) -> Result<Change, NoMemory>
+    requires bridged { IsBridged rows.old entries.old }
+    requires within { place ≤ length rows.old }
+    requires room { length rows.old < most_rows }
+    requires fresh { IsFresh row.number (rows_of rows.old) }
+    requires of_kind { kind_of row.op ≡ Pq }
+    requires adds { added_by row ≡ Some new }
+    requires replays { IsValid Pq (insert (rows_of rows.old) place row) }
+    ensures bridged { OnOk result (IsBridged rows.new entries.new) }
+    ensures rows { OnOk result (rows_of rows.new ≡ insert (rows_of rows.old) place row) }
+    ensures change { IfOk result (IsPqChange (rows_of rows.old) (add place row)) }
+    ensures err { OnErr result ((rows.new ≡ rows.old) × (entries.new ≡ entries.old)) }
+    ensures visits { VisitsWithin 144 (length rows.old + 1) steps.old steps.new }
+{
+    let turned = gained_with(rows, place, row, new, steps);
+    put_row_with_entry(rows, entries, place, row, new, steps)?;
+    turn(rows, entries, turned, steps);
+    Ok(turned.change)
+}
+
+/// Puts in a row that takes.
+pub(crate) fn insert_taking<L: Ledger>(
+    rows: &mut Tree<MarkedRow>,
+    entries: &mut Tree<MarkedEntry>,
+    place: u32,
+    row: Row,
+    steps: &mut Steps<L>,
+) -> Result<Change, NoMemory>
+    requires bridged { IsBridged rows.old entries.old }
+    requires within { place ≤ length rows.old }
+    requires room { length rows.old < most_rows }
+    requires fresh { IsFresh row.number (rows_of rows.old) }
+    requires of_kind { kind_of row.op ≡ Pq }
+    requires takes { added_by row ≡ None }
+    requires replays { IsValid Pq (insert (rows_of rows.old) place row) }
+    ensures bridged { OnOk result (IsBridged rows.new entries.new) }
+    ensures rows { OnOk result (rows_of rows.new ≡ insert (rows_of rows.old) place row) }
+    ensures change { IfOk result (IsPqChange (rows_of rows.old) (add place row)) }
+    ensures err { OnErr result ((rows.new ≡ rows.old) × (entries.new ≡ entries.old)) }
+    ensures visits { VisitsWithin 144 (length rows.old + 1) steps.old steps.new }
+{
+    let turned = lost_with(rows, place, row, steps);
+    put_row(rows, place, row, steps)?;
+    turn(rows, entries, turned, steps);
+    Ok(turned.change)
+}
+
+/// Takes out a row whose entry survives.
+pub(crate) fn remove_survivor<L: Ledger>(
+    rows: &mut Tree<MarkedRow>,
+    entries: &mut Tree<MarkedEntry>,
+    place: u32,
+    row: Row,
+    own: Entry,
+    steps: &mut Steps<L>,
+) -> Change
+    requires bridged { IsBridged rows.old entries.old }
+    requires there { slice_get (rows_of rows.old) place ≡ Some row }
+    requires adds { added_by row ≡ Some own }
+    requires lives { Contains (survivors (rows_of rows.old)) own }
+    requires replays { IsValid Pq (remove (rows_of rows.old) place) }
+    ensures bridged { IsBridged rows.new entries.new }
+    ensures rows { rows_of rows.new ≡ remove (rows_of rows.old) place }
+    ensures change { IsPqChange (rows_of rows.old) (cut place row) result }
+    ensures visits { VisitsWithin 132 (length rows.old) steps.old steps.new }
+{
+    rows.remove(place, steps);
+    take_entry(entries, own, steps);
+    Change::Lose {
+        bridge: None,
+        entry: own,
+    }
+}
+
+/// Takes out a row whose entry is dead.
+pub(crate) fn remove_dead<L: Ledger>(
+    rows: &mut Tree<MarkedRow>,
+    entries: &mut Tree<MarkedEntry>,
+    place: u32,
+    row: Row,
+    own: Entry,
+    steps: &mut Steps<L>,
+) -> Change
+    requires bridged { IsBridged rows.old entries.old }
+    requires there { slice_get (rows_of rows.old) place ≡ Some row }
+    requires adds { added_by row ≡ Some own }
+    requires dead { ¬ Contains (survivors (rows_of rows.old)) own }
+    requires replays { IsValid Pq (remove (rows_of rows.old) place) }
+    ensures bridged { IsBridged rows.new entries.new }
+    ensures rows { rows_of rows.new ≡ remove (rows_of rows.old) place }
+    ensures change { IsPqChange (rows_of rows.old) (cut place row) result }
+    ensures visits { VisitsWithin 132 (length rows.old) steps.old steps.new }
+{
+    let turned = lost_without(rows, place, row, own, steps);
+    rows.remove(place, steps);
+    take_entry(entries, own, steps);
+    turn(rows, entries, turned, steps);
+    turned.change
+}
+
+/// Takes out a row that takes.
+pub(crate) fn remove_taking<L: Ledger>(
+    rows: &mut Tree<MarkedRow>,
+    entries: &mut Tree<MarkedEntry>,
+    place: u32,
+    row: Row,
+    steps: &mut Steps<L>,
+) -> Change
+    requires bridged { IsBridged rows.old entries.old }
+    requires there { slice_get (rows_of rows.old) place ≡ Some row }
+    requires takes { added_by row ≡ None }
+    requires replays { IsValid Pq (remove (rows_of rows.old) place) }
+    ensures bridged { IsBridged rows.new entries.new }
+    ensures rows { rows_of rows.new ≡ remove (rows_of rows.old) place }
+    ensures change { IsPqChange (rows_of rows.old) (cut place row) result }
+    ensures visits { VisitsWithin 132 (length rows.old) steps.old steps.new }
+{
+    let turned = gained_without(rows, place, row, steps);
+    rows.remove(place, steps);
+    turn(rows, entries, turned, steps);
+    turned.change
+}
