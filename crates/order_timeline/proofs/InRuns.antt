@@ -6,7 +6,7 @@ use Rattle.std.proofs.lemmas.List.{length-set, length-append, length-replicate, 
 use Rattle.std.proofs.lemmas.List.Edits.{length-insert, length-remove}
 use Rattle.retro_base.specs.declared.row.Row.{Row}
 use Rattle.retro_base.specs.Timeline.{IsFresh, HaveOwnNumbers}
-use Rattle.order_timeline.specs.Numbers.{IsLabelled, HasSomeLabels, Changes, Writes, written}
+use Rattle.order_timeline.specs.Numbers.{IsLabelled, HasSomeLabels, Changes, Writes, WritesRun, written}
 use Rattle.order_timeline.specs.Runs.{rows_in, start_of, beside, IsInRun, TakesRow, IsInRuns, IsKept}
 use Rattle.order_timeline.specs.Rows.{MayCome}
 use Rattle.order_timeline.proofs.Rows.{taken_back, ordered_more}
@@ -72,7 +72,7 @@ in_runs_gone rows runs labels before after index place row count is within own r
 -- a run is divided, and the second half has another label
 pub in_runs_divided : (rows : List Row) (runs labels : List ℕ) (before after : BTreeMap ℕ ℕ) (index count half label from : ℕ) → IsInRuns rows runs labels before → index < length runs → slice_get runs index ≡ Some count → half ≤ count
     → from ≡ start_of runs index + half
-    → ((partly : List ℕ) → IsLabelled rows partly before → IsLabelled rows (written partly from (count - half) label) after)
+    → WritesRun rows from (count - half) label before after
     → IsInRuns rows (slice_set (insert runs (suc index) (count - half)) index half) (insert labels (suc index) label) after
 in_runs_divided rows runs labels before after index count half label from is there long within here writes =
     let divided = beside_divided runs labels index count half label is.each long within in
@@ -91,7 +91,7 @@ runs_start rows runs labels numbers some = (refl, (some.0, some.1, refl))
 
 pub runs_more : (from index count label : ℕ) (rows : List Row) (runs labels : List ℕ) (before after : BTreeMap ℕ ℕ) → length labels ≡ length runs → rows_in runs ≡ length rows → index < length runs
     → slice_get runs index ≡ Some count → slice_get labels index ≡ Some label → HasRunsTo from index rows runs labels before
-    → ((partly : List ℕ) → IsLabelled rows partly before → IsLabelled rows (written partly from count label) after) → HasRunsTo (from + count) (index + 1) rows runs labels after
+    → WritesRun rows from count label before after → HasRunsTo (from + count) (index + 1) rows runs labels after
 runs_more from index count label rows runs labels before after each all there long is so_far writes =
     let partly = so_far.1.0 in
     let begins : from + count ≡ start_of runs (suc index) = omega (arith, so_far.0, start_more runs index there, read_index runs index count long) in
@@ -142,7 +142,7 @@ each_divided runs more labels others index count half there each is one_more =
 
 pub in_runs_behind : (rows : List Row) (runs more labels others : List ℕ) (before after : BTreeMap ℕ ℕ) (index count half label from : ℕ) → IsInRuns rows runs labels before → index < length runs → slice_get runs index ≡ Some count → half ≤ count
     → more ≡ divided runs index count half → others ≡ insert labels (index + 1) label → from ≡ start_of runs index + half
-    → ((partly : List ℕ) → IsLabelled rows partly before → IsLabelled rows (written partly from (count - half) label) after) → IsInRuns rows more others after
+    → WritesRun rows from (count - half) label before after → IsInRuns rows more others after
 in_runs_behind rows runs more labels others before after index count half label from is there long within more_is others_is here writes =
     subst (λ xs. IsInRuns rows xs others after) (sym (more_is ∙ divided_next runs index count half))
     (subst (λ ls. IsInRuns rows (slice_set (insert runs (suc index) (count - half)) index half) ls after) (sym (others_is ∙ ap (λ n. insert labels n label) (add-one index)))

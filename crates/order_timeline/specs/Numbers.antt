@@ -34,3 +34,7 @@ IsSame before after = (number : ℕ) → get nat_cmp after number ≡ get nat_cm
 -- so many labels from a place on are all this one
 abbrev pub written : List ℕ → ℕ → ℕ → ℕ → List ℕ
 written labels from count label = take from labels ++ replicate count label ++ drop (from + count) labels
+
+-- whatever the labels were, so many from a place on are this one now
+abbrev pub WritesRun : List Row → ℕ → ℕ → ℕ → BTreeMap ℕ ℕ → BTreeMap ℕ ℕ → Type 0
+WritesRun rows from count label before after = (labels : List ℕ) → IsLabelled rows labels before → IsLabelled rows (written labels from count label) after

@@ -1,4 +1,4 @@
-ghost use Rattle.std.specs.Prelude.{◌≡◌, ◌<◌, ◌≤◌, length, slice_get, Some, IfSome};
+ghost use Rattle.std.specs.Prelude.{◌≡◌, ◌<◌, ◌≤◌, length, slice_get, Some};
 ghost use Rattle.order_timeline.specs.Runs.{IsKept, IsNotBefore};
 ghost use Rattle.retro_base.specs.Places.{place_of_row, place_of_time};
 ghost use Rattle.retro_base.specs.Timeline.{TimesNeverFall};

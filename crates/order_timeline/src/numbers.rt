@@ -1,7 +1,7 @@
-ghost use Rattle.std.specs.Prelude.{◌≡◌, ◌+◌, ℕ, None, OnOk, OnErr, IsSome, List, length, ◌≤◌};
+ghost use Rattle.std.specs.Prelude.{◌≡◌, ◌+◌, None, OnOk, OnErr, IsSome, length, ◌≤◌};
 ghost use Rattle.std.specs.BTreeMap.{get};
 ghost use Rattle.std.specs.Ordering.{nat_cmp};
-ghost use Rattle.order_timeline.specs.Numbers.{Changes, Writes, IsSame, IsLabelled, HasSomeLabels, written};
+ghost use Rattle.order_timeline.specs.Numbers.{Changes, Writes, IsSame, IsLabelled, HasSomeLabels, WritesRun};
 ghost use Rattle.order_timeline.specs.Runs.{rows_in, beside};
 ghost use Rattle.retro_base.specs.Limits.{most_rows};
 ghost use Rattle.retro_base.specs.Timeline.{HaveOwnNumbers};
@@ -54,7 +54,7 @@ pub(crate) fn write_run<L: Ledger>(
     requires few { length rows.now ≤ most_rows }
     requires own { HaveOwnNumbers rows.now }
     requires some { HasSomeLabels rows.now numbers.old }
-    ensures { (labels : List ℕ) → IsLabelled rows.now labels numbers.old → IsLabelled rows.now (written labels from count label) numbers.new }
+    ensures { WritesRun rows.now from count label numbers.old numbers.new }
 {
     for place in from..from + count {
         let number = rows.get(place, steps).row().number;
