@@ -1,4 +1,4 @@
-ghost use Rattle.std.specs.Prelude.{◌≡◌, ◌<◌, ◌≤◌, length, OnOk};
+ghost use Rattle.std.specs.Prelude.{◌≡◌, ◌<◌, ◌≤◌, [], length, OnOk};
 ghost use Rattle.std.specs.List.{insert, remove};
 ghost use Rattle.retro_base.specs.Timeline.{IsFresh};
 
@@ -38,39 +38,41 @@ fn number(value: i128) -> Answer {
     Answer::Number { value }
 }
 
-#[test]
-fn a_row_of_the_past_keeps_its_end(rt: HostRuntime) -> Result<(), Fail> {
-    let mut deque = RetroDeque::new(rt.alloc());
-    put(&rt, &mut deque, 0, row(1, 1, Op::PushR { value: 1 }))?;
-    put(&rt, &mut deque, 1, row(2, 2, Op::PushL { value: 2 }))?;
-    put(&rt, &mut deque, 2, row(3, 3, Op::PopR))?;
-    expect_items(&rt, &Retro::all(&mut deque, 3)?, &[2]);
-    put(&rt, &mut deque, 0, row(4, 0, Op::PushR { value: 9 }))?;
-    expect_items(&rt, &Retro::all(&mut deque, 4)?, &[2, 9]);
-    let copy = Partial::copy(&deque)?;
-    assert_eq!(rt; Retro::failure_after_remove(&deque, 3), None);
-    let (taken, _) = Retro::remove(&mut deque, 3)?;
+fn filled(rt: &impl Abort, deque: &mut RetroDeque) -> Result<(), Fail>
+    requires { deque.old ≡ [] }
+{
+    put(rt, deque, 0, row(1, 1, Op::PushR { value: 1 }))?;
+    put(rt, deque, 1, row(2, 2, Op::PushL { value: 2 }))?;
+    put(rt, deque, 2, row(3, 3, Op::PopR))?;
+    expect_past(rt, deque)?;
+    put(rt, deque, 0, row(4, 0, Op::PushR { value: 9 }))
+}
+
+fn expect_past(rt: &impl Abort, deque: &mut RetroDeque) -> Result<(), Fail>
+    ensures { deque.new ≡ deque.old }
+{
+    assert_eq!(rt; Retro::len(deque), 3);
+    expect_items(rt, &Retro::all(deque, 3)?, &[2]);
+    expect_items(rt, &Retro::all(deque, 2)?, &[2, 1]);
+    let right = Retro::ask(deque, 2, Question::Right)?;
+    assert_eq!(rt; right, number(1));
+    Ok(())
+}
+
+fn expect_copy(rt: &impl Abort, deque: &mut RetroDeque) -> Result<(), Fail> {
+    let copy = Partial::copy(deque)?;
+    assert_eq!(rt; Partial::len(deque), 4);
+    assert_eq!(rt; Retro::failure_after_remove(deque, 3), None);
+    let (taken, _) = Retro::remove(deque, 3)?;
     assert_eq!(rt; taken, row(3, 3, Op::PopR));
-    expect_items(&rt, &Partial::all_now(&deque)?, &[2, 9, 1]);
-    expect_items(&rt, &Partial::all_now(&copy)?, &[2, 9]);
+    expect_items(rt, &Partial::all_now(deque)?, &[2, 9, 1]);
+    expect_items(rt, &Partial::all_now(&copy)?, &[2, 9]);
     Ok(())
 }
 
 #[test]
 fn either_end_may_have_written(rt: HostRuntime) -> Result<(), Fail> {
     let mut deque = RetroDeque::new(rt.alloc());
-    put(&rt, &mut deque, 0, row(1, 1, Op::PushL { value: 1 }))?;
-    put(&rt, &mut deque, 1, row(2, 2, Op::PopR))?;
-    put(&rt, &mut deque, 2, row(3, 3, Op::PushR { value: 2 }))?;
-    put(&rt, &mut deque, 3, row(4, 4, Op::PushL { value: 3 }))?;
-    expect_items(&rt, &Retro::all(&mut deque, 4)?, &[3, 2]);
-    let size = Retro::ask(&mut deque, 2, Question::Size)?;
-    assert_eq!(rt; size, number(0));
-    let right = Retro::ask(&mut deque, 3, Question::Right)?;
-    assert_eq!(rt; right, number(2));
-    assert_eq!(rt; Retro::failure_after_remove(&deque, 1), None);
-    let (taken, _) = Retro::remove(&mut deque, 1)?;
-    assert_eq!(rt; taken, row(2, 2, Op::PopR));
-    expect_items(&rt, &Retro::all(&mut deque, 3)?, &[3, 1, 2]);
-    Ok(())
+    filled(&rt, &mut deque)?;
+    expect_copy(&rt, &mut deque)
 }

@@ -1,4 +1,4 @@
-ghost use Rattle.std.specs.Prelude.{◌≡◌, ◌<◌, ◌≤◌, length, OnOk};
+ghost use Rattle.std.specs.Prelude.{◌≡◌, ◌<◌, ◌≤◌, [], length, OnOk};
 ghost use Rattle.std.specs.List.{insert, remove};
 ghost use Rattle.retro_base.specs.Timeline.{IsFresh};
 
@@ -38,35 +38,38 @@ fn number(value: i128) -> Answer {
     Answer::Number { value }
 }
 
-#[test]
-fn a_row_of_the_past_takes_the_front(rt: HostRuntime) -> Result<(), Fail> {
-    let mut queue = RetroQueue::new(rt.alloc());
-    put(&rt, &mut queue, 0, row(1, 10, Op::Enq { value: 5 }))?;
-    put(&rt, &mut queue, 1, row(2, 20, Op::Enq { value: 7 }))?;
-    assert_eq!(rt; Retro::ask_now(&queue, Question::Front), number(5));
-    put(&rt, &mut queue, 1, row(3, 15, Op::Deq))?;
-    assert_eq!(rt; Retro::ask_now(&queue, Question::Front), number(7));
-    put(&rt, &mut queue, 0, row(4, 5, Op::Enq { value: 9 }))?;
-    assert_eq!(rt; Retro::ask_now(&queue, Question::Front), number(5));
+fn filled(rt: &impl Abort, queue: &mut RetroQueue) -> Result<(), Fail>
+    requires { queue.old ≡ [] }
+{
+    put(rt, queue, 0, row(1, 5, Op::Enq { value: 1 }))?;
+    put(rt, queue, 1, row(2, 5, Op::Enq { value: 2 }))?;
+    put(rt, queue, 0, row(3, 5, Op::Enq { value: 3 }))
+}
+
+fn expect_past(rt: &impl Abort, queue: &mut RetroQueue) -> Result<(), Fail> {
+    assert_eq!(rt; Retro::len(queue), 3);
+    expect_items(rt, &Retro::all(queue, 3)?, &[3, 1, 2]);
+    expect_items(rt, &Retro::all(queue, 1)?, &[3]);
+    let size = Retro::ask(queue, 2, Question::Size)?;
+    assert_eq!(rt; size, number(2));
+    Ok(())
+}
+
+fn expect_copy(rt: &impl Abort, queue: &mut RetroQueue) -> Result<(), Fail> {
+    let copy = Partial::copy(queue)?;
+    assert_eq!(rt; Partial::len(queue), 3);
+    assert_eq!(rt; Retro::failure_after_remove(queue, 2), None);
+    let (taken, _) = Retro::remove(queue, 2)?;
+    assert_eq!(rt; taken, row(2, 5, Op::Enq { value: 2 }));
+    expect_items(rt, &Partial::all_now(queue)?, &[3, 1]);
+    expect_items(rt, &Partial::all_now(&copy)?, &[3, 1, 2]);
     Ok(())
 }
 
 #[test]
 fn each_place_of_the_past_has_its_content(rt: HostRuntime) -> Result<(), Fail> {
     let mut queue = RetroQueue::new(rt.alloc());
-    put(&rt, &mut queue, 0, row(1, 5, Op::Enq { value: 1 }))?;
-    put(&rt, &mut queue, 1, row(2, 5, Op::Enq { value: 2 }))?;
-    put(&rt, &mut queue, 0, row(3, 5, Op::Enq { value: 3 }))?;
-    expect_items(&rt, &Retro::all(&mut queue, 3)?, &[3, 1, 2]);
-    expect_items(&rt, &Retro::all(&mut queue, 1)?, &[3]);
-    let size = Retro::ask(&mut queue, 2, Question::Size)?;
-    assert_eq!(rt; size, number(2));
-    expect_items(&rt, &Retro::all(&mut queue, 0)?, &[]);
-    let copy = Partial::copy(&queue)?;
-    assert_eq!(rt; Retro::failure_after_remove(&queue, 2), None);
-    let (taken, _) = Retro::remove(&mut queue, 2)?;
-    assert_eq!(rt; taken, row(2, 5, Op::Enq { value: 2 }));
-    expect_items(&rt, &Partial::all_now(&queue)?, &[3, 1]);
-    expect_items(&rt, &Partial::all_now(&copy)?, &[3, 1, 2]);
-    Ok(())
+    filled(&rt, &mut queue)?;
+    expect_past(&rt, &mut queue)?;
+    expect_copy(&rt, &mut queue)
 }

@@ -1,4 +1,4 @@
-ghost use Rattle.std.specs.Prelude.{◌≡◌, ◌<◌, ◌≤◌, length, OnOk};
+ghost use Rattle.std.specs.Prelude.{◌≡◌, ◌<◌, ◌≤◌, [], length, OnOk};
 ghost use Rattle.std.specs.List.{insert, remove};
 ghost use Rattle.retro_base.specs.Timeline.{IsFresh};
 
@@ -38,42 +38,41 @@ fn number(value: i128) -> Answer {
     Answer::Number { value }
 }
 
-#[test]
-fn a_later_row_fails(rt: HostRuntime) -> Result<(), Fail> {
-    let mut stack = RetroStack::new(rt.alloc());
-    put(&rt, &mut stack, 0, row(1, 10, Op::Push { value: 1 }))?;
-    put(&rt, &mut stack, 1, row(2, 30, Op::Pop))?;
-    let failing = Retro::failure_after_insert(&stack, 1, Op::Pop);
-    assert_eq!(rt; failing, Some(2));
-    let failing = Retro::failure_after_insert(&stack, 0, Op::Pop);
-    assert_eq!(rt; failing, Some(0));
-    assert_eq!(rt; Retro::failure_after_remove(&stack, 0), Some(0));
-    put(&rt, &mut stack, 2, row(3, 40, Op::Push { value: 3 }))?;
-    assert_eq!(rt; Retro::ask_now(&stack, Question::Top), number(3));
+fn filled(rt: &impl Abort, stack: &mut RetroStack) -> Result<(), Fail>
+    requires { stack.old ≡ [] }
+{
+    put(rt, stack, 0, row(1, 1, Op::Push { value: 1 }))?;
+    put(rt, stack, 1, row(2, 2, Op::Push { value: 2 }))?;
+    put(rt, stack, 2, row(3, 3, Op::Push { value: 3 }))
+}
+
+fn expect_past(rt: &impl Abort, stack: &mut RetroStack) -> Result<(), Fail> {
+    assert_eq!(rt; Retro::len(stack), 3);
+    expect_items(rt, &Retro::all(stack, 3)?, &[3, 2, 1]);
+    let top = Retro::ask(stack, 2, Question::Top)?;
+    assert_eq!(rt; top, number(2));
+    let last = Retro::ask(stack, 3, Question::Nth { index: 2 })?;
+    assert_eq!(rt; last, number(1));
+    let beyond = Retro::ask(stack, 3, Question::Nth { index: 3 })?;
+    assert_eq!(rt; beyond, Answer::Nothing);
+    Ok(())
+}
+
+fn expect_copy(rt: &impl Abort, stack: &mut RetroStack) -> Result<(), Fail> {
+    let copy = Partial::copy(stack)?;
+    assert_eq!(rt; Partial::len(stack), 3);
+    assert_eq!(rt; Retro::failure_after_remove(stack, 2), None);
+    let (taken, _) = Retro::remove(stack, 2)?;
+    assert_eq!(rt; taken, row(3, 3, Op::Push { value: 3 }));
+    expect_items(rt, &Partial::all_now(stack)?, &[2, 1]);
+    expect_items(rt, &Partial::all_now(&copy)?, &[3, 2, 1]);
     Ok(())
 }
 
 #[test]
 fn items_are_counted_from_the_top(rt: HostRuntime) -> Result<(), Fail> {
     let mut stack = RetroStack::new(rt.alloc());
-    put(&rt, &mut stack, 0, row(1, 1, Op::Push { value: 1 }))?;
-    put(&rt, &mut stack, 1, row(2, 2, Op::Push { value: 2 }))?;
-    put(&rt, &mut stack, 2, row(3, 3, Op::Push { value: 3 }))?;
-    expect_items(&rt, &Retro::all(&mut stack, 3)?, &[3, 2, 1]);
-    for (index, answer) in [number(3), number(2), number(1), Answer::Nothing]
-        .iter()
-        .enumerate()
-    {
-        let index = index as u64;
-        assert_eq!(rt; Retro::ask_now(&stack, Question::Nth { index }), *answer);
-    }
-    let top = Retro::ask(&mut stack, 2, Question::Top)?;
-    assert_eq!(rt; top, number(2));
-    let copy = Partial::copy(&stack)?;
-    assert_eq!(rt; Retro::failure_after_remove(&stack, 2), None);
-    let (taken, _) = Retro::remove(&mut stack, 2)?;
-    assert_eq!(rt; taken, row(3, 3, Op::Push { value: 3 }));
-    expect_items(&rt, &Partial::all_now(&stack)?, &[2, 1]);
-    expect_items(&rt, &Partial::all_now(&copy)?, &[3, 2, 1]);
-    Ok(())
+    filled(&rt, &mut stack)?;
+    expect_past(&rt, &mut stack)?;
+    expect_copy(&rt, &mut stack)
 }

@@ -1,3 +1,6 @@
+ghost use Rattle.std.specs.Prelude.{◌≡◌, []};
+ghost use Rattle.engine.specs.Engine.{rows_inside};
+
 use super::Engine;
 use retro_base::{Answer, Item, Kind, Op, Question, Retro, Row};
 use std::alloc::Global;
@@ -13,29 +16,58 @@ struct First {
     item: Item,
 }
 
-fn perform_first(rt: &impl Abort, alloc: Global, first: First) -> Result<(), Fail> {
-    let mut engine = Engine::new(alloc, first.kind);
-    assert_eq!(rt; engine.kind(), first.kind);
-    let row = Row {
+fn row_of(first: First) -> Row
+    ensures { result.op ≡ first.op }
+{
+    Row {
         number: 1,
         time: 5,
         op: first.op,
-    };
-    assert!(rt; row.op.kind() == engine.kind());
+    }
+}
+
+fn insert_first(rt: &impl Abort, engine: &mut Engine, first: First) -> Result<(), Fail>
+    requires { rows_inside engine.old ≡ [] }
+{
+    let row = row_of(first);
+    assert_eq!(rt; row.op.kind(), engine.kind());
     assert_eq!(rt; engine.failure_after_insert(0, row.op), None);
     engine.insert(0, row)?;
+    Ok(())
+}
+
+fn ask_first(rt: &impl Abort, engine: &mut Engine, first: First) -> Result<(), Fail> {
     assert_eq!(rt; engine.len(), 1);
-    let seven = Answer::Number { value: 7 };
     assert!(rt; first.question.suits(engine.kind()));
+    let seven = Answer::Number { value: 7 };
     assert_eq!(rt; engine.ask_now(first.question), seven);
     assert_eq!(rt; engine.ask(0, first.question)?, Answer::Nothing);
+    Ok(())
+}
+
+fn list_first(rt: &impl Abort, engine: &mut Engine, first: First) -> Result<(), Fail> {
+    assert_eq!(rt; engine.len(), 1);
     let listing = engine.all(1)?;
     assert_eq!(rt; listing.len(), 1);
     assert_eq!(rt; listing.item(0), first.item);
+    Ok(())
+}
+
+fn remove_first(rt: &impl Abort, engine: &mut Engine, first: First) -> Result<(), Fail> {
+    assert_eq!(rt; engine.len(), 1);
     assert_eq!(rt; engine.failure_after_remove(0), None);
     let (taken, _) = engine.remove(0)?;
-    assert_eq!(rt; taken, row);
+    assert_eq!(rt; taken, row_of(first));
     Ok(())
+}
+
+fn perform_first(rt: &impl Abort, alloc: Global, first: First) -> Result<(), Fail> {
+    let mut engine = Engine::new(alloc, first.kind);
+    assert_eq!(rt; engine.kind(), first.kind);
+    insert_first(rt, &mut engine, first)?;
+    ask_first(rt, &mut engine, first)?;
+    list_first(rt, &mut engine, first)?;
+    remove_first(rt, &mut engine, first)
 }
 
 #[test]
