@@ -1,6 +1,9 @@
 ghost use Rattle.std.specs.Prelude.{◌≤◌, None};
 ghost use Rattle.retro_io.specs.Faults.{last_count};
 
+mod blocks;
+mod priority_queues;
+
 use super::*;
 use retro_base::{NoMemory, Text};
 use retro_io::{Failed, MemorySink, MemorySource, Sink, WholeSource};
