@@ -8,7 +8,9 @@ use Rattle.retro_base.specs.Limits.{most_timelines}
 use Rattle.workbench.specs.declared.outcome.Outcome.{Outcome}
 use Rattle.workbench.specs.declared.outcome.Outcome.TheVariants.{Refused}
 use Rattle.workbench.specs.declared.outcome.Refusal.TheVariants as refusals
-use Rattle.workbench.specs.Bench.{NamedTimeline, fresh, is_named, has_timeline}
+use Rattle.std.proofs.lemmas.Slice.Eq.{bytes_eq-Decides}
+use Rattle.timeline_undo.specs.Session.{SessionState}
+use Rattle.workbench.specs.Bench.{NamedTimeline, is_named, has_timeline, named, timeline_of}
 use Rattle.workbench.specs.Reaction.{Effect, leaves, if_startable, with_timeline, with_first, on_named}
 use Rattle.workbench.specs.TimelineEffects.{TimelineEffect, unchanged}
 
@@ -74,6 +76,37 @@ told (Ok outcome) name answer_at bench index named at there answer =
     on_named_found name (λ timeline. unchanged timeline (answer_at timeline)) bench index named (sym at)
     ∙ rw (← there, answer, set_here bench index named below there) refl
 told (Err e) name answer_at bench index named at there answer = tt
+
+-- the timeline that was found
+found_at : (name : List ℕ) (bench : List NamedTimeline) (index : ℕ) (d : NamedTimeline) → index < length bench
+    → is_named name (get_or bench index d) ≡ true → ((k : ℕ) → k < index → is_named name (get_or bench k d) ≡ false)
+    → timeline_of name bench ≡ Some (get_or bench index d)
+found_at name [] index d below is others = absurd (omega arith)
+found_at name (first ∷ bench) zero d below is others = rw is refl
+found_at name (first ∷ bench) (suc index) d below is others =
+    rw (others 0 (omega arith)) (found_at name bench index d (omega arith) is (λ k less. others (suc k) (omega arith)))
+
+name_of : (name : List ℕ) (timeline : NamedTimeline) (session : SessionState) → is_named name timeline ≡ true → timeline ≡ named timeline.name session
+    → timeline ≡ named name session
+name_of name timeline session is over = over ∙ ap (λ n. named n session) ((bytes_eq-Decides timeline.name name).0 is)
+
+pub session_found : (name : List ℕ) (bench : List NamedTimeline) (index : ℕ) (there : NamedTimeline) (session : SessionState) → Some index ≡ position (is_named name) bench
+    → there ≡ get_or bench index there → there ≡ named there.name session → timeline_of name bench ≡ Some (named name session)
+session_found name bench index there session at same over =
+    let first = position-Some (is_named name) bench index there (sym at) in
+    found_at name bench index there first.0 first.1 first.2
+    ∙ ap (λ t. Some t) (sym same ∙ name_of name there session (rw (← same) at first.1) over)
+
+none_from : (name : List ℕ) (bench : List NamedTimeline) (from : ℕ) → position_from (is_named name) from bench ≡ None → timeline_of name bench ≡ None
+none_from name [] from nowhere = refl
+none_from name (first ∷ bench) from nowhere =
+    elim (is_named name first) as (λ b. is_named name first ≡ b → timeline_of name (first ∷ bench) ≡ None) [
+      | true ↦ λ e. absurd (some_is_not_none (rw e at nowhere))
+      | false ↦ λ e. rw e (none_from name bench (from + 1) (rw e at nowhere))
+    ] refl
+
+pub session_nowhere : (name : List ℕ) (bench : List NamedTimeline) → None ≡ position (is_named name) bench → timeline_of name bench ≡ None
+session_nowhere name bench nowhere = none_from name bench 0 (sym (position_from-zero (is_named name) bench) ∙ sym nowhere)
 
 -- no timeline has the name
 nowhere_from : (name : List ℕ) (effect : NamedTimeline → TimelineEffect) (bench : List NamedTimeline) (from : ℕ) → position_from (is_named name) from bench ≡ None

@@ -1,6 +1,6 @@
 -- The bench: the timelines that a script has made, in the order in which it made them, and the block that is being read.
 use Rattle.std.specs.Prelude.{ℕ, Bool, List, [], Option, None}
-use Rattle.std.specs.List.{list_any}
+use Rattle.std.specs.List.{find, list_any}
 use Rattle.std.specs.Str.{bytes_eq}
 use Rattle.retro_base.specs.declared.kind.Kind.{Kind}
 use Rattle.retro_base.specs.declared.row.Row.{Row}
@@ -50,6 +50,10 @@ fresh name kind = with_rows name kind 1 []
 -- a timeline has the name
 abbrev pub is_named : List ℕ → NamedTimeline → Bool
 is_named name timeline = bytes_eq timeline.name name
+
+-- the timeline of the name, where one has it
+abbrev pub timeline_of : List ℕ → List NamedTimeline → Option NamedTimeline
+timeline_of name timelines = find (is_named name) timelines
 
 -- one of the timelines has the name
 abbrev pub has_timeline : List ℕ → List NamedTimeline → Bool

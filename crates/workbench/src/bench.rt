@@ -1,17 +1,19 @@
-ghost use Rattle.std.specs.Prelude.{◌≡◌, ◌≤◌, ◌⊎◌, ◌++◌, length, is_err, is_some, true, false, None, Some, IsTrue, IfOk, OnOk, OnErr, option_map};
+ghost use Rattle.std.specs.Prelude.{◌≡◌, ◌≤◌, ◌⊎◌, ◌++◌, length, is_err, is_some, true, false, None, Some, IsTrue, IfOk, OnOk, OnErr, MatchOption, option_map};
 ghost use Rattle.retro_base.specs.Limits.{longest_line};
 ghost use Rattle.script_grammar.specs.Command.{IsNextInRange};
-ghost use Rattle.workbench.specs.Bench.{empty_bench};
+ghost use Rattle.workbench.specs.Bench.{empty_bench, named, timeline_of};
 ghost use Rattle.workbench.specs.Outcome.{is_refusal, reply_text};
 ghost use Rattle.workbench.specs.Reaction.{closing, ends, happens, opened, outside, reacts_to, with_line, without_block};
 
 use crate::open_block::OpenBlock;
 use crate::outcome::Outcome;
 use crate::timelines::Timelines;
-use retro_base::{NoMemory, Text};
+use engine::Engine;
+use retro_base::{Name, NoMemory, Text};
 use script_grammar::{Command, LineError, is_end, read_line};
 use std::alloc::Global;
 use std::marker::Model;
+use timeline_undo::Session;
 
 /// What a line is answered.
 #[derive(Debug, Drop)]
@@ -92,6 +94,15 @@ impl Bench {
         let reply = self.react_to_end();
         self.spent = reply.is_err();
         reply
+    }
+
+    /// The session of the timeline of this name; none where no timeline has it.
+    pub fn session(&self, name: &Name) -> Option<&Session<Engine>>
+        requires { self.now.spent ≡ false }
+        ensures { MatchOption result (timeline_of name.now self.now.bench.timelines ≡ None)
+            (λ session. timeline_of name.now self.now.bench.timelines ≡ Some (named name.now session.now)) }
+    {
+        self.timelines.session(*name)
     }
 
     /// Does what a line asks for, and tells its answer.

@@ -52,7 +52,7 @@ impl Model for NamedTimeline {
 }
 
 impl NamedTimeline {
-    ghost use Rattle.workbench.specs.Bench.{fresh, with_rows};
+    ghost use Rattle.workbench.specs.Bench.{fresh, named, with_rows};
     ghost use Rattle.workbench.specs.TimelineEffects.{deletes, inserts, inserts_there, unchanged, answers, undoes, redoes, saves};
 
     /// A timeline without rows.
@@ -99,6 +99,13 @@ impl NamedTimeline {
         ensures { result ≡ self.now.name }
     {
         self.name
+    }
+
+    /// The session that keeps and performs the rows.
+    pub(crate) fn session(&self) -> &Session<Engine>
+        ensures { self.now ≡ named self.now.name result.now }
+    {
+        &self.session
     }
 
     /// Puts a row in at a spot, where the edited rows replay whole. After a refusal and after `NoMemory`

@@ -1,19 +1,21 @@
-ghost use Rattle.std.specs.Prelude.{◌≡◌, [], length, nat_le, position, Ok, IfOk, OnErr};
+ghost use Rattle.std.specs.Prelude.{◌≡◌, [], length, nat_le, position, Ok, Some, None, IfOk, OnErr, MatchOption};
 ghost use Rattle.retro_base.specs.Limits.{most_timelines, next_limit};
 ghost use Rattle.retro_base.specs.Timeline.{IsTimeline};
 ghost use Rattle.script_grammar.specs.Command.{IsNextInRange};
 ghost use Rattle.timeline_file.specs.Block.{finished};
-ghost use Rattle.workbench.specs.Bench.{has_timeline, is_named};
+ghost use Rattle.workbench.specs.Bench.{has_timeline, is_named, named, timeline_of};
 ghost use Rattle.workbench.specs.Reaction.{closes, loads, obeys, of_block, on_named, starts};
 ghost use Rattle.workbench.specs.TimelineEffects.{answers, deletes, inserts, redoes, saves, undoes, unchanged};
 
 use crate::named_timeline::NamedTimeline;
 use crate::open_block::OpenBlock;
 use crate::outcome::{Outcome, Refusal};
+use engine::Engine;
 use retro_base::{Kind, Name, NoMemory, Op};
 use script_grammar::{Command, LineError, Moment, Query, Spot};
 use std::alloc::Global;
 use std::marker::Model;
+use timeline_undo::Session;
 
 /// The most timelines of a bench.
 pub const MAX_TIMELINES: usize = 8;
@@ -193,6 +195,17 @@ impl Timelines {
         match self.index_of(name) {
             Some(index) => self.timelines[index].save(alloc),
             None => Ok(Outcome::refused(Refusal::NoTimeline { name })),
+        }
+    }
+
+    /// The session of the timeline of this name.
+    pub(crate) fn session(&self, name: Name) -> Option<&Session<Engine>>
+        ensures { MatchOption result (timeline_of name self.now ≡ None)
+            (λ session. timeline_of name self.now ≡ Some (named name session.now)) }
+    {
+        match self.index_of(name) {
+            Some(index) => Some(self.timelines[index].session()),
+            None => None,
         }
     }
 
