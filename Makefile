@@ -5,8 +5,8 @@
 #   make install  puts it into bin below PREFIX, which is /usr/local where none is named
 #   make test     the gate: every proof, every edit that must fail, every test, every example, and the streams of the
 #                 built program; needs Python 3
-#   make bench    times the program on generated scripts of each kind, and on a million questions beside a plain
-#                 program where rustc is there; needs Python 3
+#   make bench    times the program on generated scripts of each kind, on a million questions beside a plain
+#                 program where rustc is there, and on whole timelines as text; needs Python 3
 
 SCRIPT ?= examples/late_job.script
 PREFIX ?= /usr/local
@@ -39,3 +39,4 @@ test:
 bench: build
 	@python3 bench/measure.py build/retro
 	@python3 bench/lines.py build/retro
+	@python3 bench/blocks.py build/retro
