@@ -1,7 +1,7 @@
 // The deque of crates/retro_deque as plain Rust without proofs, for comparison: rows, and the growth of both ends
 // and of the whole, each in a weight-balanced tree that measures walks. Beside it, replay from the first row.
 //
-//     rustc -O bench/plain_deque.rs -o /tmp/plain_deque && /tmp/plain_deque
+//     rustc -O bench/plain_deque.rs -o plain_deque && ./plain_deque
 //
 // Prints, for each number of rows, nanoseconds of processor time for an insertion at a random place, a past
 // question by the trees and by replay, and a removal; then the greatest number of nodes that one past question
