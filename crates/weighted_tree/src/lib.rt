@@ -16,7 +16,7 @@
 //!
 //! | Call | Nodes visited, d being the digits of one more than the length |
 //! |---|---|
-//! | `new`, `len` | none |
+//! | `new`, `len`, `alloc` | none |
 //! | `get`, `insert`, `remove`, `replace`, `measure`, `first_place`, `last_place` | at most 12 d |
 //! | `copy` | each once |
 //!
