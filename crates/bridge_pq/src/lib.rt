@@ -1,4 +1,36 @@
-//! A priority queue whose past is edited in a few visits.
+//! A priority queue whose past is edited in a few visits of nodes.
+//!
+//! `BridgeQueue` serves the priority queue of `retro_base`'s trait `Partial`, which answers of the present
+//! alone. The idea is that of Demaine, Iacono and Langerman, "Retroactive Data Structures", section 5.5: a
+//! row weighs 0 where it adds an entry that survives, 1 where it adds one that is dead, and -1 where it
+//! takes. A bridge is a place where the weights before it sum to 0: all that is held there survives. An
+//! edit turns the mark of one entry, which a bridge tells: what is gained is the greatest dead entry from the
+//! last bridge on, and what is lost is the least survivor from before the first bridge. Of entries with
+//! equal keys the one with the lesser number comes first.
+//!
+//! Two trees of `weighted_tree` are all that it keeps. One has the rows with their marks; a range of them
+//! measures the walk of their weights, the greatest dead entry and the least survivor. The other has the
+//! entries that the rows add, in order, with the same marks; a range measures how many are in the present.
+//! That weights and marks are those of the definitions is the invariant (`IsBridged` of specs/Bridged.antt),
+//! and the laws of `retro_base` on bridges give the changes and the refusals. Where the past is asked too,
+//! or rows come at the end alone, `PlainList` serves better.
+//!
+//! | Call | Nodes visited, d being the digits of one more than the length | Memory |
+//! |---|---|---|
+//! | `new`, `kind`, `len` | none | none |
+//! | `row_at` | at most 12 d | none |
+//! | `ask_now` | at most 24 d | none |
+//! | `failure_after_insert` | at most 36 d | none |
+//! | `failure_after_remove` | at most 48 d | none |
+//! | `insert` | at most 144 d | a node for the row, and one for its entry |
+//! | `remove` | at most 144 d | none |
+//! | `all_now` | at most 12 d for each entry that a row adds | the listing |
+//! | `copy` | each once | as many nodes |
+//!
+//! What the layer above may rely on: the clauses of `Partial`, of which 144 d is the bound for each call.
+//! Files: `marked_row`, `marked_entry` (what is measured), `row_search` (bridges and the changed entries),
+//! `entry_tree` (entries by their order), `turned`, `changes`, `failure` (what an edit changes, or which row
+//! it stops), `edit` (the two trees together), `bridge_queue`.
 #![tactic(auto)]
 
 mod bridge_queue;
