@@ -1,2 +1,3 @@
 pub mod GoodRows
 pub mod Reading
+pub mod Header

@@ -18,7 +18,9 @@ use Rattle.script_grammar.specs.SpellingLaws.{words-then, number_is_word, decima
 use Rattle.script_grammar.specs.Words.{words}
 use Rattle.timeline_file.specs.Block.{taken, cause_of_row, has_number, last_time, are_below}
 use Rattle.timeline_file.specs.ReadsBack.{IsInRange, ReadsBack, taken_all}
+use Rattle.retro_base.specs.Name.{is_name}
 use Rattle.timeline_file.specs.Saved.{row_text, end_text}
+use Rattle.timeline_file.proofs.Header.{header_read}
 
 -- the words of a row line
 row_words : (row : Row) → row.number < next_limit → row.time < 2 ^ 64
@@ -140,8 +142,10 @@ end_is_end : is_end end_text ≡ true
 unfolding is_end words
 end_is_end = refl
 
-pub reads_back : (kind : Kind) (next : ℕ) (rows : List Row) → IsTimeline kind rows next → AllByRecursion IsInRange rows → ReadsBack kind next rows
-reads_back kind next rows timeline ranges = record {
+pub reads_back : (name : List ℕ) (kind : Kind) (next : ℕ) (rows : List Row) → is_name name ≡ true → IsTimeline kind rows next → AllByRecursion IsInRange rows
+    → ReadsBack name kind next rows
+reads_back name kind next rows named timeline ranges = record {
+  header = header_read name kind next named timeline.next_in_range.0 timeline.next_in_range.1;
   row_lines = no_row_line_ends next rows timeline.next_in_range.1 timeline.numbered ranges;
   end_line = end_is_end;
   block = rw (read_from kind next [] rows timeline ranges, all_below next rows timeline.numbered) refl;
