@@ -9,7 +9,7 @@ use Rattle.retro_base.specs.Limits.{longest_name, next_limit}
 use Rattle.retro_base.specs.Name.{is_name, is_name_byte, is_reserved, starts_with_letter}
 use Rattle.script_grammar.specs.declared.command.Command.TheVariants.{Header}
 use Rattle.script_grammar.specs.Command.{command, kind_of_word}
-use Rattle.script_grammar.specs.Numbers.{between, natural_of, next_of, time_of, up_to}
+use Rattle.script_grammar.specs.Numbers.{natural_of, next_of, time_of, up_to}
 use Rattle.script_grammar.specs.SpellingLaws.{is_word, words-then, words-alone, decimal_is_word, time_of-decimal}
 use Rattle.script_grammar.specs.Words.{is_filled, is_space, words}
 use Rattle.timeline_file.specs.Saved.{header_text, kind_text, next_text}

@@ -1,9 +1,8 @@
 -- The timeline that has a name, and the effect on a bench of what becomes of it.
-use Rattle.std.proofs.Common.{◌≡◌, ℕ, zero, suc, ◌+◌, ◌<◌, nat_le, true, false, List, [], ◌∷◌, ◌++◌, length, get_or, set, position, refl, sym, ◌∙◌, ap, arith, Some, None, Result, Ok, Err, IfOk}
+use Rattle.std.proofs.Common.{◌≡◌, ℕ, zero, suc, ◌+◌, ◌<◌, nat_le, true, false, List, [], ◌∷◌, length, get_or, set, position, refl, sym, ◌∙◌, ap, arith, Some, None, Result, Ok, Err, IfOk}
 use Rattle.std.specs.List.{position_from}
 use Rattle.std.proofs.lemmas.List.Quantifiers.{position-Some}
 use Rattle.std.proofs.lemmas.Iterator.Adapters.{position_from-zero}
-use Rattle.retro_base.specs.declared.kind.Kind.{Kind}
 use Rattle.retro_base.specs.Limits.{most_timelines}
 use Rattle.workbench.specs.declared.outcome.Outcome.{Outcome}
 use Rattle.workbench.specs.declared.outcome.Outcome.TheVariants.{Refused}
@@ -11,7 +10,7 @@ use Rattle.workbench.specs.declared.outcome.Refusal.TheVariants as refusals
 use Rattle.std.proofs.lemmas.Slice.Eq.{bytes_eq-Decides}
 use Rattle.timeline_undo.specs.Session.{SessionState}
 use Rattle.workbench.specs.Bench.{NamedTimeline, is_named, has_timeline, named, timeline_of}
-use Rattle.workbench.specs.Reaction.{Effect, leaves, if_startable, with_timeline, with_first, on_named}
+use Rattle.workbench.specs.Reaction.{Effect, leaves, if_startable, with_first, on_named}
 use Rattle.workbench.specs.TimelineEffects.{TimelineEffect, unchanged}
 
 some_is_not_none : {X : Type 0} {x : X} → Some x ≡ None → ⊥

@@ -10,7 +10,7 @@ use Rattle.retro_base.specs.Edits.{Edit}
 use Rattle.retro_base.specs.MadeEdits.{IsMade, pq_edit_of}
 use Rattle.workbench.specs.declared.outcome.Outcome.{Outcome}
 use Rattle.workbench.specs.declared.outcome.Outcome.TheVariants.{Changed}
-use Rattle.workbench.specs.Told.{evidence_with, evidence_of, evidence_of_step, noted, told}
+use Rattle.workbench.specs.Told.{evidence_with, evidence_of_step, noted, told}
 
 -- its change is the one
 change_named : OneChangeOfPq → (rows : List Row) (edit : Edit) (change : Change) → IsMade Pq rows edit change → change ≡ change_of Pq rows edit

@@ -1,5 +1,5 @@
 -- What becomes of a timeline keeps its name.
-use Rattle.std.proofs.Common.{◌≡◌, ℕ, ◌+◌, Bool, true, false, cond, nat_le, List, [], ◌∷◌, length, refl, Option, Some, None}
+use Rattle.std.proofs.Common.{◌≡◌, ℕ, ◌+◌, Bool, true, false, cond, nat_le, [], ◌∷◌, length, refl, Option, Some, None}
 use Rattle.retro_base.specs.declared.op.Op.{Op}
 use Rattle.retro_base.specs.Limits.{most_rows, next_limit}
 use Rattle.retro_base.specs.Edits.{Edit, Step, add, edited}
@@ -12,7 +12,7 @@ use Rattle.workbench.specs.declared.outcome.Outcome.TheVariants.{Accepted, Inser
 use Rattle.workbench.specs.declared.outcome.Refusal.TheVariants as refusals
 use Rattle.workbench.specs.declared.position.Position.{Position}
 use Rattle.workbench.specs.Bench.{NamedTimeline}
-use Rattle.workbench.specs.TimelineEffects.{TimelineEffect, refuses, accepted_or_refused, after_edit, edits, tells, new_row, row_named, position_of, inserts_there, inserts_at, cut_of, deletes_by, inserts, deletes, undoes_step, undoes, redoes_step, redoes}
+use Rattle.workbench.specs.TimelineEffects.{TimelineEffect, refuses, accepted_or_refused, after_edit, edits, tells, new_row, row_named, position_of, inserts_at, cut_of, deletes_by, inserts, deletes, undoes_step, undoes, redoes_step, redoes}
 
 -- the effect keeps the name
 abbrev pub KeepsName : NamedTimeline → TimelineEffect → Type 0

@@ -1,5 +1,5 @@
 -- What a line that is read of a block leaves as it is.
-use Rattle.std.proofs.Common.{◌≡◌, ℕ, ◌≤◌, Bool, true, false, cond, List, refl, sym, ◌∙◌, subst, Option, Some, None, Result, Ok, Err, OnOk, OnErr}
+use Rattle.std.proofs.Common.{◌≡◌, ℕ, ◌≤◌, Bool, true, false, cond, List, refl, Option, Some, None, Result, Ok, Err, OnOk, OnErr}
 use Rattle.std.specs.Prelude.{not, ◌&&◌, is_some}
 use Rattle.retro_base.specs.declared.row.Row.{Row}
 use Rattle.retro_base.specs.Limits.{next_limit}

@@ -1,14 +1,14 @@
 -- What is answered to a name's own lines among others is what is answered to them alone: line by line, the bench of the own lines
 -- is the share of the name in the bench of all.
-use Rattle.std.proofs.Common.{◌≡◌, ◌≢◌, ℕ, Bool, true, false, cond, not, ◌&&◌, List, [], ◌∷◌, ◌++◌, refl, sym, ap, ◌∙◌, subst, Option, Some, None, option_map}
+use Rattle.std.proofs.Common.{◌≡◌, ◌≢◌, ℕ, Bool, true, false, cond, not, ◌&&◌, List, [], ◌∷◌, ◌++◌, refl, sym, ap, ◌∙◌, subst, Option, Some, None}
 use Rattle.std.specs.Str.{bytes_eq}
 use Rattle.retro_base.specs.LineLength.{is_long}
 use Rattle.script_grammar.specs.BlockLines.{is_end}
 use Rattle.workbench.specs.declared.outcome.Outcome.TheVariants.{Silent, Refused}
 use Rattle.workbench.specs.declared.outcome.Refusal.TheVariants as refusals
 use Rattle.workbench.specs.Bench.{NamedTimeline, OpenBlock, Bench, empty_bench}
-use Rattle.workbench.specs.OwnLines.{name_in, name_of_block, names, event_of, block_behind, own_from, own, told_from, told, answers_from, all_answers, MeetsNoLimit, OwnLinesAlone}
-use Rattle.workbench.specs.Reaction.{BenchEffect, Reaction, leaves, closes, ends, inside, happens, spelled, with_block, with_line, reaction_of, reacts, closing, opened, obeys}
+use Rattle.workbench.specs.OwnLines.{name_of_block, names, event_of, block_behind, own_from, told_from, answers_from, MeetsNoLimit, OwnLinesAlone}
+use Rattle.workbench.specs.Reaction.{BenchEffect, leaves, ends, inside, happens, spelled, with_block, with_line, reaction_of, reacts, opened, obeys}
 use Rattle.workbench.proofs.Shares.{share, share_of_block, share_of_bench, share_of_all, own_obeys, own_opened, other_obeys, other_opened, own_closes, other_closes}
 
 module _ (name : List ℕ) where

@@ -1,5 +1,5 @@
 -- A line that is refused leaves the bench as it was.
-use Rattle.std.proofs.Common.{◌≡◌, ℕ, ◌+◌, Bool, true, false, cond, nat_le, List, [], ◌∷◌, ◌++◌, length, refl, sym, ap, ◌∙◌, Option, Some, None, Result, Ok, Err, IfOk}
+use Rattle.std.proofs.Common.{◌≡◌, ℕ, ◌+◌, Bool, true, false, cond, nat_le, List, [], ◌∷◌, length, refl, sym, ap, ◌∙◌, Option, Some, None, Result, Ok, Err, IfOk}
 use Rattle.retro_base.specs.declared.kind.Kind.{Kind}
 use Rattle.retro_base.specs.declared.kind.Kind.TheVariants.{Queue, Stack, Deque, Dict, Pq}
 use Rattle.retro_base.specs.declared.op.Op.{Op}
@@ -26,7 +26,7 @@ use Rattle.workbench.specs.declared.outcome.Refusal.TheVariants as refusals
 use Rattle.workbench.specs.declared.position.Position.{Position}
 use Rattle.workbench.specs.Bench.{NamedTimeline, OpenBlock, Bench, fresh, is_named, has_timeline}
 use Rattle.workbench.specs.Outcome.{is_refusal}
-use Rattle.workbench.specs.Reaction.{Effect, BenchEffect, leaves, if_startable, with_timeline, on_named, obeys, opened, outside, inside, happens, loads, closes, ends, with_line, with_block, without_block}
+use Rattle.workbench.specs.Reaction.{Effect, BenchEffect, leaves, if_startable, with_timeline, on_named, obeys, opened, outside, happens, loads, closes, ends, with_line, with_block, without_block}
 use Rattle.workbench.specs.TimelineEffects.{TimelineEffect, refuses, accepted_or_refused, after_edit, edits, tells, new_row, row_named, position_of, inserts_there, inserts_at, cut_of, deletes_by, inserts, deletes, unchanged, answers, undoes_step, undoes, redoes_step, redoes, saves}
 use Rattle.timeline_undo.specs.History.{newest_step}
 use Rattle.workbench.specs.Told.{told}

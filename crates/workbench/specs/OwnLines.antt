@@ -1,6 +1,6 @@
 -- The lines of a script that are about one timeline, and what is answered to them. Outside a block each line is an event of its
 -- own; a header with all lines up to the close of its block is one event.
-use Rattle.std.specs.Prelude.{◌≡◌, ◌≢◌, ℕ, Bool, true, false, not, ◌&&◌, List, [], ◌∷◌, ◌++◌, if◌then◌else◌}
+use Rattle.std.specs.Prelude.{◌≡◌, ◌≢◌, ℕ, Bool, false, not, ◌&&◌, List, [], ◌∷◌, ◌++◌, if◌then◌else◌}
 use Rattle.std.specs.Prelude.{Option, Some, None, option_map, Result, Ok, Err}
 use Rattle.std.specs.Str.{bytes_eq}
 use Rattle.script_grammar.specs.declared.command.Command.{Command}
@@ -8,7 +8,6 @@ use Rattle.script_grammar.specs.declared.command.Command.TheVariants.{Nothing, N
 use Rattle.script_grammar.specs.declared.command.LineError.{LineError}
 use Rattle.retro_base.specs.LineLength.{is_long}
 use Rattle.script_grammar.specs.BlockLines.{is_end}
-use Rattle.workbench.specs.declared.outcome.Outcome.{Outcome}
 use Rattle.workbench.specs.declared.outcome.Outcome.TheVariants.{Refused}
 use Rattle.workbench.specs.declared.outcome.Refusal.TheVariants.{Timelines}
 use Rattle.workbench.specs.Bench.{OpenBlock, Bench, empty_bench}

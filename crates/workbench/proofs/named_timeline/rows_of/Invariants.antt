@@ -1,4 +1,4 @@
-use Rattle.std.proofs.Common.{◌≡◌, ◌≤◌, length, take}
+use Rattle.std.proofs.Common.{◌≡◌, take}
 use Rattle.workbench.proofs.named_timeline.rows_of.Given as goal
 
 abbrev pub invariant-loop-place : goal.invariant-loop-place

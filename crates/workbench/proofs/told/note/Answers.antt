@@ -1,6 +1,3 @@
-use Rattle.std.proofs.Common.{◌≡◌, List, ◌++◌, subst}
-use Rattle.std.specs.Prelude.{OnOk}
-use Rattle.evidence.specs.declared.evidence.Evidence.{Evidence}
 use Rattle.workbench.proofs.NamedChanges.{noted_pq}
 use Rattle.workbench.proofs.told.note.Goals as goal
 

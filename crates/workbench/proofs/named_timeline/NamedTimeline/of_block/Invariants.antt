@@ -1,4 +1,4 @@
-use Rattle.std.proofs.Common.{◌≡◌, List, take}
+use Rattle.std.proofs.Common.{◌≡◌, take}
 use Rattle.timeline_undo.specs.History.{no_history}
 use Rattle.timeline_undo.specs.Session.{SessionState}
 use Rattle.workbench.specs.Told.{loaded_evidence}
