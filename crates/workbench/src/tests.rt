@@ -7,9 +7,10 @@ use std::test::Fail;
 /// How many rows the long timeline has.
 const MANY: u32 = 3000;
 
-/// What a bench answers to a line that is not long.
+/// What a bench that memory has sufficed for answers to a line that is not long.
 fn answer(rt: &impl Abort, bench: &mut Bench, line: &[u8]) -> Result<Text, NoMemory> {
     assert!(rt; line.len() <= 4096);
+    assert!(rt; !bench.spent());
     Ok(bench.line(line, false)?.text)
 }
 
