@@ -21,13 +21,17 @@ up_to most n = if nat_le n most then Some n else None
 abbrev pub between : ℕ → ℕ → ℕ → Option ℕ
 between least most n = if nat_le least n && nat_le n most then Some n else None
 
+-- a natural up to a greatest one
+abbrev pub natural_up_to : ℕ → List ℕ → Option ℕ
+natural_up_to most word = option_and_then (up_to most) (natural_of word)
+
 -- a moment: a natural below 2 ^ 64
 unfoldable pub time_of : List ℕ → Option ℕ
-time_of word = option_and_then (up_to (2 ^ 64 - 1)) (natural_of word)
+time_of word = natural_up_to (2 ^ 64 - 1) word
 
 -- the index of an item: a natural below 2 ^ 64
 unfoldable pub index_of : List ℕ → Option ℕ
-index_of word = option_and_then (up_to (2 ^ 64 - 1)) (natural_of word)
+index_of word = natural_up_to (2 ^ 64 - 1) word
 
 -- the number of a row: `#`, byte 35, and a natural from 1 to below the limit of numbers
 unfoldable pub row_number_of : List ℕ → Option ℕ

@@ -7,6 +7,7 @@
 //!
 //! - `read_line` gives the command of a line, or says why it has none.
 //! - `read_row`, `is_end` and `is_passed_over` read the lines within a block.
+//! - `kind_of_word` and `read_natural_up_to` read single words.
 //! - `print_answer` and `print_listing` append the text of an answer.
 #![tactic(auto)]
 
@@ -29,5 +30,6 @@ mod words;
 pub use answer::print_answer;
 pub use block_lines::{is_end, is_passed_over, read_row};
 pub use command::{Command, LineError, Moment, Query, Spot};
-pub use line::read_line;
+pub use line::{kind_of_word, read_line};
 pub use listing::print_listing;
+pub use numbers::read_natural_up_to;

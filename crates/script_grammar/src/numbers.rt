@@ -1,6 +1,6 @@
 ghost use Rattle.std.specs.Prelude.{◌≡◌, ◌+◌, ◌-◌, ◌*◌, ◌^◌, ◌<◌, ◌≤◌, IfSome, option_and_then};
 ghost use Rattle.retro_base.specs.Limits.{next_limit};
-ghost use Rattle.script_grammar.specs.Numbers.{between, index_of, natural_of, next_of, row_number_of, time_of, up_to, value_of};
+ghost use Rattle.script_grammar.specs.Numbers.{between, index_of, natural_of, natural_up_to, next_of, row_number_of, time_of, up_to, value_of};
 
 use retro_base::MAX_NEXT;
 
@@ -74,6 +74,22 @@ fn next_number(number: u64) -> Option<u32>
     } else {
         None
     }
+}
+
+/// The number up to a greatest one that a word spells with digits alone.
+pub fn read_natural_up_to(word: &[u8], most: u64) -> Option<u64>
+    ensures exact { result ≡ natural_up_to most word.now }
+    ensures range { IfSome result (λ number. number ≤ most) }
+{
+    up_to(most, read_natural(word)?)
+}
+
+/// A number, if it is in range.
+fn up_to(most: u64, number: u64) -> Option<u64>
+    ensures exact { result ≡ up_to most number }
+    ensures range { IfSome result (λ number. number ≤ most) }
+{
+    if number <= most { Some(number) } else { None }
 }
 
 fn read_natural(digits: &[u8]) -> Option<u64>
