@@ -1,2 +1,3 @@
 pub mod NextLine
+pub mod ShortLines
 mod Examples

@@ -1,4 +1,5 @@
-ghost use Rattle.std.specs.Prelude.{◌≡◌, ◌≤◌, IfOk, OnErr};
+ghost use Rattle.std.specs.Prelude.{◌≡◌, ◌≤◌, length, IfOk, OnErr, OnOk};
+ghost use Rattle.retro_base.specs.Limits.{longest_line};
 ghost use Rattle.script_gen.specs.Coming.{GivesNext, IsPartOfNext};
 ghost use Rattle.script_gen.specs.Script.{generated};
 
@@ -50,6 +51,7 @@ impl ScriptGen {
         ensures ok { IfOk result (λ given. GivesNext self.old self.new out.new given) }
         ensures err { OnErr result (self.new ≡ self.old) }
         ensures part { OnErr result (IsPartOfNext self.old out.new) }
+        ensures short { OnOk result (length out.new ≤ longest_line) }
     {
         out.clear();
         if self.number > self.lines {
