@@ -7,3 +7,4 @@ pub mod Shares
 pub mod OwnLines
 pub mod Loaded
 pub mod NamedChanges
+pub mod Sizes

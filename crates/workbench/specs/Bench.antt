@@ -1,9 +1,11 @@
 -- The bench: the timelines that a script has made, in the order in which it made them, and the block that is being read.
-use Rattle.std.specs.Prelude.{ℕ, Bool, List, [], Option, None}
+use Rattle.std.specs.Prelude.{ℕ, Bool, List, [], length, Option, None}
 use Rattle.std.specs.List.{find, list_any}
 use Rattle.std.specs.Str.{bytes_eq}
 use Rattle.retro_base.specs.declared.kind.Kind.{Kind}
 use Rattle.retro_base.specs.declared.row.Row.{Row}
+use Rattle.retro_base.specs.Replay.{present}
+use Rattle.retro_base.specs.State.{State, items, pairs, entries}
 use Rattle.timeline_undo.specs.History.{History, no_history}
 use Rattle.timeline_undo.specs.Session.{SessionState}
 use Rattle.timeline_file.specs.Block.{Block}
@@ -58,3 +60,13 @@ timeline_of name timelines = find (is_named name) timelines
 -- one of the timelines has the name
 abbrev pub has_timeline : List ℕ → List NamedTimeline → Bool
 has_timeline name timelines = list_any (is_named name) timelines
+
+-- how many items, pairs or entries a state holds
+abbrev pub size_of : State → ℕ
+size_of (items xs) = length xs
+size_of (pairs ps) = length ps
+size_of (entries es) = length es
+
+-- how many a timeline holds behind all its rows
+abbrev pub present_size : NamedTimeline → ℕ
+present_size timeline = size_of (present timeline.kind timeline.rows)

@@ -1,7 +1,8 @@
 ghost use Rattle.std.specs.Prelude.{◌≡◌, ◌≤◌, ◌⊎◌, ◌++◌, length, is_err, is_some, true, false, None, Some, IsTrue, IfOk, OnOk, OnErr, MatchOption, option_map};
 ghost use Rattle.retro_base.specs.Limits.{longest_line};
 ghost use Rattle.script_grammar.specs.Command.{IsNextInRange};
-ghost use Rattle.workbench.specs.Bench.{empty_bench, named, timeline_of};
+ghost use Rattle.retro_base.specs.Replay.{present};
+ghost use Rattle.workbench.specs.Bench.{NamedTimeline, empty_bench, named, present_size, size_of, timeline_of};
 ghost use Rattle.workbench.specs.Outcome.{is_refusal, reply_text};
 ghost use Rattle.workbench.specs.Reaction.{closing, ends, happens, opened, outside, reacts_to, with_line, without_block};
 
@@ -9,7 +10,7 @@ use crate::open_block::OpenBlock;
 use crate::outcome::Outcome;
 use crate::timelines::Timelines;
 use engine::Engine;
-use retro_base::{Name, NoMemory, Text};
+use retro_base::{Answer, Name, NoMemory, Question, Text};
 use script_grammar::{Command, LineError, is_end, read_line};
 use std::alloc::Global;
 use std::marker::Model;
@@ -105,6 +106,28 @@ impl Bench {
         self.timelines.session(*name)
     }
 
+    /// How many rows the timeline of this name has; none where no timeline has it.
+    pub fn rows_of(&self, name: &Name) -> Option<u32>
+        requires { self.now.spent ≡ false }
+        ensures { result ≡ option_map (λ (timeline : NamedTimeline). length timeline.rows) (timeline_of name.now self.now.bench.timelines) }
+    {
+        match self.session(name) {
+            Some(session) => Some(session.timeline().len()),
+            None => None,
+        }
+    }
+
+    /// How many items, pairs or entries the timeline of this name holds at present; none where no timeline has it.
+    pub fn size_of(&self, name: &Name) -> Option<u32>
+        requires { self.now.spent ≡ false }
+        ensures { result ≡ option_map present_size (timeline_of name.now self.now.bench.timelines) }
+    {
+        match self.session(name) {
+            Some(session) => Some(size_of(session)),
+            None => None,
+        }
+    }
+
     /// Does what a line asks for, and tells its answer.
     fn react(&mut self, line: &[u8], long: bool) -> Result<Reply, NoMemory>
         requires within { length line.now ≤ longest_line }
@@ -196,6 +219,17 @@ fn opened(alloc: Global, line: &Result<Command, LineError>) -> Option<OpenBlock>
             Some(OpenBlock::new(alloc, *name, *kind, *next))
         }
         _ => None,
+    }
+}
+
+/// How many items, pairs or entries a session holds at present.
+fn size_of(session: &Session<Engine>) -> u32
+    ensures { result ≡ size_of (present session.now.kind session.now.rows) }
+{
+    let _rows = session.timeline().len();
+    match session.ask_now(Question::Size) {
+        Answer::Number { value } => value as u32,
+        _ => 0,
     }
 }
 

@@ -1,0 +1,25 @@
+-- The size of what a session holds is a number of 32 bits.
+use Rattle.std.proofs.Common.{◌≡◌, ◌≤◌, rules, arith}
+use Rattle.std.proofs.lemmas.Int.{to_z-of_z}
+use Rattle.retro_base.specs.Replay.{present}
+use Rattle.workbench.specs.Bench.{size_of}
+use Rattle.workbench.proofs.Sizes.{counted, is_number, size-le}
+use Rattle.workbench.proofs.bench.size_of.Goals as goal
+
+pub overflow_cast-result : goal.overflow_cast-result
+overflow_cast-result c =
+    let value = counted c.args.session.now.kind c.args.session.now.rows c.ask_now.result c.in-Number.value c.ask_now.ensures c.in-Number.is in
+    let few = size-le c.args.session.now.kind c.args.session.now.rows in
+    let small : size_of (present c.args.session.now.kind c.args.session.now.rows) ≤ 65536 =
+    omega (arith, few, c.timeline.ensures.timeline.replayable.few) in
+    rw value (search (rules, to_z-of_z, small))
+
+pub returns-in-Number : goal.returns-in-Number
+returns-in-Number c =
+    let value = counted c.args.session.now.kind c.args.session.now.rows c.ask_now.result c.in-Number.value c.ask_now.ensures c.in-Number.is in
+    let few = size-le c.args.session.now.kind c.args.session.now.rows in
+    rw value (search (rules, to_z-of_z, few))
+
+pub returns-in_default : goal.returns-in_default
+returns-in_default c =
+    absurd (c.in_default.not-Number _ (is_number c.args.session.now.kind c.args.session.now.rows c.ask_now.result c.ask_now.ensures))
