@@ -6,7 +6,7 @@
 #   make test     the gate: every proof, every edit that must fail, every test, every example, and the streams of the
 #                 built program; needs Python 3
 #   make bench    times the program on generated scripts of each kind, on a million questions beside a plain
-#                 program where rustc is there, and on whole timelines as text; needs Python 3
+#                 program where rustc is there, on whole timelines as text, and on evidence; needs Python 3
 
 SCRIPT ?= examples/late_job.script
 PREFIX ?= /usr/local
@@ -40,3 +40,4 @@ bench: build
 	@python3 bench/measure.py build/retro
 	@python3 bench/lines.py build/retro
 	@python3 bench/blocks.py build/retro
+	@python3 bench/check.py build/retro

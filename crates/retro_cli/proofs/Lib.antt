@@ -3,3 +3,8 @@ pub mod GoesOn
 pub mod Reactions
 pub mod Stops
 pub mod WholeLines
+pub mod Statuses
+pub mod Judged
+pub mod Summing
+pub mod Results
+pub mod ByCount

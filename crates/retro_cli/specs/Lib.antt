@@ -6,3 +6,9 @@ pub mod Output
 pub mod Run
 pub mod Stop
 pub mod Words
+pub mod Forms
+pub mod Delivery
+pub mod Judging
+pub mod Verdicts
+pub mod Summary
+pub mod Program

@@ -1,19 +1,12 @@
 -- What is claimed of a run of the program.
-use Rattle.std.specs.Prelude.{◌≡◌, ℕ, Bool, true, false, ◌<◌, List, [], ◌∷◌, ◌++◌, length, take, codes}
+use Rattle.std.specs.Prelude.{◌≡◌, ℕ, Bool, true, false, ◌<◌, List, ◌++◌, length, take}
 use Rattle.std.specs.Prelude.{Option, Some, None}
-use Rattle.std.specs.Str.{bytes_eq}
 use Rattle.retro_base.specs.Limits.{most_bytes}
 use Rattle.retro_io.specs.Lines.{lines}
 use Rattle.retro_io.specs.Sink.{Appends, AppendsPrefixOf, AppendsProperPrefix}
 use Rattle.retro_cli.specs.declared.status.Status.{Status}
 use Rattle.retro_cli.specs.declared.status.Status.TheVariants as statuses
 use Rattle.retro_cli.specs.Output.{answers_to, output, has_refusal, up_to_last_feed}
-
--- the words of the command line are the one word `run`
-abbrev pub is_run : List (List ℕ) → Bool
-is_run [] = false
-is_run (word ∷ []) = bytes_eq word (codes "run")
-is_run (word ∷ other ∷ more) = false
 
 -- the input was read to its end and answered
 abbrev pub HasAnswered : Status → Type 0

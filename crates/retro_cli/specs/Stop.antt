@@ -1,7 +1,9 @@
 -- Why a run ends before its input does.
-use Rattle.std.specs.Prelude.{◌≡◌, Bool, true, false, Result, Err}
+use Rattle.std.specs.Prelude.{◌≡◌, Bool, true, false, Result, Ok, Err}
 use Rattle.retro_io.specs.declared.mark.ReadError.{ReadError}
 use Rattle.retro_io.specs.declared.mark.ReadError.TheVariants as errors
+use Rattle.retro_cli.specs.declared.status.Status.{Status}
+use Rattle.retro_cli.specs.declared.status.Status.TheVariants as statuses
 use Rattle.retro_cli.specs.declared.stop.Stop.{Stop}
 use Rattle.retro_cli.specs.declared.stop.Stop.TheVariants as stops
 
@@ -19,3 +21,12 @@ stops_at_read result = false
 abbrev pub stops_at_write : {V : Type 0} → Result V Stop → Bool
 stops_at_write (Err stops.WriteFault) = true
 stops_at_write result = false
+
+-- the status of a run that ended so: with an answer that tells whether a line was refused, or early
+abbrev pub status_after : Result Bool Stop → Status
+status_after (Ok false) = statuses.Done
+status_after (Ok true) = statuses.Refused
+status_after (Err stops.ReadFault) = statuses.ReadFault
+status_after (Err stops.WriteFault) = statuses.WriteFault
+status_after (Err stops.NoMemory) = statuses.NoMemory
+status_after (Err stops.TooLong) = statuses.TooLong

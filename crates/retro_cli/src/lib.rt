@@ -1,26 +1,39 @@
 //! The program, from the bytes in to the bytes out: `run` reads a script from a source and writes the answers
-//! to its lines to a sink.
+//! to its lines to a sink; or it judges the evidence of one; or it sums up a generated script.
 //!
-//! `run` carries the theorem of the program. Where it ends with 0 or 1, the input was read to its end, and exactly
-//! the output of the script was appended. The output is defined in `specs/Output.antt` over the whole list of lines:
-//! what the bench makes of one line after another, by the workbench's definitions; the loop only follows it. Each
-//! other status has its cause in a clause, so that without a fault every script is answered, as long as memory lasts.
+//! `run` carries the theorem of the program, by the form of the words of its command line (`specs/Program.antt`). Where it
+//! ends with 0 or 1, the input was read to its end, and exactly the output of the script was appended, or the judgement of its
+//! lines. The output is defined in `specs/Output.antt` over the whole list of lines: what the bench makes of one line after
+//! another, by the workbench's definitions; the loop only follows it. Each other status has its cause in a clause, so that
+//! without a fault every input is answered, as long as memory lasts.
 //!
-//! The lines and the faults are those of `retro_io`, and what becomes of a line is the workbench's: this crate holds
-//! nothing but the loop between them.
+//! The lines and the faults are those of `retro_io`, what becomes of a line is the workbench's, and whether evidence is true
+//! is said by `evidence_check`, which shares no code with them: this crate holds nothing but the loops between them.
 //!
-//! - `script`: the top call `run`, and the loop over lines.
-//! - `words`, `status`, `stop`: the words of the command line, and how a run ends.
+//! - `program`: the top call `run`. `form`, `words`, `status`, `stop`: the words of the command line, and how a run ends.
+//! - `script`: a script is answered, line by line.
+//! - `check`, `judging`: evidence is judged, up to the first line that is refused.
+//! - `generated`: a generated script is answered and summed up.
+//! - `deliver`: how a text is written, and arrives.
 #![tactic(auto)]
 
+mod check;
+mod deliver;
+mod form;
+mod generated;
+mod judging;
+mod program;
 mod script;
 mod status;
 mod stop;
 mod words;
 
-pub use script::run;
+pub use program::run;
 pub use status::Status;
 pub use words::Words;
+
+/// The most bytes of an input.
+const MAX_BYTES: u64 = 1 << 30;
 
 #[cfg(test)]
 mod tests;

@@ -1,7 +1,7 @@
 -- A text is written by calls of `write` alone.
 use Rattle.std.proofs.lemmas.Result.{err_from_is_err_and}
 use Rattle.retro_io.specs.FlushLaws.{EndsWithFailedWrite-handed, StaysUnflushed-put}
-use Rattle.retro_cli.proofs.script.send.Goals as goal
+use Rattle.retro_cli.proofs.deliver.send.Goals as goal
 
 pub returns-clause-unflushed : goal.returns-clause-unflushed
 returns-clause-unflushed g c =

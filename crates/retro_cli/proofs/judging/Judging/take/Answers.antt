@@ -1,0 +1,9 @@
+-- No more is accepted than was read.
+use Rattle.std.proofs.Common.{arith, sym, ◌∙◌}
+use Rattle.retro_cli.proofs.Judged.{accepts_one, unrefused}
+use Rattle.retro_cli.proofs.judging.Judging.take.Goals as goal
+
+pub invariant_of-self : goal.invariant_of-self
+invariant_of-self c =
+    let one = accepts_one c.self.inside.checker c.take.new.self c.args.line.now c.args.long c.in-Ok.ensures.ok in
+    (omega (arith, one, c.self.invariant.0), unrefused _ _ (sym c.is_some.ensures ∙ c.if-is_some.false))

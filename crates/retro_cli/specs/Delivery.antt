@@ -1,0 +1,36 @@
+-- What stands in the sink where a run writes one text, at its end, and nothing else.
+use Rattle.std.specs.Prelude.{◌≡◌, ◌⊎◌, ℕ, Bool, true, false, List, Option, None, Some, Result, Ok, Err}
+use Rattle.retro_io.specs.declared.sink.Sink.{Ghosts}
+use Rattle.retro_io.specs.Flushes.{EndsWithFailedWrite, EndsWithFlush}
+use Rattle.retro_io.specs.Sink.{Appends, AppendsProperPrefix}
+use Rattle.retro_cli.specs.declared.stop.Stop.{Stop}
+use Rattle.retro_cli.specs.declared.stop.Stop.TheVariants as stops
+
+-- the text was appended, where it is known and the sink tells what was written
+abbrev pub AppendsText : Option (List ℕ) → Option (List ℕ) → Option (List ℕ) → Type 0
+AppendsText None before after = Unit {0}
+AppendsText (Some text) before after = Appends before text after
+
+-- a prefix of it was appended that is not the whole
+abbrev pub AppendsPart : Option (List ℕ) → Option (List ℕ) → Option (List ℕ) → Type 0
+AppendsPart None before after = Unit {0}
+AppendsPart (Some text) before after = AppendsProperPrefix before text after
+
+-- the text, where it is known, and the sink before and after
+module _ {K : Type 0} (G : Ghosts K) (text : Option (List ℕ)) (before after : K) where
+  -- exactly the text was appended, and it was flushed last of all
+  pub record Arrives : Type 0 where
+    pub appended : AppendsText text (G.written before) (G.written after)
+    pub flush : EndsWithFlush G before true after
+    pub flushed : G.flushed after ≡ true
+
+  -- a write failed within the text, or the flush after all of it, and that was the last call
+  abbrev pub IsCutOff : Type 0
+  IsCutOff = (AppendsPart text (G.written before) (G.written after) × EndsWithFailedWrite G before after)
+      ⊎ (AppendsText text (G.written before) (G.written after) × EndsWithFlush G before false after)
+
+  -- what stands where a run ends so: the text, a part of it, or nothing new
+  abbrev pub StandsAt : {V : Type 0} → Result V Stop → Type 0
+  StandsAt (Ok value) = Arrives
+  StandsAt (Err stops.WriteFault) = IsCutOff
+  StandsAt (Err stop) = after ≡ before

@@ -1,0 +1,41 @@
+-- The forms of the words of a command line.
+use Rattle.std.specs.Prelude.{ℕ, ◌-◌, ◌≤◌, ◌^◌, List, [], ◌∷◌, codes, Option, Some, None, option_map, option_and_then, if◌then◌else◌}
+use Rattle.std.specs.Str.{bytes_eq}
+use Rattle.script_grammar.specs.Command.{kind_of_word}
+use Rattle.script_grammar.specs.Numbers.{natural_up_to}
+use Rattle.retro_cli.specs.declared.form.Form.{Form}
+use Rattle.retro_cli.specs.declared.form.Form.TheVariants.{Run, Check, Gen}
+
+-- the most lines that a generated script has behind its first one
+abbrev pub most_generated : ℕ
+most_generated = 1000000
+
+-- `run`, or `check`
+abbrev pub form_of_word : List ℕ → Option Form
+form_of_word word =
+    if bytes_eq word (codes "run") then Some Run
+    else (if bytes_eq word (codes "check") then Some Check
+    else None)
+
+-- `gen KIND N START`, behind its first word
+abbrev pub generation : List ℕ → List ℕ → List ℕ → Option Form
+generation kind lines start =
+    option_and_then (λ k. option_and_then (λ n. option_map (Gen k n) (natural_up_to (2 ^ 64 - 1) start)) (natural_up_to most_generated lines)) (kind_of_word kind)
+
+abbrev pub form_of_words : List ℕ → List ℕ → List ℕ → List ℕ → Option Form
+form_of_words word kind lines start = if bytes_eq word (codes "gen") then generation kind lines start else None
+
+-- the form of all words, if they have one
+abbrev pub form_of : List (List ℕ) → Option Form
+form_of [] = None
+form_of (word ∷ []) = form_of_word word
+form_of (word ∷ kind ∷ []) = None
+form_of (word ∷ kind ∷ lines ∷ []) = None
+form_of (word ∷ kind ∷ lines ∷ start ∷ []) = form_of_words word kind lines start
+form_of (word ∷ kind ∷ lines ∷ start ∷ other ∷ more) = None
+
+-- a generated script has no more lines than it may have
+abbrev pub IsWithin : Form → Type 0
+IsWithin Run = Unit {0}
+IsWithin Check = Unit {0}
+IsWithin (Gen kind lines start) = lines ≤ most_generated

@@ -1,0 +1,35 @@
+ghost use Rattle.std.specs.Prelude.{◌≡◌, Some, IfErr, OnErr, OnOk, IsErrOf};
+ghost use Rattle.retro_io.specs.Faults.{Counts};
+ghost use Rattle.retro_io.specs.Flushes.{EndsWithFailedWrite, StaysUnflushed};
+ghost use Rattle.retro_io.specs.Sink.{Appends, AppendsProperPrefix};
+ghost use Rattle.retro_cli.specs.Delivery.{StandsAt};
+ghost use Rattle.retro_cli.specs.Stop.{stops_at_write};
+
+use crate::stop::Stop;
+use retro_io::{Failed, Sink, put_all};
+
+/// Writes a text, by calls of `write` alone.
+pub(crate) fn send<K: Sink>(text: &[u8], sink: &mut K) -> Result<(), Stop>
+    ensures appended { OnOk result (Appends (K.written sink.old) text.now (K.written sink.new)) }
+    ensures unflushed { OnOk result (StaysUnflushed ⟦<K as Sink>⟧ sink.old sink.new) }
+    ensures failed { IfErr result (λ stop. stop ≡ Stop.WriteFault) }
+    ensures part { OnErr result (AppendsProperPrefix (K.written sink.old) text.now (K.written sink.new)) }
+    ensures last { OnErr result (EndsWithFailedWrite ⟦<K as Sink>⟧ sink.old sink.new) }
+    ensures faults { Counts (stops_at_write result) (K.faults sink.old) (K.faults sink.new) }
+{
+    put_all(sink, text)?;
+    Ok(())
+}
+
+/// Writes a text, and sees to it that it arrives.
+pub(crate) fn deliver<K: Sink>(text: &[u8], sink: &mut K) -> Result<(), Stop>
+    ensures stands { StandsAt ⟦<K as Sink>⟧ (Some text.now) sink.old sink.new result }
+    ensures failed { IfErr result (λ stop. stop ≡ Stop.WriteFault) }
+    ensures faults { Counts (stops_at_write result) (K.faults sink.old) (K.faults sink.new) }
+{
+    send(text, sink)?;
+    match sink.flush() {
+        Ok(()) => Ok(()),
+        Err(Failed) => Err(Stop::WriteFault),
+    }
+}

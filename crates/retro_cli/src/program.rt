@@ -1,0 +1,59 @@
+ghost use Rattle.std.specs.Prelude.{◌≡◌, ◌-◌, ◌<◌, ◌↔◌, IsSome, None};
+ghost use Rattle.retro_base.specs.Limits.{most_bytes};
+ghost use Rattle.retro_io.specs.Faults.{Counts, Rose, last_count};
+ghost use Rattle.retro_cli.specs.Forms.{form_of};
+ghost use Rattle.retro_cli.specs.Program.{Runs};
+ghost use Rattle.retro_cli.specs.Run.{EndsWithoutFault, is_read_fault, is_write_fault};
+ghost use Rattle.retro_cli.specs.Stop.{status_after};
+
+use crate::check::run_check;
+use crate::form::{Form, form_of};
+use crate::generated::run_generated;
+use crate::script::run_script;
+use crate::stop::Stop;
+use crate::{Status, Words};
+use retro_io::{Sink, Source};
+use std::alloc::Global;
+
+/// Runs the program. With the word `run` it reads a script from the source and writes the answer to each line to the
+/// sink, before it reads the next one; with `check` it reads lines of evidence and writes their judgement; with
+/// `gen KIND N START` it reads nothing, answers a generated script and writes what it comes to. With other words it reads
+/// and writes nothing.
+pub fn run<S: Source, K: Sink>(alloc: Global, words: &Words, source: &mut S, sink: &mut K) -> Status
+    // What stands at each status, by the form of the words: the output of the script, the judgement or the summary.
+    ensures form { Runs ⟦<S as Source>⟧ ⟦<K as Sink>⟧ source.old source.new sink.old sink.new result (form_of words.now) }
+    // When each other status comes.
+    ensures words { (result ≡ Status.Words) ↔ (form_of words.now ≡ None) }
+    ensures too_long { S.taken source.new < last_count →
+        ((result ≡ Status.TooLong) ↔ (most_bytes < S.taken source.new - S.taken source.old)) }
+    // Completeness: without a fault there is no other end than an output, want of memory, or an input that is too long.
+    ensures complete { IsSome (form_of words.now)
+        → (Rose (S.faults source.old) (S.faults source.new) → ⊥) → (Rose (K.faults sink.old) (K.faults sink.new) → ⊥)
+        → EndsWithoutFault (S.left source.old) result }
+    // The source's count of faults rises at a failed read, the sink's at a failed write or flush, and else both stay.
+    ensures source_faults { Counts (is_read_fault result) (S.faults source.old) (S.faults source.new) }
+    ensures sink_faults { Counts (is_write_fault result) (K.faults sink.old) (K.faults sink.new) }
+{
+    match form_of(words) {
+        Some(Form::Run) => status_after(run_script(alloc, source, sink)),
+        Some(Form::Check) => status_after(run_check(alloc, source, sink)),
+        Some(Form::Gen { kind, lines, start }) => {
+            status_after(run_generated(alloc, kind, lines, start, sink))
+        }
+        None => Status::Words,
+    }
+}
+
+/// The status of a run that ended so: the answer tells whether a line was refused.
+fn status_after(ended: Result<bool, Stop>) -> Status
+    ensures { result ≡ status_after ended }
+{
+    match ended {
+        Ok(false) => Status::Done,
+        Ok(true) => Status::Refused,
+        Err(Stop::ReadFault) => Status::ReadFault,
+        Err(Stop::WriteFault) => Status::WriteFault,
+        Err(Stop::NoMemory) => Status::NoMemory,
+        Err(Stop::TooLong) => Status::TooLong,
+    }
+}
