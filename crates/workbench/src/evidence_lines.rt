@@ -8,7 +8,7 @@ use std::marker::Model;
 
 /// The evidence of some edits, in their order, which contracts see as its list.
 #[derive(Debug, Drop)]
-pub(crate) struct EvidenceLines {
+pub struct EvidenceLines {
     lines: Vec<Evidence>,
 }
 

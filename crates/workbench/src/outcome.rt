@@ -11,7 +11,7 @@ use timeline_file::{BlockError, RowCause, print_block};
 
 /// What a line is answered.
 #[derive(Debug, Drop)]
-pub(crate) enum Outcome {
+pub enum Outcome {
     /// Nothing is answered.
     Silent,
     /// It is done.
@@ -52,7 +52,7 @@ pub(crate) enum Outcome {
 
 /// Why a line was refused.
 #[derive(Clone, Copy, Debug, PartialEq, Eq)]
-pub(crate) enum Refusal {
+pub enum Refusal {
     /// It has more bytes than a line may have.
     Long,
     /// It is in no form of the grammar.

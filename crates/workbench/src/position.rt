@@ -8,9 +8,9 @@ use script_grammar::Spot;
 
 /// Where a row stands: at this place, and at this time.
 #[derive(Clone, Copy, Debug, PartialEq, Eq)]
-pub(crate) struct Position {
-    pub(crate) place: u32,
-    pub(crate) time: u64,
+pub struct Position {
+    pub place: u32,
+    pub time: u64,
 }
 
 /// The position of a spot, where it has one.
