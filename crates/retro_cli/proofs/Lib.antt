@@ -1,4 +1,5 @@
 pub mod Ends
+pub mod accepted
 pub mod GoesOn
 pub mod Reactions
 pub mod Stops

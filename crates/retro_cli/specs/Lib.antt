@@ -3,6 +3,7 @@ pub use Rattle.workbench.specs.Answers
 pub mod Ends
 pub mod Status
 pub mod Output
+pub mod Accepted
 pub mod Run
 pub mod Stop
 pub mod Words

@@ -15,6 +15,7 @@
 //! - `check`, `judging`: evidence is judged, up to the first line that is refused.
 //! - `generated`: a generated script is answered and summed up.
 //! - `deliver`: how a text is written, and arrives.
+//! - `laws`: what a script answers is accepted by the judge.
 #![tactic(auto)]
 
 mod check;
@@ -22,6 +23,7 @@ mod deliver;
 mod form;
 mod generated;
 mod judging;
+pub mod laws;
 mod program;
 mod script;
 mod status;

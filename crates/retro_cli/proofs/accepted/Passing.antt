@@ -1,0 +1,111 @@
+-- Answers that tell nothing of a priority queue: the judge passes their lines over.
+use Rattle.std.proofs.Common.{◌≡◌, ℕ, true, false, cond, List, [], ◌∷◌, ◌++◌, length, refl, Option, Some, None}
+use Rattle.std.specs.Prelude.{codes, decimal}
+use Rattle.retro_base.specs.declared.kind.Kind.{Kind}
+use Rattle.retro_base.specs.declared.question.Answer.{Answer}
+use Rattle.retro_base.specs.declared.question.Answer.TheVariants as answered
+use Rattle.retro_base.specs.declared.question.Item.{Item}
+use Rattle.retro_base.specs.declared.row.Row.{Row}
+use Rattle.retro_base.specs.Name.{is_name}
+use Rattle.retro_base.specs.Replay.{state_at}
+use Rattle.retro_base.specs.Answers.{answer_of, content}
+use Rattle.retro_base.specs.Questions.{suits}
+use Rattle.evidence_check.specs.Judgement.{Judge, is_evidence_line}
+use Rattle.script_grammar.specs.AnswerText.{answer_text, listing_text}
+use Rattle.script_grammar.specs.declared.command.Moment.{Moment}
+use Rattle.script_grammar.specs.declared.command.Moment.TheVariants.{Now, Then}
+use Rattle.script_grammar.specs.declared.command.Query.{Query}
+use Rattle.script_grammar.specs.declared.command.Query.TheVariants.{One, All}
+use Rattle.timeline_file.specs.Saved.{end_text, header_text, row_line_text, row_lines, row_text, saved, with_feed}
+use Rattle.workbench.specs.declared.outcome.Outcome.{Outcome}
+use Rattle.workbench.specs.declared.outcome.Outcome.TheVariants.{Silent, Accepted, Inserted, Answered, Listed, Saved, Refused}
+use Rattle.workbench.specs.declared.outcome.Refusal.{Refusal}
+use Rattle.workbench.specs.declared.outcome.Refusal.TheVariants as refusals
+use Rattle.workbench.specs.declared.position.Position.{Position}
+use Rattle.workbench.specs.Bench.{NamedTimeline}
+use Rattle.workbench.specs.Outcome.{refusal_text, reply_text}
+use Rattle.workbench.specs.TimelineEffects.{answers, answers_at, answers_then, position_of, row_named}
+use Rattle.retro_cli.proofs.accepted.Printable.{NamesTimeline, answer_printable, decimal_printable, header_printable, listing_printable, refusal_printable, row_printable}
+use Rattle.retro_cli.proofs.accepted.ReadLines.{Reads, reads-append, reads_nothing, reads_other}
+
+-- a judge that reads this answer is as before
+abbrev pub IsPassedOver : Outcome → Type 0
+IsPassedOver outcome = (judge : Judge) → Reads judge (reply_text outcome) judge
+
+-- refusals
+begins_other : (refusal : Refusal) → is_evidence_line (refusal_text refusal) ≡ false
+begins_other refusals.Long = refl
+begins_other refusals.Syntax = refl
+begins_other (refusals.NoTimeline name) = refl
+begins_other refusals.NameTaken = refl
+begins_other refusals.Timelines = refl
+begins_other refusals.Kind = refl
+begins_other (refusals.NoRow number) = refl
+begins_other refusals.Full = refl
+begins_other refusals.Numbers = refl
+begins_other (refusals.At number time) = refl
+begins_other refusals.NothingToUndo = refl
+begins_other refusals.NothingToRedo = refl
+begins_other (refusals.RowLine place cause) = refl
+begins_other refusals.Unfinished = refl
+begins_other refusals.Next = refl
+
+pub refusal_passes : (refusal : Refusal) → NamesTimeline refusal → IsPassedOver (Refused refusal)
+refusal_passes refusal named judge = reads_other judge (refusal_text refusal) (refusal_printable refusal named) (begins_other refusal)
+
+-- other answers
+pub silent_passes : IsPassedOver Silent
+silent_passes judge = reads_nothing judge
+
+pub accepted_passes : IsPassedOver Accepted
+accepted_passes judge = reads_other judge (codes "ok") refl refl
+
+pub inserted_passes : (number : ℕ) → IsPassedOver (Inserted number)
+inserted_passes number judge = reads_other judge (codes "ok #" ++ decimal number) (decimal_printable number) refl
+
+answered_other : (answer : Answer) → is_evidence_line (answer_text answer) ≡ false
+answered_other (answered.Number v) = refl
+answered_other (answered.Pair key v) = refl
+answered_other answered.Nothing = refl
+
+listed_other : (items : List Item) → is_evidence_line (listing_text items) ≡ false
+listed_other [] = refl
+listed_other (item ∷ items) = refl
+
+answered_passes : (answer : Answer) → IsPassedOver (Answered answer)
+answered_passes answer judge = reads_other judge (answer_text answer) (answer_printable answer) (answered_other answer)
+
+listed_passes : (items : List Item) → IsPassedOver (Listed items)
+listed_passes items judge = reads_other judge (listing_text items) (listing_printable items) (listed_other items)
+
+at_passes : (answer_at : ℕ → Outcome) → ((place : ℕ) → IsPassedOver (answer_at place)) → (number : ℕ) (position : Option Position) → IsPassedOver (answers_at answer_at number position)
+at_passes answer_at each number None = refusal_passes (refusals.NoRow number) tt
+at_passes answer_at each number (Some position) = each position.place
+
+then_passes : (timeline : NamedTimeline) (answer_at : ℕ → Outcome) → ((place : ℕ) → IsPassedOver (answer_at place)) → (moment : Moment) → IsPassedOver (answers_then timeline answer_at moment)
+then_passes timeline answer_at each Now = each (length timeline.rows)
+then_passes timeline answer_at each (Then spot) = at_passes answer_at each (row_named spot) (position_of spot timeline.rows)
+
+pub answer_passes : (timeline : NamedTimeline) (moment : Moment) (query : Query) → IsPassedOver (answers timeline moment query)
+unfolding answers
+answer_passes timeline moment (One question) =
+    elim (suits question timeline.kind) as (λ b. IsPassedOver (cond b (answers_then timeline (λ place. Answered (answer_of (state_at timeline.kind timeline.rows place) question)) moment) (Refused refusals.Kind))) [
+      | true ↦ then_passes timeline (λ place. Answered (answer_of (state_at timeline.kind timeline.rows place) question))
+          (λ place. answered_passes (answer_of (state_at timeline.kind timeline.rows place) question)) moment
+      | false ↦ refusal_passes refusals.Kind tt
+    ]
+answer_passes timeline moment All =
+    then_passes timeline (λ place. Listed (content (state_at timeline.kind timeline.rows place))) (λ place. listed_passes (content (state_at timeline.kind timeline.rows place))) moment
+
+-- the lines of a saved timeline
+rows_passed : (judge : Judge) (rows : List Row) → Reads judge (row_lines rows) judge
+rows_passed judge [] = reads_nothing judge
+rows_passed judge (row ∷ rows) =
+    reads-append judge judge judge (row_line_text row) (row_lines rows) (reads_other judge (row_text row) (row_printable row) refl) (rows_passed judge rows)
+
+pub saved_passes : (name : List ℕ) (kind : Kind) (next : ℕ) (rows : List Row) → is_name name ≡ true → IsPassedOver (Saved name kind next rows)
+unfolding saved
+saved_passes name kind next rows named judge =
+    reads-append judge judge judge (with_feed (header_text name kind next)) (row_lines rows ++ with_feed end_text)
+    (reads_other judge (header_text name kind next) (header_printable name kind next named) refl)
+    (reads-append judge judge judge (row_lines rows) (with_feed end_text) (rows_passed judge rows) (reads_other judge end_text refl refl))

@@ -1,0 +1,201 @@
+-- Every line that answers is without bytes below the space: so it holds no line feed and ends in no carriage return.
+use Rattle.std.proofs.Common.{◌≡◌, ℕ, suc, zero, ◌+◌, ◌/◌, ◌%◌, ◌<◌, ℤ, pos, negsuc, Bool, true, false, not, ◌&&◌, nat_le, cond, List, [], ◌∷◌, ◌++◌, length, codes, decimal, refl, arith, Option, Some, None}
+use Rattle.std.specs.Prelude.{◌==◌, nat_lt}
+use Rattle.std.specs.Fmt.{digit_glyph, digits, digits_onto}
+use Rattle.std.specs.Fmt.{signed_decimal}
+use Rattle.std.specs.List.{list_all, flat_map}
+use Rattle.std.proofs.lemmas.Bool.{and_from, and_parts, le-leb, leb-false, lt-leb, ne_eqb}
+use Rattle.retro_base.specs.declared.kind.Kind.{Kind}
+use Rattle.retro_base.specs.declared.kind.Kind.TheVariants.{Queue, Stack, Deque, Dict, Pq}
+use Rattle.retro_base.specs.declared.op.Op.{Op}
+use Rattle.retro_base.specs.declared.op.Op.TheVariants.{Enq, Deq, Push, Pop, PushL, PushR, PopL, PopR, Put, Del, Ins, DelMin}
+use Rattle.retro_base.specs.declared.question.Answer.{Answer}
+use Rattle.retro_base.specs.declared.question.Answer.TheVariants.{Number, Pair, Nothing}
+use Rattle.retro_base.specs.declared.question.Item.{Item}
+use Rattle.retro_base.specs.declared.question.Item.TheVariants as contents
+use Rattle.retro_base.specs.declared.row.Change.{Change}
+use Rattle.retro_base.specs.declared.row.Change.TheVariants.{Plain, Gain, Lose}
+use Rattle.retro_base.specs.declared.row.Entry.{Entry}
+use Rattle.retro_base.specs.declared.row.Row.{Row}
+use Rattle.retro_base.specs.Limits.{longest_name, most_timelines}
+use Rattle.retro_base.specs.Name.{is_name, is_name_byte, is_reserved, starts_with_letter}
+use Rattle.retro_base.specs.OpText.{op_text, value_text}
+use Rattle.evidence.specs.declared.evidence.Evidence.{Evidence}
+use Rattle.evidence.specs.Spelling.{spelling, spaced, edit_text, row_text, bridge_text, change_text, entry_text}
+use Rattle.script_grammar.specs.AnswerText.{answer_text, item_text, listing_text}
+use Rattle.timeline_file.specs.declared.block.RowCause.{RowCause}
+use Rattle.timeline_file.specs.declared.block.RowCause.TheVariants as causes
+use Rattle.timeline_file.specs.Saved.{header_text, kind_text, next_text}
+use Rattle.timeline_file.specs.Saved as files
+use Rattle.workbench.specs.declared.outcome.Refusal.{Refusal}
+use Rattle.workbench.specs.declared.outcome.Refusal.TheVariants as refusals
+use Rattle.workbench.specs.Outcome.{cause_text, refusal_text}
+
+-- no byte is below the space
+abbrev pub is_printable : List ℕ → Bool
+is_printable text = list_all (λ byte. nat_le 32 byte) text
+
+pub printable-append : (xs ys : List ℕ) → is_printable xs ≡ true → is_printable ys ≡ true → is_printable (xs ++ ys) ≡ true
+printable-append [] ys first second = second
+printable-append (x ∷ xs) ys first second =
+    let parts = and_parts (nat_le 32 x) (is_printable xs) first in
+    and_from (nat_le 32 x) (is_printable (xs ++ ys)) parts.0 (printable-append xs ys parts.1 second)
+
+-- numbers
+glyph_printable : (d : ℕ) → nat_le 32 (digit_glyph false d) ≡ true
+glyph_printable d = elim (nat_lt d 10) as (λ b. nat_le 32 (cond b (48 + d) (87 + d)) ≡ true) [
+  | true ↦ le-leb 32 (48 + d) (omega arith)
+  | false ↦ le-leb 32 (87 + d) (omega arith)
+]
+
+digits_printable : (k n : ℕ) (acc : List ℕ) → is_printable acc ≡ true → is_printable (digits_onto k 10 false n acc) ≡ true
+digits_printable zero n acc is = is
+digits_printable (suc k) n acc is =
+    let one : is_printable (digit_glyph false (n % 10) ∷ acc) ≡ true = and_from _ _ (glyph_printable (n % 10)) is in
+    elim (n / 10 == 0) as (λ b. is_printable (cond b (digit_glyph false (n % 10) ∷ acc) (digits_onto k 10 false (n / 10) (digit_glyph false (n % 10) ∷ acc))) ≡ true) [
+      | true ↦ one
+      | false ↦ digits_printable k (n / 10) (digit_glyph false (n % 10) ∷ acc) one
+    ]
+
+pub decimal_printable : (n : ℕ) → is_printable (decimal n) ≡ true
+unfolding digits
+decimal_printable n = digits_printable 64 n [] refl
+
+value_printable : (v : ℤ) → is_printable (signed_decimal v) ≡ true
+value_printable (pos n) = decimal_printable n
+value_printable (negsuc n) = decimal_printable (suc n)
+
+-- names
+below_space : (byte : ℕ) → byte < 32 → is_name_byte byte ≡ false
+below_space byte low =
+    rw (lt-leb 65 byte (omega arith), lt-leb 97 byte (omega arith), lt-leb 48 byte (omega arith), ne_eqb byte 95 (λ same. omega arith), ne_eqb byte 45 (λ same. omega arith)) refl
+
+name_byte_printable : (byte : ℕ) → is_name_byte byte ≡ true → nat_le 32 byte ≡ true
+name_byte_printable byte named = elim (nat_le 32 byte) as (λ b. nat_le 32 byte ≡ b → b ≡ true) [
+  | true ↦ λ is. refl
+  | false ↦ λ low. let wrong : false ≡ true = rw (below_space byte (leb-false 32 byte low)) at named in absurd (cc)
+] refl
+
+bytes_printable : (bytes : List ℕ) → list_all is_name_byte bytes ≡ true → is_printable bytes ≡ true
+bytes_printable [] all = refl
+bytes_printable (byte ∷ bytes) all =
+    let parts = and_parts (is_name_byte byte) (list_all is_name_byte bytes) all in
+    and_from (nat_le 32 byte) (is_printable bytes) (name_byte_printable byte parts.0) (bytes_printable bytes parts.1)
+
+pub name_printable : (name : List ℕ) → is_name name ≡ true → is_printable name ≡ true
+unfolding is_name
+name_printable name named =
+    let first = and_parts (starts_with_letter name && nat_le (length name) longest_name && list_all is_name_byte name) (not (is_reserved name)) named in
+    let second = and_parts (starts_with_letter name && nat_le (length name) longest_name) (list_all is_name_byte name) first.0 in
+    bytes_printable name second.1
+
+-- operations
+op_printable : (op : Op) → is_printable (op_text op) ≡ true
+op_printable (Enq v) = value_printable v
+op_printable Deq = refl
+op_printable (Push v) = value_printable v
+op_printable Pop = refl
+op_printable (PushL v) = value_printable v
+op_printable (PushR v) = value_printable v
+op_printable PopL = refl
+op_printable PopR = refl
+op_printable (Put key v) = printable-append (signed_decimal key) (value_text v) (value_printable key) (value_printable v)
+op_printable (Del key) = value_printable key
+op_printable (Ins key) = value_printable key
+op_printable DelMin = refl
+
+-- evidence
+edit_printable : (added : Bool) (place : ℕ) → is_printable (edit_text added place) ≡ true
+edit_printable true place = decimal_printable place
+edit_printable false place = decimal_printable place
+
+bridge_printable : (bridge : Option ℕ) → is_printable (bridge_text bridge) ≡ true
+bridge_printable None = refl
+bridge_printable (Some bridge) = decimal_printable bridge
+
+entry_printable : (entry : Entry) → is_printable (entry_text entry) ≡ true
+entry_printable entry = printable-append (decimal entry.number) (spaced (signed_decimal entry.key)) (decimal_printable entry.number) (value_printable entry.key)
+
+change_printable : (change : Change) → is_printable (change_text change) ≡ true
+change_printable Plain = refl
+change_printable (Gain bridge entry) = printable-append (decimal bridge) (spaced (codes "gain") ++ spaced (entry_text entry)) (decimal_printable bridge) (entry_printable entry)
+change_printable (Lose bridge entry) = printable-append (bridge_text bridge) (spaced (codes "lose") ++ spaced (entry_text entry)) (bridge_printable bridge) (entry_printable entry)
+
+pub spelling_printable : (e : Evidence) → is_name e.name ≡ true → is_printable (spelling e) ≡ true
+unfolding spelling
+spelling_printable e named =
+    printable-append e.name _ (name_printable e.name named)
+    (printable-append (spaced (edit_text e.added e.place)) _ (edit_printable e.added e.place)
+    (printable-append (spaced (row_text e.number e.op)) _
+    (printable-append (decimal e.number) (spaced (op_text e.op)) (decimal_printable e.number) (op_printable e.op))
+    (change_printable e.change)))
+
+-- answers
+pub answer_printable : (answer : Answer) → is_printable (answer_text answer) ≡ true
+answer_printable (Number v) = value_printable v
+answer_printable (Pair key v) = printable-append (signed_decimal key) (codes ":" ++ signed_decimal v) (value_printable key) (value_printable v)
+answer_printable Nothing = refl
+
+item_printable : (item : Item) → is_printable (item_text item) ≡ true
+item_printable (contents.Single v) = value_printable v
+item_printable (contents.Pair key v) = printable-append (signed_decimal key) (codes ":" ++ signed_decimal v) (value_printable key) (value_printable v)
+
+items_printable : (items : List Item) → is_printable (flat_map item_text items) ≡ true
+items_printable [] = refl
+items_printable (item ∷ items) = printable-append (item_text item) (flat_map item_text items) (item_printable item) (items_printable items)
+
+pub listing_printable : (items : List Item) → is_printable (listing_text items) ≡ true
+listing_printable [] = refl
+listing_printable (item ∷ items) = items_printable (item ∷ items)
+
+-- the lines of a saved timeline
+kind_printable : (kind : Kind) → is_printable (kind_text kind) ≡ true
+kind_printable Queue = refl
+kind_printable Stack = refl
+kind_printable Deque = refl
+kind_printable Dict = refl
+kind_printable Pq = refl
+
+pub header_printable : (name : List ℕ) (kind : Kind) (next : ℕ) → is_name name ≡ true → is_printable (header_text name kind next) ≡ true
+header_printable name kind next named =
+    printable-append name (files.spaced (kind_text kind) ++ next_text next) (name_printable name named)
+    (printable-append (files.spaced (kind_text kind)) (next_text next) (kind_printable kind) (decimal_printable next))
+
+pub row_printable : (row : Row) → is_printable (files.row_text row) ≡ true
+row_printable row =
+    printable-append (decimal row.number) _ (decimal_printable row.number)
+    (printable-append (files.spaced (decimal row.time)) (files.spaced (op_text row.op)) (decimal_printable row.time) (op_printable row.op))
+
+-- refusals
+row_cause_printable : (cause : RowCause) → is_printable (cause_text cause) ≡ true
+row_cause_printable causes.Syntax = refl
+row_cause_printable causes.Kind = refl
+row_cause_printable causes.Number = refl
+row_cause_printable causes.Time = refl
+row_cause_printable causes.Replay = refl
+
+-- a refusal names a timeline by a name
+abbrev pub NamesTimeline : Refusal → Type 0
+NamesTimeline (refusals.NoTimeline name) = is_name name ≡ true
+NamesTimeline refusal = Unit {0}
+
+pub refusal_printable : (refusal : Refusal) → NamesTimeline refusal → is_printable (refusal_text refusal) ≡ true
+refusal_printable refusals.Long named = refl
+refusal_printable refusals.Syntax named = refl
+refusal_printable (refusals.NoTimeline name) named = name_printable name named
+refusal_printable refusals.NameTaken named = refl
+refusal_printable refusals.Timelines named = decimal_printable most_timelines
+refusal_printable refusals.Kind named = refl
+refusal_printable (refusals.NoRow number) named = decimal_printable number
+refusal_printable refusals.Full named = refl
+refusal_printable refusals.Numbers named = refl
+refusal_printable refusals.NothingToUndo named = refl
+refusal_printable refusals.NothingToRedo named = refl
+refusal_printable (refusals.RowLine place cause) named =
+    printable-append (codes "refused row " ++ decimal place ++ codes " ") (cause_text cause)
+    (printable-append (codes "refused row " ++ decimal place) (codes " ") (decimal_printable place) refl) (row_cause_printable cause)
+refusal_printable refusals.Unfinished named = refl
+refusal_printable refusals.Next named = refl
+refusal_printable (refusals.At number time) named =
+    printable-append (codes "refused at #" ++ decimal number ++ codes " ") (decimal time)
+    (printable-append (codes "refused at #" ++ decimal number) (codes " ") (decimal_printable number) refl) (decimal_printable time)

@@ -1,0 +1,246 @@
+-- What the judge is told of edits that are made, and what it then knows of each name.
+use Rattle.std.proofs.Common.{◌≡◌, ℕ, ◌+◌, ◌≤◌, Bool, true, false, ◌&&◌, nat_le, cond, List, [], ◌∷◌, length, refl, sym, ap, ◌∙◌, subst, arith, Option, Some, None, Ok}
+use Rattle.std.specs.Prelude.{is_none, is_some, unwrap_or}
+use Rattle.std.specs.List.{list_any}
+use Rattle.std.specs.Str.{bytes_eq}
+use Rattle.std.proofs.lemmas.Bool.{lt-leb}
+use Rattle.std.proofs.lemmas.Slice.Eq.{bytes_eq-Decides}
+use Rattle.retro_base.specs.declared.kind.Kind.TheVariants.{Pq}
+use Rattle.retro_base.specs.declared.row.Row.{Row}
+use Rattle.retro_base.specs.Changes.{change_of}
+use Rattle.retro_base.specs.Edits.{Edit, Step, add, cut, edited}
+use Rattle.retro_base.specs.Limits.{most_timelines}
+use Rattle.retro_base.specs.Name.{is_name}
+use Rattle.evidence.specs.declared.evidence.Evidence.{Evidence}
+use Rattle.evidence.specs.Evidence.{IsEvidence}
+use Rattle.evidence.specs.Laws.{LinesAreShort, PrintedReadsBack}
+use Rattle.evidence.specs.Spelling.{spelling}
+use Rattle.evidence_check.specs.declared.error.CheckError.TheVariants as causes
+use Rattle.evidence_check.specs.Judgement.{Judge, Told, decided, first_cause, is_named, is_one_too_many, rows_of, told_after, with_rows}
+use Rattle.evidence_check.specs.JudgementLaws.{judged-spelling}
+use Rattle.evidence_check.specs.Laws.{EditsAreSpelled, EditsAreTold, evidence_for, timeless}
+use Rattle.evidence_check.specs.Truth.{cause_of, rows_after}
+use Rattle.workbench.specs.Outcome.{evidence_line, evidence_lines}
+use Rattle.workbench.specs.Told.{evidence_of, evidence_of_step}
+use Rattle.retro_cli.proofs.accepted.Made.{Makes, MakesStep, can_be_told}
+use Rattle.retro_cli.proofs.accepted.Printable.{spelling_printable}
+use Rattle.retro_cli.proofs.accepted.ReadLines.{Reads, Takes, reads-append, reads_line, reads_nothing}
+
+pub same_name : (a b : List ℕ) → bytes_eq a b ≡ true → a ≡ b
+same_name a b is = (bytes_eq-Decides a b).0 is
+
+pub itself : (name : List ℕ) → bytes_eq name name ≡ true
+itself name = (bytes_eq-Decides name name).1 refl
+
+-- what is one name is not another one
+pub other_name : (first second name : List ℕ) → bytes_eq first name ≡ true → bytes_eq first second ≡ false → bytes_eq second name ≡ false
+other_name first second name own apart =
+    elim (bytes_eq second name) as (λ b. bytes_eq second name ≡ b → b ≡ false) [
+      | true ↦ λ same. let wrong : true ≡ false = sym own ∙ ap (λ n. bytes_eq first n) (sym (same_name second name same)) ∙ apart in absurd (cc)
+      | false ↦ λ e. refl
+    ] refl
+
+-- one of the names is this one
+abbrev pub is_listed : List ℕ → List (List ℕ) → Bool
+is_listed name names = list_any (λ n. bytes_eq n name) names
+
+-- how many names pass a test
+abbrev pub counted : (List ℕ → Bool) → List (List ℕ) → ℕ
+counted test [] = 0
+counted test (name ∷ names) = cond (test name) 1 0 + counted test names
+
+one_or_none : (a b : Bool) → (a ≡ true → b ≡ true) → cond a 1 0 ≤ cond b 1 0
+one_or_none true b so = rw (so refl) (omega arith)
+one_or_none false true so = omega arith
+one_or_none false false so = omega arith
+
+no_fewer : (test other : List ℕ → Bool) → ((name : List ℕ) → test name ≡ true → other name ≡ true) → (names : List (List ℕ)) → counted test names ≤ counted other names
+no_fewer test other so [] = omega arith
+no_fewer test other so (name ∷ names) = omega (arith, one_or_none (test name) (other name) (so name), no_fewer test other so names)
+
+one_more : (test other : List ℕ → Bool) → ((name : List ℕ) → test name ≡ true → other name ≡ true) → (name : List ℕ) → test name ≡ false → other name ≡ true
+    → (names : List (List ℕ)) → is_listed name names ≡ true → counted test names + 1 ≤ counted other names
+one_more test other so name out in_other [] listed = absurd (cc)
+one_more test other so name out in_other (first ∷ names) listed =
+    elim (bytes_eq first name) as (λ b. bytes_eq first name ≡ b → counted test (first ∷ names) + 1 ≤ counted other (first ∷ names)) [
+      | true ↦ λ is.
+          let same : first ≡ name = same_name first name is in
+          let few = no_fewer test other so names in
+          let first_out : test first ≡ false = ap test same ∙ out in
+          let first_in : other first ≡ true = ap other same ∙ in_other in
+          rw (first_out, first_in) (omega (arith, few))
+      | false ↦ λ apart.
+          let rest : is_listed name names ≡ true = rw apart at listed in
+          omega (arith, one_or_none (test first) (other first) (so first), one_more test other so name out in_other names rest)
+    ] refl
+
+all_counted : (names : List (List ℕ)) → counted (λ name. true) names ≡ length names
+all_counted [] = refl
+all_counted (name ∷ names) = omega (arith, all_counted names)
+
+-- the rows of each name with these in place of those of one
+abbrev pub put : List ℕ → List Row → (List ℕ → List Row) → List ℕ → List Row
+put name rows by other = cond (bytes_eq name other) rows (by other)
+
+-- the judge was told these rows of each name, and of no name that is not listed
+pub record Agrees (names : List (List ℕ)) (by : List ℕ → List Row) (told : List Told) : Type 0 where
+  pub same : (name : List ℕ) → unwrap_or (rows_of name told) [] ≡ timeless (by name)
+  pub few : length told ≤ counted (λ name. is_some (rows_of name told)) names
+
+pub agrees_as : (names : List (List ℕ)) (by other : List ℕ → List Row) (told : List Told) → ((name : List ℕ) → by name ≡ other name) → Agrees names by told → Agrees names other told
+agrees_as names by other told as_other agrees = record { same = λ name. agrees.same name ∙ ap timeless (as_other name); few = agrees.few }
+
+-- Rows under a name.
+is_some_not_none : {X : Type 0} (o : Option X) → is_none o ≡ false → is_some o ≡ true
+is_some_not_none None is = absurd (cc)
+is_some_not_none (Some x) is = refl
+
+found_once : (name other : List ℕ) (rows first : List Row) (others : Option (List Row)) → cond (bytes_eq name other) (Some rows) others ≡ cond (bytes_eq name other) (Some rows) (cond (bytes_eq name other) (Some first) others)
+found_once name other rows first others = elim (bytes_eq name other) as (λ b. cond b (Some rows) others ≡ cond b (Some rows) (cond b (Some first) others)) [ true ↦ refl | false ↦ refl ]
+
+rows_of-with : (name : List ℕ) (rows : List Row) (told : List Told) (other : List ℕ) → rows_of other (with_rows name rows told) ≡ cond (bytes_eq name other) (Some rows) (rows_of other told)
+rows_of-with name rows [] other = refl
+rows_of-with name rows (first ∷ told) other =
+    elim (is_named name first) as (λ b. is_named name first ≡ b → rows_of other (with_rows name rows (first ∷ told)) ≡ cond (bytes_eq name other) (Some rows) (rows_of other (first ∷ told))) [
+      | true ↦ λ is.
+          rw (is, same_name first.name name is) (found_once name other rows first.rows (rows_of other told))
+      | false ↦ λ apart.
+          rw apart
+          (elim (is_named other first) as (λ b. is_named other first ≡ b
+          → cond b (Some first.rows) (rows_of other (with_rows name rows told)) ≡ cond (bytes_eq name other) (Some rows) (cond b (Some first.rows) (rows_of other told))) [
+            | true ↦ λ own. rw (other_name first.name name other own apart) refl
+            | false ↦ λ e. rows_of-with name rows told other
+          ] refl)
+    ] refl
+
+length-with : (name : List ℕ) (rows : List Row) (told : List Told) → length (with_rows name rows told) ≡ length told + cond (is_none (rows_of name told)) 1 0
+length-with name rows [] = refl
+length-with name rows (first ∷ told) =
+    elim (is_named name first) as (λ b. is_named name first ≡ b → length (with_rows name rows (first ∷ told)) ≡ length (first ∷ told) + cond (is_none (rows_of name (first ∷ told))) 1 0) [
+      | true ↦ λ is. rw is (omega arith)
+      | false ↦ λ apart. rw apart (omega (arith, length-with name rows told))
+    ] refl
+
+-- the names that were told are so still
+still_told : (name : List ℕ) (rows : List Row) (told : List Told) (other : List ℕ) → is_some (rows_of other told) ≡ true → is_some (rows_of other (with_rows name rows told)) ≡ true
+still_told name rows told other is =
+    rw (rows_of-with name rows told other)
+    (elim (bytes_eq name other) as (λ b. is_some (cond b (Some rows) (rows_of other told)) ≡ true) [ true ↦ refl | false ↦ is ])
+
+now_told : (name : List ℕ) (rows : List Row) (told : List Told) → is_some (rows_of name (with_rows name rows told)) ≡ true
+now_told name rows told = rw (rows_of-with name rows told name, itself name) refl
+
+few_with : (names : List (List ℕ)) (name : List ℕ) (rows : List Row) (told : List Told) → is_listed name names ≡ true → length told ≤ counted (λ n. is_some (rows_of n told)) names
+    → length (with_rows name rows told) ≤ counted (λ n. is_some (rows_of n (with_rows name rows told))) names
+few_with names name rows told listed few =
+    elim (rows_of name told) as (λ o. rows_of name told ≡ o → length (with_rows name rows told) ≤ counted (λ n. is_some (rows_of n (with_rows name rows told))) names) [
+      | None ↦ λ none.
+          let longer : length (with_rows name rows told) ≡ length told + 1 = length-with name rows told ∙ rw none refl in
+          let out : is_some (rows_of name told) ≡ false = rw none refl in
+          omega (arith, longer, few, one_more (λ n. is_some (rows_of n told)) (λ n. is_some (rows_of n (with_rows name rows told))) (still_told name rows told) name out (now_told name rows told) names listed)
+      | Some old ↦ λ some.
+          let as_long : length (with_rows name rows told) ≡ length told + 0 = length-with name rows told ∙ rw some refl in
+          omega (arith, as_long, few, no_fewer (λ n. is_some (rows_of n told)) (λ n. is_some (rows_of n (with_rows name rows told))) (still_told name rows told) names)
+    ] refl
+
+agrees_with : (names : List (List ℕ)) (by : List ℕ → List Row) (told : List Told) (name : List ℕ) (rows : List Row) → is_listed name names ≡ true → Agrees names by told
+    → Agrees names (put name rows by) (with_rows name (timeless rows) told)
+agrees_with names by told name rows listed agrees = record {
+  same = λ other.
+      rw (rows_of-with name (timeless rows) told other)
+      (elim (bytes_eq name other) as (λ b. unwrap_or (cond b (Some (timeless rows)) (rows_of other told)) [] ≡ timeless (cond b rows (by other))) [
+        | true ↦ refl
+        | false ↦ agrees.same other
+      ]);
+  few = few_with names name (timeless rows) told listed agrees.few;
+}
+
+-- there is room for a name that is listed
+has_room : (names : List (List ℕ)) (by : List ℕ → List Row) (told : List Told) (name : List ℕ) → length names ≤ most_timelines → is_listed name names ≡ true → Agrees names by told
+    → is_one_too_many (rows_of name told) told ≡ false
+has_room names by told name few listed agrees =
+    elim (rows_of name told) as (λ o. rows_of name told ≡ o → (is_none o && nat_le most_timelines (length told)) ≡ false) [
+      | None ↦ λ none.
+          let out : is_some (rows_of name told) ≡ false = rw none refl in
+          let fewer = one_more (λ n. is_some (rows_of n told)) (λ n. true) (λ n is. refl) name out refl names listed in
+          lt-leb most_timelines (length told) (omega (arith, fewer, all_counted names, few, agrees.few))
+      | Some rows ↦ λ some. refl
+    ] refl
+
+-- One edit.
+named_so : (name : List ℕ) (rows : List Row) (edit : Edit) → (evidence_of name rows edit).name ≡ name
+named_so name rows (add place row) = refl
+named_so name rows (cut place row) = refl
+
+same_evidence : (name : List ℕ) (rows : List Row) (edit : Edit) → evidence_for name edit (change_of Pq rows edit) ≡ evidence_of name rows edit
+same_evidence name rows (add place row) = refl
+same_evidence name rows (cut place row) = refl
+
+none_first : (told : List Told) (name : List ℕ) (e : Evidence) (rows : List Row) → e.name ≡ name → is_one_too_many (rows_of name told) told ≡ false
+    → unwrap_or (rows_of name told) [] ≡ rows → cause_of rows e ≡ None → first_cause told e ≡ None
+none_first told name e rows named room same none =
+    ap (λ n. cond (is_one_too_many (rows_of n told) told) (Some causes.Timelines) (cause_of (unwrap_or (rows_of n told) []) e)) named
+    ∙ ap (λ b. cond b (Some causes.Timelines) (cause_of (unwrap_or (rows_of name told) []) e)) room ∙ ap (λ rs. cause_of rs e) same ∙ none
+
+accepted_so : (judge : Judge) (name : List ℕ) (e : Evidence) (rows after : List Row) → e.name ≡ name → is_one_too_many (rows_of name judge.told) judge.told ≡ false
+    → unwrap_or (rows_of name judge.told) [] ≡ timeless rows → cause_of (timeless rows) e ≡ None → rows_after (timeless rows) e ≡ timeless after
+    → decided (first_cause judge.told e) judge e ≡ Ok (record { told = with_rows name (timeless after) judge.told; accepted = judge.accepted + 1 })
+accepted_so judge name e rows after named room same none behind =
+    let no_cause : first_cause judge.told e ≡ None = none_first judge.told name e (timeless rows) named room same none in
+    let told : told_after judge.told e ≡ with_rows name (timeless after) judge.told =
+    ap (λ n. with_rows n (rows_after (unwrap_or (rows_of n judge.told) []) e) judge.told) named
+    ∙ ap (λ rs. with_rows name rs judge.told) (ap (λ rs. rows_after rs e) same ∙ behind) in
+    rw (no_cause, told) refl
+
+-- what the judge is behind a text that tells of a name, and knows then
+pub record HasTold (names : List (List ℕ)) (by : List ℕ → List Row) (name : List ℕ) (after : List Row) (judge : Judge) (text : List ℕ) : Type 0 where
+  pub behind : Judge
+  pub reads : Reads judge text behind
+  pub agrees : Agrees names (put name after by) behind.told
+
+module _ (tells : EditsAreTold) (spells : EditsAreSpelled) (back : PrintedReadsBack) (short : LinesAreShort) where
+  module _ (names : List (List ℕ)) (few : length names ≤ most_timelines) (name : List ℕ) (named : is_name name ≡ true) (listed : is_listed name names ≡ true) where
+    takes_edit : (next : ℕ) (judge : Judge) (by : List ℕ → List Row) (rows after : List Row) (edit : Edit) → Agrees names by judge.told → by name ≡ rows → Makes Pq next rows edit after
+        → Takes judge (spelling (evidence_of name rows edit)) (record { told = with_rows name (timeless after) judge.told; accepted = judge.accepted + 1 })
+    takes_edit next judge by rows after edit agrees own made =
+        let can = can_be_told next rows after edit made in
+        let is : IsEvidence (evidence_of name rows edit) =
+        subst IsEvidence (same_evidence name rows edit) (spells rows edit name can.possible can.accepted can.few named can.rows_range can.row_range) in
+        let truth = tells rows edit name can.possible can.accepted can.room in
+        let none : cause_of (timeless rows) (evidence_of name rows edit) ≡ None =
+        subst (λ e. cause_of (timeless rows) e ≡ None) (same_evidence name rows edit) truth.accepted in
+        let behind : rows_after (timeless rows) (evidence_of name rows edit) ≡ timeless after =
+        subst (λ e. rows_after (timeless rows) e ≡ timeless (edited rows edit)) (same_evidence name rows edit) truth.after ∙ ap timeless made.leads in
+        judged-spelling back short judge (evidence_of name rows edit) is
+        ∙ accepted_so judge name (evidence_of name rows edit) rows after (named_so name rows edit) (has_room names by judge.told name few listed agrees)
+        (agrees.same name ∙ ap timeless own) none behind
+
+    -- and a step
+    pub tells_step : (next : ℕ) (step : Step) (judge : Judge) (by : List ℕ → List Row) (rows after : List Row) → Agrees names by judge.told → by name ≡ rows → MakesStep Pq next rows step after
+        → HasTold names by name after judge (evidence_lines (evidence_of_step name rows step))
+    unfolding evidence_of_step
+    tells_step next [] judge by rows after agrees own made = record {
+      behind = judge;
+      reads = reads_nothing judge;
+      agrees = agrees_as names by (put name after by) judge.told
+          (λ other. elim (bytes_eq name other) as (λ b. bytes_eq name other ≡ b → by other ≡ cond b after (by other)) [
+            | true ↦ λ is. ap by (sym (same_name name other is)) ∙ own ∙ made
+            | false ↦ λ apart. refl
+          ] refl) agrees;
+    }
+    tells_step next (edit ∷ step) judge by rows after agrees own made =
+        let middle : List Row = made.0 in
+        let first : Judge = record { told = with_rows name (timeless middle) judge.told; accepted = judge.accepted + 1 } in
+        let printable = spelling_printable (evidence_of name rows edit) (ap is_name (named_so name rows edit) ∙ named) in
+        let one : Reads judge (evidence_line (evidence_of name rows edit)) first =
+        reads_line judge first (spelling (evidence_of name rows edit)) printable (takes_edit next judge by rows middle edit agrees own made.1) in
+        let rest : HasTold names (put name middle by) name after first (evidence_lines (evidence_of_step name middle step)) =
+        tells_step next step first (put name middle by) middle after (agrees_with names by judge.told name middle listed agrees) (rw (itself name) refl) made.2 in
+        let others : Reads first (evidence_lines (evidence_of_step name (edited rows edit) step)) rest.behind =
+        subst (λ rs. Reads first (evidence_lines (evidence_of_step name rs step)) rest.behind) (sym made.1.leads) rest.reads in
+        record {
+          behind = rest.behind;
+          reads = reads-append judge first rest.behind (evidence_line (evidence_of name rows edit)) (evidence_lines (evidence_of_step name (edited rows edit) step)) one others;
+          agrees = agrees_as names (put name after (put name middle by)) (put name after by) rest.behind.told
+              (λ other. elim (bytes_eq name other) as (λ b. cond b after (cond b middle (by other)) ≡ cond b after (by other)) [ true ↦ refl | false ↦ refl ]) rest.agrees;
+        }
