@@ -4,12 +4,11 @@
 //!     ./labels trees|vector insert front|end|random|before ROWS MORE
 //!     ./labels trees|vector read number|time ROWS MORE
 //!
-//! `insert` puts rows in at random places, and then MORE of one pattern: it prints nanoseconds for each of those. `before`
-//! is always the place of the row put in last. `read` fills a timeline at its end, and then asks at random.
+//! `insert` puts rows in at random places, and then MORE of one pattern; `before` is always the place of the row put in
+//! last. `read` fills a timeline at its end, and then asks at random. It prints nanoseconds of processor time for each.
 
 use std::collections::BTreeMap;
 use std::env;
-use std::time::Instant;
 
 /// An item, and what a range of items amounts to: their greatest number, or the sum of their numbers.
 trait Item: Copy {
@@ -238,6 +237,20 @@ impl Item for Run {
     }
 }
 
+/// The name of a run.
+#[derive(Clone, Copy)]
+struct Name(u32);
+
+impl Item for Name {
+    fn number(&self) -> u64 {
+        0
+    }
+
+    fn join(_: u64, _: u64) -> u64 {
+        0
+    }
+}
+
 const LIMIT: u64 = 1 << 40;
 const LONGEST_RUN: u32 = 32;
 
@@ -249,14 +262,18 @@ trait Timeline {
     fn place_at(&self, time: u64) -> u32;
 }
 
-struct Trees {
-    rows: Link<Row>,
-    runs: Link<Run>,
+/// Runs by their names, in order: a name is kept, and has the label of the moment in a table.
+struct Names {
+    names: Link<Name>,
     labels: Link<u64>,
-    numbers: BTreeMap<u32, u64>,
+    table: Vec<u64>,
 }
 
-impl Trees {
+impl Names {
+    fn len(&self) -> u32 {
+        self.names.size
+    }
+
     /// The label of a new run, and whether the others have changed.
     fn label(&mut self, place: u32) -> (u64, bool) {
         let count = self.labels.size;
@@ -282,10 +299,45 @@ impl Trees {
         (self.labels.get(place), true)
     }
 
-    fn write_run(&mut self, from: u32, count: u32, label: u64) {
+    fn insert(&mut self, place: u32) -> u32 {
+        let name = self.table.len() as u32;
+        self.names.insert(place, alone(Name(name)));
+        self.table.push(0);
+        let (label, relabelled) = self.label(place);
+        if relabelled {
+            for place in 0..self.len() {
+                self.table[self.names.get(place).0 as usize] = self.labels.get(place);
+            }
+        } else {
+            self.table[name as usize] = label;
+        }
+        name
+    }
+
+    fn name_at(&self, place: u32) -> u32 {
+        self.names.get(place).0
+    }
+
+    fn place_of(&self, name: u32) -> Option<u32> {
+        let label = *self.table.get(name as usize)?;
+        let place = self.labels.up_to(label).checked_sub(1)?;
+        let found = self.labels.get(place) == label && self.names.get(place).0 == name;
+        found.then_some(place)
+    }
+}
+
+struct Trees {
+    rows: Link<Row>,
+    runs: Link<Run>,
+    names: Names,
+    numbers: BTreeMap<u32, u32>,
+}
+
+impl Trees {
+    fn write_run(&mut self, from: u32, count: u32, name: u32) {
         for place in from..from + count {
             let number = self.rows.get(place).number;
-            self.numbers.insert(number, label);
+            self.numbers.insert(number, name);
         }
     }
 
@@ -294,18 +346,9 @@ impl Trees {
         let half = count / 2;
         self.runs.insert(run + 1, alone(Run(count - half)));
         self.runs.replace(run, Run(half));
-        let (label, relabelled) = self.label(run + 1);
-        if !relabelled {
-            let from = self.runs.before(run + 1) as u32;
-            self.write_run(from, count - half, label);
-            return;
-        }
-        let mut from = 0;
-        for run in 0..self.runs.size {
-            let count = self.runs.get(run).0;
-            self.write_run(from, count, self.labels.get(run));
-            from += count;
-        }
+        let name = self.names.insert(run + 1);
+        let from = self.runs.before(run + 1) as u32;
+        self.write_run(from, count - half, name);
     }
 }
 
@@ -314,7 +357,11 @@ impl Timeline for Trees {
         Trees {
             rows: Link::EMPTY,
             runs: Link::EMPTY,
-            labels: Link::EMPTY,
+            names: Names {
+                names: Link::EMPTY,
+                labels: Link::EMPTY,
+                table: Vec::new(),
+            },
             numbers: BTreeMap::new(),
         }
     }
@@ -326,13 +373,13 @@ impl Timeline for Trees {
     fn insert(&mut self, place: u32, row: Row) {
         if self.runs.size == 0 {
             self.runs.insert(0, alone(Run(0)));
-            self.label(0);
+            self.names.insert(0);
         }
         let run = match place {
             0 => 0,
             _ => self.runs.up_to(u64::from(place - 1)),
         };
-        self.numbers.insert(row.number, self.labels.get(run));
+        self.numbers.insert(row.number, self.names.name_at(run));
         self.rows.insert(place, alone(row));
         let count = self.runs.get(run).0;
         self.runs.replace(run, Run(count + 1));
@@ -342,8 +389,8 @@ impl Timeline for Trees {
     }
 
     fn place_of(&self, number: u32) -> Option<u32> {
-        let label = *self.numbers.get(&number)?;
-        let run = self.labels.up_to(label).checked_sub(1)?;
+        let name = *self.numbers.get(&number)?;
+        let run = self.names.place_of(name)?;
         let start = self.runs.before(run) as u32;
         (start..self.rows.size).find(|place| self.rows.get(*place).number == number)
     }
@@ -377,6 +424,24 @@ impl Timeline for Vec<Row> {
     }
 }
 
+/// Seconds and nanoseconds, as the C library has them.
+#[repr(C)]
+struct Time {
+    seconds: i64,
+    nanoseconds: i64,
+}
+
+unsafe extern "C" {
+    fn clock_gettime(clock: i32, time: *mut Time) -> i32;
+}
+
+/// Nanoseconds of processor time so far, by the clock of the process, which is 2 on Linux.
+fn ticks() -> u64 {
+    let mut time = Time { seconds: 0, nanoseconds: 0 };
+    unsafe { clock_gettime(2, &mut time) };
+    (time.seconds * 1_000_000_000 + time.nanoseconds) as u64
+}
+
 /// The next draw, and a number below `bound` from it.
 fn draw(x: &mut u64, bound: u32) -> u32 {
     *x = x
@@ -396,7 +461,7 @@ fn insert<T: Timeline>(pattern: &str, rows: u32, more: u32) {
         let place = draw(&mut x, timeline.len() + 1);
         put(&mut timeline, place, number, 0);
     }
-    let start = Instant::now();
+    let start = ticks();
     for number in rows + 1..=rows + more {
         let any = draw(&mut x, timeline.len() + 1);
         let place = match pattern {
@@ -407,7 +472,7 @@ fn insert<T: Timeline>(pattern: &str, rows: u32, more: u32) {
         };
         put(&mut timeline, place, number, 0);
     }
-    println!("{}", start.elapsed().as_nanos() / u128::from(more.max(1)));
+    println!("{}", (ticks() - start) / u64::from(more.max(1)));
 }
 
 fn read<T: Timeline>(what: &str, rows: u32, more: u32) {
@@ -416,7 +481,7 @@ fn read<T: Timeline>(what: &str, rows: u32, more: u32) {
         let place = timeline.len();
         put(&mut timeline, place, number, u64::from(number));
     }
-    let start = Instant::now();
+    let start = ticks();
     for _ in 0..more {
         let any = draw(&mut x, rows + 1);
         seen += u64::from(match what {
@@ -424,10 +489,7 @@ fn read<T: Timeline>(what: &str, rows: u32, more: u32) {
             _ => timeline.place_at(u64::from(any)),
         });
     }
-    println!(
-        "{} (seen {seen})",
-        start.elapsed().as_nanos() / u128::from(more.max(1))
-    );
+    println!("{} (seen {seen})", (ticks() - start) / u64::from(more.max(1)));
 }
 
 fn main() {

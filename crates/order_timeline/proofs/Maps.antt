@@ -1,4 +1,4 @@
--- What the map of labels keeps.
+-- What the map of names keeps.
 use Rattle.std.proofs.Common.{◌≡◌, ℕ, zero, suc, ◌+◌, ◌-◌, ◌<◌, ◌≤◌, cond, Option, Some, None, IsSome, List, [], ◌∷◌, ◌++◌, length, slice_get, get_or, set, take, drop, replicate, ◌==◌, refl, sym, ap, ◌∙◌, subst, arith, inl, inr, eqb-true}
 use Rattle.std.proofs.lemmas.Bool.{cases_Bool}
 use Rattle.std.proofs.lemmas.List.{drop_more, set_at, length-append, length-take-le, length-replicate, append_assoc, append-nil, replicate_more, take-append-drop, length-set}
@@ -8,8 +8,8 @@ use Rattle.std.specs.BTreeMap.{BTreeMap, get}
 use Rattle.std.specs.Ordering.{nat_cmp}
 use Rattle.retro_base.specs.declared.row.Row.{Row}
 use Rattle.retro_base.specs.Timeline.{IsFresh, HaveOwnNumbers}
-use Rattle.order_timeline.specs.Numbers.{IsLabelled, written, Changes, Writes, IsSame}
-use Rattle.order_timeline.proofs.Labelled.{none_of, label_with, label_without, label_set, label_at}
+use Rattle.order_timeline.specs.Numbers.{IsNamed, written, Changes, Writes, IsSame}
+use Rattle.order_timeline.proofs.Named.{none_of, name_with, name_without, name_set, name_at}
 
 -- the last change of a number counts
 pub twice : (first second third : BTreeMap ℕ ℕ) (number : ℕ) (one other : Option ℕ) → Changes first second number one → Changes second third number other → Changes first third number other
@@ -23,36 +23,36 @@ read_within [] place x read = cc
 read_within (y ∷ xs) zero x read = omega arith
 read_within (y ∷ xs) (suc place) x read = omega (arith, read_within xs place x read)
 
--- a row that was put in has its label
-pub labelled_with : (rows : List Row) (labels : List ℕ) (before after : BTreeMap ℕ ℕ) (place : ℕ) (row : Row) (label : ℕ) → slice_get rows place ≡ Some row
-    → IsFresh row.number (remove rows place) → IsLabelled (remove rows place) labels before → Writes before after row.number label → IsLabelled rows (insert labels place label) after
-labelled_with rows labels before after place row label read fresh others writes =
+-- a row that was put in has its name
+pub named_with : (rows : List Row) (names : List ℕ) (before after : BTreeMap ℕ ℕ) (place : ℕ) (row : Row) (name : ℕ) → slice_get rows place ≡ Some row
+    → IsFresh row.number (remove rows place) → IsNamed (remove rows place) names before → Writes before after row.number name → IsNamed rows (insert names place name) after
+named_with rows names before after place row name read fresh others writes =
     let within = read_within rows place row read in
-    let same : length labels + 1 ≡ length rows = omega (arith, others.beside, length-remove rows place within) in
+    let same : length names + 1 ≡ length rows = omega (arith, others.beside, length-remove rows place within) in
     record {
-      beside = omega (arith, length-insert labels place label (omega arith));
-      filed = λ number. writes number ∙ ap (λ rest. cond (row.number == number) (Some label) rest) (others.filed number) ∙ sym (label_with number rows labels place row label read same fresh);
+      beside = omega (arith, length-insert names place name (omega arith));
+      filed = λ number. writes number ∙ ap (λ rest. cond (row.number == number) (Some name) rest) (others.filed number) ∙ sym (name_with number rows names place row name read same fresh);
     }
 
 -- the others keep theirs where it was taken out again
-pub labelled_again : (rows : List Row) (labels : List ℕ) (before after : BTreeMap ℕ ℕ) (number : ℕ) → IsFresh number rows → IsLabelled rows labels before → Changes before after number None → IsLabelled rows labels after
-labelled_again rows labels before after number fresh others changes = record {
+pub named_again : (rows : List Row) (names : List ℕ) (before after : BTreeMap ℕ ℕ) (number : ℕ) → IsFresh number rows → IsNamed rows names before → Changes before after number None → IsNamed rows names after
+named_again rows names before after number fresh others changes = record {
   beside = others.beside;
   filed = λ other. changes other ∙ elim (cases_Bool (number == other)) [
-    | inl is ↦ rw is (sym (none_of other rows labels (subst (λ n. IsFresh n rows) (eqb-true number other is) fresh)))
+    | inl is ↦ rw is (sym (none_of other rows names (subst (λ n. IsFresh n rows) (eqb-true number other is) fresh)))
     | inr unequal ↦ rw unequal (others.filed other)
   ];
 }
 
-pub labelled_same : (rows : List Row) (labels : List ℕ) (before after : BTreeMap ℕ ℕ) → IsLabelled rows labels before → IsSame before after → IsLabelled rows labels after
-labelled_same rows labels before after labelled same = record { beside = labelled.beside; filed = λ number. same number ∙ labelled.filed number }
+pub named_same : (rows : List Row) (names : List ℕ) (before after : BTreeMap ℕ ℕ) → IsNamed rows names before → IsSame before after → IsNamed rows names after
+named_same rows names before after named same = record { beside = named.beside; filed = λ number. same number ∙ named.filed number }
 
 -- a row less
-pub labelled_without : (rows : List Row) (labels : List ℕ) (before after : BTreeMap ℕ ℕ) (place : ℕ) (row : Row) → slice_get rows place ≡ Some row → place < length rows → HaveOwnNumbers rows
-    → IsLabelled rows labels before → Changes before after row.number None → IsLabelled (remove rows place) (remove labels place) after
-labelled_without rows labels before after place row read within own labelled changes = record {
-  beside = omega (arith, length-remove labels place (omega (arith, labelled.beside)), length-remove rows place within, labelled.beside);
-  filed = λ number. changes number ∙ ap (λ rest. cond (row.number == number) None rest) (labelled.filed number) ∙ sym (label_without number rows labels place row read labelled.beside own);
+pub named_without : (rows : List Row) (names : List ℕ) (before after : BTreeMap ℕ ℕ) (place : ℕ) (row : Row) → slice_get rows place ≡ Some row → place < length rows → HaveOwnNumbers rows
+    → IsNamed rows names before → Changes before after row.number None → IsNamed (remove rows place) (remove names place) after
+named_without rows names before after place row read within own named changes = record {
+  beside = omega (arith, length-remove names place (omega (arith, named.beside)), length-remove rows place within, named.beside);
+  filed = λ number. changes number ∙ ap (λ rest. cond (row.number == number) None rest) (named.filed number) ∙ sym (name_without number rows names place row read named.beside own);
 }
 
 read_there : (xs : List ℕ) (place : ℕ) → place < length xs → (x : ℕ) × (slice_get xs place ≡ Some x)
@@ -61,38 +61,38 @@ read_there (x ∷ xs) zero within = (x, refl)
 read_there (x ∷ xs) (suc place) within = read_there xs place (omega arith)
 
 -- a row's number is there
-pub number_there : (place : ℕ) (rows : List Row) (labels : List ℕ) (numbers : BTreeMap ℕ ℕ) (row : Row) → HaveOwnNumbers rows → IsLabelled rows labels numbers → slice_get rows place ≡ Some row → IsSome (get nat_cmp numbers row.number)
-number_there place rows labels numbers row own labelled read =
-    let there = read_there labels place (omega (arith, read_within rows place row read, labelled.beside)) in
-    subst IsSome (sym (labelled.filed row.number ∙ label_at rows labels place row there.0 read there.1 own)) refl
+pub number_there : (place : ℕ) (rows : List Row) (names : List ℕ) (numbers : BTreeMap ℕ ℕ) (row : Row) → HaveOwnNumbers rows → IsNamed rows names numbers → slice_get rows place ≡ Some row → IsSome (get nat_cmp numbers row.number)
+number_there place rows names numbers row own named read =
+    let there = read_there names place (omega (arith, read_within rows place row read, named.beside)) in
+    subst IsSome (sym (named.filed row.number ∙ name_at rows names place row there.0 read there.1 own)) refl
 
-set_written : (labels : List ℕ) (from count label : ℕ) → from + count < length labels → set (written labels from count label) (from + count) label ≡ written labels from (count + 1) label
-set_written labels from count label within =
-    let front = take from labels ++ replicate count label in
-    let rest = drop (from + (count + 1)) labels in
-    ap (λ xs. set (front ++ xs) (from + count) label) (drop_more labels (from + count) 0 within ∙ ap (λ n. get_or labels (from + count) 0 ∷ drop n labels) (let same : from + count + 1 ≡ from + (count + 1) = omega arith in same))
-    ∙ set_at front (get_or labels (from + count) 0) rest label (from + count) (omega (arith, length-append (take from labels) (replicate count label), length-take-le from labels (omega arith), length-replicate count label))
-    ∙ sym (append_assoc front (label ∷ []) rest)
-    ∙ ap (λ xs. xs ++ rest) (append_assoc (take from labels) (replicate count label) (label ∷ []) ∙ ap (λ xs. take from labels ++ xs) (replicate_more count label))
+set_written : (names : List ℕ) (from count name : ℕ) → from + count < length names → set (written names from count name) (from + count) name ≡ written names from (count + 1) name
+set_written names from count name within =
+    let front = take from names ++ replicate count name in
+    let rest = drop (from + (count + 1)) names in
+    ap (λ xs. set (front ++ xs) (from + count) name) (drop_more names (from + count) 0 within ∙ ap (λ n. get_or names (from + count) 0 ∷ drop n names) (let same : from + count + 1 ≡ from + (count + 1) = omega arith in same))
+    ∙ set_at front (get_or names (from + count) 0) rest name (from + count) (omega (arith, length-append (take from names) (replicate count name), length-take-le from names (omega arith), length-replicate count name))
+    ∙ sym (append_assoc front (name ∷ []) rest)
+    ∙ ap (λ xs. xs ++ rest) (append_assoc (take from names) (replicate count name) (name ∷ []) ∙ ap (λ xs. take from names ++ xs) (replicate_more count name))
 
--- one row more has the label
-pub written_more : (rows : List Row) (labels : List ℕ) (before after : BTreeMap ℕ ℕ) (from place label : ℕ) (row : Row) → HaveOwnNumbers rows → from ≤ place → slice_get rows place ≡ Some row
-    → IsLabelled rows (written labels from (place - from) label) before → length labels ≡ length rows → Writes before after row.number label → IsLabelled rows (written labels from (place + 1 - from) label) after
-written_more rows labels before after from place label row own order read labelled long writes =
+-- one row more has the name
+pub written_more : (rows : List Row) (names : List ℕ) (before after : BTreeMap ℕ ℕ) (from place name : ℕ) (row : Row) → HaveOwnNumbers rows → from ≤ place → slice_get rows place ≡ Some row
+    → IsNamed rows (written names from (place - from) name) before → length names ≡ length rows → Writes before after row.number name → IsNamed rows (written names from (place + 1 - from) name) after
+written_more rows names before after from place name row own order read named long writes =
     let count = place - from in
-    let within : from + count < length labels = omega (arith, read_within rows place row read) in
-    let partly = written labels from count label in
-    let same : set partly place label ≡ written labels from (place + 1 - from) label =
-    ap (λ n. set partly n label) (let here : place ≡ from + count = omega arith in here) ∙ set_written labels from count label within
-    ∙ ap (λ n. written labels from n label) (let more : count + 1 ≡ place + 1 - from = omega arith in more) in
-    subst (λ xs. IsLabelled rows xs after) same (record {
-      beside = omega (arith, length-set partly place label, labelled.beside);
-      filed = λ number. writes number ∙ ap (λ rest. cond (row.number == number) (Some label) rest) (labelled.filed number) ∙ sym (label_set number rows partly place row label read labelled.beside own);
+    let within : from + count < length names = omega (arith, read_within rows place row read) in
+    let partly = written names from count name in
+    let same : set partly place name ≡ written names from (place + 1 - from) name =
+    ap (λ n. set partly n name) (let here : place ≡ from + count = omega arith in here) ∙ set_written names from count name within
+    ∙ ap (λ n. written names from n name) (let more : count + 1 ≡ place + 1 - from = omega arith in more) in
+    subst (λ xs. IsNamed rows xs after) same (record {
+      beside = omega (arith, length-set partly place name, named.beside);
+      filed = λ number. writes number ∙ ap (λ rest. cond (row.number == number) (Some name) rest) (named.filed number) ∙ sym (name_set number rows partly place row name read named.beside own);
     })
 
-pub written_none : (labels : List ℕ) (from label : ℕ) → written labels from (from - from) label ≡ labels
-written_none labels from label =
-    ap (λ n. written labels from n label) (let none : from - from ≡ 0 = omega arith in none)
-    ∙ ap (λ xs. xs ++ drop (from + 0) labels) (append-nil (take from labels))
-    ∙ ap (λ n. take from labels ++ drop n labels) (let same : from + 0 ≡ from = omega arith in same)
-    ∙ take-append-drop from labels
+pub written_none : (names : List ℕ) (from name : ℕ) → written names from (from - from) name ≡ names
+written_none names from name =
+    ap (λ n. written names from n name) (let none : from - from ≡ 0 = omega arith in none)
+    ∙ ap (λ xs. xs ++ drop (from + 0) names) (append-nil (take from names))
+    ∙ ap (λ n. take from names ++ drop n names) (let same : from + 0 ≡ from = omega arith in same)
+    ∙ take-append-drop from names

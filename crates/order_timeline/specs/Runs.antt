@@ -1,9 +1,9 @@
--- Rows in runs of neighbours, each with a label.
+-- Rows in runs of neighbours, each with a name.
 use Rattle.std.specs.Prelude.{◌≡◌, ℕ, ◌+◌, ◌<◌, ◌≤◌, List, [], ◌∷◌, ◌++◌, length, take, replicate, slice_index, ◌==◌}
 use Rattle.std.specs.List.{position_or_len}
 use Rattle.std.specs.BTreeMap.{BTreeMap}
 use Rattle.retro_base.specs.declared.row.Row.{Row}
-use Rattle.order_timeline.specs.Numbers.{IsLabelled}
+use Rattle.order_timeline.specs.Numbers.{IsNamed}
 use Rattle.order_timeline.specs.Rows.{IsOrdered}
 
 -- how many rows runs of these lengths have
@@ -27,21 +27,21 @@ pub record TakesRow (runs : List ℕ) (index place : ℕ) : Type 0 where
   pub begun : start_of runs index ≤ place
   pub lasts : place ≤ start_of runs index + slice_index runs index
 
--- the label beside each row: that of its run
+-- the name beside each row: that of its run
 abbrev pub beside : List ℕ → List ℕ → List ℕ
-beside [] labels = []
+beside [] names = []
 beside (run ∷ runs) [] = []
-beside (run ∷ runs) (label ∷ labels) = replicate run label ++ beside runs labels
+beside (run ∷ runs) (name ∷ names) = replicate run name ++ beside runs names
 
--- each run has a label, and the map has the label of each row's run at the row's number
-pub record IsInRuns (rows : List Row) (runs labels : List ℕ) (numbers : BTreeMap ℕ ℕ) : Type 0 where
-  pub each : length labels ≡ length runs
-  pub labelled : IsLabelled rows (beside runs labels) numbers
+-- each run has a name, and the map has the name of each row's run at the row's number
+pub record IsInRuns (rows : List Row) (runs names : List ℕ) (numbers : BTreeMap ℕ ℕ) : Type 0 where
+  pub each : length names ≡ length runs
+  pub named : IsNamed rows (beside runs names) numbers
 
 -- what a timeline keeps: rows in order, in runs
-pub record IsKept (rows : List Row) (runs labels : List ℕ) (numbers : BTreeMap ℕ ℕ) : Type 0 where
+pub record IsKept (rows : List Row) (runs names : List ℕ) (numbers : BTreeMap ℕ ℕ) : Type 0 where
   pub ordered : IsOrdered rows
-  pub in_runs : IsInRuns rows runs labels numbers
+  pub in_runs : IsInRuns rows runs names numbers
 
 -- no row before the place has the number
 abbrev pub IsNotBefore : List Row → ℕ → ℕ → Type 0

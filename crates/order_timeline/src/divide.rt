@@ -3,11 +3,11 @@ ghost use Rattle.order_timeline.specs.Runs.{IsInRuns};
 ghost use Rattle.retro_base.specs.Limits.{most_rows};
 ghost use Rattle.retro_base.specs.Timeline.{HaveOwnNumbers};
 
-use crate::numbers::{Numbers, write_all, write_run};
+use crate::names::Names;
+use crate::numbers::{Numbers, write_run};
 use crate::run::Run;
 use crate::runs::start_of;
 use crate::timed_row::TimedRow;
-use order_labels::Labels;
 use retro_base::{MAX_ROWS, NoMemory, Steps};
 use std::sync::ledger::Ledger;
 use weighted_tree::Tree;
@@ -19,18 +19,18 @@ pub(crate) const LONGEST_RUN: u32 = 32;
 pub(crate) fn divide<L: Ledger>(
     rows: &Tree<TimedRow>,
     runs: &mut Tree<Run>,
-    labels: &mut Labels,
+    names: &mut Names,
     numbers: &mut Numbers,
     run: u32,
     steps: &mut Steps<L>,
 )
-    requires in_runs { IsInRuns rows.now runs.old labels.old numbers.old }
+    requires in_runs { IsInRuns rows.now runs.old names.old numbers.old }
     requires there { run < length runs.old }
     requires few { length rows.now ≤ most_rows }
     requires own { HaveOwnNumbers rows.now }
-    ensures { IsInRuns rows.now runs.new labels.new numbers.new }
+    ensures { IsInRuns rows.now runs.new names.new numbers.new }
 {
-    if labels.len() >= MAX_ROWS {
+    if names.len() >= MAX_ROWS {
         return;
     }
     let count = runs.get(run, steps).rows();
@@ -38,15 +38,11 @@ pub(crate) fn divide<L: Ledger>(
     if runs.insert(run + 1, Run::new(count - half), steps).is_err() {
         return;
     }
-    match labels.insert(run + 1) {
-        Ok(fresh) => {
+    match names.insert(run + 1, steps) {
+        Ok(name) => {
             runs.replace(run, Run::new(half), steps);
-            if fresh.relabelled {
-                write_all(numbers, rows, runs, labels, steps);
-            } else {
-                let from = start_of(runs, run + 1, steps);
-                write_run(numbers, rows, from, count - half, fresh.label, steps);
-            }
+            let from = start_of(runs, run + 1, steps);
+            write_run(numbers, rows, from, count - half, name, steps);
         }
         Err(NoMemory) => {
             runs.remove(run + 1, steps);

@@ -4,11 +4,11 @@ ghost use Rattle.order_timeline.specs.Runs.{IsKept, beside};
 ghost use Rattle.order_timeline.specs.Rows.{MayCome};
 
 use crate::divide::{LONGEST_RUN, divide};
+use crate::names::Names;
 use crate::numbers::{Numbers, add, forget};
 use crate::run::Run;
 use crate::runs::{run_for, run_of};
 use crate::timed_row::TimedRow;
-use order_labels::Labels;
 use retro_base::{NoMemory, Row, Steps};
 use std::sync::ledger::{Blank, Ledger};
 use weighted_tree::Tree;
@@ -17,7 +17,7 @@ use weighted_tree::Tree;
 pub(crate) fn put_in<L: Ledger>(
     rows: &mut Tree<TimedRow>,
     runs: &mut Tree<Run>,
-    labels: &mut Labels,
+    names: &mut Names,
     numbers: &mut Numbers,
     place: u32,
     row: Row,
@@ -26,16 +26,17 @@ pub(crate) fn put_in<L: Ledger>(
     requires name { blank.name ≡ L.name }
     requires parts { blank.parts ≡ L.parts }
     requires shared { 0 < blank.parts }
-    requires kept { IsKept rows.old runs.old labels.old numbers.old }
+    requires kept { IsKept rows.old runs.old names.old numbers.old }
     requires comes { MayCome rows.old place row }
-    ensures kept { IsKept rows.new runs.new labels.new numbers.new }
+    ensures kept { IsKept rows.new runs.new names.new numbers.new }
     ensures ok { OnOk result (rows.new ≡ insert rows.old place row) }
     ensures err { OnErr result (rows.new ≡ rows.old) }
 {
     let mut steps = Steps::<L>::new(blank);
-    first_run(runs, labels, &mut steps)?;
+    first_run(runs, names, &mut steps)?;
     let run = run_for(runs, place, &mut steps);
-    add(numbers, row.number, labels.label_at(run))?;
+    let name = names.name_at(run, &mut steps);
+    add(numbers, row.number, name)?;
     if rows.insert(place, TimedRow::new(row), &mut steps).is_err() {
         forget(numbers, row.number);
         return Err(NoMemory);
@@ -45,24 +46,24 @@ pub(crate) fn put_in<L: Ledger>(
     if count < LONGEST_RUN {
         return Ok(());
     }
-    divide(rows, runs, labels, numbers, run, &mut steps);
+    divide(rows, runs, names, numbers, run, &mut steps);
     Ok(())
 }
 
 /// Makes a run where there is none.
 fn first_run<L: Ledger>(
     runs: &mut Tree<Run>,
-    labels: &mut Labels,
+    names: &mut Names,
     steps: &mut Steps<L>,
 ) -> Result<(), NoMemory>
-    requires { length labels.old ≡ length runs.old }
-    ensures each { length labels.new ≡ length runs.new }
+    requires { length names.old ≡ length runs.old }
+    ensures each { length names.new ≡ length runs.new }
     ensures some { OnOk result (0 < length runs.new) }
-    ensures same { beside runs.new labels.new ≡ beside runs.old labels.old }
+    ensures same { beside runs.new names.new ≡ beside runs.old names.old }
 {
     if runs.len() == 0 {
         runs.insert(0, Run::new(0), steps)?;
-        if labels.insert(0).is_err() {
+        if names.insert(0, steps).is_err() {
             runs.remove(0, steps);
             return Err(NoMemory);
         }
@@ -74,7 +75,7 @@ fn first_run<L: Ledger>(
 pub(crate) fn take_out<L: Ledger>(
     rows: &mut Tree<TimedRow>,
     runs: &mut Tree<Run>,
-    labels: &mut Labels,
+    names: &mut Names,
     numbers: &mut Numbers,
     place: u32,
     blank: Blank,
@@ -82,9 +83,9 @@ pub(crate) fn take_out<L: Ledger>(
     requires name { blank.name ≡ L.name }
     requires parts { blank.parts ≡ L.parts }
     requires shared { 0 < blank.parts }
-    requires kept { IsKept rows.old runs.old labels.old numbers.old }
+    requires kept { IsKept rows.old runs.old names.old numbers.old }
     requires within { place < length rows.old }
-    ensures kept { IsKept rows.new runs.new labels.new numbers.new }
+    ensures kept { IsKept rows.new runs.new names.new numbers.new }
     ensures row { slice_get rows.old place ≡ Some result }
     ensures rows { rows.new ≡ remove rows.old place }
 {
@@ -95,7 +96,7 @@ pub(crate) fn take_out<L: Ledger>(
     let count = runs.get(run, &mut steps).rows();
     if count == 1 {
         runs.remove(run, &mut steps);
-        labels.remove(run);
+        names.remove(run, &mut steps);
         return row;
     }
     runs.replace(run, Run::new(count - 1), &mut steps);

@@ -3,11 +3,12 @@ ghost use Rattle.order_timeline.specs.Runs.{IsKept, IsNotBefore};
 ghost use Rattle.retro_base.specs.Places.{place_of_row, place_of_time};
 ghost use Rattle.retro_base.specs.Timeline.{TimesNeverFall};
 
+use crate::names::Names;
 use crate::numbers::Numbers;
 use crate::run::Run;
 use crate::runs::start_of;
 use crate::timed_row::TimedRow;
-use order_labels::{Labels, count_up_to};
+use order_labels::count_up_to;
 use retro_base::{Row, Steps};
 use std::sync::ledger::{Blank, Ledger};
 use weighted_tree::Tree;
@@ -41,7 +42,7 @@ pub(crate) fn rows_up_to<L: Ledger>(rows: &Tree<TimedRow>, time: u64, blank: Bla
 pub(crate) fn place_of<L: Ledger>(
     rows: &Tree<TimedRow>,
     runs: &Tree<Run>,
-    labels: &Labels,
+    names: &Names,
     numbers: &Numbers,
     number: u32,
     blank: Blank,
@@ -49,12 +50,12 @@ pub(crate) fn place_of<L: Ledger>(
     requires name { blank.name ≡ L.name }
     requires parts { blank.parts ≡ L.parts }
     requires shared { 0 < blank.parts }
-    requires kept { IsKept rows.now runs.now labels.now numbers.now }
+    requires kept { IsKept rows.now runs.now names.now numbers.now }
     ensures { result ≡ place_of_row number rows.now }
 {
     let mut steps = Steps::<L>::new(blank);
-    let label = *numbers.get(&number)?;
-    let run = labels.place_of_label(label)?;
+    let name = *numbers.get(&number)?;
+    let run = names.place_of(name, &mut steps)?;
     let start = start_of(runs, run, &mut steps);
     place_from(rows, start, number, &mut steps)
 }

@@ -6,28 +6,33 @@
 //! rows do is no matter here: they are performed by a structure of the kind.
 //!
 //! The rows stand in a balanced tree, where a place is found by counting and a time by the greatest time of a range. To
-//! find a number they are divided into runs of at most 32 neighbours, each with an order label: a map has the label of
-//! each number, the label gives the place of the run, and the row is looked for among those of the run. So a label is
-//! wanted only where a run is divided, and the relabelling of all rows, which a list of labels asks for now and then, is
-//! as rare as it is dear: at least 23 runs are divided between two, and each has had 16 insertions since it began.
+//! find a number they are divided into runs of at most 32 neighbours. A map has the name of each number's run, which the run
+//! keeps; a table has the label of each name, which may change; the label gives the place of the run, and the row is looked
+//! for among those of the run. So a label is wanted only where a run is divided, and a relabelling, which a list of labels
+//! asks for now and then, writes one label for each run: at least 23 runs are divided between two, and each has had 16
+//! insertions since it began.
 //!
 //! | Call | Cost, with n rows |
 //! |---|---|
 //! | `len` | constant |
 //! | `row_at`, `place_at`, `place_of`, `remove` | log n |
-//! | `insert` | log n, and n log n where all rows are relabelled |
+//! | `insert` | log n, and as much for each run where the runs are relabelled |
 //!
 //! - `timeline`: the type and its calls. `edit`: a row comes or goes. `find`: rows, times and numbers.
 //! - `runs`: which run has a place, and where a run begins. `divide`: a run that has grown too long.
-//! - `numbers`: the map of labels. `timed_row`, `run`, `total`: what the trees hold, and what runs add up to.
+//! - `names`: the names of the runs, found by labels. `table`: the label of each name. `numbers`: the name of each number's run.
+//! - `timed_row`, `run`, `name`, `total`: what the trees hold, and what runs add up to.
 #![tactic(auto)]
 
 mod divide;
 mod edit;
 mod find;
+mod name;
+mod names;
 mod numbers;
 mod run;
 mod runs;
+mod table;
 mod timed_row;
 mod timeline;
 mod total;

@@ -8,10 +8,10 @@ ghost use Rattle.order_timeline.specs.Rows.{IsOrdered};
 
 use crate::edit::{put_in, take_out};
 use crate::find::{place_of, read, rows_up_to};
+use crate::names::Names;
 use crate::numbers::Numbers;
 use crate::run::Run;
 use crate::timed_row::TimedRow;
-use order_labels::Labels;
 use retro_base::{NoMemory, Row};
 use std::alloc::Global;
 use std::collections::BTreeMap;
@@ -24,7 +24,7 @@ use weighted_tree::Tree;
 pub struct Timeline {
     rows: Tree<TimedRow>,
     runs: Tree<Run>,
-    labels: Labels,
+    names: Names,
     numbers: Numbers,
 }
 
@@ -37,7 +37,7 @@ impl Model for Timeline {
 
     ghost view = { λ timeline. timeline.rows };
 
-    ghost invariant = { λ timeline. IsKept timeline.rows timeline.runs timeline.labels timeline.numbers };
+    ghost invariant = { λ timeline. IsKept timeline.rows timeline.runs timeline.names timeline.numbers };
 }
 
 impl Timeline {
@@ -48,7 +48,7 @@ impl Timeline {
         Timeline {
             rows: Tree::new(alloc),
             runs: Tree::new(alloc),
-            labels: Labels::new(alloc),
+            names: Names::new(alloc),
             numbers: BTreeMap::new(alloc),
         }
     }
@@ -87,7 +87,7 @@ impl Timeline {
         place_of::<Brand>(
             &self.rows,
             &self.runs,
-            &self.labels,
+            &self.names,
             &self.numbers,
             number,
             Blank::new(1),
@@ -106,7 +106,7 @@ impl Timeline {
         put_in::<Brand>(
             &mut self.rows,
             &mut self.runs,
-            &mut self.labels,
+            &mut self.names,
             &mut self.numbers,
             place,
             row,
@@ -123,7 +123,7 @@ impl Timeline {
         take_out::<Brand>(
             &mut self.rows,
             &mut self.runs,
-            &mut self.labels,
+            &mut self.names,
             &mut self.numbers,
             place,
             Blank::new(1),

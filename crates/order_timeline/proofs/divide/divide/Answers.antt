@@ -1,7 +1,7 @@
 use Rattle.std.proofs.Common.{◌≡◌, ◌+◌, ◌/◌, Some, slice_set, sym, ap, ◌∙◌, subst, arith}
 use Rattle.std.specs.List.{insert, remove}
 use Rattle.order_timeline.specs.Runs.{IsInRuns}
-use Rattle.order_timeline.proofs.InRuns.{all_rows, ok_from, divided, rows_of_divided, start_of_divided, each_divided, in_runs_behind}
+use Rattle.order_timeline.proofs.InRuns.{all_rows, ok_from, divided, rows_of_divided, start_of_divided, in_runs_behind}
 use Rattle.order_timeline.proofs.Rows.{taken_back}
 use Rattle.order_timeline.proofs.Totals.{run_within}
 use Rattle.order_timeline.proofs.divide.divide.Goals as goal
@@ -12,22 +12,7 @@ returns-in-Err g c =
     let back : c.remove.new.self ≡ c.args.runs.now =
     c.remove.ensures.items ∙ ap (λ runs. remove runs (c.args.run + 1)) put ∙ taken_back c.args.runs.now (c.args.run + 1) c.new.result (omega (arith, c.requires.there)) in
     subst (λ runs. IsInRuns c.args.rows.now runs c.insert-2.new.self c.args.numbers.now) (sym back)
-    (subst (λ labels. IsInRuns c.args.rows.now c.args.runs.now labels c.args.numbers.now) (sym c.in-Err.ensures.err) c.requires.in_runs)
-
-pub write_all-requires-clause-each : goal.write_all-requires-clause-each
-write_all-requires-clause-each g c =
-    let put = ok_from c.insert.result c.is_err.result _ c.is_err.ensures.value c.if-is_err.false c.insert.ensures.ok in
-    let more : c.replace.new.self ≡ divided c.args.runs.now c.args.run c.rows-count.result (c.rows-count.result / 2) =
-    c.replace.ensures.items ∙ ap (λ item. slice_set c.insert.new.self c.args.run item) c.new-in-Ok.ensures ∙ ap (λ runs. slice_set runs c.args.run (c.rows-count.result / 2)) (put ∙ ap (insert c.args.runs.now (c.args.run + 1)) c.new.ensures) in
-    each_divided c.args.runs.now c.replace.new.self c.args.labels.now c.insert-2.new.self c.args.run c.rows-count.result (c.rows-count.result / 2) c.requires.there c.requires.in_runs.each more c.in-Ok.ensures.length
-
-pub write_all-requires-clause-all : goal.write_all-requires-clause-all
-write_all-requires-clause-all g c =
-    let put = ok_from c.insert.result c.is_err.result _ c.is_err.ensures.value c.if-is_err.false c.insert.ensures.ok in
-    let more : c.replace.new.self ≡ divided c.args.runs.now c.args.run c.rows-count.result (c.rows-count.result / 2) =
-    c.replace.ensures.items ∙ ap (λ item. slice_set c.insert.new.self c.args.run item) c.new-in-Ok.ensures ∙ ap (λ runs. slice_set runs c.args.run (c.rows-count.result / 2)) (put ∙ ap (insert c.args.runs.now (c.args.run + 1)) c.new.ensures) in
-    rows_of_divided c.args.runs.now c.replace.new.self c.args.run c.rows-count.result (c.rows-count.result / 2) (c.get.ensures.item ∙ ap Some (sym c.rows-count.ensures)) (omega arith) more
-    ∙ all_rows c.args.rows.now c.args.runs.now c.args.labels.now c.args.numbers.now c.requires.in_runs
+    (subst (λ names. IsInRuns c.args.rows.now c.args.runs.now names c.args.numbers.now) (sym c.in-Err.ensures.err) c.requires.in_runs)
 
 pub start_of-from-requires-clause-few : goal.start_of-from-requires-clause-few
 start_of-from-requires-clause-few g c =
@@ -35,7 +20,7 @@ start_of-from-requires-clause-few g c =
     let more : c.replace.new.self ≡ divided c.args.runs.now c.args.run c.rows-count.result (c.rows-count.result / 2) =
     c.replace.ensures.items ∙ ap (λ item. slice_set c.insert.new.self c.args.run item) c.new-in-Ok.ensures ∙ ap (λ runs. slice_set runs c.args.run (c.rows-count.result / 2)) (put ∙ ap (insert c.args.runs.now (c.args.run + 1)) c.new.ensures) in
     let all = rows_of_divided c.args.runs.now c.replace.new.self c.args.run c.rows-count.result (c.rows-count.result / 2) (c.get.ensures.item ∙ ap Some (sym c.rows-count.ensures)) (omega arith) more
-    ∙ all_rows c.args.rows.now c.args.runs.now c.args.labels.now c.args.numbers.now c.requires.in_runs in
+    ∙ all_rows c.args.rows.now c.args.runs.now c.args.names.now c.args.numbers.now c.requires.in_runs in
     omega (arith, all, c.requires.few)
 
 pub write_run-requires-clause-within : goal.write_run-requires-clause-within
@@ -49,15 +34,15 @@ write_run-requires-clause-within g c =
       c.start_of-from.ensures,
       start_of_divided c.args.runs.now c.replace.new.self c.args.run c.rows-count.result (c.rows-count.result / 2) long more,
       run_within c.args.runs.now c.args.run c.rows-count.result long,
-      all_rows c.args.rows.now c.args.runs.now c.args.labels.now c.args.numbers.now c.requires.in_runs,
+      all_rows c.args.rows.now c.args.runs.now c.args.names.now c.args.numbers.now c.requires.in_runs,
     )
 
-pub returns-else-fresh : goal.returns-else-fresh
-returns-else-fresh g c =
+pub returns-in-Ok : goal.returns-in-Ok
+returns-in-Ok g c =
     let put = ok_from c.insert.result c.is_err.result _ c.is_err.ensures.value c.if-is_err.false c.insert.ensures.ok in
     let more : c.replace.new.self ≡ divided c.args.runs.now c.args.run c.rows-count.result (c.rows-count.result / 2) =
     c.replace.ensures.items ∙ ap (λ item. slice_set c.insert.new.self c.args.run item) c.new-in-Ok.ensures ∙ ap (λ runs. slice_set runs c.args.run (c.rows-count.result / 2)) (put ∙ ap (insert c.args.runs.now (c.args.run + 1)) c.new.ensures) in
     let long = c.get.ensures.item ∙ ap Some (sym c.rows-count.ensures) in
-    in_runs_behind c.args.rows.now c.args.runs.now c.replace.new.self c.args.labels.now c.insert-2.new.self c.args.numbers.now c.write_run.new.numbers c.args.run c.rows-count.result (c.rows-count.result / 2) c.in-Ok.fresh.label c.start_of-from.result
-    c.requires.in_runs c.requires.there long (omega arith) more (c.in-Ok.ensures.others c.if-fresh.false)
+    in_runs_behind c.args.rows.now c.args.runs.now c.replace.new.self c.args.names.now c.insert-2.new.self c.args.numbers.now c.write_run.new.numbers c.args.run c.rows-count.result (c.rows-count.result / 2) c.in-Ok.name c.start_of-from.result
+    c.requires.in_runs c.requires.there long (omega arith) more c.in-Ok.ensures.ok
     (c.start_of-from.ensures ∙ start_of_divided c.args.runs.now c.replace.new.self c.args.run c.rows-count.result (c.rows-count.result / 2) long more) c.write_run.ensures

@@ -7,33 +7,33 @@ use Rattle.order_timeline.proofs.edit.put_in.Goals as goal
 
 pub run_for-run-requires-clause-within : goal.run_for-run-requires-clause-within
 run_for-run-requires-clause-within g c =
-    let begun = in_runs_same c.args.rows.now c.args.runs.now c.args.labels.now c.first_run.new.runs c.first_run.new.labels c.args.numbers.now c.requires.kept.in_runs c.first_run.ensures.each c.first_run.ensures.same in
-    omega (arith, all_rows c.args.rows.now c.first_run.new.runs c.first_run.new.labels c.args.numbers.now begun, c.requires.comes.within)
+    let begun = in_runs_same c.args.rows.now c.args.runs.now c.args.names.now c.first_run.new.runs c.first_run.new.names c.args.numbers.now c.requires.kept.in_runs c.first_run.ensures.each c.first_run.ensures.same in
+    omega (arith, all_rows c.args.rows.now c.first_run.new.runs c.first_run.new.names c.args.numbers.now begun, c.requires.comes.within)
 
 pub overflow_add-count : goal.overflow_add-count
 overflow_add-count g c =
-    let begun = in_runs_same c.args.rows.now c.args.runs.now c.args.labels.now c.first_run.new.runs c.first_run.new.labels c.args.numbers.now c.requires.kept.in_runs c.first_run.ensures.each c.first_run.ensures.same in
+    let begun = in_runs_same c.args.rows.now c.args.runs.now c.args.names.now c.first_run.new.runs c.first_run.new.names c.args.numbers.now c.requires.kept.in_runs c.first_run.ensures.each c.first_run.ensures.same in
     let long = c.get.ensures.item ∙ ap Some (sym c.rows-count.ensures) in
-    omega (arith, run_within c.first_run.new.runs c.run_for-run.result c.rows-count.result long, all_rows c.args.rows.now c.first_run.new.runs c.first_run.new.labels c.args.numbers.now begun, c.requires.comes.room)
+    omega (arith, run_within c.first_run.new.runs c.run_for-run.result c.rows-count.result long, all_rows c.args.rows.now c.first_run.new.runs c.first_run.new.names c.args.numbers.now begun, c.requires.comes.room)
 
 pub returns-then-is_err-clause-kept : goal.returns-then-is_err-clause-kept
 returns-then-is_err-clause-kept g c =
-    kept_again c.args.rows.now c.insert.new.self c.args.runs.now c.args.labels.now c.first_run.new.runs c.first_run.new.labels c.args.numbers.now c.forget.new.numbers c.args.row.number c.requires.kept c.requires.comes.fresh
+    kept_again c.args.rows.now c.insert.new.self c.args.runs.now c.args.names.now c.first_run.new.runs c.first_run.new.names c.args.numbers.now c.forget.new.numbers c.args.row.number c.requires.kept c.requires.comes.fresh
     c.first_run.ensures.each c.first_run.ensures.same (err_from c.insert.result c.is_err.result _ c.is_err.ensures.value c.if-is_err.true c.insert.ensures.err)
-    (twice c.args.numbers.now c.add.new.numbers c.forget.new.numbers c.args.row.number (Some c.label_at.result) None c.in_ok-add.ensures.ok c.forget.ensures)
+    (twice c.args.numbers.now c.add.new.numbers c.forget.new.numbers c.args.row.number (Some c.name_at-name.result) None c.in_ok-add.ensures.ok c.forget.ensures)
 
 pub returns-then-count-lt-LONGEST_RUN-clause-kept : goal.returns-then-count-lt-LONGEST_RUN-clause-kept
 returns-then-count-lt-LONGEST_RUN-clause-kept g c =
-    kept_put c.args.rows.now c.insert.new.self c.args.runs.now c.args.labels.now c.first_run.new.runs c.replace.new.self c.first_run.new.labels c.args.numbers.now c.add.new.numbers c.run_for-run.result c.args.place
-    c.args.row c.new.result c.rows-count.result c.label_at.result c.new-2.result c.requires.kept c.requires.comes c.first_run.ensures.each c.first_run.ensures.same c.run_for-run.ensures
-    (c.get.ensures.item ∙ ap Some (sym c.rows-count.ensures)) c.label_at.ensures c.in_ok-add.ensures.ok c.new.ensures
+    kept_put c.args.rows.now c.insert.new.self c.args.runs.now c.args.names.now c.first_run.new.runs c.replace.new.self c.first_run.new.names c.args.numbers.now c.add.new.numbers c.run_for-run.result c.args.place
+    c.args.row c.new.result c.rows-count.result c.name_at-name.result c.new-2.result c.requires.kept c.requires.comes c.first_run.ensures.each c.first_run.ensures.same c.run_for-run.ensures
+    (c.get.ensures.item ∙ ap Some (sym c.rows-count.ensures)) c.name_at-name.ensures c.in_ok-add.ensures.ok c.new.ensures
     (ok_from c.insert.result c.is_err.result _ c.is_err.ensures.value c.if-is_err.false c.insert.ensures.ok) c.new-2.ensures c.replace.ensures.items
 
 pub divide-requires-clause-in_runs : goal.divide-requires-clause-in_runs
 divide-requires-clause-in_runs g c =
-    (kept_put c.args.rows.now c.insert.new.self c.args.runs.now c.args.labels.now c.first_run.new.runs c.replace.new.self c.first_run.new.labels c.args.numbers.now c.add.new.numbers c.run_for-run.result c.args.place
-    c.args.row c.new.result c.rows-count.result c.label_at.result c.new-2.result c.requires.kept c.requires.comes c.first_run.ensures.each c.first_run.ensures.same c.run_for-run.ensures
-    (c.get.ensures.item ∙ ap Some (sym c.rows-count.ensures)) c.label_at.ensures c.in_ok-add.ensures.ok c.new.ensures
+    (kept_put c.args.rows.now c.insert.new.self c.args.runs.now c.args.names.now c.first_run.new.runs c.replace.new.self c.first_run.new.names c.args.numbers.now c.add.new.numbers c.run_for-run.result c.args.place
+    c.args.row c.new.result c.rows-count.result c.name_at-name.result c.new-2.result c.requires.kept c.requires.comes c.first_run.ensures.each c.first_run.ensures.same c.run_for-run.ensures
+    (c.get.ensures.item ∙ ap Some (sym c.rows-count.ensures)) c.name_at-name.ensures c.in_ok-add.ensures.ok c.new.ensures
     (ok_from c.insert.result c.is_err.result _ c.is_err.ensures.value c.if-is_err.false c.insert.ensures.ok) c.new-2.ensures c.replace.ensures.items).in_runs
 
 pub divide-requires-clause-own : goal.divide-requires-clause-own

@@ -7,7 +7,7 @@ use Rattle.order_timeline.proofs.Rows.{ordered_without}
 use Rattle.order_timeline.proofs.edit.take_out.Goals as goal
 
 pub run_of-run-requires : goal.run_of-run-requires
-run_of-run-requires g c = omega (arith, all_rows c.args.rows.now c.args.runs.now c.args.labels.now c.args.numbers.now c.requires.kept.in_runs, c.requires.within)
+run_of-run-requires g c = omega (arith, all_rows c.args.rows.now c.args.runs.now c.args.names.now c.args.numbers.now c.requires.kept.in_runs, c.requires.within)
 
 pub overflow_sub-count : goal.overflow_sub-count
 overflow_sub-count g c = omega (arith, c.run_of-run.ensures, read_index c.args.runs.now c.run_of-run.result c.rows-count.result (c.get.ensures.item ∙ ap Some (sym c.rows-count.ensures)))
@@ -16,19 +16,19 @@ pub returns-then-count-eq1-clause-kept : goal.returns-then-count-eq1-clause-kept
 returns-then-count-eq1-clause-kept g c =
     let ordered = subst IsOrdered (sym c.remove.ensures.items) (ordered_without c.args.rows.now c.args.place c.requires.kept.ordered c.requires.within) in
     let in_runs =
-    let gone = in_runs_gone c.args.rows.now c.args.runs.now c.args.labels.now c.args.numbers.now c.forget.new.numbers c.run_of-run.result c.args.place c.row-row.result c.rows-count.result c.requires.kept.in_runs c.requires.within c.requires.kept.ordered.own_numbers
+    let gone = in_runs_gone c.args.rows.now c.args.runs.now c.args.names.now c.args.numbers.now c.forget.new.numbers c.run_of-run.result c.args.place c.row-row.result c.rows-count.result c.requires.kept.in_runs c.requires.within c.requires.kept.ordered.own_numbers
     (c.remove.ensures.item ∙ ap Some (sym c.row-row.ensures)) c.run_of-run.ensures (c.get.ensures.item ∙ ap Some (sym c.rows-count.ensures)) c.if-count-eq1.true c.forget.ensures in
     subst (λ rows. IsInRuns rows c.remove-then-count-eq1.new.self c.remove-then-count-eq1-2.new.self c.forget.new.numbers) (sym c.remove.ensures.items)
     (subst (λ runs. IsInRuns (remove c.args.rows.now c.args.place) runs c.remove-then-count-eq1-2.new.self c.forget.new.numbers) (sym c.remove-then-count-eq1.ensures.items)
-    (subst (λ labels. IsInRuns (remove c.args.rows.now c.args.place) (remove c.args.runs.now c.run_of-run.result) labels c.forget.new.numbers) (sym c.remove-then-count-eq1-2.ensures) gone))
+    (subst (λ names. IsInRuns (remove c.args.rows.now c.args.place) (remove c.args.runs.now c.run_of-run.result) names c.forget.new.numbers) (sym c.remove-then-count-eq1-2.ensures) gone))
     in record { ordered = ordered; in_runs = in_runs }
 
 pub returns-clause-kept : goal.returns-clause-kept
 returns-clause-kept g c =
     let ordered = subst IsOrdered (sym c.remove.ensures.items) (ordered_without c.args.rows.now c.args.place c.requires.kept.ordered c.requires.within) in
     let in_runs =
-    let stays = in_runs_without c.args.rows.now c.args.runs.now c.args.labels.now c.args.numbers.now c.forget.new.numbers c.run_of-run.result c.args.place c.row-row.result c.rows-count.result c.requires.kept.in_runs c.requires.within c.requires.kept.ordered.own_numbers
+    let stays = in_runs_without c.args.rows.now c.args.runs.now c.args.names.now c.args.numbers.now c.forget.new.numbers c.run_of-run.result c.args.place c.row-row.result c.rows-count.result c.requires.kept.in_runs c.requires.within c.requires.kept.ordered.own_numbers
     (c.remove.ensures.item ∙ ap Some (sym c.row-row.ensures)) c.run_of-run.ensures (c.get.ensures.item ∙ ap Some (sym c.rows-count.ensures)) c.forget.ensures in
-    subst (λ rows. IsInRuns rows c.replace.new.self c.args.labels.now c.forget.new.numbers) (sym c.remove.ensures.items)
-    (subst (λ runs. IsInRuns (remove c.args.rows.now c.args.place) runs c.args.labels.now c.forget.new.numbers) (sym (c.replace.ensures.items ∙ ap (slice_set c.args.runs.now c.run_of-run.result) c.new.ensures)) stays)
+    subst (λ rows. IsInRuns rows c.replace.new.self c.args.names.now c.forget.new.numbers) (sym c.remove.ensures.items)
+    (subst (λ runs. IsInRuns (remove c.args.rows.now c.args.place) runs c.args.names.now c.forget.new.numbers) (sym (c.replace.ensures.items ∙ ap (slice_set c.args.runs.now c.run_of-run.result) c.new.ensures)) stays)
     in record { ordered = ordered; in_runs = in_runs }

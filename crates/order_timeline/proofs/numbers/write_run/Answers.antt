@@ -9,6 +9,6 @@ write-requires g c =
     (c.get.ensures.item ∙ ap Some (sym c.row-number.ensures))
 
 pub loop-place-preserved : goal.loop-place-preserved
-loop-place-preserved g c = λ labels labelled.
-    written_more c.args.rows.now labels c.loop-place.numbers c.write.new.numbers c.args.from c.loop-place.place c.args.label c.row-number.result c.requires.own (omega arith)
-    (c.get.ensures.item ∙ ap Some (sym c.row-number.ensures)) (c.loop-place.invariant labels labelled) labelled.beside c.write.ensures
+loop-place-preserved g c = λ names named.
+    written_more c.args.rows.now names c.loop-place.numbers c.write.new.numbers c.args.from c.loop-place.place c.args.name c.row-number.result c.requires.own (omega arith)
+    (c.get.ensures.item ∙ ap Some (sym c.row-number.ensures)) (c.loop-place.invariant names named) named.beside c.write.ensures
