@@ -3,8 +3,8 @@
 #   make run      builds the program and answers a first script in front of you; SCRIPT=FILE for another one
 #   make build    leaves the program at build/retro, so that `build/retro run < FILE` works on any script
 #   make install  puts it into bin below PREFIX, which is /usr/local where none is named
-#   make test     the gate: every proof, every edit that must fail, every test, every example, and the streams of the
-#                 built program; needs Python 3
+#   make test     the gate: every proof, every edit that must fail, every test, every example, and of the built program
+#                 its streams and half a million questions about the past; needs Python 3
 #   make bench    times the program on generated scripts of each kind, on a million questions beside a plain
 #                 program where rustc is there, on whole timelines as text, and on evidence; needs Python 3
 
