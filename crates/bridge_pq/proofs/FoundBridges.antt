@@ -2,6 +2,7 @@
 use Rattle.std.proofs.Common.{◌≡◌, ℕ, ◌<◌, ◌≤◌, ℤ, pos, ◌+ℤ◌, ◌≤ℤ◌, ◌<ℤ◌, true, false, List, length, refl, sym, ap, ◌∙◌, arith, subst}
 use Rattle.std.proofs.lemmas.Int.{ints}
 use Rattle.std.proofs.lemmas.List.{length-map}
+use Rattle.monoid_laws.specs.Summed.{sum_to}
 use Rattle.retro_base.specs.declared.row.Row.{Row}
 use Rattle.retro_base.specs.Bridges.{survivors, IsBridge, IsLastBridge, IsFirstBridge}
 use Rattle.retro_base.specs.Carried.{IsPqHistory}
@@ -10,9 +11,9 @@ use Rattle.retro_base.proofs.bridges.Weighing.{bridge_is_zero, sum_not_negative}
 use Rattle.retro_base.proofs.bridges.StatedBridges.{start_is_bridge, end_is_bridge}
 use Rattle.weighted_tree.specs.Search.{HoldsNowhere, IsFirstPlace, IsLastPlace}
 use Rattle.bridge_pq.specs.declared.marked_row.MarkedRow.{MarkedRow}
-use Rattle.bridge_pq.specs.MarkedRows.{rows_of, AreMarked, weights_of, sum_to, falls_from, keeps_up_to}
-use Rattle.bridge_pq.proofs.PrefixSums as prefixes
-use Rattle.bridge_pq.proofs.SuffixSums as suffixes
+use Rattle.bridge_pq.specs.MarkedRows.{rows_of, AreMarked, weights_of, falls_from, keeps_up_to}
+use Rattle.monoid_laws.specs.PrefixSumLaws as prefixes
+use Rattle.monoid_laws.specs.SuffixSumLaws as suffixes
 use Rattle.bridge_pq.proofs.RowMeasures.{sums-are}
 
 none_left : (z : ℤ) → pos 0 ≤ℤ z → z ≤ℤ pos 0 → z ≡ pos 0

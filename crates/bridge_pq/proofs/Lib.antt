@@ -1,6 +1,4 @@
 pub mod Costs
-pub mod PrefixSums
-pub mod SuffixSums
 pub mod RowMeasures
 pub mod EntryCmp
 pub mod EntryPlaces

@@ -8,7 +8,7 @@ use Rattle.std.proofs.lemmas.List.Sums.{fold-append}
 use Rattle.monoid_laws.specs.Both.{joined_both}
 use Rattle.monoid_laws.specs.Extreme.{Extreme, no_extreme, joined_extreme, one_element, extreme_of}
 use Rattle.monoid_laws.specs.Measure.{measure_of}
-use Rattle.monoid_laws.specs.Summed.{sum_of}
+use Rattle.monoid_laws.specs.Summed.{sum_of, sum_to}
 use Rattle.monoid_laws.specs.Walk.{Walk, no_walk, one_step, joined_walk, walk_of, end_of}
 use Rattle.monoid_laws.specs.WalkLaws.{end-walk_of}
 use Rattle.retro_base.specs.declared.row.Entry.{Entry}
@@ -16,7 +16,7 @@ use Rattle.retro_base.specs.declared.row.Row.{Row}
 use Rattle.retro_base.specs.Bridges.{survivors}
 use Rattle.retro_base.specs.Weights.{added_by, weight, weight_as, sum_of_weights}
 use Rattle.bridge_pq.specs.declared.marked_row.MarkedRow.{MarkedRow}
-use Rattle.bridge_pq.specs.MarkedRows.{rows_of, is_one_of, AreMarked, weight_in, dead_in, alive_in, weights_of, row_measure, sum_to}
+use Rattle.bridge_pq.specs.MarkedRows.{rows_of, is_one_of, AreMarked, weight_in, dead_in, alive_in, weights_of, row_measure}
 
 -- the dead and the survivors that the rows add
 abbrev pub dead_of : List MarkedRow → List (Option Entry)

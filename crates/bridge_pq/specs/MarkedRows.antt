@@ -1,12 +1,12 @@
 -- Rows with a mark that tells whether the entry that they add survives: what they weigh, and what a range of them measures.
-use Rattle.std.specs.Prelude.{◌≡◌, ℕ, ℤ, pos, negsuc, Bool, true, false, List, [], ◌∷◌, map, take, if◌then◌else◌, refl}
+use Rattle.std.specs.Prelude.{◌≡◌, ℕ, ℤ, pos, negsuc, Bool, true, false, List, [], ◌∷◌, map, if◌then◌else◌, refl}
 use Rattle.std.specs.Prelude.{Option, Some, None}
 use Rattle.std.specs.List.{AllByRecursion, slice_range}
 use Rattle.std.specs.Int.Signed.{le_z}
 use Rattle.std.specs.Prelude.{◌+ℤ◌, ◌-ℤ◌}
 use Rattle.monoid_laws.specs.Extreme.{Extreme, one_element}
-use Rattle.monoid_laws.specs.Summed.{sum_of}
-use Rattle.monoid_laws.specs.Walk.{Walk, one_step, walk_of, lowest_of}
+use Rattle.monoid_laws.specs.Summed.{sum_to}
+use Rattle.monoid_laws.specs.Walk.{Walk, one_step, walk_of, lowest_of, height_of}
 use Rattle.retro_base.specs.declared.row.Entry.{Entry}
 use Rattle.retro_base.specs.declared.row.Row.{Row}
 use Rattle.retro_base.specs.Bridges.{is_among}
@@ -57,14 +57,6 @@ one_step-items (negsuc n) = refl
 
 pub row_measure-items : (item : MarkedRow) → (row_measure item).0.items ≡ 1
 row_measure-items item = one_step-items (weight_in item.survives (added_by item.row))
-
--- the sum of the first so many numbers
-abbrev pub sum_to : List ℤ → ℕ → ℤ
-sum_to xs place = sum_of (take place xs)
-
--- how high a walk ends above its lowest point
-abbrev pub height_of : Walk → ℤ
-height_of walk = pos walk.rises
 
 -- on the way from one place to another the sum falls to 0
 abbrev pub falls_from : List ℤ → ℕ → ℕ → Bool

@@ -1,12 +1,13 @@
 ghost use Rattle.std.specs.Prelude.{◌≡◌, ℕ, pos, ◌<◌, ◌≤◌, List, length, slice_get, slice_set, MatchOption, Some};
-ghost use Rattle.monoid_laws.specs.Walk.{lowest_of};
+ghost use Rattle.monoid_laws.specs.Summed.{sum_to};
+ghost use Rattle.monoid_laws.specs.Walk.{lowest_of, height_of};
 ghost use Rattle.retro_base.specs.declared.row.Entry.{Entry};
 ghost use Rattle.retro_base.specs.BridgeTable.{IsDeadFrom, IsSurvivorBefore, IsGreatest, IsLeast};
 ghost use Rattle.retro_base.specs.Bridges.{survivors, IsLastBridge, IsFirstBridge};
 ghost use Rattle.retro_base.specs.Carried.{IsPqHistory};
 ghost use Rattle.retro_base.specs.Visits.{VisitsWithin};
 ghost use Rattle.bridge_pq.specs.Bridged.{AddsAt};
-ghost use Rattle.bridge_pq.specs.MarkedRows.{rows_of, weights_of, AreMarked, sum_to, height_of, falls_from, keeps_up_to};
+ghost use Rattle.bridge_pq.specs.MarkedRows.{rows_of, weights_of, AreMarked, falls_from, keeps_up_to};
 ghost use Rattle.bridge_pq.specs.declared.marked_row.MarkedRow.{MarkedRow};
 ghost use Rattle.weighted_tree.specs.Search.{IsFirstOrNone, IsLastOrNone};
 

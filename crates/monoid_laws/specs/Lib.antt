@@ -6,6 +6,8 @@ pub mod ExtremeLaws
 pub mod Laws
 pub mod Measure
 pub mod MeasureLaws
+pub mod PrefixSumLaws
+pub mod SuffixSumLaws
 pub mod Summed
 pub mod SummedLaws
 pub mod Walk

@@ -1,5 +1,5 @@
 -- The sum of a range of numbers.
-use Rattle.std.specs.Prelude.{ℕ, ◌+◌, ◌*◌, ◌^◌, ◌≤◌, ℤ, pos, ◌+ℤ◌, nat_abs, List, [], ◌∷◌}
+use Rattle.std.specs.Prelude.{ℕ, ◌+◌, ◌*◌, ◌^◌, ◌≤◌, ℤ, pos, ◌+ℤ◌, nat_abs, List, [], ◌∷◌, take}
 
 -- how many numbers there are, and their sum
 pub record Summed : Type 0 where
@@ -26,3 +26,7 @@ IsBounded a = nat_abs a.sum ≤ a.items * 2 ^ 63
 abbrev pub sum_of : List ℤ → ℤ
 sum_of [] = pos 0
 sum_of (x ∷ xs) = x +ℤ sum_of xs
+
+-- the sum of the first so many numbers
+abbrev pub sum_to : List ℤ → ℕ → ℤ
+sum_to xs place = sum_of (take place xs)

@@ -42,6 +42,10 @@ end_of a = pos a.rises -ℤ pos a.falls
 abbrev pub lowest_of : Walk → ℤ
 lowest_of a = neg_ℤ (pos a.falls)
 
+-- how high it ends above its lowest point
+abbrev pub height_of : Walk → ℤ
+height_of a = pos a.rises
+
 -- a step up, a step down or none
 abbrev pub IsSign : ℤ → Type 0
 IsSign x = (neg_ℤ (pos 1) ≤ℤ x) × (x ≤ℤ pos 1)

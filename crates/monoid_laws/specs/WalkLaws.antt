@@ -23,7 +23,7 @@ walk_laws = record {
 }
 
 -- the step and what is left of it
-step_end : (x : ℤ) → end_of (one_step x) ≡ x
+pub step_end : (x : ℤ) → end_of (one_step x) ≡ x
 step_end (pos n) = omega (arith, ints)
 step_end (negsuc n) = omega (arith, ints)
 
@@ -36,7 +36,7 @@ end-walk_of [] = refl
 end-walk_of (x ∷ xs) = omega (arith, ints, join_end (one_step x) (walk_of xs), step_end x, end-walk_of xs)
 
 -- a step goes one way alone
-one_way : (x : ℤ) → ((one_step x).falls ≡ 0) ⊎ ((one_step x).rises ≡ 0)
+pub one_way : (x : ℤ) → ((one_step x).falls ≡ 0) ⊎ ((one_step x).rises ≡ 0)
 one_way (pos n) = inl refl
 one_way (negsuc n) = inr refl
 

@@ -1,5 +1,3 @@
-pub mod PrefixSums
-pub mod SuffixSums
 pub mod MeasuredSigns
 pub mod FoundPlaces
 pub mod RowFailures

@@ -1,7 +1,7 @@
 -- The prefix sums of signs with marks, and the places that are searched among them.
 use Rattle.std.specs.Prelude.{◌≡◌, ℕ, ◌+◌, ◌<◌, ◌≤◌, ℤ, ◌<ℤ◌, ◌≤ℤ◌, Bool, true, List, [], ◌∷◌, map, take, slice_get}
 use Rattle.std.specs.Prelude.{Option, Some, MatchOption, if◌then◌else◌}
-use Rattle.monoid_laws.specs.Summed.{sum_of}
+use Rattle.monoid_laws.specs.Summed.{sum_to}
 
 -- the signs alone
 abbrev pub signs_of : List (ℤ × Bool) → List ℤ
@@ -9,7 +9,7 @@ signs_of items = map (λ item. item.0) items
 
 -- the sum of the first so many signs
 abbrev pub prefix : List (ℤ × Bool) → ℕ → ℤ
-prefix items place = sum_of (take place (signs_of items))
+prefix items place = sum_to (signs_of items) place
 
 -- the least place from `from` to `to` whose prefix sum is at most the value
 pub record IsFirstAtMost (items : List (ℤ × Bool)) (from to : ℕ) (value : ℤ) (place : ℕ) : Type 0 where

@@ -2,7 +2,7 @@
 use Rattle.std.specs.Prelude.{◌≡◌, ℕ, ℤ, pos, negsuc, ◌+ℤ◌, ◌-ℤ◌, Bool, List, take, if◌then◌else◌, refl}
 use Rattle.std.specs.List.{slice_range}
 use Rattle.std.specs.Int.Signed.{le_z, lt_z}
-use Rattle.monoid_laws.specs.Walk.{Walk, one_step, walk_of, lowest_of}
+use Rattle.monoid_laws.specs.Walk.{Walk, one_step, walk_of, lowest_of, height_of}
 use Rattle.prefix_trees.specs.Prefixes.{signs_of, prefix, marks_in}
 
 -- one sign with its mark
@@ -15,10 +15,6 @@ one_step-items (negsuc n) = refl
 
 pub one_walk-items : (item : ℤ × Bool) → (one_walk item).0.items ≡ 1
 one_walk-items item = one_step-items item.0
-
--- how high a walk ends above its lowest point
-abbrev pub height_of : Walk → ℤ
-height_of walk = pos walk.rises
 
 -- on the way from one place to another the sum falls to the value
 abbrev pub falls_to : List (ℤ × Bool) → ℕ → ℤ → ℕ → Bool

@@ -1,9 +1,9 @@
 ghost use Rattle.std.specs.Prelude.{◌≡◌, pos, ◌+◌, ◌^◌, ◌<◌, ◌≤◌, [], length, slice_get, Some, OnOk, OnErr, IfOk};
 ghost use Rattle.std.specs.List.{insert, remove};
-ghost use Rattle.monoid_laws.specs.Walk.{IsSign, end_of, lowest_of};
+ghost use Rattle.monoid_laws.specs.Walk.{IsSign, end_of, lowest_of, height_of};
 ghost use Rattle.retro_base.specs.Visits.{VisitsWithin};
 ghost use Rattle.prefix_trees.specs.Prefixes.{prefix, FindsFirstAtMost, FindsLastAtMost, FindsKthMarked};
-ghost use Rattle.prefix_trees.specs.Walks.{height_of, falls_to, keeps_at, has_more_marks};
+ghost use Rattle.prefix_trees.specs.Walks.{falls_to, keeps_at, has_more_marks};
 ghost use Rattle.weighted_tree.specs.Search.{IsFirstOrNone, IsLastOrNone};
 
 use crate::signed::{Signed, Walks};

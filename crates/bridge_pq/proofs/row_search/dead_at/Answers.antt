@@ -1,7 +1,8 @@
 use Rattle.std.proofs.Common.{◌≡◌, ℤ, ap, ◌∙◌, rules}
 use Rattle.std.proofs.lemmas.Int.{to_z-of_z}
+use Rattle.monoid_laws.specs.Summed.{sum_to}
 use Rattle.monoid_laws.specs.Walk.{end_of}
-use Rattle.bridge_pq.specs.MarkedRows.{weights_of, sum_to}
+use Rattle.bridge_pq.specs.MarkedRows.{weights_of}
 use Rattle.bridge_pq.proofs.RowMeasures.{prefix-is}
 use Rattle.bridge_pq.proofs.row_search.dead_at.Goals as goal
 

@@ -5,7 +5,7 @@ use Rattle.monoid_laws.specs.Walk.{lowest_of}
 use Rattle.prefix_trees.specs.Prefixes.{signs_of, prefix}
 use Rattle.prefix_trees.specs.Walks.{falls_to}
 use Rattle.prefix_trees.proofs.MeasuredSigns.{walks_of, range-walk}
-use Rattle.prefix_trees.proofs.PrefixSums.{reaches-rises}
+use Rattle.monoid_laws.specs.PrefixSumLaws.{reaches-rises}
 use Rattle.prefix_trees.proofs.sign_tree.SignTree.first_falling.Goals as goal
 
 pub returns-clause-first : goal.returns-clause-first

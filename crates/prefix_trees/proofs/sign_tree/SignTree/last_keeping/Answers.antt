@@ -1,10 +1,11 @@
 use Rattle.std.proofs.Common.{◌≡◌, ◌-ℤ◌, ◌∙◌, ap, sym, rules}
 use Rattle.std.specs.List.{slice_range}
 use Rattle.std.specs.Int.Signed.{le_z}
+use Rattle.monoid_laws.specs.SuffixSumLaws.{keeps-falls}
+use Rattle.monoid_laws.specs.Walk.{height_of}
 use Rattle.prefix_trees.specs.Prefixes.{signs_of, prefix}
-use Rattle.prefix_trees.specs.Walks.{keeps_at, height_of}
+use Rattle.prefix_trees.specs.Walks.{keeps_at}
 use Rattle.prefix_trees.proofs.MeasuredSigns.{walks_of, range-walk}
-use Rattle.prefix_trees.proofs.SuffixSums.{keeps-falls}
 use Rattle.prefix_trees.proofs.sign_tree.SignTree.last_keeping.Goals as goal
 
 pub returns-clause-last : goal.returns-clause-last

@@ -1,23 +1,15 @@
--- The last place at which a prefix sum is at most a value, by the heights of the walks up to a place.
-use Rattle.std.proofs.Common.{◌≡◌, ℕ, zero, suc, ◌+◌, ◌-◌, ◌<◌, ◌≤◌, ℤ, pos, negsuc, ◌+ℤ◌, ◌-ℤ◌, ◌≤ℤ◌, ◌<ℤ◌, Bool, true, false, List, [], ◌∷◌, take, drop, length, refl, sym, ap, ◌∙◌, arith, inl, inr, ◌⊎◌, length-take}
+-- The last place at which a prefix sum is at most a value, by the heights of the walks up to a place. These laws stand here
+-- for the layers above: their proofs cite them.
+use Rattle.std.proofs.Common.{◌≡◌, ℕ, zero, suc, ◌+◌, ◌-◌, ◌<◌, ◌≤◌, ℤ, pos, negsuc, ◌+ℤ◌, ◌-ℤ◌, ◌≤ℤ◌, ◌<ℤ◌, Bool, true, false, List, [], ◌∷◌, drop, length, refl, ap, ◌∙◌, arith, inl, inr, ◌⊎◌, length-take}
 use Rattle.std.proofs.lemmas.Bool.{cases_lt}
 use Rattle.std.proofs.lemmas.Int.{ints}
 use Rattle.std.proofs.lemmas.List.{take-take}
 use Rattle.std.specs.List.{slice_range}
 use Rattle.std.specs.Int.Signed.{le_z}
-use Rattle.monoid_laws.specs.Summed.{sum_of}
-use Rattle.monoid_laws.specs.Walk.{Walk, one_step, joined_walk, walk_of, end_of}
-use Rattle.monoid_laws.specs.WalkLaws.{end-walk_of}
-use Rattle.bridge_pq.specs.MarkedRows.{height_of, sum_to}
-use Rattle.bridge_pq.proofs.PrefixSums.{sum-range, sum-split, le_true, le_false, true_le}
-
-step_end : (x : ℤ) → end_of (one_step x) ≡ x
-step_end (pos n) = omega (arith, ints)
-step_end (negsuc n) = omega (arith, ints)
-
-one_way : (x : ℤ) → ((one_step x).falls ≡ 0) ⊎ ((one_step x).rises ≡ 0)
-one_way (pos n) = inl refl
-one_way (negsuc n) = inr refl
+use Rattle.monoid_laws.specs.Summed.{sum_of, sum_to}
+use Rattle.monoid_laws.specs.Walk.{Walk, one_step, joined_walk, walk_of, end_of, height_of}
+use Rattle.monoid_laws.specs.WalkLaws.{step_end, one_way, end-walk_of}
+use Rattle.monoid_laws.specs.PrefixSumLaws.{sum-range, sum-split, le_true, le_false, true_le}
 
 -- the whole walk ends no higher than its height
 whole_within : (a b : Walk) → (end_of a +ℤ end_of b) ≤ℤ height_of (joined_walk a b)

@@ -1,17 +1,14 @@
--- The first place at which a prefix sum is at most a value, by the lowest points of the walks from a place on.
+-- The first place at which a prefix sum is at most a value, by the lowest points of the walks from a place on. These laws
+-- stand here for the layers above: their proofs cite them.
 use Rattle.std.proofs.Common.{◌≡◌, ℕ, zero, suc, ◌+◌, ◌-◌, ◌<◌, ◌≤◌, ℤ, pos, ◌+ℤ◌, ◌≤ℤ◌, ◌<ℤ◌, Bool, true, false, List, [], ◌∷◌, take, drop, refl, ap, ◌∙◌, arith, inl, inr, length-take}
 use Rattle.std.proofs.lemmas.Bool.{cases_lt}
 use Rattle.std.proofs.lemmas.Int.{ints}
 use Rattle.std.proofs.lemmas.List.{take-take, take_all}
 use Rattle.std.specs.List.{slice_range}
 use Rattle.std.specs.Int.Signed.{le_z}
-use Rattle.monoid_laws.specs.Summed.{sum_of}
+use Rattle.monoid_laws.specs.Summed.{sum_of, sum_to}
 use Rattle.monoid_laws.specs.Walk.{walk_of, lowest_of}
 use Rattle.monoid_laws.specs.WalkLaws.{lowest-walk_of}
-
--- the sum of the first so many numbers
-abbrev pub sum_to : List ℤ → ℕ → ℤ
-sum_to xs place = sum_of (take place xs)
 
 pub le_true : (a b : ℤ) → le_z a b ≡ true → a ≤ℤ b
 le_true a b holds = grind (arith, ints)
