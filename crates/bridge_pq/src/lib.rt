@@ -35,12 +35,16 @@
 
 mod bridge_queue;
 mod changes;
+#[cfg(test)]
+mod compared;
 mod edit;
 mod entry_tree;
 mod failure;
 mod marked_entry;
 mod marked_row;
 mod row_search;
+#[cfg(test)]
+mod tests;
 mod turned;
 
 pub use bridge_queue::BridgeQueue;
