@@ -1,0 +1,13 @@
+pub mod Lists
+pub mod Counted
+pub mod InOrder
+pub mod Neighbours
+pub mod Labelled
+pub mod PutIn
+pub mod TakenOut
+pub mod Moved
+pub mod Replayed
+pub mod Failing
+pub mod InsertedRow
+pub mod RemovedRow
+pub mod NamedRows

@@ -1,0 +1,38 @@
+-- Rows in the order of their keys, and of their labels on each key.
+use Rattle.std.specs.Prelude.{◌≡◌, ℕ, ℤ, Bool, true, false, ◌&&◌, ◌||◌, int_lt, nat_lt, nat_le, List, [], ◌∷◌, length}
+use Rattle.std.specs.List.{AllByRecursion, filter}
+use Rattle.std.specs.Ordering.{int_eq}
+use Rattle.key_index.specs.KeyRows.{KeyRow, AreKeyRows, key_of, is_on}
+use Rattle.key_index.specs.declared.search.Spot.{Spot}
+use Rattle.key_index.specs.declared.search.Spot.TheVariants.{Label, Key}
+
+-- the order of pairs of a key and a label
+abbrev pub pair_before : ℤ → ℕ → ℤ → ℕ → Bool
+pair_before k l j m = int_lt k j || (int_eq k j && nat_lt l m)
+
+abbrev pub stands_before : KeyRow → KeyRow → Bool
+stands_before row later = pair_before (key_of row.1) row.0 (key_of later.1) later.0
+
+abbrev pub AreByKey : List KeyRow → Type 0
+AreByKey [] = Unit {0}
+AreByKey (row ∷ rows) = AllByRecursion (λ (later : KeyRow). stands_before row later ≡ true) rows × AreByKey rows
+
+-- the same rows by label and by key: those of each key are the same
+pub record IsIndexed (rows by_key : List KeyRow) : Type 0 where
+  pub by_label : AreKeyRows rows
+  pub ordered : AreByKey by_key
+  pub as_many : length by_key ≡ length rows
+  pub same : (key : ℤ) → filter (is_on key) by_key ≡ filter (is_on key) rows
+
+-- a row stands up to a spot
+abbrev pub pair_up_to : ℤ → ℕ → ℤ → ℕ → Bool
+pair_up_to k l key limit = int_lt k key || (int_eq k key && nat_le l limit)
+
+abbrev pub reaches : Spot → KeyRow → Bool
+reaches (Label limit) row = nat_le row.0 limit
+reaches (Key key limit) row = pair_up_to (key_of row.1) row.0 key limit
+
+-- behind an element that fails the test all fail it
+abbrev pub Falls : {A : Type 0} → (A → Bool) → List A → Type 0
+Falls test [] = Unit {0}
+Falls test (x ∷ xs) = (test x ≡ false → AllByRecursion (λ later. test later ≡ false) xs) × Falls test xs

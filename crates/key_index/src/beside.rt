@@ -1,0 +1,24 @@
+ghost use Rattle.std.specs.Prelude.{◌≡◌};
+ghost use Rattle.key_index.specs.Beside.{is_there, taken_at};
+
+use retro_base::Op;
+
+/// Whether a key is there behind the last row on it.
+pub(crate) fn is_there(last: Option<(u64, Op)>) -> bool
+    ensures { result ≡ is_there last }
+{
+    match last {
+        Some((_, Op::Put { .. })) => true,
+        _ => false,
+    }
+}
+
+/// The label of the next row on a key, where it takes the key out.
+pub(crate) fn taken_at(next: Option<(u64, Op)>) -> Option<u64>
+    ensures { result ≡ taken_at next }
+{
+    match next {
+        Some((label, Op::Del { .. })) => Some(label),
+        _ => None,
+    }
+}

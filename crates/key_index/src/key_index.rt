@@ -1,0 +1,158 @@
+ghost use Rattle.std.specs.Prelude.{◌≡◌, [], length, Some, None, IfNone, IsSome, OnOk, OnErr};
+ghost use Rattle.retro_base.specs.declared.kind.Kind.TheVariants.{Dict};
+ghost use Rattle.retro_base.specs.Kind.{kind_of};
+ghost use Rattle.key_index.specs.KeyRows.{Replays, AreKeyRows, bad_label, bad_with, first_after, last_before, op_at, with_row, without};
+ghost use Rattle.key_index.specs.Relabelled.{Rise, HoldsLabels, relabelled};
+
+use crate::beside::{is_there, taken_at};
+use crate::labels::Labels2;
+use crate::row::KeyRow;
+use crate::trees::{first_behind, last_up_to, op_at, put_in, relabel, take_out};
+use retro_base::{NoMemory, Op};
+use std::alloc::Global;
+use std::marker::{Brand, Model};
+use std::sync::ledger::Blank;
+use weighted_tree::Tree;
+
+/// The rows of a dictionary: a list of labels, which rise, and operations.
+#[derive(Drop)]
+pub struct KeyIndex {
+    rows: Tree<KeyRow>,
+    by_key: Tree<KeyRow>,
+}
+
+impl Model for KeyIndex {
+    ghost use Rattle.std.specs.Prelude.{List, ℕ};
+    ghost use Rattle.retro_base.specs.declared.op.Op.{Op};
+    ghost use Rattle.key_index.specs.Ordered.{IsIndexed};
+
+    ghost Value = { List (ℕ × Op) };
+
+    ghost view = { λ index. index.rows };
+
+    ghost invariant = { λ index. IsIndexed index.rows index.by_key };
+}
+
+/// The first row that fails once a row is put in.
+#[derive(Clone, Copy, Debug, PartialEq, Eq)]
+pub enum Bad {
+    /// The row that is put in.
+    Inserted,
+    /// The row that is there with this label.
+    Present { label: u64 },
+}
+
+impl KeyIndex {
+    /// No rows.
+    pub fn new(alloc: Global) -> KeyIndex
+        ensures rows { result ≡ [] }
+        ensures replays { Replays result }
+    {
+        KeyIndex {
+            rows: Tree::new(alloc),
+            by_key: Tree::new(alloc),
+        }
+    }
+
+    /// Puts a row in at its label, which no row has. After `NoMemory` all is as before.
+    pub fn insert(&mut self, label: u64, op: Op) -> Result<(), NoMemory>
+        requires fresh { op_at label self.old ≡ None }
+        requires dict { kind_of op ≡ Dict }
+        ensures ok { OnOk result (self.new ≡ with_row label op self.old) }
+        ensures err { OnErr result (self.new ≡ self.old) }
+    {
+        put_in::<Brand>(&mut self.rows, &mut self.by_key, label, op, Blank::new(1))
+    }
+
+    /// Takes the row with a label out, and gives its operation, where there is one.
+    pub fn remove(&mut self, label: u64) -> Option<Op>
+        ensures found { result ≡ op_at label self.old }
+        ensures rows { self.new ≡ without label self.old }
+    {
+        let op = op_at::<Brand>(&self.rows, label, Blank::new(1))?;
+        take_out::<Brand>(&mut self.rows, &mut self.by_key, label, op, Blank::new(1));
+        Some(op)
+    }
+
+    /// The last row on a key below a label.
+    pub fn before(&self, key: i64, label: u64) -> Option<(u64, Op)>
+        ensures { result ≡ last_before key label self.now }
+    {
+        if label == 0 {
+            return None;
+        }
+        last_up_to::<Brand>(&self.by_key, key, label - 1, Blank::new(1))
+    }
+
+    /// The first row on a key above a label.
+    pub fn after(&self, key: i64, label: u64) -> Option<(u64, Op)>
+        ensures { result ≡ first_after key label self.now }
+    {
+        first_behind::<Brand>(&self.by_key, key, label, Blank::new(1))
+    }
+
+    /// The first row that fails once a row is put in right behind all rows whose label is at most `behind`.
+    pub fn bad_after_insert(&self, behind: u64, op: Op) -> Option<Bad>
+        requires replays { Replays self.now }
+        requires dict { kind_of op ≡ Dict }
+        ensures bad { result ≡ bad_with behind op self.now }
+        ensures good { IfNone result (Replays (with_row behind op self.now)) }
+    {
+        match op {
+            Op::Del { key } => {
+                let last = last_up_to::<Brand>(&self.by_key, key, behind, Blank::new(1));
+                if !is_there(last) {
+                    return Some(Bad::Inserted);
+                }
+                match taken_at(self.after(key, behind)) {
+                    Some(label) => Some(Bad::Present { label }),
+                    None => None,
+                }
+            }
+            _ => None,
+        }
+    }
+
+    /// The label of the first row that fails once the row with this label is taken out.
+    pub fn bad_after_remove(&self, label: u64) -> Option<u64>
+        requires replays { Replays self.now }
+        requires there { IsSome (op_at label self.now) }
+        ensures bad { result ≡ bad_label (without label self.now) }
+        ensures good { IfNone result (Replays (without label self.now)) }
+    {
+        match op_at::<Brand>(&self.rows, label, Blank::new(1)) {
+            Some(op) => self.bad_without(label, op),
+            None => None,
+        }
+    }
+
+    /// The same, where the operation of the row is known.
+    fn bad_without(&self, label: u64, op: Op) -> Option<u64>
+        requires rows { AreKeyRows self.now }
+        requires replays { Replays self.now }
+        requires there { op_at label self.now ≡ Some op }
+        ensures { result ≡ bad_label (without label self.now) }
+    {
+        match op {
+            Op::Put { key, .. } => {
+                if is_there(self.before(key, label)) {
+                    return None;
+                }
+                taken_at(self.after(key, label))
+            }
+            _ => None,
+        }
+    }
+
+    /// Gives each row the label that stands in `fresh` where its own stands in `former`.
+    pub fn relabel(&mut self, former: &Labels2, fresh: &Labels2)
+        requires former { Rise former.now }
+        requires fresh { Rise fresh.now }
+        requires as_many { length fresh.now ≡ length former.now }
+        requires all { HoldsLabels former.now self.old }
+        ensures { self.new ≡ relabelled former.now fresh.now self.old }
+    {
+        relabel::<Brand>(&mut self.rows, former, fresh, Blank::new(1));
+        relabel::<Brand>(&mut self.by_key, former, fresh, Blank::new(1));
+    }
+}

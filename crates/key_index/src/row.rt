@@ -1,0 +1,71 @@
+ghost use Rattle.std.specs.Prelude.{◌≡◌};
+ghost use Rattle.key_index.specs.KeyRows.{key_of};
+
+use crate::last::Last;
+use monoid_laws::Measured;
+use retro_base::Op;
+use std::marker::Model;
+
+/// A row with its label, as it stands in the trees.
+#[derive(Clone, Copy)]
+pub(crate) struct KeyRow {
+    label: u64,
+    op: Op,
+}
+
+impl Model for KeyRow {
+    ghost use Rattle.std.specs.Prelude.{ℕ};
+    ghost use Rattle.retro_base.specs.declared.op.Op.{Op};
+
+    ghost Value = { ℕ × Op };
+
+    ghost view = { λ row. (row.label, row.op) };
+
+    ghost inverse = { λ pair. record { label = pair.0; op = pair.1 } };
+}
+
+impl KeyRow {
+    pub(crate) fn new(label: u64, op: Op) -> KeyRow
+        ensures { result ≡ (label, op) }
+    {
+        KeyRow { label, op }
+    }
+
+    pub(crate) fn label(self) -> u64
+        ensures { result ≡ self.0 }
+    {
+        self.label
+    }
+
+    pub(crate) fn op(self) -> Op
+        ensures { result ≡ self.1 }
+    {
+        self.op
+    }
+}
+
+/// The key of an operation of a dictionary.
+pub(crate) fn key_of(op: Op) -> i64
+    ensures { result ≡ key_of op }
+{
+    match op {
+        Op::Put { key, .. } => key,
+        Op::Del { key } => key,
+        _ => 0,
+    }
+}
+
+impl Measured for KeyRow {
+    ghost use Rattle.std.specs.Prelude.{refl};
+    ghost use Rattle.key_index.specs.Last.{one_row};
+
+    type Measure = Last;
+
+    ghost measured = { one_row };
+
+    ghost single = { λ row. refl };
+
+    fn measure(&self) -> Last {
+        Last::single(self.label, self.op)
+    }
+}
