@@ -65,7 +65,7 @@ def main():
         if before:
             growths = ["%7.2f" % math.log2(now / then) for now, then in zip((ran, judged), before)]
         before = (ran, judged)
-        print("%7d %9.3f %s %9.3f %s %6.1f %11.0f" % (rows, ran, growths[0], judged, growths[1], judged / ran, (most - least) / rows))
+        print("%7d %9.3f %s %9.3f %s %6.3f %11.0f" % (rows, ran, growths[0], judged, growths[1], judged / ran, (most - least) / rows))
 
 
 if __name__ == "__main__":
