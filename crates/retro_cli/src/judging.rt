@@ -1,4 +1,4 @@
-ghost use Rattle.std.specs.Prelude.{◌≡◌, ◌<◌, ◌≤◌, ◌+◌, ◌^◌, ◌++◌, [], length, IsTrue, OnOk};
+ghost use Rattle.std.specs.Prelude.{◌≡◌, ◌<◌, ◌≤◌, ◌+◌, ◌^◌, ◌++◌, [], length, IsTrue, OnOk, OnErr, false};
 ghost use Rattle.evidence_check.specs.Judgement.{cause_text, nothing_told};
 ghost use Rattle.retro_base.specs.Limits.{longest_line};
 ghost use Rattle.retro_cli.specs.Judging.{is_refusal, judgement_behind, judgement_line, lines_read, so_far, with_line};
@@ -48,12 +48,13 @@ impl Judging {
     }
 
     /// Takes a line. Of a line that is too long its first bytes are given, as many as a line may have, and `long`
-    /// says that it has more.
+    /// says that it has more. Want of memory never hides a refusal.
     pub(crate) fn take(&mut self, line: &[u8], long: bool) -> Result<(), NoMemory>
         requires within { length line.now ≤ longest_line }
         requires full { IsTrue long → length line.now ≡ longest_line }
         requires count { lines_read self.old < 2 ^ 31 }
-        ensures { OnOk result (self.new ≡ with_line self.old line.now long) }
+        ensures judged { OnOk result (self.new ≡ with_line self.old line.now long) }
+        ensures none_hidden { OnErr result (is_refusal (judgement_behind (with_line self.old line.now long) []) ≡ false) }
     {
         if self.refusal.is_some() {
             return Ok(());

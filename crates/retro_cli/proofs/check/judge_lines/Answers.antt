@@ -17,7 +17,7 @@ loop-judging-preserved g c =
     elim c.match-branch-2.branch [ in-Whole w ↦ rw w.in-Whole.is w.long-is | in-Long w ↦ rw w.in-Long.is w.long-is ] in
     let one = reads_one c.loop-judging.judging (line_of c.next.new.self) c.match-branch-2.long in
     let more = c.in_ok-next.ensures.gives.progress (is_given c.in_ok-next.field-0 c.match-branch-2.long as_given) in
-    let took = rw c.line.ensures at c.in_ok-take.ensures in
+    let took = rw c.line.ensures at c.in_ok-take.ensures.judged in
     record {
       moves = MovesOn-then c.args.reader.now c.loop-judging.reader c.next.new.self c.loop-judging.invariant.moves c.in_ok-next.ensures.moves;
       failed = c.in_ok-next.ensures.failed;

@@ -1,4 +1,4 @@
-use Rattle.std.proofs.Common.{◌≡◌, [], Some, length, ap, arith, inr, rules}
+use Rattle.std.proofs.Common.{◌≡◌, [], None, Some, length, ap, arith, inr, rules}
 use Rattle.std.specs.Prelude.{◌⊎◌}
 use Rattle.evidence_check.specs.declared.error.CheckError.TheVariants.{NoMemory}
 use Rattle.evidence_check.specs.Judgement.{first_cause}
@@ -16,7 +16,7 @@ returns-in_err-take-clause-cause c =
     let anew : first_cause c.args.self.now.told c.args.evidence.now ≡ cause_of [] c.args.evidence.now =
     rw (← c.self.view_is)
     (cause_anew c.self.inside.told.items c.args.evidence.now (rw (← c.self.view_is) at c.requires.fresh) (omega (arith, ap length c.as_slice.ensures.value))) in
-    let cause : (c.in_err-take.field-0.0 ≡ NoMemory) ⊎ (cause_of [] c.args.evidence.now ≡ Some c.in_err-take.field-0.0) =
+    let cause : ((c.in_err-take.field-0.0 ≡ NoMemory) × (cause_of [] c.args.evidence.now ≡ None)) ⊎ (cause_of [] c.args.evidence.now ≡ Some c.in_err-take.field-0.0) =
     rw c.new-told.ensures at c.in_err-take.ensures.cause in
     rw anew (search rules)
 
@@ -33,3 +33,13 @@ returns-clause-told c =
     rw (← c.self.view_is)
     (judge_anew c.self.inside.told.items c.args.evidence.now (rw (← c.self.view_is) at c.requires.fresh) c.take.new.self c.push.new.self.items c.self.inside.accepted
     c.in_ok-push.ensures.items (rw c.new-told.ensures at c.in_ok-take.ensures.rows))
+
+pub returns-in_err-push-clause-cause : goal.returns-in_err-push-clause-cause
+returns-in_err-push-clause-cause c =
+    let truth : first_cause c.args.self.now.told c.args.evidence.now ≡ None =
+    rw (
+      ← c.self.view_is,
+      cause_anew c.self.inside.told.items c.args.evidence.now (rw (← c.self.view_is) at c.requires.fresh) (omega (arith, ap length c.as_slice.ensures.value)),
+    )
+    (rw c.new-told.ensures at c.in_ok-take.ensures.ok) in
+    rw truth (search rules)
