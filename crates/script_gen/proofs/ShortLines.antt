@@ -1,5 +1,5 @@
 -- The lines of a generated script are short.
-use Rattle.std.proofs.Common.{◌≡◌, ℕ, suc, ◌+◌, ◌<◌, ◌≤◌, ◌^◌, ◌%◌, ◌==◌, ℤ, pos, Bool, true, false, nat_le, List, length, codes, decimal, arith, length-append}
+use Rattle.std.proofs.Common.{ℕ, ◌+◌, ◌<◌, ◌≤◌, ◌%◌, ◌==◌, pos, Bool, true, false, nat_le, length, decimal, arith, length-append}
 use Rattle.std.specs.Prelude.{if◌then◌else◌}
 use Rattle.std.specs.Fmt.{signed_decimal}
 use Rattle.std.proofs.lemmas.Fmt.{length-decimal-le, length_signed_le}
@@ -8,7 +8,7 @@ use Rattle.retro_base.specs.declared.kind.Kind.TheVariants.{Queue, Stack, Deque,
 use Rattle.retro_base.specs.declared.op.Op.{Op}
 use Rattle.retro_base.specs.OpText.{op_text}
 use Rattle.script_gen.specs.declared.line.Line.{Line}
-use Rattle.script_gen.specs.declared.line.Line.TheVariants.{Insert, Delete, AskMain, AskSize}
+use Rattle.script_gen.specs.declared.line.Line.TheVariants.{Insert}
 use Rattle.script_gen.specs.Draws.{first_draw, second_draw, state_after}
 use Rattle.script_gen.specs.Script.{adding_op, first_line, taking_op, line_of, line_text, main_question}
 
