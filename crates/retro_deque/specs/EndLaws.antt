@@ -5,7 +5,7 @@
 --     rows       a at the right, b at the left, c at the right, b taken, d at the left
 --     positions  a 0             b -1           c 1             -1       d -1
 --     position -1 now: the right end always reached it; the left end last did not before d was put there
-use Rattle.std.proofs.Common.{◌≡◌, ℕ, zero, suc, ◌+◌, ◌<◌, ◌≤◌, max, ℤ, pos, negsuc, ◌+ℤ◌, ◌-ℤ◌, ◌≤ℤ◌, ◌<ℤ◌, Bool, false, List, [], ◌∷◌, map, take, length, Option, Some, None, refl, sym, ap, ◌∙◌, arith, inl, inr, subst}
+use Rattle.std.proofs.Common.{◌≡◌, ℕ, zero, suc, ◌<◌, ◌≤◌, max, ℤ, pos, negsuc, ◌+ℤ◌, ◌-ℤ◌, ◌≤ℤ◌, ◌<ℤ◌, Bool, false, List, [], ◌∷◌, map, take, length, Option, Some, None, refl, ap, arith, inl, inr, subst}
 use Rattle.std.specs.Prelude.{MatchOption}
 use Rattle.std.specs.List.{insert, remove}
 use Rattle.std.proofs.lemmas.Bool.{cases_lt}
@@ -17,7 +17,7 @@ use Rattle.retro_base.specs.declared.op.Op.TheVariants.{Enq, Deq, Push, Pop, Pus
 use Rattle.retro_base.specs.declared.row.Row.{Row}
 use Rattle.retro_base.specs.Timeline.{AreOfKind}
 use Rattle.prefix_trees.specs.Growth.{left_growth, right_growth, sign_of, grown}
-use Rattle.prefix_trees.specs.Prefixes.{signs_of, prefix, IsLastAtMost, FindsLastAtMost, NoneAtMost}
+use Rattle.prefix_trees.specs.Prefixes.{signs_of, prefix, FindsLastAtMost}
 use Rattle.prefix_trees.specs.FailureLaws.{LineAt}
 use Rattle.prefix_trees.specs.FoundLaws.{FindsWriter}
 use Rattle.prefix_trees.specs.WriterLaws.{IsWrittenAt, InsideBehind, written-at}

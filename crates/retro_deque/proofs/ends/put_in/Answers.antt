@@ -1,4 +1,4 @@
-use Rattle.std.proofs.Common.{◌≡◌, ◌+◌, ◌≤◌, length, false, ◌∙◌, ap, sym, rules, arith}
+use Rattle.std.proofs.Common.{◌≡◌, ◌+◌, length, false, ◌∙◌, ap, rules, arith}
 use Rattle.std.specs.List.{insert, remove}
 use Rattle.std.proofs.lemmas.List.Edits.{length-insert}
 use Rattle.retro_base.specs.VisitsLaws.{digits-monotone, visits-longer, visits-add}

@@ -1,10 +1,9 @@
-use Rattle.std.proofs.Common.{◌≡◌, ℤ, pos, negsuc, ◌-ℤ◌, ◌∙◌, ap, sym, rules, arith, subst, length, ◌≤◌, to_z, of_z, w64}
+use Rattle.std.proofs.Common.{◌≡◌, pos, ◌-ℤ◌, ◌∙◌, ap, sym, rules, arith, subst, length, ◌≤◌, to_z, of_z, w64}
 use Rattle.std.proofs.lemmas.Int.{ints}
 use Rattle.retro_base.specs.declared.kind.Kind.TheVariants.{Deque}
-use Rattle.prefix_trees.specs.Growth.{left_growth, right_growth, grown}
+use Rattle.prefix_trees.specs.Growth.{left_growth, grown}
 use Rattle.prefix_trees.specs.Prefixes.{prefix}
 use Rattle.prefix_trees.specs.FoundLaws.{FindsWriter}
-use Rattle.retro_deque.specs.Kept.{growths}
 use Rattle.retro_deque.specs.EndLaws.{prefix-growths, left-bounded, found-by_ends}
 use Rattle.retro_deque.proofs.deque.RetroDequeLine.written_by.Goals as goal
 

@@ -1,10 +1,9 @@
-use Rattle.std.proofs.Common.{◌≡◌, ◌<◌, ◌≤◌, length, false, List, ◌∙◌, ap, sym, rules, subst}
+use Rattle.std.proofs.Common.{◌≡◌, ◌<◌, ◌≤◌, length, ◌∙◌, ap, sym, rules, subst}
 use Rattle.std.specs.List.{insert, remove}
 use Rattle.retro_base.specs.declared.kind.Kind.TheVariants.{Deque}
 use Rattle.retro_base.specs.Limits.{most_rows}
 use Rattle.retro_base.specs.Replay.{IsValid}
 use Rattle.retro_base.specs.Timeline.{IsFresh}
-use Rattle.prefix_trees.specs.Growth.{left_growth, right_growth}
 use Rattle.prefix_trees.specs.EditedLists.{remove-insert}
 use Rattle.retro_deque.specs.Kept.{IsKept}
 use Rattle.retro_deque.proofs.KeptEdits.{kept_with, kept_same}

@@ -1,4 +1,4 @@
-use Rattle.std.proofs.Common.{◌≡◌, sym, rules, subst, List}
+use Rattle.std.proofs.Common.{sym, subst}
 use Rattle.std.specs.List.{remove}
 use Rattle.retro_base.specs.declared.kind.Kind.TheVariants.{Deque}
 use Rattle.retro_base.specs.Replay.{IsValid}
