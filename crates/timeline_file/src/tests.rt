@@ -13,7 +13,6 @@ fn outcome(
     lines: &[u8],
     ended: bool,
 ) -> Result<Result<u32, BlockError>, NoMemory> {
-    assert!(rt; kind != Kind::Pq);
     let mut reader = BlockReader::new(alloc, kind, next);
     for line in lines.split(|byte| *byte == b'\n') {
         assert!(rt; line.len() <= 4096);
@@ -61,6 +60,9 @@ fn how_a_block_ends(rt: HostRuntime) -> Result<(), Fail> {
     assert_eq!(rt; found, Err(BlockError::Unfinished));
     let found = outcome(&rt, rt.alloc(), (Kind::Dict, 3), b"#1 5 del 7", false)?;
     assert_eq!(rt; found, bad(1, RowCause::Replay));
+    let entries = b"#1 3 ins 4\n#3 3 delmin\n#2 8 ins -4";
+    let found = outcome(&rt, rt.alloc(), (Kind::Pq, 4), entries, true)?;
+    assert_eq!(rt; found, Ok(3));
     let mut reader = BlockReader::new(rt.alloc(), Kind::Queue, 9);
     reader.take(b"#1 5 enq 1", false)?;
     reader.take(&[b' '; 4096], true)?;

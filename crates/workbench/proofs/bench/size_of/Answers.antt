@@ -1,5 +1,5 @@
 -- The size of what a session holds is a number of 32 bits.
-use Rattle.std.proofs.Common.{◌≡◌, ◌≤◌, rules, arith}
+use Rattle.std.proofs.Common.{◌≤◌, rules, arith}
 use Rattle.std.proofs.lemmas.Int.{to_z-of_z}
 use Rattle.retro_base.specs.Replay.{present}
 use Rattle.workbench.specs.Bench.{size_of}
