@@ -16,7 +16,7 @@ use Rattle.retro_io.specs.Source.{GivesCount}
 use Rattle.workbench.specs.Answers.{bench_after}
 use Rattle.workbench.specs.Bench.{Bench, empty_bench}
 use Rattle.workbench.specs.Reaction.{Reaction, closing, reacts, reacts_to}
-use Rattle.retro_cli.specs.Output.{answers_to, close_of, output, has_refusal, refuses_one, up_to_last_feed}
+use Rattle.retro_cli.specs.Output.{answers_to, close_of, output, refuses_one, up_to_last_feed}
 use Rattle.retro_cli.specs.declared.stop.Stop.{Stop}
 use Rattle.retro_cli.specs.declared.stop.Stop.TheVariants as stops
 use Rattle.retro_io.specs.declared.mark.ReadError.{ReadError}

@@ -9,3 +9,5 @@ pub mod Judged
 pub mod Summing
 pub mod Results
 pub mod ByCount
+pub mod SavedText
+pub mod Unhidden

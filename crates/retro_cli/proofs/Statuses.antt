@@ -8,12 +8,11 @@ use Rattle.retro_io.specs.declared.source.Source as sources
 use Rattle.retro_io.specs.Faults.{Counts, Rose}
 use Rattle.retro_cli.specs.declared.form.Form.{Form}
 use Rattle.retro_base.specs.declared.kind.Kind.{Kind}
-use Rattle.retro_cli.specs.declared.status.Status.{Status}
 use Rattle.retro_cli.specs.declared.status.Status.TheVariants as statuses
 use Rattle.retro_cli.specs.declared.stop.Stop.{Stop}
 use Rattle.retro_cli.specs.declared.stop.Stop.TheVariants as stops
-use Rattle.retro_cli.specs.Delivery.{Arrives, IsCutOff, StandsAt}
-use Rattle.retro_cli.specs.Ends.{Answers, EndsAtSink, Stands}
+use Rattle.retro_cli.specs.Delivery.{StandsAt}
+use Rattle.retro_cli.specs.Ends.{Answers, Stands}
 use Rattle.retro_cli.specs.Judging.{is_refusal, judged_output, judgement_of}
 use Rattle.retro_cli.specs.Output.{has_refusal}
 use Rattle.retro_cli.specs.Program.{AnswersScript, JudgesEvidence, SumsUp}

@@ -1,5 +1,5 @@
 -- What stands in the sink where a run writes one text, at its end, and nothing else.
-use Rattle.std.specs.Prelude.{◌≡◌, ◌⊎◌, ℕ, Bool, true, false, List, Option, None, Some, Result, Ok, Err}
+use Rattle.std.specs.Prelude.{◌≡◌, ◌⊎◌, ℕ, true, false, List, Option, None, Some, Result, Ok, Err}
 use Rattle.retro_io.specs.declared.sink.Sink.{Ghosts}
 use Rattle.retro_io.specs.Flushes.{EndsWithFailedWrite, EndsWithFlush}
 use Rattle.retro_io.specs.Sink.{Appends, AppendsProperPrefix}

@@ -1,5 +1,5 @@
 -- The judgement of evidence, of which some lines were read.
-use Rattle.std.specs.Prelude.{ℕ, ◌+◌, Bool, true, false, List, [], ◌∷◌, ◌++◌, Option, None, Some, Result, Ok, Err}
+use Rattle.std.specs.Prelude.{ℕ, ◌+◌, Bool, true, false, List, [], ◌∷◌, ◌++◌, Result, Ok, Err}
 use Rattle.retro_io.specs.Lines.{line_feed, lines}
 use Rattle.evidence_check.specs.declared.error.CheckError.{CheckError}
 use Rattle.evidence_check.specs.Judgement.{Judge, Judgement, accepted, judged_line, judgement, judgement_from, judgement_text, refused}

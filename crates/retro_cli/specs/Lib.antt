@@ -4,6 +4,7 @@ pub mod Ends
 pub mod Status
 pub mod Output
 pub mod Accepted
+pub mod SavedText
 pub mod Run
 pub mod Stop
 pub mod Words

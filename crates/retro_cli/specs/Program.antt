@@ -1,5 +1,5 @@
 -- What is claimed of a run of the program, by the form of its words.
-use Rattle.std.specs.Prelude.{◌≡◌, ℕ, Bool, true, List, Option, None, Some, IfSome, option_map}
+use Rattle.std.specs.Prelude.{◌≡◌, ℕ, true, Option, None, Some, IfSome, option_map}
 use Rattle.retro_base.specs.declared.kind.Kind.{Kind}
 use Rattle.retro_io.specs.declared.sink.Sink as sinks
 use Rattle.retro_io.specs.declared.source.Source as sources

@@ -1,5 +1,5 @@
 -- What a generated script comes to: how many of its lines are accepted and refused, and what its timeline has at the end.
-use Rattle.std.specs.Prelude.{ℕ, ◌-◌, Bool, List, [], ◌∷◌, ◌++◌, length, codes, decimal, Option}
+use Rattle.std.specs.Prelude.{ℕ, ◌-◌, List, [], ◌∷◌, ◌++◌, length, codes, decimal}
 use Rattle.std.specs.List.{filter}
 use Rattle.std.specs.Option.{option_map_or}
 use Rattle.retro_base.specs.declared.kind.Kind.{Kind}

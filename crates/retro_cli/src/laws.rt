@@ -1,9 +1,11 @@
-//! Laws over the definition of the output.
+//! Laws over the definitions of the output and of a saved text.
 
 ghost use Rattle.retro_cli.specs.Accepted.{WhatIsWrittenIsAccepted};
+ghost use Rattle.retro_cli.specs.SavedText.{SavedTextReadsBack};
 
 use evidence::laws::{lines_are_short, lines_are_values};
 use evidence_check::laws::accepted_edits_are_told;
+use timeline_file::laws::saved_reads_back;
 
 /// A law that closes the circle: whatever the script, the judgement of the lines that it writes is that all lines of
 /// evidence among them are accepted.
@@ -13,4 +15,12 @@ pub fn what_is_written_is_accepted()
     accepted_edits_are_told();
     lines_are_values();
     lines_are_short();
+}
+
+/// The text that is saved of a timeline reads back: its lines are those of a block, none of them is long, and the block
+/// comes to the same name, kind, rows and next number.
+pub fn saved_text_reads_back()
+    ensures { SavedTextReadsBack }
+{
+    saved_reads_back();
 }

@@ -56,10 +56,13 @@ no_return (byte ∷ next ∷ text) is =
     let parts = and_parts (nat_le 32 byte) (is_printable (next ∷ text)) is in
     ap (λ more. byte ∷ more) (no_return (next ∷ text) parts.1)
 
+pub line_first : (text rest : List ℕ) → is_printable text ≡ true → lines (as_line text ++ rest) ≡ text ∷ lines rest
+line_first text rest is = ap lines (append_assoc text (10 ∷ []) rest) ∙ lines-cut text rest (no_feed text is) ∙ ap (λ line. line ∷ lines rest) (no_return text is)
+
 pub reads_line : (judge after : Judge) (text : List ℕ) → is_printable text ≡ true → Takes judge text after → Reads judge (as_line text) after
 reads_line judge after text is takes = record {
   read = text ∷ [];
-  cut = λ rest. ap lines (append_assoc text (10 ∷ []) rest) ∙ lines-cut text rest (no_feed text is) ∙ ap (λ line. line ∷ lines rest) (no_return text is);
+  cut = λ rest. line_first text rest is;
   taken = leads_one Takes text judge after takes;
 }
 

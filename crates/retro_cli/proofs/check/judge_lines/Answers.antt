@@ -1,8 +1,8 @@
-use Rattle.std.proofs.Common.{◌≡◌, ◌≤◌, ◌<◌, false, suc, arith, refl, ◌∙◌}
-use Rattle.retro_io.specs.LineReader.{given, line_of, has_ended}
-use Rattle.retro_io.specs.ReaderLaws.{MovesOn-none, MovesOn-then}
+use Rattle.std.proofs.Common.{arith, ◌∙◌}
+use Rattle.retro_io.specs.LineReader.{line_of, has_ended}
+use Rattle.retro_io.specs.ReaderLaws.{MovesOn-then}
 use Rattle.retro_cli.proofs.GoesOn.{GivenAs}
-use Rattle.retro_cli.proofs.Judged.{is_given, judgement_is, judges_first, judges_next, reads_one}
+use Rattle.retro_cli.proofs.Judged.{is_given, judgement_is, judges_next, reads_one}
 use Rattle.retro_cli.proofs.check.judge_lines.Goals as goal
 use Rattle.retro_cli.proofs.check.judge_lines.Goals.{in-Whole, in-Long}
 

@@ -1,8 +1,7 @@
 use Rattle.std.proofs.Common.{◌≡◌, true, false}
 use Rattle.script_gen.specs.Coming.{GivesNext}
-use Rattle.workbench.specs.Bench.{Bench}
 use Rattle.workbench.specs.Reaction.{reacts_to}
-use Rattle.retro_cli.proofs.Summing.{counts_all, counts_else, counts_first, counts_next, counts_then, state_is}
+use Rattle.retro_cli.proofs.Summing.{counts_all, counts_else, counts_next, counts_then, state_is}
 use Rattle.retro_cli.proofs.generated.count_refusals.Goals as goal
 use Rattle.retro_cli.proofs.generated.count_refusals.Goals.{then-reply, else-reply}
 

@@ -1,6 +1,5 @@
 -- What stands at a status is said by how the run ended.
-use Rattle.std.proofs.Common.{refl}
-use Rattle.retro_cli.proofs.Statuses.{answers_script, judges_evidence, sums_up}
+use Rattle.retro_cli.proofs.Statuses.{answers_script}
 use Rattle.retro_cli.proofs.program.run.Goals as goal
 
 pub returns-in-Some-Run-clause-form : goal.returns-in-Some-Run-clause-form
