@@ -109,3 +109,8 @@ module _ {A M : Type 0} {side : Side} {items near far : List A} {node : Node A M
 -- one visit a level is no more than four
 pub few_of_one : (whole before after : ℕ) → OneALevel whole before after → FourALevel whole before after
 few_of_one whole before after visits levels within = omega (arith, visits levels within)
+
+-- a visit of the root, and then one visit a level
+pub once_more : (whole start visited end : ℕ) → visited ≡ start + 1 → 2 ≤ whole → OneALevel whole visited end → FourALevel whole start end
+once_more whole start visited end visit some below zero within = absurd (omega arith)
+once_more whole start visited end visit some below (suc levels) within = omega (arith, below (suc levels) within)

@@ -1,3 +1,4 @@
+pub mod Descents
 pub mod FoundPlaces
 pub mod Joins
 pub mod Levels

@@ -34,6 +34,13 @@ module _ (holds : ℕ → Bool) (place : ℕ) where
     not_before = λ before is. subst (λ k. holds k ≡ false) (let same : place + count ≡ before = omega arith in same) (turn.not_before count (omega arith));
   }
 
+-- where no place is left
+pub none_within : {F M : Type 0} (calls : Shared F (Bor M × Unit {0}) Bool) (test : F) (measures : ℕ → M) (to : ℕ) → to ≡ 0 → IsTurnWithin calls test measures to 0
+none_within calls test measures to none = record {
+  turn = λ holds tells end. record { holds_there = ap holds (sym none) ∙ end; not_before = λ before is. absurd (omega arith) };
+  within = omega arith;
+}
+
 module _ {A M : Type 0} {count : M → ℕ} {unit : M} {join : M → M → M} (laws : MonoidLaws count unit join) (measured : A → M) (before : M) where
   abbrev passed : M → List A → ℕ → M
   passed start items k = join start (measure_of unit join measured (take k items))
@@ -49,6 +56,20 @@ module _ {A M : Type 0} {count : M → ℕ} {unit : M} {join : M → M → M} (l
     -- the same, where the list and its length have other names
     pub carried : (rest items : List A) (length to : ℕ) → rest ≡ items → length ≡ to → (answer : Search M) → IsSought calls test count (passed before items) to answer → IsSought calls test count (passed before rest) length answer
     carried rest items length to same end answer sought = subst (λ xs. IsSought calls test count (passed before xs) length answer) (sym same) (subst (λ k. IsSought calls test count (passed before items) k answer) (sym end) sought)
+
+    -- all items at once
+    module _ (items : List A) (to : ℕ) (size : length items ≡ to) (all : M) (answer : Bool) (all_is : all ≡ join before (measure_of unit join measured items)) (call : FnReturnsAt calls test all answer) where
+      whole_same : all ≡ passed before items to
+      whole_same = all_is ∙ sym (passed_all before items) ∙ ap (passed before items) size
+
+      at_whole : (holds : ℕ → Bool) → Tells calls test (passed before items) holds 0 to → holds to ≡ answer
+      at_whole holds tells = said items holds to tells to (omega arith) all answer whole_same call
+
+      pub whole_found : answer ≡ true → (place : ℕ) → IsTurnWithin calls test (passed before items) to place → IsSought calls test count (passed before items) to (Found place)
+      whole_found is place turn = record { turn = λ holds tells. turn.turn holds tells (at_whole holds tells ∙ is); end = turn.within }
+
+      pub whole_open : answer ≡ false → count all ≡ to → IsSought calls test count (passed before items) to (Open all)
+      whole_open is counts = record { turn = λ holds tells. at_whole holds tells ∙ is; end = (whole_same, counts) }
 
     -- no item is left
     module _ (items : List A) (to : ℕ) (none : to ≡ 0) (start : M) (answer : Bool) (start_is : start ≡ before) (call : FnReturnsAt calls test start answer) where

@@ -26,6 +26,7 @@ impl Side {
     }
 
     /// A measure joined with the one beyond it, seen from this side.
+    #[inline(always)]
     pub(crate) fn join<M: Monoid>(self, near: M, far: M) -> M
         requires { M.items_of near + M.items_of far < 2 ^ 32 }
         ensures value { result ≡ join_from self M.joined near far }
@@ -87,6 +88,7 @@ impl<T: Measured> Node<T> {
     }
 
     /// A measure joined with that of the item, seen from a side.
+    #[inline(always)]
     pub(crate) fn passed(&self, side: Side, before: T::Measure) -> T::Measure
         requires fits { T.Measure.items_of before + 1 < 2 ^ 32 }
         ensures value { result ≡ join_from side T.Measure.joined before (T.measured self.now.item) }

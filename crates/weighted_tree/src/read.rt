@@ -4,7 +4,8 @@ ghost use Rattle.std.specs.List.{slice_range};
 ghost use Rattle.weighted_tree.specs.Balance.{weight};
 ghost use Rattle.weighted_tree.specs.Levels.{OneALevel, FourALevel};
 
-use crate::subtree::Subtree;
+use crate::node::Side;
+use crate::subtree::{Node, Subtree};
 use monoid_laws::{Measured, Monoid};
 use retro_base::Steps;
 use std::sync::ledger::Ledger;
@@ -17,20 +18,31 @@ impl<T: Measured> Subtree<T> {
         ensures some { steps.old + 1 ≤ steps.new }
         ensures visits { FourALevel (weight self.now) steps.old steps.new }
     {
+        self.node_at(place, steps).item
+    }
+
+    /// The node of the item at a place.
+    fn node_at<L: Ledger>(&self, place: u32, steps: &mut Steps<L>) -> &Node<T>
+        requires within { place < length self.now }
+        ensures item { slice_get self.now place ≡ Some result.now.item }
+        ensures some { steps.old + 1 ≤ steps.new }
+        ensures visits { FourALevel (weight self.now) steps.old steps.new }
+    {
         let Some(node) = self.root(steps) else {
             unreachable!()
         };
         let before = node.left.len();
         if place < before {
-            node.left.item_at(place, steps)
+            node.left.node_at(place, steps)
         } else if place > before {
-            node.right.item_at(place - before - 1, steps)
+            node.right.node_at(place - before - 1, steps)
         } else {
-            node.item
+            node
         }
     }
 
     /// The measure of the items from `from` to before `to`.
+    #[inline(always)]
     pub(crate) fn between<L: Ledger>(&self, from: u32, to: u32, steps: &mut Steps<L>) -> T::Measure
         requires order { from ≤ to }
         requires within { to ≤ length self.now }
@@ -39,27 +51,29 @@ impl<T: Measured> Subtree<T> {
         ensures some { from < to → steps.old + 1 ≤ steps.new }
         ensures visits { FourALevel (weight self.now) steps.old steps.new }
     {
-        if from == to {
-            return T::Measure::unit();
+        let (mut subtree, mut start, mut end) = (self, from, to);
+        'down: while start < end {
+            let Some(node) = subtree.root(steps) else {
+                unreachable!()
+            };
+            let before = node.left.len();
+            if end <= before {
+                subtree = &node.left;
+            } else if start > before {
+                subtree = &node.right;
+                start = start - before - 1;
+                end = end - before - 1;
+            } else {
+                let left = node.left.suffix(start, steps);
+                let right = node.right.prefix(end - before - 1, steps);
+                return node.around(left, right);
+            }
         }
-        let Some(node) = self.root(steps) else {
-            unreachable!()
-        };
-        let before = node.left.len();
-        if to <= before {
-            return node.left.between(from, to, steps);
-        }
-        if from > before {
-            return node
-                .right
-                .between(from - before - 1, to - before - 1, steps);
-        }
-        let left = node.left.suffix(from, steps);
-        let right = node.right.prefix(to - before - 1, steps);
-        node.around(left, right)
+        T::Measure::unit()
     }
 
     /// The measure of the items before `to`.
+    #[inline(always)]
     fn prefix<L: Ledger>(&self, to: u32, steps: &mut Steps<L>) -> T::Measure
         requires within { to ≤ length self.now }
         ensures value { result ≡ measure_in T.Measured T.Measure.Monoid (take to self.now) }
@@ -67,21 +81,26 @@ impl<T: Measured> Subtree<T> {
         ensures none_lost { steps.old ≤ steps.new }
         ensures visits { OneALevel (weight self.now) steps.old steps.new }
     {
-        if to == self.len() {
-            return self.whole();
+        let (mut subtree, mut rest) = (self, to);
+        let mut before = T::Measure::unit();
+        'down: while rest < subtree.len() {
+            let Some(node) = subtree.root(steps) else {
+                unreachable!()
+            };
+            let count = node.left.len();
+            if rest <= count {
+                subtree = &node.left;
+            } else {
+                before = node.passed(Side::Left, node.left.passed(Side::Left, before));
+                rest = rest - count - 1;
+                subtree = &node.right;
+            }
         }
-        let Some(node) = self.root(steps) else {
-            unreachable!()
-        };
-        let before = node.left.len();
-        if to <= before {
-            return node.left.prefix(to, steps);
-        }
-        let right = node.right.prefix(to - before - 1, steps);
-        node.around(node.left.whole(), right)
+        subtree.passed(Side::Left, before)
     }
 
     /// The measure of the items from `from` on.
+    #[inline(always)]
     fn suffix<L: Ledger>(&self, from: u32, steps: &mut Steps<L>) -> T::Measure
         requires within { from ≤ length self.now }
         ensures value { result ≡ measure_in T.Measured T.Measure.Monoid (drop from self.now) }
@@ -89,17 +108,21 @@ impl<T: Measured> Subtree<T> {
         ensures none_lost { steps.old ≤ steps.new }
         ensures visits { OneALevel (weight self.now) steps.old steps.new }
     {
-        if from == 0 {
-            return self.whole();
+        let (mut subtree, mut rest) = (self, self.len() - from);
+        let mut behind = T::Measure::unit();
+        'down: while rest < subtree.len() {
+            let Some(node) = subtree.root(steps) else {
+                unreachable!()
+            };
+            let count = node.right.len();
+            if rest <= count {
+                subtree = &node.right;
+            } else {
+                behind = node.passed(Side::Right, node.right.passed(Side::Right, behind));
+                rest = rest - count - 1;
+                subtree = &node.left;
+            }
         }
-        let Some(node) = self.root(steps) else {
-            unreachable!()
-        };
-        let before = node.left.len();
-        if from > before {
-            return node.right.suffix(from - before - 1, steps);
-        }
-        let left = node.left.suffix(from, steps);
-        node.around(left, node.right.whole())
+        subtree.passed(Side::Right, behind)
     }
 }

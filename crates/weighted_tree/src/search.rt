@@ -47,6 +47,14 @@ impl<T: Measured> Subtree<T> {
                 Search::Open(unit)
             };
         };
+        if from == 0 {
+            let all = self.whole();
+            return if passes(test, &all) {
+                Search::Found(self.turn_within(side, T::Measure::unit(), test, steps))
+            } else {
+                Search::Open(all)
+            };
+        }
         let (near, far) = node.sides(side);
         let place = near.len();
         if from > place {
@@ -70,6 +78,7 @@ impl<T: Measured> Subtree<T> {
     }
 
     /// The same from the first item on, where the test holds at the end.
+    #[inline(always)]
     fn turn_within<F: Fn(&T::Measure) -> bool, L: Ledger>(
         &self,
         side: Side,
@@ -84,24 +93,27 @@ impl<T: Measured> Subtree<T> {
         ensures none_lost { steps.old ≤ steps.new }
         ensures visits { OneALevel (weight self.now) steps.old steps.new }
     {
-        let Some(node) = self.root(steps) else {
-            return 0;
-        };
-        let (near, far) = node.sides(side);
-        let through = near.passed(side, before);
-        if passes(test, &through) {
-            return near.turn_within(side, before, test, steps);
+        let (mut subtree, mut passed, mut count) = (self, before, 0);
+        'down: while let Some(node) = subtree.root(steps) {
+            let (near, far) = node.sides(side);
+            let through = near.passed(side, passed);
+            if passes(test, &through) {
+                subtree = near;
+            } else {
+                count = count + near.len() + 1;
+                passed = node.passed(side, through);
+                if passes(test, &passed) {
+                    return count;
+                }
+                subtree = far;
+            }
         }
-        let next = node.passed(side, through);
-        let count = near.len() + 1;
-        if passes(test, &next) {
-            return count;
-        }
-        count + far.turn_within(side, next, test, steps)
+        count
     }
 }
 
 /// What the test says of a measure.
+#[inline(always)]
 fn passes<M, F: Fn(&M) -> bool>(test: &F, measure: &M) -> bool
     requires { F.IsAlwaysCallable test.now }
     ensures { FnReturnsAt F.Fn test.now measure.now result }

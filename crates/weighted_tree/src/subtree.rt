@@ -94,6 +94,7 @@ impl<T: Measured> Subtree<T> {
     }
 
     /// A measure joined with that of all items, seen from a side.
+    #[inline(always)]
     pub(crate) fn passed(&self, side: Side, before: T::Measure) -> T::Measure
         requires fits { T.Measure.items_of before + length self.now < 2 ^ 32 }
         ensures value { result ≡ join_from side T.Measure.joined before

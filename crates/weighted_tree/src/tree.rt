@@ -103,6 +103,7 @@ impl<T: Measured> Tree<T> {
     }
 
     /// The measure of the items from `from` to before `to`.
+    #[inline(always)]
     pub fn measure<L: Ledger>(&self, from: u32, to: u32, steps: &mut Steps<L>) -> T::Measure
         requires order { from ≤ to }
         requires within { to ≤ length self.now }

@@ -1,0 +1,18 @@
+use Rattle.std.proofs.Common.{◌≡◌, ℕ, ◌+◌, ◌-◌, ◌≤◌, drop, length}
+use Rattle.weighted_tree.specs.Balance.{weight}
+use Rattle.weighted_tree.specs.Levels.{OneALevel}
+use Rattle.weighted_tree.specs.Measures.{measure_in}
+use Rattle.weighted_tree.proofs.subtree.Subtree.suffix.Given as goal
+
+-- the items that are left at the end of the subtree, joined with what was passed behind it, are the whole
+abbrev pub invariant-down : goal.invariant-down
+invariant-down g l = record {
+  value : g.T.Measure.Monoid.joined (measure_in g.T.Measured g.T.Measure.Monoid (drop (length l.subtree - l.rest) l.subtree)) l.behind ≡ measure_in g.T.Measured g.T.Measure.Monoid (drop l.fn.from l.self);
+  items : g.T.Measure.Monoid.items_of l.behind + l.rest + l.fn.from ≡ length l.self;
+  within : l.rest ≤ length l.subtree;
+  none_lost : l.initial.steps ≤ l.steps;
+  levels : (after : ℕ) → OneALevel (weight l.subtree) l.steps after → OneALevel (weight l.self) l.initial.steps after;
+}
+
+abbrev pub decreases-down : goal.decreases-down
+decreases-down g l = length l.subtree
