@@ -166,7 +166,10 @@ impl SignTree {
 
     /// A tree of the same signs.
     pub fn copy<L: Ledger>(&self, steps: &mut Steps<L>) -> Result<SignTree, NoMemory>
-        ensures { IfOk result (λ copy. copy ≡ self.now) }
+        ensures signs { IfOk result (λ copy. copy ≡ self.now) }
+        ensures none_lost { steps.old ≤ steps.new }
+        ensures ok_visits { OnOk result (steps.new ≡ steps.old + length self.now) }
+        ensures err_visits { OnErr result (steps.new ≤ steps.old + length self.now) }
     {
         let signs = self.signs.copy(steps)?;
         Ok(SignTree { signs })

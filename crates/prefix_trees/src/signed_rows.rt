@@ -1,4 +1,4 @@
-ghost use Rattle.std.specs.Prelude.{◌≡◌, ℕ, ℤ, List, pos, negsuc, ◌-ℤ◌, ◌+◌, ◌^◌, ◌<◌, ◌≤◌, [], length, slice_get, Some, OnOk, OnErr, IfOk, IfSome};
+ghost use Rattle.std.specs.Prelude.{◌≡◌, ℕ, ℤ, List, pos, negsuc, ◌-ℤ◌, ◌+◌, ◌*◌, ◌^◌, ◌<◌, ◌≤◌, [], length, slice_get, Some, OnOk, OnErr, IfOk, IfSome};
 ghost use Rattle.std.specs.List.{insert, remove};
 ghost use Rattle.retro_base.specs.declared.row.Row.{Row};
 ghost use Rattle.retro_base.specs.Visits.{VisitsWithin};
@@ -212,7 +212,9 @@ impl SignedRows {
 
     /// The same rows once more.
     pub fn copy<L: Ledger>(&self, steps: &mut Steps<L>) -> Result<SignedRows, NoMemory>
-        ensures { IfOk result (λ copy. copy ≡ self.now) }
+        ensures rows { IfOk result (λ copy. copy ≡ self.now) }
+        ensures none_lost { steps.old ≤ steps.new }
+        ensures visits { steps.new ≤ steps.old + 2 * length self.now }
     {
         let rows = self.rows.copy(steps)?;
         let signs = self.signs.copy(steps)?;
