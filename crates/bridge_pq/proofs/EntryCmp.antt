@@ -1,17 +1,13 @@
 -- The derived order of entries is that of the definitions.
-use Rattle.std.proofs.Common.{◌≡◌, ℕ, ℤ, Bool, true, false, ◌&&◌, ◌||◌, ◌⊎◌, inl, inr, ◌<◌, refl, sym, subst, arith, int_cmp, nat_cmp}
+use Rattle.std.proofs.Common.{◌≡◌, ℕ, ℤ, Bool, true, false, ◌&&◌, ◌||◌, ◌⊎◌, inl, inr, refl, sym, subst, arith, int_cmp, nat_cmp}
 use Rattle.std.specs.Prelude.{int_lt, nat_lt}
 use Rattle.std.specs.Ordering.{is_gt, ordering_then, int_eq}
-use Rattle.std.specs.declared.cmp.Ordering.{Ordering}
-use Rattle.std.specs.declared.cmp.Ordering.TheVariants.{Less, Equal, Greater}
+use Rattle.std.specs.declared.cmp.Ordering.TheVariants.{Less}
 use Rattle.std.proofs.lemmas.Int.{ints}
 use Rattle.std.proofs.lemmas.Bool.Decides.{nat_tests}
 use Rattle.retro_base.specs.declared.row.Entry.{Entry}
-use Rattle.retro_base.specs.contracts.row.EntryOrd.TheImpl.{cmp-value}
 use Rattle.retro_base.specs.State.{comes_before}
-
-abbrev pub entry_order : Entry → Entry → Ordering
-entry_order = cmp-value.it
+use Rattle.bridge_pq.specs.EntryOrder.{entry_order}
 
 -- the order of pairs of a key and a number
 abbrev pair_before : ℤ → ℕ → ℤ → ℕ → Bool

@@ -1,26 +1,25 @@
 -- Entries in their order, as they are measured: where one of them has its place, and which is the k-th of the present.
-use Rattle.std.proofs.Common.{◌≡◌, ◌≢◌, ℕ, zero, suc, ◌+◌, ◌-◌, ◌<◌, ◌≤◌, ℤ, pos, ◌+ℤ◌, Bool, true, false, List, [], ◌∷◌, map, take, drop, length, cond, ◌⊎◌, inl, inr, refl, sym, ap, ◌∙◌, arith, subst, Option, Some, None}
-use Rattle.std.specs.Prelude.{not, slice_index_or, Contains, if◌then◌else◌}
-use Rattle.std.specs.List.{AllByRecursion, AllWithin, slice_get, slice_range, slice_set, insert, remove, filter}
+use Rattle.std.proofs.Common.{◌≡◌, ℕ, zero, suc, ◌+◌, ◌-◌, ◌<◌, ◌≤◌, ℤ, pos, ◌+ℤ◌, Bool, true, false, List, [], ◌∷◌, map, take, length, refl, sym, ap, ◌∙◌, arith, subst, Option, Some, None}
+use Rattle.std.specs.Prelude.{not, slice_index_or, if◌then◌else◌}
+use Rattle.std.specs.List.{AllByRecursion, AllWithin, slice_get, slice_range}
 use Rattle.std.specs.Int.Signed.{lt_z}
-use Rattle.std.specs.Ordering.{flip_args}
-use Rattle.std.proofs.lemmas.Bool.{cases_lt}
 use Rattle.std.proofs.lemmas.Int.{ints}
 use Rattle.std.proofs.lemmas.List.{take_all, length-map}
 use Rattle.monoid_laws.specs.Both.{joined_both}
-use Rattle.monoid_laws.specs.Extreme.{Extreme, no_extreme, joined_extreme, one_element, extreme_of, first_greatest, greater_of, moved, at_start}
+use Rattle.monoid_laws.specs.Extreme.{Extreme, no_extreme, joined_extreme, one_element, extreme_of, first_greatest, moved}
 use Rattle.monoid_laws.specs.Measure.{measure_of}
-use Rattle.monoid_laws.specs.Summed.{Summed, no_sum, joined_sum, one_sum}
+use Rattle.monoid_laws.specs.Summed.{Summed, no_sum, joined_sum}
 use Rattle.retro_base.specs.declared.row.Entry.{Entry}
 use Rattle.retro_base.specs.EntriesInOrder.{AreInOrder}
 use Rattle.retro_base.specs.OrderLaws.{all_weaker}
 use Rattle.retro_base.specs.State.{comes_before}
 use Rattle.retro_base.proofs.EntrySteps.{partitioned}
 use Rattle.retro_base.proofs.bridges.EntryOrder.{before_one_way}
-use Rattle.weighted_tree.specs.Search.{HoldsNowhere, IsFirstPlace, IsRising, IsFirstOrNone}
+use Rattle.weighted_tree.specs.Search.{HoldsNowhere, IsFirstPlace, IsRising}
 use Rattle.bridge_pq.specs.declared.marked_entry.MarkedEntry.{MarkedEntry}
 use Rattle.bridge_pq.specs.MarkedEntries.{entries_in, present_in, Rise, entry_measure, reaches}
-use Rattle.bridge_pq.proofs.EntryCmp.{entry_order, before-less}
+use Rattle.bridge_pq.specs.EntryOrder.{entry_order}
+use Rattle.bridge_pq.proofs.EntryCmp.{before-less}
 
 -- what a range measures, part by part
 abbrev pub measures_in : List MarkedEntry → Summed × Extreme Entry

@@ -1,3 +1,5 @@
+pub mod EntryOrder
+pub mod Spots
 pub mod MarkedRows
 pub mod MarkedEntries
 pub mod Bridged

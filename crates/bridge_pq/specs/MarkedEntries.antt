@@ -1,9 +1,15 @@
 -- Entries in their order, each with a mark that tells whether it is in the present.
-use Rattle.std.specs.Prelude.{◌≡◌, ℕ, ◌+◌, pos, Bool, true, false, not, List, [], ◌∷◌, map, if◌then◌else◌, refl}
+use Rattle.std.specs.Prelude.{◌≡◌, ℕ, pos, Bool, true, false, not, List, [], ◌∷◌, map, if◌then◌else◌, refl}
 use Rattle.std.specs.Prelude.{Option, Some, None}
 use Rattle.std.specs.List.{AllByRecursion, filter}
-use Rattle.monoid_laws.specs.Extreme.{Extreme, one_element}
-use Rattle.monoid_laws.specs.Summed.{Summed, one_sum}
+use Rattle.monoid_laws.specs.Both.{joined_both}
+use Rattle.monoid_laws.specs.BothLaws.{both_laws}
+use Rattle.monoid_laws.specs.Extreme.{Extreme, no_extreme, joined_extreme, one_element}
+use Rattle.monoid_laws.specs.ExtremeLaws.{extreme_laws}
+use Rattle.monoid_laws.specs.Laws.{MonoidLaws}
+use Rattle.monoid_laws.specs.Summed.{Summed, no_sum, one_sum, joined_sum}
+use Rattle.monoid_laws.specs.SummedLaws.{sum_laws}
+use Rattle.bridge_pq.specs.EntryOrder.{entry_order, entry_total}
 use Rattle.retro_base.specs.declared.row.Entry.{Entry}
 use Rattle.retro_base.specs.Bridges.{is_among, same_entry}
 use Rattle.retro_base.specs.State.{comes_before}
@@ -25,6 +31,16 @@ Rise (x ∷ xs) = AllByRecursion (λ y. comes_before x y ≡ true) xs × Rise xs
 -- each mark tells whether the entry is among these
 abbrev pub TellPresent : List Entry → List MarkedEntry → Type 0
 TellPresent alive items = AllByRecursion (λ item. item.present ≡ is_among alive item.entry) items
+
+-- what entries measure: none of them, and one range behind another
+abbrev pub no_entries : Summed × Extreme Entry
+no_entries = (no_sum, no_extreme)
+
+abbrev pub joined_entries : Summed × Extreme Entry → Summed × Extreme Entry → Summed × Extreme Entry
+joined_entries = joined_both joined_sum (joined_extreme entry_order)
+
+pub entries_laws : MonoidLaws (λ m. m.0.items) no_entries joined_entries
+entries_laws = both_laws sum_laws (extreme_laws entry_total)
 
 -- what one marked entry measures
 abbrev pub entry_measure : MarkedEntry → Summed × Extreme Entry

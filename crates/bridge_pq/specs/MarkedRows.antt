@@ -1,12 +1,19 @@
 -- Rows with a mark that tells whether the entry that they add survives: what they weigh, and what a range of them measures.
-use Rattle.std.specs.Prelude.{◌≡◌, ℕ, ℤ, pos, negsuc, Bool, true, false, List, [], ◌∷◌, map, if◌then◌else◌, refl}
+use Rattle.std.specs.Prelude.{◌≡◌, ℕ, ℤ, pos, negsuc, Bool, true, false, List, map, if◌then◌else◌, refl}
 use Rattle.std.specs.Prelude.{Option, Some, None}
 use Rattle.std.specs.List.{AllByRecursion, slice_range}
 use Rattle.std.specs.Int.Signed.{le_z}
 use Rattle.std.specs.Prelude.{◌+ℤ◌, ◌-ℤ◌}
-use Rattle.monoid_laws.specs.Extreme.{Extreme, one_element}
+use Rattle.std.specs.Ordering.{flip_args}
+use Rattle.monoid_laws.specs.Both.{joined_both}
+use Rattle.monoid_laws.specs.BothLaws.{both_laws}
+use Rattle.monoid_laws.specs.Extreme.{Extreme, no_extreme, joined_extreme, one_element}
+use Rattle.monoid_laws.specs.ExtremeLaws.{extreme_laws, least_laws}
+use Rattle.monoid_laws.specs.Laws.{MonoidLaws}
 use Rattle.monoid_laws.specs.Summed.{sum_to}
-use Rattle.monoid_laws.specs.Walk.{Walk, one_step, walk_of, lowest_of, height_of}
+use Rattle.monoid_laws.specs.Walk.{Walk, no_walk, one_step, joined_walk, walk_of, lowest_of, height_of}
+use Rattle.monoid_laws.specs.WalkLaws.{walk_laws}
+use Rattle.bridge_pq.specs.EntryOrder.{entry_order, entry_total}
 use Rattle.retro_base.specs.declared.row.Entry.{Entry}
 use Rattle.retro_base.specs.declared.row.Row.{Row}
 use Rattle.retro_base.specs.Bridges.{is_among}
@@ -43,6 +50,16 @@ alive_in false added = None
 -- the weights of marked rows
 abbrev pub weights_of : List MarkedRow → List ℤ
 weights_of items = map (λ item. weight_in item.survives (added_by item.row)) items
+
+-- what rows measure: none of them, and one range behind another
+abbrev pub no_rows : Walk × (Extreme Entry × Extreme Entry)
+no_rows = (no_walk, (no_extreme, no_extreme))
+
+abbrev pub joined_rows : Walk × (Extreme Entry × Extreme Entry) → Walk × (Extreme Entry × Extreme Entry) → Walk × (Extreme Entry × Extreme Entry)
+joined_rows = joined_both joined_walk (joined_both (joined_extreme entry_order) (joined_extreme (flip_args entry_order)))
+
+pub rows_laws : MonoidLaws (λ m. m.0.items) no_rows joined_rows
+rows_laws = both_laws walk_laws (both_laws (extreme_laws entry_total) (least_laws entry_total))
 
 -- what one marked row measures
 abbrev pub row_measure : MarkedRow → Walk × (Extreme Entry × Extreme Entry)

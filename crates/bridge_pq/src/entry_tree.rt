@@ -4,7 +4,8 @@ ghost use Rattle.retro_base.specs.State.{comes_before};
 ghost use Rattle.retro_base.specs.Visits.{VisitsWithin};
 ghost use Rattle.bridge_pq.specs.MarkedEntries.{entries_in, present_in, Rise, reaches, put_marked, without_entry, marked_so};
 
-use crate::marked_entry::{EntryMeasure, MarkedEntry};
+use crate::entry_measure::EntryMeasure;
+use crate::marked_entry::MarkedEntry;
 use retro_base::{Entry, NoMemory, Steps};
 use std::sync::ledger::Ledger;
 use weighted_tree::Tree;
@@ -13,7 +14,7 @@ use weighted_tree::Tree;
 fn reaches(range: &EntryMeasure, entry: Entry) -> bool
     ensures { result ≡ reaches entry range.now.1.first }
 {
-    match range.second().element() {
+    match range.greatest() {
         Some(greatest) => !greatest.comes_before(entry),
         None => false,
     }
@@ -89,7 +90,7 @@ pub(crate) fn mark_entry<L: Ledger>(
 fn marks(range: &EntryMeasure) -> i128
     ensures { result ≡ range.now.0.sum }
 {
-    range.first().sum()
+    i128::from(range.present())
 }
 
 /// How many entries are in the present.

@@ -38,11 +38,14 @@ mod changes;
 #[cfg(test)]
 mod compared;
 mod edit;
+mod entry_measure;
 mod entry_tree;
 mod failure;
 mod marked_entry;
 mod marked_row;
+mod row_measure;
 mod row_search;
+mod spot;
 #[cfg(test)]
 mod tests;
 mod turned;

@@ -1,8 +1,6 @@
-use monoid_laws::{Both, Greatest, Measured, Sum};
+use crate::entry_measure::EntryMeasure;
+use monoid_laws::Measured;
 use retro_base::Entry;
-
-/// What a range of entries measures: how many of them are in the present, and the greatest.
-pub(crate) type EntryMeasure = Both<Sum, Greatest<Entry>>;
 
 /// An entry, and whether it is in the present.
 #[derive(Clone, Copy)]
@@ -21,7 +19,6 @@ impl Measured for MarkedEntry {
     ghost single = { entry_measure-items };
 
     fn measure(&self) -> EntryMeasure {
-        let mark = if self.present { 1 } else { 0 };
-        Both::single(Sum::single(mark), Greatest::single(Some(self.entry)))
+        EntryMeasure::single(self.entry, self.present)
     }
 }

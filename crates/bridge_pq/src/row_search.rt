@@ -1,6 +1,5 @@
 ghost use Rattle.std.specs.Prelude.{◌≡◌, ℕ, pos, ◌<◌, ◌≤◌, List, length, slice_get, slice_set, MatchOption, Some};
 ghost use Rattle.monoid_laws.specs.Summed.{sum_to};
-ghost use Rattle.monoid_laws.specs.Walk.{lowest_of, height_of};
 ghost use Rattle.retro_base.specs.declared.row.Entry.{Entry};
 ghost use Rattle.retro_base.specs.BridgeTable.{IsDeadFrom, IsSurvivorBefore, IsGreatest, IsLeast};
 ghost use Rattle.retro_base.specs.Bridges.{survivors, IsLastBridge, IsFirstBridge};
@@ -11,25 +10,11 @@ ghost use Rattle.bridge_pq.specs.MarkedRows.{rows_of, weights_of, AreMarked, fal
 ghost use Rattle.bridge_pq.specs.declared.marked_row.MarkedRow.{MarkedRow};
 ghost use Rattle.weighted_tree.specs.Search.{IsFirstOrNone, IsLastOrNone};
 
-use crate::marked_row::{MarkedRow, RowMeasure};
+use crate::marked_row::MarkedRow;
+use crate::row_measure::RowMeasure;
 use retro_base::{Entry, Steps};
 use std::sync::ledger::Ledger;
 use weighted_tree::Tree;
-
-/// How far the weights of a range fall below its start.
-fn lowest(range: &RowMeasure) -> i64
-    ensures { result ≡ lowest_of range.now.0 }
-{
-    range.first().least()
-}
-
-/// How far a range ends above its lowest point.
-fn height(range: &RowMeasure) -> i64
-    ensures { result ≡ height_of range.now.0 }
-{
-    let walk = range.first();
-    walk.sum() - walk.least()
-}
 
 /// How many dead entries are held at a place.
 fn dead_at<L: Ledger>(rows: &Tree<MarkedRow>, place: u32, steps: &mut Steps<L>) -> i64
@@ -37,7 +22,7 @@ fn dead_at<L: Ledger>(rows: &Tree<MarkedRow>, place: u32, steps: &mut Steps<L>) 
     ensures sum { result ≡ sum_to (weights_of rows.now) place }
     ensures visits { VisitsWithin 12 (length rows.now) steps.old steps.new }
 {
-    rows.measure(0, place, steps).first().sum()
+    rows.measure(0, place, steps).sum()
 }
 
 /// The least place from `from` on up to which the dead that are held once were none.
@@ -49,7 +34,7 @@ fn first_falling<L: Ledger>(rows: &Tree<MarkedRow>, from: u32, steps: &mut Steps
     let start = i128::from(dead_at(rows, from, steps));
     rows.first_place(
         from,
-        |range: &RowMeasure| start + i128::from(lowest(range)) <= 0,
+        |range: &RowMeasure| start + i128::from(range.least()) <= 0,
         steps,
     )
 }
@@ -63,7 +48,7 @@ fn last_keeping<L: Ledger>(rows: &Tree<MarkedRow>, to: u32, steps: &mut Steps<L>
     let end = i128::from(dead_at(rows, to, steps));
     rows.last_place(
         to,
-        |range: &RowMeasure| end - i128::from(height(range)) <= 0,
+        |range: &RowMeasure| end - i128::from(range.height()) <= 0,
         steps,
     )
 }
@@ -118,7 +103,7 @@ pub(crate) fn greatest_dead<L: Ledger>(
     ensures visits { VisitsWithin 12 (length rows.now) steps.old steps.new }
 {
     let range = rows.measure(bridge, rows.len(), steps);
-    let offset = range.second().first().offset()?;
+    let offset = range.dead_offset()?;
     Some(bridge + offset)
 }
 
@@ -136,7 +121,7 @@ pub(crate) fn least_survivor<L: Ledger>(
     ensures visits { VisitsWithin 12 (length rows.now) steps.old steps.new }
 {
     let range = rows.measure(0, bridge, steps);
-    range.second().second().offset()
+    range.alive_offset()
 }
 
 /// The entry that the row at a place adds.

@@ -1,10 +1,10 @@
-use Rattle.std.proofs.Common.{◌≡◌, ◌≤◌, ◌∙◌, length, subst, sym, arith, rules}
+use Rattle.std.proofs.Common.{◌≡◌, ◌∙◌, length, subst, sym, rules}
 use Rattle.std.specs.List.{slice_range, AllWithin}
 use Rattle.std.specs.Prelude.{true}
 use Rattle.retro_base.specs.State.{comes_before}
 use Rattle.weighted_tree.specs.Search.{HoldsNowhere, IsFirstPlace}
 use Rattle.bridge_pq.specs.MarkedEntries.{reaches, entries_in}
-use Rattle.bridge_pq.proofs.EntryPlaces.{measures_in, reached, reached-rises, reached-told, IsPlace, place-some, place-before, place-none}
+use Rattle.bridge_pq.proofs.EntryPlaces.{measures_in, reached, reached-rises, reached-told, place-some, place-before, place-none}
 use Rattle.bridge_pq.proofs.entry_tree.place_of.Goals as goal
 
 pub overflow_sub-result : goal.overflow_sub-result

@@ -1,5 +1,4 @@
 use Rattle.std.proofs.Common.{◌≡◌, ◌∙◌, ap, pos, length, rules}
-use Rattle.std.proofs.lemmas.Int.{to_z-of_z}
 use Rattle.std.specs.List.{slice_range}
 use Rattle.bridge_pq.specs.MarkedEntries.{present_in}
 use Rattle.bridge_pq.proofs.EntryPlaces.{measures_in, size-told}
@@ -9,4 +8,4 @@ pub returns-clause-size : goal.returns-clause-size
 returns-clause-size g c =
     let size : c.marks.result ≡ pos (length (present_in c.args.entries.now)) =
     c.marks.ensures ∙ ap (λ m. m.0.sum) c.measure.ensures.value ∙ ap (λ n. (measures_in (slice_range c.args.entries.now 0 n)).0.sum) c.len.ensures ∙ size-told c.args.entries.now in
-    search (rules, to_z-of_z, size)
+    search (rules, size)

@@ -5,7 +5,7 @@ use Rattle.monoid_laws.specs.PrefixSumLaws.{reaches-rises}
 use Rattle.monoid_laws.specs.Summed.{sum_to}
 use Rattle.monoid_laws.specs.Walk.{lowest_of}
 use Rattle.bridge_pq.specs.MarkedRows.{weights_of, falls_from}
-use Rattle.bridge_pq.proofs.EntryCmp.{entry_order}
+use Rattle.bridge_pq.specs.EntryOrder.{entry_order}
 use Rattle.bridge_pq.proofs.RowMeasures.{measures_of, range-walk}
 use Rattle.bridge_pq.proofs.row_search.first_falling.Goals as goal
 

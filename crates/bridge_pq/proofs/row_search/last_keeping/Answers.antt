@@ -5,7 +5,7 @@ use Rattle.monoid_laws.specs.Summed.{sum_to}
 use Rattle.monoid_laws.specs.SuffixSumLaws.{keeps-falls}
 use Rattle.monoid_laws.specs.Walk.{height_of}
 use Rattle.bridge_pq.specs.MarkedRows.{weights_of, keeps_up_to}
-use Rattle.bridge_pq.proofs.EntryCmp.{entry_order}
+use Rattle.bridge_pq.specs.EntryOrder.{entry_order}
 use Rattle.bridge_pq.proofs.RowMeasures.{measures_of, range-walk}
 use Rattle.bridge_pq.proofs.row_search.last_keeping.Goals as goal
 
