@@ -1,7 +1,7 @@
 -- Costs of calls one after another.
-use Rattle.std.proofs.Common.{ℕ, ◌+◌, ◌≤◌, arith}
+use Rattle.std.proofs.Common.{ℕ, ◌+◌, arith}
 use Rattle.retro_base.specs.Visits.{VisitsWithin}
-use Rattle.retro_base.specs.VisitsLaws.{visits-add, visits-longer}
+use Rattle.retro_base.specs.VisitsLaws.{visits-add}
 
 pub no_visit : (factor length steps : ℕ) → VisitsWithin factor length steps steps
 no_visit factor length steps = record { none_lost = omega arith; few = omega arith }

@@ -1,9 +1,8 @@
 -- An edit of what a queue by bridges keeps: the row comes in or goes, and then the marks of the changed entry are turned.
-use Rattle.std.proofs.Common.{◌≡◌, ◌≢◌, ℕ, zero, suc, ◌+◌, ◌<◌, ◌≤◌, Bool, true, false, List, [], ◌∷◌, length, inl, inr, refl, sym, ap, ◌∙◌, arith, subst, Some, None}
+use Rattle.std.proofs.Common.{◌≡◌, ℕ, ◌<◌, ◌≤◌, Bool, false, List, length, sym, ap, ◌∙◌, arith, subst, Some, None}
 use Rattle.std.specs.Prelude.{Contains, slice_set, Result, Ok, Err, OnOk, OnErr}
 use Rattle.std.specs.List.{insert, remove, slice_get}
 use Rattle.std.proofs.lemmas.List.{length-map}
-use Rattle.std.proofs.lemmas.List.Edits.{length-insert}
 use Rattle.std.proofs.lemmas.Option.{slice_get_within}
 use Rattle.retro_base.specs.declared.kind.Kind.TheVariants.{Pq}
 use Rattle.retro_base.specs.declared.row.Change.TheVariants.{Lose}
@@ -26,7 +25,7 @@ use Rattle.retro_base.proofs.bridges.NamedChange.{cut_survivor_changes}
 use Rattle.bridge_pq.specs.declared.marked_row.MarkedRow.{MarkedRow}
 use Rattle.bridge_pq.specs.declared.marked_entry.MarkedEntry.{MarkedEntry}
 use Rattle.bridge_pq.specs.Bridged.{AddsAt, IsTurned, Holds, IsBridged}
-use Rattle.bridge_pq.specs.MarkedEntries.{entries_in, Rise, put_marked, without_entry, marked_so}
+use Rattle.bridge_pq.specs.MarkedEntries.{entries_in, put_marked, without_entry, marked_so}
 use Rattle.bridge_pq.specs.MarkedRows.{rows_of, AreMarked}
 use Rattle.bridge_pq.proofs.Places.{map-insert, map-remove, map-get}
 use Rattle.bridge_pq.proofs.RowExtremes.{adds-in, adds-within}

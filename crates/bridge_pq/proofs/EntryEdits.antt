@@ -1,13 +1,13 @@
 -- At the place that an entry has among others in their order it is put in, taken out, or marked.
-use Rattle.std.proofs.Common.{◌≡◌, ◌≢◌, ℕ, zero, suc, ◌+◌, ◌<◌, ◌≤◌, Bool, true, false, List, [], ◌∷◌, length, cond, ◌⊎◌, inl, inr, refl, sym, ap, ◌∙◌, arith, subst, Result, Ok, Err}
-use Rattle.std.specs.Prelude.{not, slice_set, Contains, OnOk, OnErr}
-use Rattle.std.specs.List.{AllByRecursion, AllWithin, insert, remove, filter}
+use Rattle.std.proofs.Common.{◌≡◌, ◌≢◌, ℕ, zero, suc, ◌+◌, ◌<◌, ◌≤◌, Bool, true, false, List, [], ◌∷◌, length, ◌⊎◌, inl, inr, refl, sym, ap, ◌∙◌, arith, subst, Result, Ok, Err}
+use Rattle.std.specs.Prelude.{slice_set, OnOk, OnErr}
+use Rattle.std.specs.List.{AllByRecursion, AllWithin, insert, remove}
 use Rattle.std.proofs.lemmas.List.Edits.{length-insert}
 use Rattle.retro_base.specs.declared.row.Entry.{Entry}
 use Rattle.retro_base.specs.Bridges.{same_entry}
 use Rattle.retro_base.specs.State.{comes_before}
 use Rattle.retro_base.proofs.bridges.EntryOrder.{before_irreflexive, before_one_way, before_or_after, same_entry-refl, not_same}
-use Rattle.retro_base.proofs.bridges.Entries.{In, above_in, contains_in}
+use Rattle.retro_base.proofs.bridges.Entries.{In, above_in}
 use Rattle.bridge_pq.specs.declared.marked_entry.MarkedEntry.{MarkedEntry}
 use Rattle.bridge_pq.specs.MarkedEntries.{entries_in, Rise, put_marked, without_entry, marked_so}
 

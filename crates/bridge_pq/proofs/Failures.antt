@@ -1,7 +1,7 @@
 -- The first row that could not be performed after an edit of a queue by bridges.
-use Rattle.std.proofs.Common.{◌≡◌, ◌≢◌, ℕ, zero, suc, ◌+◌, ◌<◌, ◌≤◌, ◌-◌, true, false, Bool, List, [], ◌∷◌, length, inl, inr, refl, sym, ap, ◌∙◌, arith, subst, Some, None, Option, IsSome, Result, Ok, Err}
+use Rattle.std.proofs.Common.{◌≡◌, ℕ, zero, suc, ◌+◌, ◌≤◌, ◌-◌, true, List, [], ◌∷◌, length, refl, sym, ap, ◌∙◌, arith, subst, Some, None, Option, Result, Err}
 use Rattle.std.specs.Prelude.{Contains, is_some}
-use Rattle.std.specs.List.{insert, remove, slice_get, AllByRecursion}
+use Rattle.std.specs.List.{insert, remove, slice_get}
 use Rattle.std.specs.Option.{option_map_or}
 use Rattle.std.specs.Result.{result_err}
 use Rattle.retro_base.specs.declared.kind.Kind.TheVariants.{Pq}

@@ -1,9 +1,8 @@
 -- Where a search of the weights turns there is a bridge: the sums are never below 0, so where one is at most 0 it is 0.
-use Rattle.std.proofs.Common.{◌≡◌, ℕ, ◌<◌, ◌≤◌, ℤ, pos, ◌+ℤ◌, ◌≤ℤ◌, ◌<ℤ◌, true, false, List, length, refl, sym, ap, ◌∙◌, arith, subst}
+use Rattle.std.proofs.Common.{◌≡◌, ℕ, ◌≤◌, ℤ, pos, ◌≤ℤ◌, ◌<ℤ◌, List, length, sym, ◌∙◌, arith, subst}
 use Rattle.std.proofs.lemmas.Int.{ints}
 use Rattle.std.proofs.lemmas.List.{length-map}
 use Rattle.monoid_laws.specs.Summed.{sum_to}
-use Rattle.retro_base.specs.declared.row.Row.{Row}
 use Rattle.retro_base.specs.Bridges.{survivors, IsBridge, IsLastBridge, IsFirstBridge}
 use Rattle.retro_base.specs.Carried.{IsPqHistory}
 use Rattle.retro_base.specs.Weights.{sum_of_weights}

@@ -1,5 +1,5 @@
 -- What is found at a bridge is what the edit turns.
-use Rattle.std.proofs.Common.{◌≡◌, ◌≢◌, ℕ, suc, ◌+◌, ◌-◌, ◌<◌, ◌≤◌, Bool, true, false, List, length, cond, ◌⊎◌, inl, inr, refl, sym, ap, ◌∙◌, arith, subst, add-one, Option, Some, None}
+use Rattle.std.proofs.Common.{◌≡◌, ◌≢◌, ℕ, suc, ◌+◌, ◌-◌, ◌<◌, ◌≤◌, true, false, List, length, cond, ◌⊎◌, inl, inr, refl, sym, ap, ◌∙◌, arith, subst, add-one, Option, Some, None}
 use Rattle.std.specs.Prelude.{nat_lt, Contains}
 use Rattle.std.specs.List.{insert, remove, slice_get}
 use Rattle.std.proofs.lemmas.Bool.{cases_lt}
@@ -18,7 +18,6 @@ use Rattle.retro_base.proofs.bridges.EntryOrder.{before_irreflexive}
 use Rattle.retro_base.proofs.bridges.Chain.{at_most_trans}
 use Rattle.retro_base.proofs.bridges.LossTable.{added_take_loses, cut_dead_loses}
 use Rattle.retro_base.proofs.bridges.NamedChange.{added_entry_changes, added_take_changes, cut_take_changes, cut_dead_changes, cut_take_leaves_dead}
-use Rattle.bridge_pq.specs.declared.turned.Turned.{Turned}
 use Rattle.bridge_pq.specs.Bridged.{AddsAt}
 use Rattle.bridge_pq.specs.Turns.{Turns}
 use Rattle.bridge_pq.proofs.Places.{insert-at, insert-before, insert-behind, remove-before, remove-behind}

@@ -1,21 +1,21 @@
 -- The entries that rows add, as rows come in and go and marks are turned.
-use Rattle.std.proofs.Common.{◌≡◌, ◌≢◌, ℕ, zero, suc, ◌+◌, ◌<◌, ◌≤◌, Bool, true, false, List, [], ◌∷◌, length, take, cond, ◌⊎◌, inl, inr, refl, sym, ap, ◌∙◌, arith, subst, Option, Some, None}
+use Rattle.std.proofs.Common.{◌≡◌, ◌≢◌, ℕ, zero, suc, ◌+◌, ◌≤◌, Bool, true, false, List, [], ◌∷◌, length, cond, ◌⊎◌, inl, inr, refl, sym, ap, ◌∙◌, arith, subst, Option, Some, None}
 use Rattle.std.specs.Prelude.{not, Contains, ◌↔◌}
-use Rattle.std.specs.List.{insert, remove, slice_get, cons_option, AllByRecursion, filter}
+use Rattle.std.specs.List.{insert, remove, slice_get, cons_option, AllByRecursion}
 use Rattle.std.specs.Result.{result_unwrap_or}
 use Rattle.std.proofs.Math.Seq.{take-length}
 use Rattle.retro_base.specs.declared.kind.Kind.TheVariants.{Pq}
 use Rattle.retro_base.specs.declared.row.Entry.{Entry}
 use Rattle.retro_base.specs.declared.row.Row.{Row}
-use Rattle.retro_base.specs.State.{State, entries, empty, comes_before, with_entry}
-use Rattle.retro_base.specs.Replay.{run, present}
+use Rattle.retro_base.specs.State.{entries, empty, comes_before, with_entry}
+use Rattle.retro_base.specs.Replay.{present}
 use Rattle.retro_base.specs.Bridges.{survivors, is_among, same_entry}
 use Rattle.retro_base.specs.BridgeTable.{added}
 use Rattle.retro_base.specs.Carried.{IsPqHistory}
 use Rattle.retro_base.specs.Timeline.{IsFresh, HaveOwnNumbers}
 use Rattle.retro_base.specs.Weights.{added_by}
 use Rattle.retro_base.proofs.bridges.Added.{added_adds, adds_added}
-use Rattle.retro_base.proofs.bridges.EntryOrder.{before_irreflexive, before_one_way, same_entry-refl, same_entry-same, not_same, same_or_other}
+use Rattle.retro_base.proofs.bridges.EntryOrder.{before_irreflexive, before_one_way, same_entry-refl, same_entry-same, not_same}
 use Rattle.retro_base.proofs.bridges.Entries.{In, Rising, above_in, contains_in, in_contains, rising_with, with_in, in_with}
 use Rattle.retro_base.proofs.bridges.Tests.{in_is_among, is_among_in, not_among}
 use Rattle.retro_base.proofs.bridges.Moves.{came_from}

@@ -1,6 +1,5 @@
 -- What stands at a place after one more element is put in, one is taken out, or one is changed.
-use Rattle.std.proofs.Common.{◌≡◌, ℕ, zero, suc, ◌<◌, ◌≤◌, List, [], ◌∷◌, map, length, refl, sym, ap, ◌∙◌, arith, Some}
-use Rattle.std.specs.Prelude.{slice_set}
+use Rattle.std.proofs.Common.{◌≡◌, ℕ, zero, suc, ◌<◌, ◌≤◌, List, [], ◌∷◌, map, length, refl, ap, arith, Some}
 use Rattle.std.specs.List.{insert, remove, slice_get}
 
 module _ {A : Type 0} where

@@ -1,11 +1,11 @@
 -- What a queue by bridges answers of the present, and its empty start.
-use Rattle.std.proofs.Common.{◌≡◌, ℕ, ℤ, zero, suc, ◌+◌, ◌<◌, ◌≤◌, pos, true, false, Bool, cond, List, [], ◌∷◌, ◌++◌, length, map, drop, refl, sym, ap, ◌∙◌, arith, subst, inl, inr, Some, None, length-append}
+use Rattle.std.proofs.Common.{◌≡◌, ℕ, zero, suc, ◌+◌, ◌<◌, ◌≤◌, pos, true, false, Bool, cond, List, [], ◌∷◌, ◌++◌, length, map, drop, refl, sym, ap, ◌∙◌, arith, Some, length-append}
 use Rattle.std.specs.Prelude.{Contains, not}
 use Rattle.std.specs.List.{remove, slice_get, AllByRecursion}
 use Rattle.std.specs.Option.{option_map}
 use Rattle.std.specs.Result.{result_err}
 use Rattle.std.specs.Prelude.{Result, Ok, Err}
-use Rattle.std.proofs.lemmas.List.{length-map, append_assoc, append-nil, drop_all}
+use Rattle.std.proofs.lemmas.List.{append_assoc, append-nil, drop_all}
 use Rattle.std.proofs.lemmas.List.Edits.{length-remove}
 use Rattle.retro_base.specs.declared.kind.Kind.TheVariants.{Pq}
 use Rattle.retro_base.specs.declared.question.Answer.TheVariants.{Number}
@@ -18,7 +18,7 @@ use Rattle.retro_base.specs.Answers.{answer_of, number_of, key_of, content}
 use Rattle.retro_base.specs.Bridges.{survivors, is_among}
 use Rattle.retro_base.specs.Limits.{most_rows}
 use Rattle.retro_base.specs.Replay.{run, failure, present}
-use Rattle.retro_base.specs.State.{State, step, empty, entries}
+use Rattle.retro_base.specs.State.{step, empty, entries}
 use Rattle.retro_base.specs.Weights.{added_by}
 use Rattle.retro_base.proofs.Folds.{err_within}
 use Rattle.retro_base.proofs.Replayable.{empty_replayable}

@@ -1,10 +1,9 @@
 -- What a range of marked rows measures, part by part: the walk of the weights, and the extremes of the dead and of the survivors.
-use Rattle.std.proofs.Common.{◌≡◌, ℕ, zero, suc, ◌-◌, ◌≤◌, ℤ, pos, ◌+ℤ◌, Bool, true, false, List, [], ◌∷◌, ◌++◌, map, take, drop, length, refl, sym, ap, ◌∙◌, arith, Option, Some, None}
-use Rattle.std.specs.List.{slice_range, fold, AllByRecursion}
+use Rattle.std.proofs.Common.{◌≡◌, ℕ, zero, suc, ◌-◌, ℤ, pos, ◌+ℤ◌, Bool, List, [], ◌∷◌, map, take, drop, refl, sym, ap, ◌∙◌, arith, Option, Some, None}
+use Rattle.std.specs.List.{slice_range, fold}
 use Rattle.std.specs.declared.cmp.Ordering.{Ordering}
 use Rattle.std.specs.Ordering.{flip_args}
 use Rattle.std.proofs.lemmas.Int.{ints}
-use Rattle.std.proofs.lemmas.List.Sums.{fold-append}
 use Rattle.monoid_laws.specs.Both.{joined_both}
 use Rattle.monoid_laws.specs.Extreme.{Extreme, no_extreme, joined_extreme, one_element, extreme_of}
 use Rattle.monoid_laws.specs.Measure.{measure_of}

@@ -1,18 +1,18 @@
 -- An edit turns the mark of one row, and the others' marks stay right.
-use Rattle.std.proofs.Common.{◌≡◌, ◌≢◌, ℕ, zero, suc, ◌+◌, ◌<◌, ◌≤◌, Bool, true, false, List, [], ◌∷◌, map, length, ◌⊎◌, inl, inr, refl, sym, ap, ◌∙◌, arith, subst, Option, Some, None}
-use Rattle.std.specs.Prelude.{slice_set, Contains}
-use Rattle.std.specs.List.{insert, remove, slice_get, cons_option, AllByRecursion}
+use Rattle.std.proofs.Common.{◌≡◌, ◌≢◌, ℕ, zero, suc, Bool, true, false, List, [], ◌∷◌, inl, inr, refl, sym, ap, ◌∙◌, subst, Option, Some, None}
+use Rattle.std.specs.Prelude.{slice_set}
+use Rattle.std.specs.List.{insert, remove, slice_get}
 use Rattle.retro_base.specs.declared.row.Entry.{Entry}
 use Rattle.retro_base.specs.declared.row.Row.{Row}
 use Rattle.retro_base.specs.OrderLaws.{all_with, all_without}
 use Rattle.retro_base.specs.State.{with_entry}
-use Rattle.retro_base.specs.Bridges.{survivors, is_among}
+use Rattle.retro_base.specs.Bridges.{is_among}
 use Rattle.retro_base.specs.Changes.{Joins}
 use Rattle.retro_base.specs.Timeline.{IsFresh, HaveOwnNumbers}
 use Rattle.retro_base.specs.Weights.{added_by}
-use Rattle.retro_base.proofs.bridges.Entries.{In, in_or_not, contains_in, in_contains, with_in, in_with}
-use Rattle.retro_base.proofs.bridges.Tests.{in_is_among, is_among_in, not_among}
-use Rattle.retro_base.proofs.bridges.Histories.{added_number, some_same}
+use Rattle.retro_base.proofs.bridges.Entries.{In, in_or_not, in_contains, with_in, in_with}
+use Rattle.retro_base.proofs.bridges.Tests.{in_is_among, not_among}
+use Rattle.retro_base.proofs.bridges.Histories.{added_number}
 use Rattle.bridge_pq.specs.declared.marked_row.MarkedRow.{MarkedRow}
 use Rattle.bridge_pq.specs.Bridged.{IsTurned}
 use Rattle.bridge_pq.specs.MarkedRows.{rows_of, is_one_of, AreMarked}

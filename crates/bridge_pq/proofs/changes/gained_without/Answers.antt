@@ -1,10 +1,5 @@
-use Rattle.std.proofs.Common.{◌≡◌, ◌≤◌, ◌<◌, ◌+◌, length, sym, ◌∙◌, arith, refl}
-use Rattle.std.proofs.lemmas.List.{length-map}
-use Rattle.std.proofs.lemmas.Option.{slice_get_within}
-use Rattle.retro_base.proofs.bridges.EntryOrder.{before_one_way}
 use Rattle.bridge_pq.specs.MarkedRows.{rows_of}
 use Rattle.bridge_pq.proofs.FoundTurns.{gain-without, dead-without, greatest-at}
-use Rattle.bridge_pq.proofs.RowExtremes.{adds-within}
 use Rattle.bridge_pq.proofs.changes.gained_without.Goals as goal
 
 pub unreachable-requires : goal.unreachable-requires

@@ -1,7 +1,7 @@
-use Rattle.std.proofs.Common.{◌≡◌, ◌≤◌, ◌+◌, length, ap, sym, ◌∙◌, subst, arith}
+use Rattle.std.proofs.Common.{◌≤◌, ◌+◌, length, ap, ◌∙◌, arith}
 use Rattle.retro_base.specs.VisitsLaws.{visits-add, visits-longer}
-use Rattle.retro_base.proofs.bridges.Entries.{In, in_contains}
-use Rattle.bridge_pq.specs.MarkedEntries.{entries_in, without_entry}
+use Rattle.retro_base.proofs.bridges.Entries.{in_contains}
+use Rattle.bridge_pq.specs.MarkedEntries.{without_entry}
 use Rattle.bridge_pq.proofs.Costs.{visits-more}
 use Rattle.bridge_pq.proofs.HeldEntries.{put-rise, put-among, put-taken, put-longer}
 use Rattle.bridge_pq.proofs.edit.put_row_with_entry.Goals as goal

@@ -1,11 +1,9 @@
-use Rattle.std.proofs.Common.{◌≡◌, ◌≤◌, ◌<◌, ◌+◌, length, ap, sym, ◌∙◌, arith, false}
-use Rattle.std.proofs.lemmas.List.Edits.{length-insert, length-remove}
-use Rattle.std.specs.List.{insert, remove}
+use Rattle.std.proofs.Common.{◌≤◌, length, ap, arith}
+use Rattle.std.proofs.lemmas.List.Edits.{length-remove}
+use Rattle.std.specs.List.{remove}
 use Rattle.retro_base.specs.Bridges.{survivors}
 use Rattle.retro_base.specs.VisitsLaws.{visits-add, visits-longer}
 use Rattle.bridge_pq.specs.MarkedRows.{rows_of}
-use Rattle.bridge_pq.specs.MarkedEntries.{entries_in, put_marked}
-use Rattle.bridge_pq.proofs.Costs.{visits-more}
 use Rattle.bridge_pq.proofs.Edited.{cut-within, few-entries, own-among, cut-adding, turn-within, turn-few, turn-among, turn-done}
 use Rattle.bridge_pq.proofs.edit.remove_dead.Goals as goal
 

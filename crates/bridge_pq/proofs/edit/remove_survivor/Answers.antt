@@ -1,10 +1,5 @@
-use Rattle.std.proofs.Common.{◌≡◌, ◌≤◌, ◌<◌, ◌+◌, length, ap, sym, ◌∙◌, arith, false}
-use Rattle.std.proofs.lemmas.List.Edits.{length-insert, length-remove}
-use Rattle.std.specs.List.{insert, remove}
-use Rattle.retro_base.specs.Bridges.{survivors}
+use Rattle.std.proofs.Common.{length}
 use Rattle.retro_base.specs.VisitsLaws.{visits-add, visits-longer}
-use Rattle.bridge_pq.specs.MarkedRows.{rows_of}
-use Rattle.bridge_pq.specs.MarkedEntries.{entries_in, put_marked}
 use Rattle.bridge_pq.proofs.Costs.{visits-more}
 use Rattle.bridge_pq.proofs.Edited.{few-entries, own-among, survivor-changes, cut-survivor}
 use Rattle.bridge_pq.proofs.edit.remove_survivor.Goals as goal

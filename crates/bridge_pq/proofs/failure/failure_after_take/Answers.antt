@@ -1,4 +1,4 @@
-use Rattle.std.proofs.Common.{◌≡◌, ◌≤◌, length, sym, ap, arith}
+use Rattle.std.proofs.Common.{sym, arith}
 use Rattle.bridge_pq.specs.MarkedRows.{rows_of}
 use Rattle.bridge_pq.proofs.Edited.{rows-length}
 use Rattle.bridge_pq.proofs.Failures.{take-goes, take-fails}

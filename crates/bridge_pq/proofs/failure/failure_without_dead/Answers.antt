@@ -1,4 +1,4 @@
-use Rattle.std.proofs.Common.{◌≡◌, ◌≤◌, ◌<◌, ◌+◌, ◌-◌, length, refl, sym, ap, ◌∙◌, Some, arith}
+use Rattle.std.proofs.Common.{◌+◌, ◌-◌, refl, sym, ap, ◌∙◌, Some, arith}
 use Rattle.bridge_pq.specs.MarkedRows.{rows_of}
 use Rattle.bridge_pq.proofs.Edited.{rows-length}
 use Rattle.bridge_pq.proofs.Failures.{cut-dead-goes, cut-dead-fails}

@@ -1,4 +1,4 @@
-use Rattle.std.proofs.Common.{◌≡◌, ◌≤◌, ◌<◌, ◌+◌, ◌++◌, length, [], ◌∷◌, rules, drop, refl, sym, ap, ◌∙◌, arith, subst}
+use Rattle.std.proofs.Common.{◌≡◌, ◌≤◌, ◌+◌, ◌++◌, length, [], ◌∷◌, rules, drop, refl, sym, ap, ◌∙◌, arith, subst}
 use Rattle.std.proofs.lemmas.Int.{to_z-of_z}
 use Rattle.retro_base.specs.declared.question.Item.TheVariants.{Single}
 use Rattle.retro_base.specs.Answers.{content}

@@ -1,5 +1,3 @@
-use Rattle.std.proofs.Common.{subst, sym, []}
-use Rattle.bridge_pq.specs.Bridged.{IsBridged}
 use Rattle.bridge_pq.proofs.Present.{empty-bridged}
 use Rattle.bridge_pq.proofs.bridge_queue.BridgeQueue.new.Goals as goal
 

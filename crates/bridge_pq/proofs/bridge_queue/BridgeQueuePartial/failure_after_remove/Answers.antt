@@ -1,8 +1,6 @@
-use Rattle.std.proofs.Common.{◌≡◌, ◌≤◌, length, sym, ap, ◌∙◌, subst, None, true, false}
-use Rattle.std.specs.Prelude.{Contains}
+use Rattle.std.proofs.Common.{◌≡◌, sym, ◌∙◌, subst, None}
 use Rattle.std.specs.List.{remove}
 use Rattle.retro_base.specs.declared.kind.Kind.TheVariants.{Pq}
-use Rattle.retro_base.specs.Bridges.{survivors}
 use Rattle.retro_base.specs.Replay.{failure}
 use Rattle.bridge_pq.specs.MarkedRows.{rows_of}
 use Rattle.bridge_pq.specs.declared.marked_row.MarkedRow.{MarkedRow}

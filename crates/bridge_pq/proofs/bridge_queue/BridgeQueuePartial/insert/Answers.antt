@@ -1,5 +1,3 @@
-use Rattle.std.proofs.Common.{◌≡◌, sym, ap, ◌∙◌, subst}
-use Rattle.bridge_pq.specs.Bridged.{IsBridged}
 use Rattle.bridge_pq.proofs.Edited.{bridged-after}
 use Rattle.bridge_pq.proofs.bridge_queue.BridgeQueuePartial.insert.Goals.{in-Some, in-None}
 use Rattle.bridge_pq.proofs.bridge_queue.BridgeQueuePartial.insert.Goals as goal

@@ -1,8 +1,6 @@
-use Rattle.std.proofs.Common.{◌≡◌, sym, ap, ◌∙◌, subst, Some}
+use Rattle.std.proofs.Common.{sym, ap, ◌∙◌}
 use Rattle.std.specs.Prelude.{slice_get}
 use Rattle.bridge_pq.specs.declared.marked_row.MarkedRow.{MarkedRow}
-use Rattle.bridge_pq.specs.Bridged.{IsBridged}
-use Rattle.bridge_pq.specs.MarkedRows.{rows_of}
 use Rattle.bridge_pq.proofs.Places.{get-map}
 use Rattle.bridge_pq.proofs.Present.{mark-lives, mark-dead}
 use Rattle.bridge_pq.proofs.bridge_queue.BridgeQueuePartial.remove.Goals.{in-Some, in-Some-2, in-None}
