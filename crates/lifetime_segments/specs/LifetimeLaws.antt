@@ -1,0 +1,121 @@
+-- The order of lifetimes is strict and total, and which items are there at a label does not depend on it.
+use Rattle.std.proofs.Common.{◌≡◌, ℕ, ◌<◌, ◌⊎◌, Bool, true, false, cond, List, [], ◌∷◌, ◌++◌, inl, inr, refl, sym, ap, ◌∙◌, arith}
+use Rattle.std.specs.Prelude.{◌==◌, ◌&&◌, ◌||◌, nat_lt, map}
+use Rattle.std.specs.List.{filter}
+use Rattle.std.proofs.lemmas.Bool.Decides.{nat_tests}
+use Rattle.lifetime_segments.specs.declared.lifetime.Lifetime.{Lifetime}
+use Rattle.lifetime_segments.specs.Ordered.{IsOrder, put_in, in_order}
+use Rattle.lifetime_segments.specs.OrderedLaws.{put_in-swap}
+use Rattle.lifetime_segments.specs.Lifetimes.{lifetime, holds, items_at, stands_earlier}
+
+-- a strict order whose ties are the same in some sense
+record IsOrderUpTo {X : Type 0} (before : X → X → Bool) (Same : X → X → Type 0) : Type 0 where
+  pub strict : (x : X) → before x x ≡ false
+  pub chains : (x y z : X) → before x y ≡ true → before y z ≡ true → before x z ≡ true
+  pub total : (x y : X) → before x y ≡ false → before y x ≡ false → Same x y
+
+-- first by a number
+abbrev by : ℕ → ℕ → Bool → Bool
+by m n rest = nat_lt m n || ((m == n) && rest)
+
+by-less : (m n : ℕ) (rest : Bool) → m < n → by m n rest ≡ true
+by-less m n rest less = grind (arith, nat_tests)
+
+by-same : (n : ℕ) (rest : Bool) → by n n rest ≡ rest
+by-same n true = grind (arith, nat_tests)
+by-same n false = grind (arith, nat_tests)
+
+by-true : (m n : ℕ) (rest : Bool) → by m n rest ≡ true → (m < n) ⊎ ((m ≡ n) × (rest ≡ true))
+by-true m n true up = grind (arith, nat_tests)
+by-true m n false up = grind (arith, nat_tests)
+
+by-false : (m n : ℕ) (rest : Bool) → by m n rest ≡ false → (n < m) ⊎ ((m ≡ n) × (rest ≡ false))
+by-false m n true down = grind (arith, nat_tests)
+by-false m n false down = grind (arith, nat_tests)
+
+-- by a number first, and by another order where it is the same
+order_by : {X : Type 0} (f : X → ℕ) (rest : X → X → Bool) (Same : X → X → Type 0) → IsOrderUpTo rest Same
+    → IsOrderUpTo (λ x y. by (f x) (f y) (rest x y)) (λ x y. (f x ≡ f y) × Same x y)
+order_by {X} f rest Same order = record {
+  strict = λ x. by-same (f x) (rest x x) ∙ order.strict x;
+  chains = λ x y z first second. elim (by-true (f x) (f y) (rest x y) first) [
+    | inl less ↦ elim (by-true (f y) (f z) (rest y z) second) [
+      | inl later ↦ by-less (f x) (f z) (rest x z) (omega arith)
+      | inr level ↦ by-less (f x) (f z) (rest x z) (let same : f y ≡ f z = level.0 in omega arith)
+    ]
+    | inr tied ↦ elim (by-true (f y) (f z) (rest y z) second) [
+      | inl later ↦ by-less (f x) (f z) (rest x z) (let same : f x ≡ f y = tied.0 in omega arith)
+      | inr level ↦ ap (λ n. by n (f z) (rest x z)) (tied.0 ∙ level.0) ∙ by-same (f z) (rest x z) ∙ order.chains x y z tied.1 level.1
+    ]
+  ];
+  total = λ x y first second. elim (by-false (f x) (f y) (rest x y) first) [
+    | inl over ↦ elim (by-false (f y) (f x) (rest y x) second) [
+      | inl under ↦ absurd (omega arith)
+      | inr level ↦ absurd (let same : f y ≡ f x = level.0 in omega arith)
+    ]
+    | inr tied ↦ elim (by-false (f y) (f x) (rest y x) second) [
+      | inl under ↦ absurd (let same : f x ≡ f y = tied.0 in omega arith)
+      | inr level ↦ (tied.0, order.total x y tied.1 level.1)
+    ]
+  ];
+}
+
+module _ {A : Type 0} {before : A → A → Bool} (order : IsOrder before) where
+  by_item : IsOrderUpTo (λ (x : Lifetime A) (y : Lifetime A). before x.item y.item) (λ x y. x.item ≡ y.item)
+  by_item = record {
+    strict = λ x. order.strict x.item;
+    chains = λ x y z. order.chains x.item y.item z.item;
+    total = λ x y. order.total x.item y.item;
+  }
+
+  -- lifetimes have a strict total order
+  pub earlier_order : IsOrder (stands_earlier before)
+  earlier_order =
+      let by_to = order_by (λ (x : Lifetime A). x.to) (λ x y. before x.item y.item) (λ x y. x.item ≡ y.item) by_item in
+      let by_from = order_by (λ (x : Lifetime A). x.from) (λ x y. by x.to y.to (before x.item y.item)) (λ x y. (x.to ≡ y.to) × (x.item ≡ y.item)) by_to in
+      record {
+        strict = by_from.strict;
+        chains = by_from.chains;
+        total = λ x y first second. same_lifetime x y (by_from.total x y first second);
+      } where
+        same_lifetime : (x y : Lifetime A) → (x.from ≡ y.from) × ((x.to ≡ y.to) × (x.item ≡ y.item)) → x ≡ y
+        same_lifetime x y same =
+            let parts : lifetime x.from x.to x.item ≡ lifetime y.from y.to y.item = ap (λ n. lifetime n x.to x.item) same.0 ∙ ap (λ n. lifetime y.from n x.item) same.1.0 ∙ ap (lifetime y.from y.to) same.1.1 in
+            parts
+
+  -- an element that is put in, or not
+  abbrev also : Bool → A → List A → List A
+  also there x xs = cond there (put_in before x xs) xs
+
+  also-swap : (a b : Bool) (x y : A) (xs : List A) → also a x (also b y xs) ≡ also b y (also a x xs)
+  also-swap true true x y xs = put_in-swap order x y xs
+  also-swap true false x y xs = refl
+  also-swap false true x y xs = refl
+  also-swap false false x y xs = refl
+
+  items_at-cons : (label : ℕ) (life : Lifetime A) (lives : List (Lifetime A)) → in_order before (items_at label (life ∷ lives)) ≡ also (holds label life) life.item (in_order before (items_at label lives))
+  items_at-cons label life lives = elim (holds label life) as (λ b. in_order before (map (λ l. l.item) (cond b (life ∷ filter (holds label) lives) (filter (holds label) lives))) ≡ also b life.item (in_order before (items_at label lives))) [
+    | true ↦ refl
+    | false ↦ refl
+  ]
+
+  -- a lifetime that is put in
+  items_at-put_in : (label : ℕ) (life : Lifetime A) (lives : List (Lifetime A)) → in_order before (items_at label (put_in (stands_earlier before) life lives)) ≡ in_order before (items_at label (life ∷ lives))
+  items_at-put_in label life [] = refl
+  items_at-put_in label life (first ∷ lives) = elim (stands_earlier before first life) as (λ b. in_order before (items_at label (cond b (first ∷ put_in (stands_earlier before) life lives) (life ∷ first ∷ lives))) ≡ in_order before (items_at label (life ∷ first ∷ lives))) [
+    | true ↦
+        items_at-cons label first (put_in (stands_earlier before) life lives)
+        ∙ ap (also (holds label first) first.item) (items_at-put_in label life lives ∙ items_at-cons label life lives)
+        ∙ also-swap (holds label first) (holds label life) first.item life.item (in_order before (items_at label lives))
+        ∙ sym (items_at-cons label life (first ∷ lives) ∙ ap (also (holds label life) life.item) (items_at-cons label first lives))
+    | false ↦ refl
+  ]
+
+  -- which items are there at a label does not depend on the order of the lifetimes
+  pub items_at-in_order : (label : ℕ) (lives : List (Lifetime A)) → in_order before (items_at label (in_order (stands_earlier before) lives)) ≡ in_order before (items_at label lives)
+  items_at-in_order label [] = refl
+  items_at-in_order label (life ∷ lives) =
+      items_at-put_in label life (in_order (stands_earlier before) lives)
+      ∙ items_at-cons label life (in_order (stands_earlier before) lives)
+      ∙ ap (also (holds label life) life.item) (items_at-in_order label lives)
+      ∙ sym (items_at-cons label life lives)

@@ -1,0 +1,219 @@
+-- What an order gives.
+use Rattle.std.proofs.Common.{◌≡◌, ℕ, zero, suc, ◌+◌, ◌≤◌, ◌<◌, Some, slice_get, take, drop, Bool, true, false, cond, not, List, [], ◌∷◌, ◌++◌, length, refl, sym, ap, ◌∙◌, arith}
+use Rattle.std.specs.List.{insert, remove, AllByRecursion}
+use Rattle.retro_base.specs.OrderLaws.{all_weaker, all_at}
+use Rattle.lifetime_segments.specs.Ordered.{IsOrder, AreInOrder, put_in, in_order, is_in, without, place_in}
+
+pub length-put_in : {A : Type 0} (before : A → A → Bool) (x : A) (xs : List A) → length (put_in before x xs) ≡ suc (length xs)
+length-put_in before x [] = refl
+length-put_in before x (y ∷ ys) = elim (before y x) as (λ b. length (cond b (y ∷ put_in before x ys) (x ∷ y ∷ ys)) ≡ suc (suc (length ys))) [
+  | true ↦ ap suc (length-put_in before x ys)
+  | false ↦ refl
+]
+
+pub length-in_order : {A : Type 0} (before : A → A → Bool) (xs : List A) → length (in_order before xs) ≡ length xs
+length-in_order before [] = refl
+length-in_order before (x ∷ xs) = length-put_in before x (in_order before xs) ∙ ap suc (length-in_order before xs)
+
+-- what holds of all elements and of one more holds of all after it is put in
+pub all-put_in : {A : Type 0} (P : A → Type 0) (before : A → A → Bool) (x : A) (xs : List A) → P x → AllByRecursion P xs → AllByRecursion P (put_in before x xs)
+all-put_in P before x [] here all = (here, tt)
+all-put_in P before x (y ∷ ys) here all = elim (before y x) as (λ b. AllByRecursion P (cond b (y ∷ put_in before x ys) (x ∷ y ∷ ys))) [
+  | true ↦ (all.0, all-put_in P before x ys here all.1)
+  | false ↦ (here, all)
+]
+
+pub all-in_order : {A : Type 0} (P : A → Type 0) (before : A → A → Bool) (xs : List A) → AllByRecursion P xs → AllByRecursion P (in_order before xs)
+all-in_order P before [] all = tt
+all-in_order P before (x ∷ xs) all = all-put_in P before x (in_order before xs) all.0 (all-in_order P before xs all.1)
+
+pub all-without : {A : Type 0} (P : A → Type 0) (before : A → A → Bool) (x : A) (xs : List A) → AllByRecursion P xs → AllByRecursion P (without before x xs)
+all-without P before x [] all = tt
+all-without P before x (y ∷ ys) all = elim (before y x) as (λ b. AllByRecursion P (cond b (y ∷ without before x ys) (cond (before x y) (y ∷ ys) ys))) [
+  | true ↦ (all.0, all-without P before x ys all.1)
+  | false ↦ elim (before x y) as (λ b. AllByRecursion P (cond b (y ∷ ys) ys)) [
+    | true ↦ all
+    | false ↦ all.1
+  ]
+]
+
+-- where it is not there, the list without it is the list
+pub without-none : {A : Type 0} (before : A → A → Bool) (x : A) (xs : List A) → is_in before x xs ≡ false → without before x xs ≡ xs
+without-none before x [] none = refl
+without-none before x (y ∷ ys) none = elim (before y x) as (λ b. cond b (is_in before x ys) (not (before x y)) ≡ false → cond b (y ∷ without before x ys) (cond (before x y) (y ∷ ys) ys) ≡ y ∷ ys) [
+  | true ↦ λ none. ap (λ zs. y ∷ zs) (without-none before x ys none)
+  | false ↦ elim (before x y) as (λ b. not b ≡ false → cond b (y ∷ ys) ys ≡ y ∷ ys) [
+    | true ↦ λ _. refl
+    | false ↦ λ none. absurd (cc)
+  ]
+] none
+
+module _ {A : Type 0} {before : A → A → Bool} (order : IsOrder before) where
+  not_both : (x y : A) → before x y ≡ true → before y x ≡ false
+  not_both x y up = elim (before y x) as (λ b. before y x ≡ b → b ≡ false) [
+    | true ↦ λ down. sym (order.chains x y x up down) ∙ order.strict x
+    | false ↦ λ _. refl
+  ] refl
+
+  -- what stands before one element and not before another has the other before the first
+  pub between : (x y z : A) → before z x ≡ true → before z y ≡ false → before y x ≡ true
+  between x y z near far = elim (before y x) as (λ b. before y x ≡ b → b ≡ true) [
+    | true ↦ λ _. refl
+    | false ↦ λ not_under. elim (before x y) as (λ b. before x y ≡ b → false ≡ true) [
+      | true ↦ λ under. sym far ∙ order.chains z x y near under
+      | false ↦ λ not_over. sym far ∙ ap (before z) (order.total y x not_under not_over) ∙ near
+    ] refl
+  ] refl
+
+  pub put_in-past : (x y : A) (ys : List A) → before y x ≡ true → put_in before x (y ∷ ys) ≡ y ∷ put_in before x ys
+  put_in-past x y ys past = ap (λ b. cond b (y ∷ put_in before x ys) (x ∷ y ∷ ys)) past
+
+  pub put_in-here : (x y : A) (ys : List A) → before y x ≡ false → put_in before x (y ∷ ys) ≡ x ∷ y ∷ ys
+  put_in-here x y ys here = ap (λ b. cond b (y ∷ put_in before x ys) (x ∷ y ∷ ys)) here
+
+  is_in-past : (x y : A) (ys : List A) → before y x ≡ true → is_in before x (y ∷ ys) ≡ is_in before x ys
+  is_in-past x y ys past = ap (λ b. cond b (is_in before x ys) (not (before x y))) past
+
+  without-past : (x y : A) (ys : List A) → before y x ≡ true → without before x (y ∷ ys) ≡ y ∷ without before x ys
+  without-past x y ys past = ap (λ b. cond b (y ∷ without before x ys) (cond (before x y) (y ∷ ys) ys)) past
+
+  here_is_in : (x : A) (xs : List A) → is_in before x (x ∷ xs) ≡ true
+  here_is_in x xs = ap (λ b. cond b (is_in before x xs) (not b)) (order.strict x)
+
+  here_without : (x : A) (xs : List A) → without before x (x ∷ xs) ≡ xs
+  here_without x xs = ap (λ b. cond b (x ∷ without before x xs) (cond b (x ∷ xs) xs)) (order.strict x)
+
+  -- at the front of a list, of two elements that stand there
+  swap_here : (x y : A) (xs : List A) → put_in before x xs ≡ x ∷ xs → put_in before y xs ≡ y ∷ xs → put_in before x (put_in before y xs) ≡ put_in before y (put_in before x xs)
+  swap_here x y xs at_x at_y = ap (put_in before x) at_y ∙ (elim (before y x) as (λ b. before y x ≡ b → put_in before x (y ∷ xs) ≡ put_in before y (x ∷ xs)) [
+    | true ↦ λ past. put_in-past x y xs past ∙ ap (λ zs. y ∷ zs) at_x ∙ sym (put_in-here y x xs (not_both y x past))
+    | false ↦ λ here. put_in-here x y xs here ∙ elim (before x y) as (λ b. before x y ≡ b → x ∷ y ∷ xs ≡ put_in before y (x ∷ xs)) [
+      | true ↦ λ up. ap (λ zs. x ∷ zs) (sym at_y) ∙ sym (put_in-past y x xs up)
+      | false ↦ λ level. let same : x ≡ y = order.total x y level here in rw (same, put_in-here y y xs (order.strict y)) refl
+    ] refl
+  ] refl) ∙ sym (ap (put_in before y) at_x)
+
+  -- it does not matter which of two elements is put in first
+  pub put_in-swap : (x y : A) (xs : List A) → put_in before x (put_in before y xs) ≡ put_in before y (put_in before x xs)
+  put_in-swap x y [] = swap_here x y [] refl refl
+  put_in-swap x y (z ∷ zs) =
+      elim (before z x) as (λ b. before z x ≡ b → put_in before x (put_in before y (z ∷ zs)) ≡ put_in before y (put_in before x (z ∷ zs))) [
+        | true ↦ λ past_x. elim (before z y) as (λ b. before z y ≡ b → put_in before x (put_in before y (z ∷ zs)) ≡ put_in before y (put_in before x (z ∷ zs))) [
+          | true ↦ λ past_y.
+              rw (put_in-past y z zs past_y, put_in-past x z zs past_x, put_in-past x z (put_in before y zs) past_x, put_in-past y z (put_in before x zs) past_y)
+              (ap (λ xs. z ∷ xs) (put_in-swap x y zs))
+          | false ↦ λ at_y. past_and_here x y z zs past_x at_y
+        ] refl
+        | false ↦ λ at_x. elim (before z y) as (λ b. before z y ≡ b → put_in before x (put_in before y (z ∷ zs)) ≡ put_in before y (put_in before x (z ∷ zs))) [
+          | true ↦ λ past_y. sym (past_and_here y x z zs past_y at_x)
+          | false ↦ λ at_y. swap_here x y (z ∷ zs) (put_in-here x z zs at_x) (put_in-here y z zs at_y)
+        ] refl
+      ] refl where
+        past_and_here : (x y z : A) (zs : List A) → before z x ≡ true → before z y ≡ false → put_in before x (put_in before y (z ∷ zs)) ≡ put_in before y (put_in before x (z ∷ zs))
+        past_and_here x y z zs past_x at_y =
+            ap (put_in before x) (put_in-here y z zs at_y)
+            ∙ put_in-past x y (z ∷ zs) (between x y z past_x at_y)
+            ∙ ap (λ xs. y ∷ xs) (put_in-past x z zs past_x)
+            ∙ sym (ap (put_in before y) (put_in-past x z zs past_x) ∙ put_in-here y z (put_in before x zs) at_y)
+
+  pub in_order-middle : (x : A) (xs ys : List A) → in_order before (xs ++ x ∷ ys) ≡ put_in before x (in_order before (xs ++ ys))
+  in_order-middle x [] ys = refl
+  in_order-middle x (y ∷ xs) ys = ap (put_in before y) (in_order-middle x xs ys) ∙ put_in-swap y x (in_order before (xs ++ ys))
+
+  -- an element that was put in is as one at the front
+  in_order-put_in : (x : A) (xs ys : List A) → in_order before (put_in before x xs ++ ys) ≡ put_in before x (in_order before (xs ++ ys))
+  in_order-put_in x [] ys = refl
+  in_order-put_in x (z ∷ zs) ys = elim (before z x) as (λ b. before z x ≡ b → in_order before (put_in before x (z ∷ zs) ++ ys) ≡ put_in before x (in_order before (z ∷ zs ++ ys))) [
+    | true ↦ λ past. ap (λ l. in_order before (l ++ ys)) (put_in-past x z zs past) ∙ ap (put_in before z) (in_order-put_in x zs ys) ∙ put_in-swap z x (in_order before (zs ++ ys))
+    | false ↦ λ here. ap (λ l. in_order before (l ++ ys)) (put_in-here x z zs here)
+  ] refl
+
+  pub in_order-absorbs : (xs ys : List A) → in_order before (in_order before xs ++ ys) ≡ in_order before (xs ++ ys)
+  in_order-absorbs [] ys = refl
+  in_order-absorbs (x ∷ xs) ys = in_order-put_in x (in_order before xs) ys ∙ ap (put_in before x) (in_order-absorbs xs ys)
+
+  pub is_in-put_in : (x : A) (xs : List A) → is_in before x (put_in before x xs) ≡ true
+  is_in-put_in x [] = here_is_in x []
+  is_in-put_in x (y ∷ ys) = elim (before y x) as (λ b. before y x ≡ b → is_in before x (put_in before x (y ∷ ys)) ≡ true) [
+    | true ↦ λ past. ap (is_in before x) (put_in-past x y ys past) ∙ is_in-past x y (put_in before x ys) past ∙ is_in-put_in x ys
+    | false ↦ λ here. ap (is_in before x) (put_in-here x y ys here) ∙ here_is_in x (y ∷ ys)
+  ] refl
+
+  pub without-put_in : (x : A) (xs : List A) → without before x (put_in before x xs) ≡ xs
+  without-put_in x [] = here_without x []
+  without-put_in x (y ∷ ys) = elim (before y x) as (λ b. before y x ≡ b → without before x (put_in before x (y ∷ ys)) ≡ y ∷ ys) [
+    | true ↦ λ past. ap (without before x) (put_in-past x y ys past) ∙ without-past x y (put_in before x ys) past ∙ ap (λ zs. y ∷ zs) (without-put_in x ys)
+    | false ↦ λ here. ap (without before x) (put_in-here x y ys here) ∙ here_without x (y ∷ ys)
+  ] refl
+
+  -- what is not before, seen through an element between
+  behind : (x y z : A) → before y x ≡ false → before z y ≡ false → before z x ≡ false
+  behind x y z first second = elim (before z x) as (λ b. before z x ≡ b → b ≡ false) [
+    | true ↦ λ near. sym (between x y z near second) ∙ first
+    | false ↦ λ _. refl
+  ] refl
+
+  pub put_in-ordered : (x : A) (xs : List A) → AreInOrder before xs → AreInOrder before (put_in before x xs)
+  put_in-ordered x [] ordered = (tt, tt)
+  put_in-ordered x (y ∷ ys) ordered = elim (before y x) as (λ b. before y x ≡ b → AreInOrder before (cond b (y ∷ put_in before x ys) (x ∷ y ∷ ys))) [
+    | true ↦ λ past. (all-put_in (λ later. before later y ≡ false) before x ys (not_both y x past) ordered.0, put_in-ordered x ys ordered.1)
+    | false ↦ λ here. ((here, all_weaker (λ later. before later y ≡ false) (λ later. before later x ≡ false) ys (λ later far. behind x y later here far) ordered.0), ordered)
+  ] refl
+
+  pub in_order-ordered : (xs : List A) → AreInOrder before (in_order before xs)
+  in_order-ordered [] = tt
+  in_order-ordered (x ∷ xs) = put_in-ordered x (in_order before xs) (in_order-ordered xs)
+
+  -- at the front of a list whose elements do not stand before it
+  put_in-front : (x : A) (xs : List A) → AllByRecursion (λ later. before later x ≡ false) xs → put_in before x xs ≡ x ∷ xs
+  put_in-front x [] all = refl
+  put_in-front x (y ∷ ys) all = put_in-here x y ys all.0
+
+  pub in_order-kept : (xs : List A) → AreInOrder before xs → in_order before xs ≡ xs
+  in_order-kept [] ordered = refl
+  in_order-kept (x ∷ xs) ordered = ap (put_in before x) (in_order-kept xs ordered.1) ∙ put_in-front x xs ordered.0
+
+  -- of two of which neither stands before the other, where the tests say so
+  same_at : (x y : A) → before y x ≡ false → not (before x y) ≡ true → x ≡ y
+  same_at x y here there = order.total x y (elim (before x y) as (λ b. not b ≡ true → b ≡ false) [
+    | true ↦ λ t. absurd (cc)
+    | false ↦ λ _. refl
+  ] there) here
+
+  pub put_in-without : (x : A) (xs : List A) → AreInOrder before xs → is_in before x xs ≡ true → put_in before x (without before x xs) ≡ xs
+  put_in-without x [] ordered there = absurd (cc)
+  put_in-without x (y ∷ ys) ordered there = elim (before y x) as (λ b. before y x ≡ b → put_in before x (without before x (y ∷ ys)) ≡ y ∷ ys) [
+    | true ↦ λ past.
+        ap (put_in before x) (without-past x y ys past)
+        ∙ put_in-past x y (without before x ys) past
+        ∙ ap (λ zs. y ∷ zs) (put_in-without x ys ordered.1 (sym (is_in-past x y ys past) ∙ there))
+    | false ↦ λ here.
+        let same : x ≡ y = same_at x y here (sym (ap (λ b. cond b (is_in before x ys) (not (before x y))) here) ∙ there) in
+        ap (λ w. put_in before w (without before w (y ∷ ys))) same ∙ ap (put_in before y) (here_without y ys) ∙ put_in-front y ys ordered.0
+  ] refl
+
+  pub without-ordered : (x : A) (xs : List A) → AreInOrder before xs → AreInOrder before (without before x xs)
+  without-ordered x [] ordered = tt
+  without-ordered x (y ∷ ys) ordered = elim (before y x) as (λ b. AreInOrder before (cond b (y ∷ without before x ys) (cond (before x y) (y ∷ ys) ys))) [
+    | true ↦ (all-without (λ later. before later y ≡ false) before x ys ordered.0, without-ordered x ys ordered.1)
+    | false ↦ elim (before x y) as (λ b. AreInOrder before (cond b (y ∷ ys) ys)) [
+      | true ↦ ordered
+      | false ↦ ordered.1
+    ]
+  ]
+
+  -- what holds of all elements holds of one that is there
+  pub is_in-all : (P : A → Type 0) (x : A) (xs : List A) → AllByRecursion P xs → is_in before x xs ≡ true → P x
+  is_in-all P x [] all there = absurd (cc)
+  is_in-all P x (y ∷ ys) all there = elim (before y x) as (λ b. before y x ≡ b → P x) [
+    | true ↦ λ past. is_in-all P x ys all.1 (sym (is_in-past x y ys past) ∙ there)
+    | false ↦ λ here.
+        let same : x ≡ y = same_at x y here (sym (ap (λ b. cond b (is_in before x ys) (not (before x y))) here) ∙ there) in
+        rw same all.0
+  ] refl
+
+  pub not_in : (x : A) (xs : List A) → AllByRecursion (λ y. y ≡ x → ⊥) xs → is_in before x (in_order before xs) ≡ false
+  not_in x xs none = elim (is_in before x (in_order before xs)) as (λ b. is_in before x (in_order before xs) ≡ b → b ≡ false) [
+    | true ↦ λ there. absurd (is_in-all (λ y. y ≡ x → ⊥) x (in_order before xs) (all-in_order (λ y. y ≡ x → ⊥) before xs none) there refl)
+    | false ↦ λ _. refl
+  ] refl

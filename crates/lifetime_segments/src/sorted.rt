@@ -1,0 +1,125 @@
+ghost use Rattle.std.specs.Prelude.{◌≡◌, ◌<◌, ◌^◌, Bool, true, length, OnOk, OnErr};
+ghost use Rattle.lifetime_segments.specs.Ordered.{IsOrder, AreInOrder, put_in, is_in, without, place_in};
+ghost use Rattle.lifetime_segments.specs.Lifetimes.{stands_earlier};
+ghost use Rattle.lifetime_segments.specs.LifetimeLaws.{earlier_order};
+
+use crate::decomposable::Decomposable;
+use crate::lifetime::Lifetime;
+use monoid_laws::Measured;
+use retro_base::{NoMemory, Steps};
+use std::marker::PhantomData;
+use std::sync::ledger::Ledger;
+use weighted_tree::Tree;
+
+/// An order in which a tree keeps its items.
+pub(crate) trait Order {
+    /// What stands in the order.
+    type Item: Measured;
+
+    /// Whether the first item stands before the second.
+    ghost stands_before: { Self.Item → Self.Item → Bool };
+
+    /// Whether the first item stands before the second.
+    fn before(first: &Self::Item, second: &Self::Item) -> bool
+        ensures { result ≡ stands_before first.now second.now };
+
+    /// It is strict and total.
+    ghost order: { IsOrder stands_before };
+}
+
+/// The order of the items of a search.
+pub(crate) struct ByItem<D>(PhantomData<D>);
+
+impl<D: Decomposable> Order for ByItem<D> {
+    type Item = D::Item;
+
+    ghost stands_before = { D.stands_before };
+
+    ghost order = { D.order };
+
+    fn before(first: &D::Item, second: &D::Item) -> bool {
+        D::before(first, second)
+    }
+}
+
+/// The order of lifetimes: by where they begin, then by where they end, then by their items.
+pub(crate) struct ByStart<D>(PhantomData<D>);
+
+impl<D: Decomposable> Order for ByStart<D> {
+    type Item = Lifetime<D::Item>;
+
+    ghost stands_before = { stands_earlier D.stands_before };
+
+    ghost order = { earlier_order D.order };
+
+    fn before(first: &Lifetime<D::Item>, second: &Lifetime<D::Item>) -> bool {
+        first.from < second.from
+            || (first.from == second.from
+                && (first.to < second.to
+                    || (first.to == second.to && D::before(&first.item, &second.item))))
+    }
+}
+
+/// How many of the items stand before one: its place among them.
+pub(crate) fn place_of<O: Order, L: Ledger>(
+    items: &Tree<O::Item>,
+    item: &O::Item,
+    steps: &mut Steps<L>,
+) -> u32
+    requires ordered { AreInOrder O.stands_before items.now }
+    ensures { result ≡ place_in O.stands_before item.now items.now }
+{
+    let mut low = 0;
+    let mut high = items.len();
+    while low < high {
+        let middle = low + (high - low) / 2;
+        if O::before(&items.get(middle, steps), item) {
+            low = middle + 1;
+        } else {
+            high = middle;
+        }
+    }
+    low
+}
+
+/// Puts an item in at its place.
+pub(crate) fn put<O: Order, L: Ledger>(
+    items: &mut Tree<O::Item>,
+    item: O::Item,
+    steps: &mut Steps<L>,
+) -> Result<(), NoMemory>
+    requires ordered { AreInOrder O.stands_before items.old }
+    requires room { length items.old < 2 ^ 31 }
+    ensures ok { OnOk result (items.new ≡ put_in O.stands_before item items.old) }
+    ensures err { OnErr result (items.new ≡ items.old) }
+{
+    let place = place_of::<O, L>(items, &item, steps);
+    items.insert(place, item, steps)
+}
+
+/// Whether an item is there.
+pub(crate) fn holds<O: Order, L: Ledger>(
+    items: &Tree<O::Item>,
+    item: O::Item,
+    steps: &mut Steps<L>,
+) -> bool
+    requires ordered { AreInOrder O.stands_before items.now }
+    ensures { result ≡ is_in O.stands_before item items.now }
+{
+    let place = place_of::<O, L>(items, &item, steps);
+    place < items.len() && !O::before(&item, &items.get(place, steps))
+}
+
+/// Takes an item out that is there.
+pub(crate) fn take_out<O: Order, L: Ledger>(
+    items: &mut Tree<O::Item>,
+    item: O::Item,
+    steps: &mut Steps<L>,
+)
+    requires ordered { AreInOrder O.stands_before items.old }
+    requires there { is_in O.stands_before item items.old ≡ true }
+    ensures { items.new ≡ without O.stands_before item items.old }
+{
+    let place = place_of::<O, L>(items, &item, steps);
+    items.remove(place, steps);
+}
