@@ -1,2 +1,5 @@
 mod Places
 mod Spans
+mod Nodes
+mod Moved
+mod Results

@@ -44,7 +44,7 @@ module _ {A X : Type 0} {before : A → A → Bool} (order : IsOrder before) (it
           | false ↦ λ _. refl
         ] refl
 
-map-same : {X : Type 0} (xs : List X) → map (λ x. x) xs ≡ xs
+pub map-same : {X : Type 0} (xs : List X) → map (λ x. x) xs ≡ xs
 map-same [] = refl
 map-same (x ∷ xs) = ap (λ zs. x ∷ zs) (map-same xs)
 

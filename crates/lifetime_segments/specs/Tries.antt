@@ -1,16 +1,16 @@
 -- Lifetimes as they lie in the dyadic spans of a trie.
-use Rattle.std.specs.Prelude.{◌≡◌, ◌<◌, ◌≤◌, ◌-◌, ◌^◌, ◌&&◌, ℕ, zero, suc, Bool, not, cond, nat_le, nat_lt, List, [], ◌∷◌, map, length}
+use Rattle.std.specs.Prelude.{◌≡◌, ◌==◌, ◌≤◌, ◌-◌, ◌^◌, ◌&&◌, ℕ, zero, suc, Bool, true, false, cond, not, nat_le, nat_lt, List, [], ◌∷◌, map, length}
 use Rattle.std.specs.List.{filter, AllByRecursion}
 use Rattle.lifetime_segments.specs.declared.lifetime.Lifetime.{Lifetime}
-use Rattle.lifetime_segments.specs.declared.node.Trie.{Trie, Empty, Full'}
-use Rattle.lifetime_segments.specs.declared.node.Node.{Node}
+use Rattle.lifetime_segments.specs.declared.trie.Trie.{Trie, Empty, Full'}
+use Rattle.lifetime_segments.specs.declared.trie.Node.{Node}
 use Rattle.lifetime_segments.specs.Lawful.{most_items}
 use Rattle.lifetime_segments.specs.Ordered.{AreInOrder, in_order}
-use Rattle.lifetime_segments.specs.Lifetimes.{IsInRange, stands_earlier}
+use Rattle.lifetime_segments.specs.Lifetimes.{IsInRange, items_at, stands_earlier}
 
 -- the labels of a span are those from 0 to before 2 ^ level; a lifetime may hold all of them
 abbrev pub is_whole : {A : Type 0} → ℕ → Lifetime A → Bool
-is_whole level life = nat_le life.from 0 && nat_le (2 ^ level) life.to
+is_whole level life = (life.from == 0) && nat_le (2 ^ level) life.to
 
 -- the items that lie in the span itself
 abbrev pub wholes : {A : Type 0} → ℕ → List (Lifetime A) → List A
@@ -28,9 +28,17 @@ seen_from label life = record life { from = life.from - label; to = life.to - la
 abbrev pub in_second : {A : Type 0} → ℕ → List (Lifetime A) → List (Lifetime A)
 in_second level lives = map (seen_from (2 ^ level)) (filter (λ life. not (is_whole (suc level) life) && nat_lt (2 ^ level) life.to) lives)
 
+-- the items that are there at a label and lie below a span whose halves have this level
+abbrev pub items_below : {A : Type 0} → ℕ → ℕ → List (Lifetime A) → List A
+items_below level label lives = cond (nat_lt label (2 ^ level)) (items_at label (in_first level lives)) (items_at (label - 2 ^ level) (in_second level lives))
+
 abbrev pub items_of : {A M : Type 0} → Trie A M → List A
 items_of Empty = []
 items_of (Full' p items left right) = items
+
+abbrev pub is_empty : {A M : Type 0} → Trie A M → Bool
+is_empty Empty = true
+is_empty (Full' p items left right) = false
 
 abbrev pub left_of : {A M : Type 0} → Trie A M → Trie A M
 left_of Empty = Empty
@@ -55,6 +63,84 @@ IsOfNode before (suc level) lives node =
     (node.items ≡ in_order before (wholes (suc level) lives))
     × IsOf before level (in_first level lives) node.left
     × IsOf before level (in_second level lives) node.right
+
+-- the node is what the trie leads to; no trie is a node with nothing
+pub record IsOpened {A M : Type 0} (trie : Trie A M) (node : Node A M) : Type 0 where
+  pub items_are : node.items ≡ items_of trie
+  pub left_is : node.left ≡ left_of trie
+  pub right_is : node.right ≡ right_of trie
+
+-- it has some lifetimes, and not too many
+pub record Has {A M : Type 0} (before : A → A → Bool) (level : ℕ) (trie : Trie A M) : Type 0 where
+  pub lives : List (Lifetime A)
+  pub is_of : IsOf before level lives trie
+  pub few : length lives ≤ most_items
+
+pub record NodeHas {A M : Type 0} (before : A → A → Bool) (level : ℕ) (node : Node A M) : Type 0 where
+  pub lives : List (Lifetime A)
+  pub is_of : IsOfNode before level lives node
+  pub few : length lives ≤ most_items
+
+-- it has a lifetime, and others
+pub record HasOne {A M : Type 0} (before : A → A → Bool) (level : ℕ) (life : Lifetime A) (trie : Trie A M) : Type 0 where
+  pub others : List (Lifetime A)
+  pub is_of : IsOf before level (life ∷ others) trie
+
+pub record NodeHasOne {A M : Type 0} (before : A → A → Bool) (level : ℕ) (life : Lifetime A) (node : Node A M) : Type 0 where
+  pub others : List (Lifetime A)
+  pub is_of : IsOfNode before level (life ∷ others) node
+
+-- the parts of a lifetime and of others in a half of this level
+pub record FirstHasOne {A M : Type 0} (before : A → A → Bool) (level : ℕ) (life : Lifetime A) (trie : Trie A M) : Type 0 where
+  pub others : List (Lifetime A)
+  pub is_of : IsOf before level (in_first level (life ∷ others)) trie
+
+pub record SecondHasOne {A M : Type 0} (before : A → A → Bool) (level : ℕ) (life : Lifetime A) (trie : Trie A M) : Type 0 where
+  pub others : List (Lifetime A)
+  pub is_of : IsOf before level (in_second level (life ∷ others)) trie
+
+-- whatever lifetimes it had, it has them still, or with one more, or without one of them
+abbrev pub Keeps : {A M : Type 0} → (A → A → Bool) → ℕ → Trie A M → Trie A M → Type 0
+Keeps {A} before level old new = (lives : List (Lifetime A)) → IsOf before level lives old → IsOf before level lives new
+
+abbrev pub Adds : {A M : Type 0} → (A → A → Bool) → ℕ → Lifetime A → Trie A M → Trie A M → Type 0
+Adds {A} before level life old new = (lives : List (Lifetime A)) → IsOf before level lives old → IsOf before level (life ∷ lives) new
+
+abbrev pub Takes : {A M : Type 0} → (A → A → Bool) → ℕ → Lifetime A → Trie A M → Trie A M → Type 0
+Takes {A} before level life old new = (lives : List (Lifetime A)) → IsOf before level (life ∷ lives) old → IsOf before level lives new
+
+-- the same of a node
+abbrev pub NodeKeeps : {A M : Type 0} → (A → A → Bool) → ℕ → Node A M → Node A M → Type 0
+NodeKeeps {A} before level old new = (lives : List (Lifetime A)) → IsOfNode before level lives old → IsOfNode before level lives new
+
+abbrev pub NodeAdds : {A M : Type 0} → (A → A → Bool) → ℕ → Lifetime A → Node A M → Node A M → Type 0
+NodeAdds {A} before level life old new = (lives : List (Lifetime A)) → IsOfNode before level lives old → IsOfNode before level (life ∷ lives) new
+
+abbrev pub NodeTakes : {A M : Type 0} → (A → A → Bool) → ℕ → Lifetime A → Node A M → Node A M → Type 0
+NodeTakes {A} before level life old new = (lives : List (Lifetime A)) → IsOfNode before level (life ∷ lives) old → IsOfNode before level lives new
+
+-- the same of the parts in a half of this level
+abbrev pub AddsFirst : {A M : Type 0} → (A → A → Bool) → ℕ → Lifetime A → Trie A M → Trie A M → Type 0
+AddsFirst {A} before level life old new = (lives : List (Lifetime A)) → IsOf before level (in_first level lives) old → IsOf before level (in_first level (life ∷ lives)) new
+
+abbrev pub AddsSecond : {A M : Type 0} → (A → A → Bool) → ℕ → Lifetime A → Trie A M → Trie A M → Type 0
+AddsSecond {A} before level life old new = (lives : List (Lifetime A)) → IsOf before level (in_second level lives) old → IsOf before level (in_second level (life ∷ lives)) new
+
+abbrev pub TakesFirst : {A M : Type 0} → (A → A → Bool) → ℕ → Lifetime A → Trie A M → Trie A M → Type 0
+TakesFirst {A} before level life old new = (lives : List (Lifetime A)) → IsOf before level (in_first level (life ∷ lives)) old → IsOf before level (in_first level lives) new
+
+abbrev pub TakesSecond : {A M : Type 0} → (A → A → Bool) → ℕ → Lifetime A → Trie A M → Trie A M → Type 0
+TakesSecond {A} before level life old new = (lives : List (Lifetime A)) → IsOf before level (in_second level (life ∷ lives)) old → IsOf before level (in_second level lives) new
+
+-- whatever lifetimes it has, this is the answer over the items that are there at a label
+abbrev pub AnswersAt : {A M Q P : Type 0} → (A → A → Bool) → (List A → Q → P) → ℕ → ℕ → Q → Trie A M → P → Type 0
+AnswersAt {A} before answer level label query trie result =
+    (lives : List (Lifetime A)) → IsOf before level lives trie → length lives ≤ most_items → result ≡ answer (in_order before (items_at label lives)) query
+
+-- the same over the items below a node
+abbrev pub NodeAnswersAt : {A M Q P : Type 0} → (A → A → Bool) → (List A → Q → P) → ℕ → ℕ → Q → Node A M → P → Type 0
+NodeAnswersAt {A} before answer level label query node result =
+    (lives : List (Lifetime A)) → IsOfNode before (suc level) lives node → length lives ≤ most_items → result ≡ answer (in_order before (items_below level label lives)) query
 
 -- lifetimes in their order and in range, not too many, with the trie of their items
 pub record AreHeld {A M : Type 0} (before : A → A → Bool) (held : List (Lifetime A)) (root : Trie A M) : Type 0 where

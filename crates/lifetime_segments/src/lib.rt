@@ -2,10 +2,12 @@
 #![tactic(auto)]
 
 mod decomposable;
+mod edit;
 mod lifetime;
-mod node;
+mod search;
 mod segments;
 mod sorted;
+mod trie;
 
 pub use decomposable::Decomposable;
 pub use lifetime::Lifetime;

@@ -1,7 +1,10 @@
+ghost use Rattle.std.specs.Prelude.{◌≡◌, ◌≤◌, ◌^◌, nat_lt};
+ghost use Rattle.lifetime_segments.specs.Tries.{is_whole, seen_from};
+
 use monoid_laws::{Count, Measured};
 
 /// An item, and the labels at which it is there: those from `from` to before `to`.
-#[derive(Clone, Copy, Debug, PartialEq, Eq)]
+#[derive(Clone, Copy)]
 pub struct Lifetime<T> {
     pub from: u64,
     pub to: u64,
@@ -19,5 +22,52 @@ impl<T: Copy> Measured for Lifetime<T> {
 
     fn measure(&self) -> Count {
         Count::single()
+    }
+}
+
+/// How many labels a span of a level has.
+pub(crate) fn labels(level: u32) -> u64
+    requires { level ≤ 40 }
+    ensures { result ≡ 2 ^ level }
+{
+    1 << level
+}
+
+impl<T: Copy> Lifetime<T> {
+    /// Whether it holds all labels of a span of this level.
+    pub(crate) fn is_whole(&self, level: u32) -> bool
+        requires { level ≤ 40 }
+        ensures { result ≡ is_whole level self.now }
+    {
+        self.from == 0 && labels(level) <= self.to
+    }
+
+    /// Whether it begins in a first half of this level.
+    pub(crate) fn begins_in_first(&self, level: u32) -> bool
+        requires { level ≤ 40 }
+        ensures { result ≡ nat_lt self.now.from (2 ^ level) }
+    {
+        self.from < labels(level)
+    }
+
+    /// Whether it ends in a second half of this level.
+    pub(crate) fn ends_in_second(&self, level: u32) -> bool
+        requires { level ≤ 40 }
+        ensures { result ≡ nat_lt (2 ^ level) self.now.to }
+    {
+        labels(level) < self.to
+    }
+
+    /// What of it is in a second half of this level, seen from where that half begins.
+    pub(crate) fn in_second(&self, level: u32) -> Lifetime<T>
+        requires { level ≤ 40 }
+        ensures { result ≡ seen_from (2 ^ level) self.now }
+    {
+        let half = labels(level);
+        Lifetime {
+            from: self.from.saturating_sub(half),
+            to: self.to.saturating_sub(half),
+            item: self.item,
+        }
     }
 }

@@ -1,17 +1,27 @@
 ghost use Rattle.std.specs.Prelude.{◌≡◌, ◌<◌, ◌≤◌, [], length, OnOk, OnErr};
 ghost use Rattle.lifetime_segments.specs.Lawful.{most_items};
-ghost use Rattle.lifetime_segments.specs.Lifetimes.{label_end, lifetime, items_at, stands_earlier};
+ghost use Rattle.lifetime_segments.specs.Lifetimes.{label_end, lifetime, IsInRange, items_at, stands_earlier};
 ghost use Rattle.lifetime_segments.specs.Ordered.{put_in, in_order, is_in, without};
+ghost use Rattle.lifetime_segments.specs.Tries.{AreHeld};
 
 use crate::decomposable::Decomposable;
+use crate::edit;
 use crate::lifetime::Lifetime;
-use crate::node::Trie;
-use retro_base::NoMemory;
+use crate::search;
+use crate::sorted::{ByStart, holds, put, take_out};
+use crate::trie::Trie;
+use retro_base::{NoMemory, Steps};
 use std::alloc::Global;
-use std::marker::Model;
+use std::marker::{Brand, Model};
+use std::sync::ledger::{Blank, Ledger};
 use weighted_tree::Tree;
 
+/// The level of the span of all labels.
+const LEVELS: u32 = 40;
+
 /// Items with the labels at which they are there, searched at any label: a list of lifetimes.
+///
+/// The lifetimes stand by where they begin, then by where they end, then by their items.
 #[derive(Drop)]
 pub struct Segments<D: Decomposable> {
     held: Tree<Lifetime<D::Item>>,
@@ -49,7 +59,8 @@ impl<D: Decomposable> Segments<D> {
         ensures ok { OnOk result (self.new ≡ put_in (stands_earlier D.stands_before) (lifetime from to item) self.old) }
         ensures err { OnErr result (self.new ≡ self.old) }
     {
-        unreachable!()
+        let life = Lifetime { from, to, item };
+        add_held::<D, Brand>(&mut self.held, &mut self.root, life, Blank::new(1))
     }
 
     /// Takes a lifetime out, and tells whether it was there. It takes no memory.
@@ -57,7 +68,8 @@ impl<D: Decomposable> Segments<D> {
         ensures found { result ≡ is_in (stands_earlier D.stands_before) (lifetime from to item) self.old }
         ensures rest { self.new ≡ without (stands_earlier D.stands_before) (lifetime from to item) self.old }
     {
-        unreachable!()
+        let life = Lifetime { from, to, item };
+        take_held::<D, Brand>(&mut self.held, &mut self.root, life, Blank::new(1))
     }
 
     /// The answer over the items of all lifetimes that hold the label. It takes no memory.
@@ -65,6 +77,54 @@ impl<D: Decomposable> Segments<D> {
         requires within { label < label_end }
         ensures { result ≡ D.answer (in_order D.stands_before (items_at label self.now)) query }
     {
-        unreachable!()
+        search::ask::<D>(&self.root, LEVELS, label, query)
     }
+}
+
+fn add_held<D: Decomposable, L: Ledger>(
+    held: &mut Tree<Lifetime<D::Item>>,
+    root: &mut Trie<D::Item>,
+    life: Lifetime<D::Item>,
+    blank: Blank,
+) -> Result<(), NoMemory>
+    requires name { blank.name ≡ L.name }
+    requires parts { blank.parts ≡ L.parts }
+    requires shared { 0 < blank.parts }
+    requires range { IsInRange life }
+    requires room { length held.old < most_items }
+    requires held { AreHeld D.stands_before held.old root.old }
+    ensures held { AreHeld D.stands_before held.new root.new }
+    ensures ok { OnOk result (held.new ≡ put_in (stands_earlier D.stands_before) life held.old) }
+    ensures err { OnErr result (held.new ≡ held.old) }
+{
+    let mut steps = Steps::<L>::new(blank);
+    put::<ByStart<D>, L>(held, life, &mut steps)?;
+    let added = edit::add::<D, L>(root, LEVELS, life, held.alloc(), &mut steps);
+    if added.is_err() {
+        take_out::<ByStart<D>, L>(held, life, &mut steps);
+    }
+    added
+}
+
+fn take_held<D: Decomposable, L: Ledger>(
+    held: &mut Tree<Lifetime<D::Item>>,
+    root: &mut Trie<D::Item>,
+    life: Lifetime<D::Item>,
+    blank: Blank,
+) -> bool
+    requires name { blank.name ≡ L.name }
+    requires parts { blank.parts ≡ L.parts }
+    requires shared { 0 < blank.parts }
+    requires held { AreHeld D.stands_before held.old root.old }
+    ensures held { AreHeld D.stands_before held.new root.new }
+    ensures found { result ≡ is_in (stands_earlier D.stands_before) life held.old }
+    ensures rest { held.new ≡ without (stands_earlier D.stands_before) life held.old }
+{
+    let mut steps = Steps::<L>::new(blank);
+    if !holds::<ByStart<D>, L>(held, life, &mut steps) {
+        return false;
+    }
+    take_out::<ByStart<D>, L>(held, life, &mut steps);
+    edit::take::<D, L>(root, LEVELS, life, &mut steps);
+    true
 }

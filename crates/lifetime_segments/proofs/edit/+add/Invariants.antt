@@ -1,0 +1,17 @@
+use Rattle.std.specs.Prelude.{◌+◌, ◌*◌}
+use Rattle.lifetime_segments.proofs.edit.+add.Given as goal
+
+abbrev pub decreases-add : goal.decreases-add
+decreases-add g l = 4 * l.level + 1
+
+abbrev pub decreases-add_to_node : goal.decreases-add_to_node
+decreases-add_to_node g l = 4 * l.level
+
+abbrev pub decreases-add_to_halves : goal.decreases-add_to_halves
+decreases-add_to_halves g l = 4 * l.level + 3
+
+abbrev pub decreases-add_first : goal.decreases-add_first
+decreases-add_first g l = 4 * l.level + 2
+
+abbrev pub decreases-add_second : goal.decreases-add_second
+decreases-add_second g l = 4 * l.level + 2

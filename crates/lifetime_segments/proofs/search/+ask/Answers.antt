@@ -1,0 +1,102 @@
+use Rattle.std.proofs.Common.{◌≡◌, ◌≤◌, ◌<◌, ◌-◌, ◌^◌, suc, true, false, cond, [], refl, sym, subst, ap, ◌∙◌, arith, rules}
+use Rattle.std.specs.Prelude.{nat_lt}
+use Rattle.std.proofs.lemmas.Bool.Decides.{nat_tests}
+use Rattle.lifetime_segments.specs.Lawful.{AreLawful, AnswerTogether}
+use Rattle.lifetime_segments.specs.Lifetimes.{items_at}
+use Rattle.lifetime_segments.specs.Ordered.{in_order}
+use Rattle.lifetime_segments.specs.Tries.{IsOf, IsOfNode, IsOpened, Has, NodeHas, in_first, in_second, items_below}
+use Rattle.lifetime_segments.proofs.Nodes.{node_of, node_has, left_has, right_has, node_left, node_right, first-few, second-few, node_ordered, node_few, node_at, node_at_zero, node_lawful, empty_at}
+use Rattle.lifetime_segments.proofs.Spans.{double}
+use Rattle.lifetime_segments.proofs.search.+ask.Goals as goal
+
+pub ask-returns-in_default : goal.ask-returns-in_default
+ask-returns-in_default g t c lives is_of few =
+    c.empty.ensures
+    ∙ sym (g.met.D.Decomposable.laws.of_none c.args.query)
+    ∙ sym (ap (λ items. g.D.Decomposable.answer items c.args.query) (empty_at g.met.D.Decomposable.order c.args.level c.args.label lives c.requires.within c.args.trie.now c.in_default.is is_of))
+
+pub ask-ask-own-requires : goal.ask-ask-own-requires
+ask-ask-own-requires g t c =
+    let has : NodeHas g.D.Decomposable.stands_before c.args.level c.deref.result.now = node_has (subst (IsOpened c.args.trie.now) (sym c.deref.ensures) (subst (λ trie. IsOpened trie c.in-Full.node.value) (sym c.in-Full.is) (record { items_are = refl; left_is = refl; right_is = refl }))) c.requires.has in
+    record {
+      lawful = record {
+        ordered = node_ordered g.met.D.Decomposable.order c.args.level has.lives c.deref.result.now has.is_of;
+        few = omega (arith, node_few g.met.D.Decomposable.order c.args.level has.lives c.deref.result.now has.is_of, has.few);
+      };
+    }
+
+pub ask-returns-then-level-eq0 : goal.ask-returns-then-level-eq0
+ask-returns-then-level-eq0 g t c lives is_of few =
+    let opened : IsOpened c.args.trie.now c.deref.result.now = subst (IsOpened c.args.trie.now) (sym c.deref.ensures) (subst (λ trie. IsOpened trie c.in-Full.node.value) (sym c.in-Full.is) (record { items_are = refl; left_is = refl; right_is = refl })) in
+    c.ask-own.ensures
+    ∙ ap (λ items. g.D.Decomposable.answer items c.args.query)
+    (node_at_zero g.met.D.Decomposable.order c.args.level c.args.label lives c.deref.result.now c.if-level-eq0.true c.requires.within (node_of g.D.Decomposable.stands_before c.args.level lives c.args.trie.now c.deref.result.now opened is_of))
+
+pub ask-ask_half-requires : goal.ask-ask_half-requires
+ask-ask_half-requires g t c κs within =
+    let below : c.args.level ≡ suc (c.args.level - 1) = omega arith in
+    let opened : IsOpened c.args.trie.now c.deref-2.result.now = subst (IsOpened c.args.trie.now) (sym c.deref-2.ensures) (subst (λ trie. IsOpened trie c.in-Full.node.value) (sym c.in-Full.is) (record { items_are = refl; left_is = refl; right_is = refl })) in
+    let near : c.args.label < 2 ^ suc (c.args.level - 1) = subst (λ n. c.args.label < 2 ^ n) below c.requires.within in
+    let has : NodeHas g.D.Decomposable.stands_before (suc (c.args.level - 1)) c.deref-2.result.now = subst (λ n. NodeHas g.D.Decomposable.stands_before n c.deref-2.result.now) below (node_has opened c.requires.has) in
+    search rules
+
+pub ask-combine-requires : goal.ask-combine-requires
+ask-combine-requires g t c =
+    let before = g.D.Decomposable.stands_before in
+    let below : c.args.level ≡ suc (c.args.level - 1) = omega arith in
+    let opened : IsOpened c.args.trie.now c.deref.result.now = subst (IsOpened c.args.trie.now) (sym c.deref.ensures) (subst (λ trie. IsOpened trie c.in-Full.node.value) (sym c.in-Full.is) (record { items_are = refl; left_is = refl; right_is = refl })) in
+    let near : c.args.label < 2 ^ suc (c.args.level - 1) = subst (λ n. c.args.label < 2 ^ n) below c.requires.within in
+    let is_of : IsOfNode before (suc (c.args.level - 1)) c.requires.has.lives c.deref.result.now =
+    subst (λ n. IsOfNode before n c.requires.has.lives c.deref.result.now) below (node_of before c.args.level c.requires.has.lives c.args.trie.now c.deref.result.now opened c.requires.has.is_of) in
+    record {
+      together = record {
+        query = c.args.query;
+        first_items = c.deref.result.now.items;
+        second_items = in_order before (items_below (c.args.level - 1) c.args.label c.requires.has.lives);
+        lawful = node_lawful g.met.D.Decomposable.order (c.args.level - 1) c.args.label c.requires.has.lives c.deref.result.now near c.requires.has.few is_of;
+        first_is = c.ask-own.ensures;
+        second_is = c.ask_half.ensures c.requires.has.lives
+            (subst (IsOfNode before (suc (c.args.level - 1)) c.requires.has.lives) (c.deref.ensures ∙ sym c.deref-2.ensures) is_of) c.requires.has.few;
+      };
+    }
+
+pub ask-returns : goal.ask-returns
+ask-returns g t c lives is_of few =
+    let before = g.D.Decomposable.stands_before in
+    let below : c.args.level ≡ suc (c.args.level - 1) = omega arith in
+    let opened : IsOpened c.args.trie.now c.deref.result.now = subst (IsOpened c.args.trie.now) (sym c.deref.ensures) (subst (λ trie. IsOpened trie c.in-Full.node.value) (sym c.in-Full.is) (record { items_are = refl; left_is = refl; right_is = refl })) in
+    let near : c.args.label < 2 ^ suc (c.args.level - 1) = subst (λ n. c.args.label < 2 ^ n) below c.requires.within in
+    let is_of_node : IsOfNode before (suc (c.args.level - 1)) lives c.deref.result.now =
+    subst (λ n. IsOfNode before n lives c.deref.result.now) below (node_of before c.args.level lives c.args.trie.now c.deref.result.now opened is_of) in
+    let items = items_below (c.args.level - 1) c.args.label lives in
+    c.combine.ensures
+    ∙ ap (λ part. g.D.Decomposable.combined part c.ask_half.result) c.ask-own.ensures
+    ∙ ap (g.D.Decomposable.combined (g.D.Decomposable.answer c.deref.result.now.items c.args.query)) (c.ask_half.ensures lives (subst (IsOfNode before (suc (c.args.level - 1)) lives) (c.deref.ensures ∙ sym c.deref-2.ensures) is_of_node) few)
+    ∙ sym (g.met.D.Decomposable.laws.together c.deref.result.now.items (in_order before items) c.args.query (node_lawful g.met.D.Decomposable.order (c.args.level - 1) c.args.label lives c.deref.result.now near few is_of_node))
+    ∙ ap (λ all. g.D.Decomposable.answer all c.args.query) (node_at g.met.D.Decomposable.order (c.args.level - 1) c.args.label lives c.deref.result.now near is_of_node)
+
+pub ask_half-ask-requires : goal.ask_half-ask-requires
+ask_half-ask-requires g t c κs within =
+    let has : Has g.D.Decomposable.stands_before c.args.level c.args.node.now.left = left_has c.requires.has in
+    search rules
+
+pub ask_half-ask-requires-else-label-half : goal.ask_half-ask-requires-else-label-half
+ask_half-ask-requires-else-label-half g t c κs within =
+    let has : Has g.D.Decomposable.stands_before c.args.level c.args.node.now.right = right_has c.requires.has in
+    let near : c.args.label - c.labels-half.result < 2 ^ c.args.level = omega (arith, double c.args.level) in
+    search rules
+
+pub ask_half-returns-then-label-half : goal.ask_half-returns-then-label-half
+ask_half-returns-then-label-half g t c lives is_of few =
+    let before = g.D.Decomposable.stands_before in
+    let near : nat_lt c.args.label (2 ^ c.args.level) ≡ true = grind (arith, nat_tests) in
+    c.ask.ensures (in_first c.args.level lives) (node_left before c.args.level lives c.args.node.now is_of) (omega (arith, first-few c.args.level lives))
+    ∙ ap (λ b. g.D.Decomposable.answer (in_order before (cond b (items_at c.args.label (in_first c.args.level lives)) (items_at (c.args.label - 2 ^ c.args.level) (in_second c.args.level lives)))) c.args.query) (sym near)
+
+pub ask_half-returns-else-label-half : goal.ask_half-returns-else-label-half
+ask_half-returns-else-label-half g t c lives is_of few =
+    let before = g.D.Decomposable.stands_before in
+    let far : nat_lt c.args.label (2 ^ c.args.level) ≡ false = grind (arith, nat_tests) in
+    c.ask-else-label-half.ensures (in_second c.args.level lives) (node_right before c.args.level lives c.args.node.now is_of) (omega (arith, second-few c.args.level lives))
+    ∙ ap (λ half. g.D.Decomposable.answer (in_order before (items_at (c.args.label - half) (in_second c.args.level lives))) c.args.query) c.labels-half.ensures
+    ∙ ap (λ b. g.D.Decomposable.answer (in_order before (cond b (items_at c.args.label (in_first c.args.level lives)) (items_at (c.args.label - 2 ^ c.args.level) (in_second c.args.level lives)))) c.args.query) (sym far)

@@ -1,0 +1,8 @@
+use Rattle.std.specs.Prelude.{◌+◌, ◌*◌}
+use Rattle.lifetime_segments.proofs.search.+ask.Given as goal
+
+abbrev pub decreases-ask : goal.decreases-ask
+decreases-ask g l = 2 * l.level
+
+abbrev pub decreases-ask_half : goal.decreases-ask_half
+decreases-ask_half g l = 2 * l.level + 1
