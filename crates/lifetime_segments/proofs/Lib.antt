@@ -3,3 +3,4 @@ mod Spans
 mod Nodes
 mod Moved
 mod Results
+mod Held

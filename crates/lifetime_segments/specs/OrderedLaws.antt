@@ -15,6 +15,16 @@ pub length-in_order : {A : Type 0} (before : A → A → Bool) (xs : List A) →
 length-in_order before [] = refl
 length-in_order before (x ∷ xs) = length-put_in before x (in_order before xs) ∙ ap suc (length-in_order before xs)
 
+pub length-without : {A : Type 0} (before : A → A → Bool) (x : A) (xs : List A) → length (without before x xs) ≤ length xs
+length-without before x [] = omega arith
+length-without before x (y ∷ ys) = elim (before y x) as (λ b. length (cond b (y ∷ without before x ys) (cond (before x y) (y ∷ ys) ys)) ≤ suc (length ys)) [
+    | true ↦ let fewer = length-without before x ys in omega arith
+    | false ↦ elim (before x y) as (λ b. length (cond b (y ∷ ys) ys) ≤ suc (length ys)) [
+        | true ↦ omega arith
+        | false ↦ omega arith
+      ]
+  ]
+
 -- what holds of all elements and of one more holds of all after it is put in
 pub all-put_in : {A : Type 0} (P : A → Type 0) (before : A → A → Bool) (x : A) (xs : List A) → P x → AllByRecursion P xs → AllByRecursion P (put_in before x xs)
 all-put_in P before x [] here all = (here, tt)

@@ -1,0 +1,61 @@
+-- The lifetimes that are held, and the trie of their items, through an edit.
+use Rattle.std.proofs.Common.{◌≡◌, ℕ, zero, suc, ◌<◌, ◌≤◌, Bool, true, List, [], ◌∷◌, length, refl, sym, subst, ap, arith}
+use Rattle.std.specs.List.{AllByRecursion}
+use Rattle.lifetime_segments.specs.declared.lifetime.Lifetime.{Lifetime}
+use Rattle.lifetime_segments.specs.declared.trie.Trie.{Trie, Empty}
+use Rattle.lifetime_segments.specs.Lawful.{most_items}
+use Rattle.lifetime_segments.specs.Ordered.{IsOrder, put_in, is_in, without}
+use Rattle.lifetime_segments.specs.OrderedLaws.{length-put_in, length-without, all-put_in, all-without, put_in-ordered, without-ordered, is_in-all}
+use Rattle.lifetime_segments.specs.Lifetimes.{IsInRange, stands_earlier}
+use Rattle.lifetime_segments.specs.LifetimeLaws.{earlier_order}
+use Rattle.lifetime_segments.specs.Tries.{items_of, left_of, right_of, IsOf, HasOne, Keeps, Adds, Takes, AreHeld}
+use Rattle.lifetime_segments.proofs.Moved.{of_put_in, of_without}
+
+of_none : {A M : Type 0} (before : A → A → Bool) (level : ℕ) (trie : Trie A M) → trie ≡ Empty → IsOf before level [] trie
+unfolding IsOf
+of_none before zero trie none = ap items_of none
+of_none before (suc level) trie none = (ap items_of none, of_none before level (left_of trie) (ap left_of none), of_none before level (right_of trie) (ap right_of none))
+
+pub held_none : {A M : Type 0} (before : A → A → Bool) (held : List (Lifetime A)) (root : Trie A M) → held ≡ [] → root ≡ Empty → AreHeld before held root
+held_none before held root none no_root = subst (λ lives. AreHeld before lives root) (sym none) (record {
+  ordered = tt;
+  in_range = tt;
+  few = omega arith;
+  is_of = of_none before 40 root no_root;
+})
+
+pub held_kept : {A M : Type 0} (before : A → A → Bool) (held : List (Lifetime A)) (root after : Trie A M) → AreHeld before held root → Keeps before 40 root after → AreHeld before held after
+held_kept before held root after are keeps = record {
+  ordered = are.ordered;
+  in_range = are.in_range;
+  few = are.few;
+  is_of = keeps held are.is_of;
+}
+
+module _ {A : Type 0} {before : A → A → Bool} (order : IsOrder before) {M : Type 0} where
+  pub held_with : (life : Lifetime A) (held : List (Lifetime A)) (root after : Trie A M) → IsInRange life → length held < most_items → AreHeld before held root → Adds before 40 life root after
+      → AreHeld before (put_in (stands_earlier before) life held) after
+  held_with life held root after range room are adds = record {
+    ordered = put_in-ordered (earlier_order order) life held are.ordered;
+    in_range = all-put_in IsInRange (stands_earlier before) life held range are.in_range;
+    few = omega (arith, length-put_in (stands_earlier before) life held);
+    is_of = of_put_in order 40 life held after (adds held are.is_of);
+  }
+
+  pub held_one : (life : Lifetime A) (held : List (Lifetime A)) (root : Trie A M) → AreHeld before held root → is_in (stands_earlier before) life held ≡ true → HasOne before 40 life root
+  held_one life held root are there = record {
+    others = without (stands_earlier before) life held;
+    is_of = of_without order 40 life held root are.ordered there are.is_of;
+  }
+
+  pub held_without : (life : Lifetime A) (held : List (Lifetime A)) (root after : Trie A M) → AreHeld before held root → is_in (stands_earlier before) life held ≡ true → Takes before 40 life root after
+      → AreHeld before (without (stands_earlier before) life held) after
+  held_without life held root after are there takes = record {
+    ordered = without-ordered (earlier_order order) life held are.ordered;
+    in_range = all-without IsInRange (stands_earlier before) life held are.in_range;
+    few = (let fewer = length-without (stands_earlier before) life held in let all = are.few in omega arith);
+    is_of = takes (without (stands_earlier before) life held) (of_without order 40 life held root are.ordered there are.is_of);
+  }
+
+  pub held_range : (life : Lifetime A) (held : List (Lifetime A)) (root : Trie A M) → AreHeld before held root → is_in (stands_earlier before) life held ≡ true → IsInRange life
+  held_range life held root are there = is_in-all (earlier_order order) IsInRange life held are.in_range there
