@@ -1,5 +1,5 @@
 -- A trie has its lifetimes in any order.
-use Rattle.std.proofs.Common.{◌≡◌, ℕ, zero, suc, Bool, true, false, cond, not, List, [], ◌∷◌, ◌++◌, take, drop, refl, sym, subst, ap, ◌∙◌}
+use Rattle.std.proofs.Common.{◌≡◌, ℕ, zero, suc, Bool, true, false, cond, not, List, ◌∷◌, ◌++◌, take, drop, refl, sym, subst, ap, ◌∙◌}
 use Rattle.std.specs.Prelude.{◌^◌, ◌&&◌, nat_lt, map}
 use Rattle.std.specs.List.{filter}
 use Rattle.std.proofs.lemmas.List.{map-append, take-append-drop}
@@ -26,10 +26,10 @@ of_alike : {A M : Type 0} (before : A → A → Bool) (level : ℕ) (lives other
 unfolding AreAlike IsOf
 of_alike before zero lives others trie alike is_of = is_of ∙ alike
 of_alike before (suc level) lives others trie alike is_of = (
-    is_of.0 ∙ alike.0,
-    of_alike before level (in_first level lives) (in_first level others) (left_of trie) alike.1 is_of.1,
-    of_alike before level (in_second level lives) (in_second level others) (right_of trie) alike.2 is_of.2,
-  )
+  is_of.0 ∙ alike.0,
+  of_alike before level (in_first level lives) (in_first level others) (left_of trie) alike.1 is_of.1,
+  of_alike before level (in_second level lives) (in_second level others) (right_of trie) alike.2 is_of.2,
+)
 
 alike-same : {A : Type 0} (before : A → A → Bool) (level : ℕ) (lives : List (Lifetime A)) → AreAlike before level lives lives
 unfolding AreAlike
@@ -40,10 +40,10 @@ alike-back : {A : Type 0} (before : A → A → Bool) (level : ℕ) (lives other
 unfolding AreAlike
 alike-back before zero lives others alike = sym alike
 alike-back before (suc level) lives others alike = (
-    sym alike.0,
-    alike-back before level (in_first level lives) (in_first level others) alike.1,
-    alike-back before level (in_second level lives) (in_second level others) alike.2,
-  )
+  sym alike.0,
+  alike-back before level (in_first level lives) (in_first level others) alike.1,
+  alike-back before level (in_second level lives) (in_second level others) alike.2,
+)
 
 -- what is taken of a list that has an element in its middle
 middle : {X Y : Type 0} (test : X → Bool) (f : X → Y) (x : X) (xs ys : List X) → map f (filter test (xs ++ x ∷ ys)) ≡ map f (filter test xs) ++ map f (cond (test x) (x ∷ filter test ys) (filter test ys))
@@ -79,12 +79,11 @@ module _ {A : Type 0} {before : A → A → Bool} (order : IsOrder before) where
   moved zero x xs ys = items-moved zero x xs ys
   moved (suc level) x xs ys =
       let first = λ (life : Lifetime A). not (is_whole (suc level) life) && nat_lt life.from (2 ^ level) in
-      let second = λ (life : Lifetime A). not (is_whole (suc level) life) && nat_lt (2 ^ level) life.to in
-      (
+      let second = λ (life : Lifetime A). not (is_whole (suc level) life) && nat_lt (2 ^ level) life.to in (
         items-moved (suc level) x xs ys,
         subst (λ ls. AreAlike before level ls (in_first level (x ∷ xs ++ ys))) (map-same (in_first level (xs ++ x ∷ ys)))
-        (subst (λ ls. AreAlike before level (map (λ life. life) (in_first level (xs ++ x ∷ ys))) ls) (map-same (in_first level (x ∷ xs ++ ys)))
-        (parts-moved level first (λ life. life) x xs ys (moved level))),
+            (subst (λ ls. AreAlike before level (map (λ life. life) (in_first level (xs ++ x ∷ ys))) ls) (map-same (in_first level (x ∷ xs ++ ys)))
+            (parts-moved level first (λ life. life) x xs ys (moved level))),
         parts-moved level second (seen_from (2 ^ level)) x xs ys (moved level),
       )
 

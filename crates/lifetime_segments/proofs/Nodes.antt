@@ -1,12 +1,12 @@
 -- What a node has, and what it has once it is changed.
-use Rattle.std.proofs.Common.{◌≡◌, ℕ, zero, suc, ◌+◌, ◌-◌, ◌≤◌, ◌<◌, Bool, true, false, cond, not, List, [], ◌∷◌, ◌++◌, length, refl, sym, subst, ap, ◌∙◌, arith, length-append}
-use Rattle.std.specs.Prelude.{◌^◌, ◌&&◌, ◌==◌, nat_le, nat_lt, map}
+use Rattle.std.proofs.Common.{◌≡◌, ℕ, zero, suc, ◌-◌, ◌≤◌, ◌<◌, Bool, true, false, cond, not, List, [], ◌∷◌, ◌++◌, length, refl, sym, subst, ap, ◌∙◌, arith, length-append}
+use Rattle.std.specs.Prelude.{◌^◌, ◌&&◌, nat_lt, map}
 use Rattle.std.specs.List.{filter}
 use Rattle.std.proofs.lemmas.Bool.Decides.{nat_tests}
 use Rattle.lifetime_segments.specs.declared.lifetime.Lifetime.{Lifetime}
 use Rattle.lifetime_segments.specs.declared.trie.Trie.{Trie, Empty, Full'}
 use Rattle.lifetime_segments.specs.declared.trie.Node.{Node}
-use Rattle.lifetime_segments.specs.Lawful.{most_items, IsLawful, AreLawful}
+use Rattle.lifetime_segments.specs.Lawful.{most_items, AreLawful}
 use Rattle.lifetime_segments.specs.Ordered.{IsOrder, AreInOrder, put_in, in_order, is_in, without}
 use Rattle.lifetime_segments.specs.OrderedLaws.{in_order-absorbs, in_order-ordered, in_order-kept, length-in_order, is_in-put_in, without-put_in}
 use Rattle.lifetime_segments.specs.Lifetimes.{holds, items_at}
@@ -59,9 +59,9 @@ length-map f (x ∷ xs) = ap suc (length-map f xs)
 length-filter : {X : Type 0} (test : X → Bool) (xs : List X) → length (filter test xs) ≤ length xs
 length-filter test [] = omega arith
 length-filter test (x ∷ xs) = elim (test x) as (λ b. length (cond b (x ∷ filter test xs) (filter test xs)) ≤ suc (length xs)) [
-    | true ↦ let fewer = length-filter test xs in omega arith
-    | false ↦ let fewer = length-filter test xs in omega arith
-  ]
+  | true ↦ let fewer = length-filter test xs in omega arith
+  | false ↦ let fewer = length-filter test xs in omega arith
+]
 
 pub wholes-few : {A : Type 0} (level : ℕ) (lives : List (Lifetime A)) → length (wholes level lives) ≤ length lives
 wholes-few {A = A} level lives = omega (arith, length-map (λ (life : Lifetime A). life.item) (filter (is_whole level) lives), length-filter (is_whole level) lives)
@@ -74,10 +74,10 @@ first-few {A = A} level lives = length-filter (λ (life : Lifetime A). not (is_w
 
 pub second-few : {A : Type 0} (level : ℕ) (lives : List (Lifetime A)) → length (in_second level lives) ≤ length lives
 second-few {A = A} level lives = omega (
-    arith,
-    length-map (seen_from (2 ^ level)) (filter (λ (life : Lifetime A). not (is_whole (suc level) life) && nat_lt (2 ^ level) life.to) lives),
-    length-filter (λ (life : Lifetime A). not (is_whole (suc level) life) && nat_lt (2 ^ level) life.to) lives,
-  )
+  arith,
+  length-map (seen_from (2 ^ level)) (filter (λ (life : Lifetime A). not (is_whole (suc level) life) && nat_lt (2 ^ level) life.to) lives),
+  length-filter (λ (life : Lifetime A). not (is_whole (suc level) life) && nat_lt (2 ^ level) life.to) lives,
+)
 
 pub left_has : {A M : Type 0} {before : A → A → Bool} {level : ℕ} {node : Node A M} → NodeHas before (suc level) node → Has before level node.left
 left_has {before = before} {level = level} {node = node} has = record {
@@ -120,10 +120,10 @@ pub node_with_whole : {A M : Type 0} (before : A → A → Bool) (level : ℕ) (
 unfolding IsOfNode
 node_with_whole before zero life node after whole items left right lives is_of = items ∙ ap (put_in before life.item) is_of ∙ sym (ap (in_order before) (wholes-whole zero life lives whole))
 node_with_whole before (suc level) life node after whole items left right lives is_of = (
-    items ∙ ap (put_in before life.item) is_of.0 ∙ sym (ap (in_order before) (wholes-whole (suc level) life lives whole)),
-    subst (λ t. IsOf before level (in_first level (life ∷ lives)) t) (sym left) (subst (λ ls. IsOf before level ls node.left) (sym (first-whole level life lives whole)) is_of.1),
-    subst (λ t. IsOf before level (in_second level (life ∷ lives)) t) (sym right) (subst (λ ls. IsOf before level ls node.right) (sym (second-whole level life lives whole)) is_of.2),
-  )
+  items ∙ ap (put_in before life.item) is_of.0 ∙ sym (ap (in_order before) (wholes-whole (suc level) life lives whole)),
+  subst (λ t. IsOf before level (in_first level (life ∷ lives)) t) (sym left) (subst (λ ls. IsOf before level ls node.left) (sym (first-whole level life lives whole)) is_of.1),
+  subst (λ t. IsOf before level (in_second level (life ∷ lives)) t) (sym right) (subst (λ ls. IsOf before level ls node.right) (sym (second-whole level life lives whole)) is_of.2),
+)
 
 -- where no item lies, none lies without one of the lifetimes
 fewer_items : {A : Type 0} (before : A → A → Bool) (level : ℕ) (life : Lifetime A) (lives : List (Lifetime A)) → [] ≡ in_order before (wholes level (life ∷ lives)) → [] ≡ in_order before (wholes level lives)
@@ -141,8 +141,7 @@ empty_without before zero life lives trie none is_of = ap items_of none ∙ fewe
 empty_without {A = A} before (suc level) life lives trie none is_of =
     let first = not (is_whole (suc level) life) && nat_lt life.from (2 ^ level) in
     let second = not (is_whole (suc level) life) && nat_lt (2 ^ level) life.to in
-    let others = filter (λ (l : Lifetime A). not (is_whole (suc level) l) && nat_lt (2 ^ level) l.to) lives in
-    (
+    let others = filter (λ (l : Lifetime A). not (is_whole (suc level) l) && nat_lt (2 ^ level) l.to) lives in (
       ap items_of none ∙ fewer_items before (suc level) life lives (sym (ap items_of none) ∙ is_of.0),
       (elim first as (λ b. IsOf before level (cond b (life ∷ in_first level lives) (in_first level lives)) (left_of trie) → IsOf before level (in_first level lives) (left_of trie)) [
         | true ↦ λ below. empty_without before level life (in_first level lives) (left_of trie) (ap left_of none) below
@@ -212,10 +211,10 @@ module _ {A : Type 0} {before : A → A → Bool} (order : IsOrder before) where
     unfolding IsOfNode
     node_without_whole zero life node after whole items left right lives is_of = items ∙ without_whole zero life lives node.items whole is_of
     node_without_whole (suc level) life node after whole items left right lives is_of = (
-        items ∙ without_whole (suc level) life lives node.items whole is_of.0,
-        subst (λ t. IsOf before level (in_first level lives) t) (sym left) (subst (λ ls. IsOf before level ls node.left) (first-whole level life lives whole) is_of.1),
-        subst (λ t. IsOf before level (in_second level lives) t) (sym right) (subst (λ ls. IsOf before level ls node.right) (second-whole level life lives whole) is_of.2),
-      )
+      items ∙ without_whole (suc level) life lives node.items whole is_of.0,
+      subst (λ t. IsOf before level (in_first level lives) t) (sym left) (subst (λ ls. IsOf before level ls node.left) (first-whole level life lives whole) is_of.1),
+      subst (λ t. IsOf before level (in_second level lives) t) (sym right) (subst (λ ls. IsOf before level ls node.right) (second-whole level life lives whole) is_of.2),
+    )
 
   -- the items in a span and those below it, at a label, are those that are there
   items_below-in_order : (level label : ℕ) (lives : List (Lifetime A)) → label < 2 ^ suc level → in_order before (wholes (suc level) lives ++ items_below level label lives) ≡ in_order before (items_at label lives)
@@ -257,13 +256,13 @@ module _ {A : Type 0} {before : A → A → Bool} (order : IsOrder before) where
       first_ordered = node_ordered (suc level) lives node is_of;
       second_ordered = in_order-ordered order (items_below level label lives);
       few = omega (
-          arith,
-          length-append node.items (in_order before (items_below level label lives)),
-          length-in_order before (node.items ++ in_order before (items_below level label lives)),
-          ap length (node_at level label lives node within is_of),
-          length-in_order before (items_at label lives),
-          items_at-few label lives,
-        );
+        arith,
+        length-append node.items (in_order before (items_below level label lives)),
+        length-in_order before (node.items ++ in_order before (items_below level label lives)),
+        ap length (node_at level label lives node within is_of),
+        length-in_order before (items_at label lives),
+        items_at-few label lives,
+      );
     }
 
     -- at level 0 there is nothing below

@@ -1,12 +1,12 @@
 -- What lies in a span and in its halves.
-use Rattle.std.proofs.Common.{◌≡◌, ℕ, zero, suc, ◌+◌, ◌-◌, ◌*◌, ◌≤◌, ◌<◌, Bool, true, false, cond, not, List, [], ◌∷◌, ◌++◌, length, refl, sym, ap, ◌∙◌, arith}
+use Rattle.std.proofs.Common.{◌≡◌, ℕ, suc, ◌+◌, ◌-◌, ◌*◌, ◌≤◌, ◌<◌, Bool, true, false, cond, not, List, [], ◌∷◌, ◌++◌, refl, sym, ap, ◌∙◌, arith}
 use Rattle.std.specs.Prelude.{◌^◌, ◌&&◌, nat_le, nat_lt, map}
 use Rattle.std.specs.List.{filter}
 use Rattle.std.proofs.Math.Nat.{pow-succ'}
 use Rattle.std.proofs.lemmas.Bool.Decides.{nat_tests}
 use Rattle.lifetime_segments.specs.declared.lifetime.Lifetime.{Lifetime}
-use Rattle.lifetime_segments.specs.Ordered.{IsOrder, AreInOrder, put_in, in_order}
-use Rattle.lifetime_segments.specs.OrderedLaws.{in_order-middle, in_order-absorbs}
+use Rattle.lifetime_segments.specs.Ordered.{IsOrder, put_in, in_order}
+use Rattle.lifetime_segments.specs.OrderedLaws.{in_order-middle}
 use Rattle.lifetime_segments.specs.Lifetimes.{holds, items_at}
 use Rattle.lifetime_segments.specs.Tries.{is_whole, wholes, in_first, in_second, seen_from}
 

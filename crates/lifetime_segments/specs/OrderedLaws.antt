@@ -1,8 +1,8 @@
 -- What an order gives.
-use Rattle.std.proofs.Common.{◌≡◌, ℕ, zero, suc, ◌+◌, ◌≤◌, ◌<◌, Some, slice_get, take, drop, Bool, true, false, cond, not, List, [], ◌∷◌, ◌++◌, length, refl, sym, ap, ◌∙◌, arith}
-use Rattle.std.specs.List.{insert, remove, AllByRecursion}
-use Rattle.retro_base.specs.OrderLaws.{all_weaker, all_at}
-use Rattle.lifetime_segments.specs.Ordered.{IsOrder, AreInOrder, put_in, in_order, is_in, without, place_in}
+use Rattle.std.proofs.Common.{◌≡◌, suc, ◌≤◌, Bool, true, false, cond, not, List, [], ◌∷◌, ◌++◌, length, refl, sym, ap, ◌∙◌, arith}
+use Rattle.std.specs.List.{AllByRecursion}
+use Rattle.retro_base.specs.OrderLaws.{all_weaker}
+use Rattle.lifetime_segments.specs.Ordered.{IsOrder, AreInOrder, put_in, in_order, is_in, without}
 
 pub length-put_in : {A : Type 0} (before : A → A → Bool) (x : A) (xs : List A) → length (put_in before x xs) ≡ suc (length xs)
 length-put_in before x [] = refl
@@ -18,12 +18,12 @@ length-in_order before (x ∷ xs) = length-put_in before x (in_order before xs) 
 pub length-without : {A : Type 0} (before : A → A → Bool) (x : A) (xs : List A) → length (without before x xs) ≤ length xs
 length-without before x [] = omega arith
 length-without before x (y ∷ ys) = elim (before y x) as (λ b. length (cond b (y ∷ without before x ys) (cond (before x y) (y ∷ ys) ys)) ≤ suc (length ys)) [
-    | true ↦ let fewer = length-without before x ys in omega arith
-    | false ↦ elim (before x y) as (λ b. length (cond b (y ∷ ys) ys) ≤ suc (length ys)) [
-        | true ↦ omega arith
-        | false ↦ omega arith
-      ]
+  | true ↦ let fewer = length-without before x ys in omega arith
+  | false ↦ elim (before x y) as (λ b. length (cond b (y ∷ ys) ys) ≤ suc (length ys)) [
+    | true ↦ omega arith
+    | false ↦ omega arith
   ]
+]
 
 -- what holds of all elements and of one more holds of all after it is put in
 pub all-put_in : {A : Type 0} (P : A → Type 0) (before : A → A → Bool) (x : A) (xs : List A) → P x → AllByRecursion P xs → AllByRecursion P (put_in before x xs)

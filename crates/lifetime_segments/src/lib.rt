@@ -1,4 +1,32 @@
-//! Decomposable search over lifetimes.
+//! Decomposable search over lifetimes: items that are there from one label to before another, searched at any label.
+//!
+//! A search is decomposable where its answer over some items is combined of its answers over two parts of them, as a
+//! count, a sum or the least item is (Bentley and Saxe 1980). [`Decomposable`] is such a search with its laws, which each
+//! implementation proves, and [`Segments`] answers it over the items of all lifetimes that hold a label, for every one
+//! of them. Where nothing is asked but at the last label, the items alone serve better.
+//!
+//! `Segments` is a segment tree (Bentley 1977) over labels of 40 bits. The spans of labels are dyadic: that of the root
+//! has all labels, and each has two halves. A lifetime is made up of at most two spans of each level, and its item lies
+//! in the nodes of these. The spans that hold a label are those on the way from the root to it, 41 at the most, and a
+//! lifetime that holds the label lies in exactly one of them; so their answers are combined. A node keeps its items in a
+//! tree in their order, and one with nothing is dropped.
+//!
+//! | Call | Cost, with n lifetimes |
+//! |---|---|
+//! | `new` | constant |
+//! | `add`, `take` | a search of log² n in each of at most 80 nodes |
+//! | `ask` | one `ask` in each of at most 41 nodes, and as many of `combine` |
+//!
+//! `add` takes memory for a node of each span and for one of each tree, and leaves all as it was where there is none; no
+//! other call takes any.
+//!
+//! What the layer above may rely on, beside the clauses: the definitions of specs/Ordered.antt, specs/Lifetimes.antt and
+//! specs/Lawful.antt, and the laws of lists in their order in specs/OrderedLaws.antt and specs/LifetimeLaws.antt. So a
+//! caller with a list of its own says that what is held is that list `in_order`.
+//!
+//! - `decomposable`: the trait. `segments`: the type and its calls. `lifetime`: what lies in a span, and what in its halves.
+//! - `trie`: the nodes of the spans. `edit`: putting an item in and taking it out. `search`: the way to a label.
+//! - `sorted`: trees that keep their items in an order.
 #![tactic(auto)]
 
 mod decomposable;
@@ -12,3 +40,6 @@ mod trie;
 pub use decomposable::Decomposable;
 pub use lifetime::Lifetime;
 pub use segments::Segments;
+
+#[cfg(test)]
+mod tests;

@@ -5,11 +5,10 @@ ghost use Rattle.lifetime_segments.specs.Ordered.{put_in, in_order, is_in, witho
 ghost use Rattle.lifetime_segments.specs.Tries.{AreHeld};
 
 use crate::decomposable::Decomposable;
-use crate::edit;
 use crate::lifetime::Lifetime;
-use crate::search;
 use crate::sorted::{ByStart, holds, put, take_out};
 use crate::trie::Trie;
+use crate::{edit, search};
 use retro_base::{NoMemory, Steps};
 use std::alloc::Global;
 use std::marker::{Brand, Model};

@@ -1,5 +1,5 @@
-use Rattle.std.proofs.Common.{◌≡◌, ◌<◌, ◌-◌, ◌^◌, suc, false, ◌∷◌, length, refl, sym, subst, ap, ◌∙◌, arith, rules}
-use Rattle.lifetime_segments.specs.Tries.{is_empty, IsOf, IsOfNode, IsOpened, NodeAdds, NodeKeeps, Has, NodeHas, is_whole, in_first}
+use Rattle.std.proofs.Common.{◌≡◌, ◌<◌, ◌-◌, ◌^◌, suc, false, ◌∷◌, refl, sym, subst, ap, ◌∙◌, arith, rules}
+use Rattle.lifetime_segments.specs.Tries.{is_empty, IsOfNode, IsOpened, NodeAdds, NodeKeeps, Has, NodeHas, is_whole, in_first}
 use Rattle.lifetime_segments.proofs.Results.{ok_weaker, err_weaker, err_always}
 use Rattle.lifetime_segments.proofs.Nodes.{node_of, trie_of, node_has, left_has, right_has, node_left, node_ordered, node_few, node_with_whole, node_with_parts, node_kept, empty_keeps, below_level}
 use Rattle.lifetime_segments.proofs.edit.+add.Goals as goal

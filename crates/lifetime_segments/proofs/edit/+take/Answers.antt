@@ -1,5 +1,5 @@
-use Rattle.std.proofs.Common.{◌≡◌, ◌<◌, ◌-◌, ◌^◌, suc, false, ◌∷◌, refl, sym, subst, ◌∙◌, arith, rules}
-use Rattle.lifetime_segments.specs.Tries.{IsOf, IsOfNode, IsOpened, NodeTakes, NodeHasOne, FirstHasOne, SecondHasOne, is_whole}
+use Rattle.std.proofs.Common.{◌≡◌, ◌<◌, ◌-◌, ◌^◌, suc, false, ◌∷◌, refl, sym, subst, ◌∙◌, rules}
+use Rattle.lifetime_segments.specs.Tries.{IsOfNode, IsOpened, NodeHasOne, FirstHasOne, SecondHasOne, is_whole}
 use Rattle.lifetime_segments.proofs.Nodes.{node_of, trie_of, node_has_one, left_has_one, right_has_one, node_ordered, node_is_in, node_without_whole, node_without_parts, empty_takes, below_level}
 use Rattle.lifetime_segments.proofs.edit.+take.Goals as goal
 

@@ -1,10 +1,9 @@
-use Rattle.std.proofs.Common.{◌≡◌, ◌≤◌, ◌<◌, ◌-◌, ◌^◌, suc, true, false, cond, [], refl, sym, subst, ap, ◌∙◌, arith, rules}
+use Rattle.std.proofs.Common.{◌≡◌, ◌<◌, ◌-◌, ◌^◌, suc, true, false, cond, refl, sym, subst, ap, ◌∙◌, arith, rules}
 use Rattle.std.specs.Prelude.{nat_lt}
 use Rattle.std.proofs.lemmas.Bool.Decides.{nat_tests}
-use Rattle.lifetime_segments.specs.Lawful.{AreLawful, AnswerTogether}
 use Rattle.lifetime_segments.specs.Lifetimes.{items_at}
 use Rattle.lifetime_segments.specs.Ordered.{in_order}
-use Rattle.lifetime_segments.specs.Tries.{IsOf, IsOfNode, IsOpened, Has, NodeHas, in_first, in_second, items_below}
+use Rattle.lifetime_segments.specs.Tries.{IsOfNode, IsOpened, Has, NodeHas, in_first, in_second, items_below}
 use Rattle.lifetime_segments.proofs.Nodes.{node_of, node_has, left_has, right_has, node_left, node_right, first-few, second-few, node_ordered, node_few, node_at, node_at_zero, node_lawful, empty_at}
 use Rattle.lifetime_segments.proofs.Spans.{double}
 use Rattle.lifetime_segments.proofs.search.+ask.Goals as goal

@@ -1,7 +1,7 @@
-use Rattle.std.proofs.Common.{◌≡◌, true, subst, sym, ap, ◌∙◌}
+use Rattle.std.proofs.Common.{◌≡◌, subst, sym, ap, ◌∙◌}
 use Rattle.lifetime_segments.specs.Lifetimes.{stands_earlier}
 use Rattle.lifetime_segments.specs.LifetimeLaws.{earlier_order}
-use Rattle.lifetime_segments.specs.Ordered.{AreInOrder, put_in, is_in, without}
+use Rattle.lifetime_segments.specs.Ordered.{AreInOrder, is_in, without}
 use Rattle.lifetime_segments.specs.OrderedLaws.{put_in-ordered, is_in-put_in, without-put_in}
 use Rattle.lifetime_segments.specs.Tries.{AreHeld}
 use Rattle.lifetime_segments.proofs.Held.{held_kept, held_with}

@@ -1,6 +1,5 @@
-use Rattle.std.proofs.Common.{◌≡◌, ◌<◌, false, true, subst, sym, ◌∙◌, arith}
+use Rattle.std.proofs.Common.{subst, sym, ◌∙◌, arith}
 use Rattle.lifetime_segments.specs.Lifetimes.{IsInRange, stands_earlier}
-use Rattle.lifetime_segments.specs.Ordered.{is_in}
 use Rattle.lifetime_segments.specs.OrderedLaws.{without-none}
 use Rattle.lifetime_segments.specs.Tries.{AreHeld}
 use Rattle.lifetime_segments.proofs.Held.{held_one, held_without, held_range}

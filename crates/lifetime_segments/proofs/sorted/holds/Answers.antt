@@ -1,7 +1,6 @@
-use Rattle.std.proofs.Common.{◌≡◌, not, false, length, subst, sym, ap, ◌∙◌, Some, slice_get, arith}
+use Rattle.std.proofs.Common.{◌≡◌, not, false, subst, sym, ap, ◌∙◌, Some, slice_get, arith}
 use Rattle.std.specs.Prelude.{nat_lt}
 use Rattle.std.proofs.lemmas.Bool.Decides.{nat_tests}
-use Rattle.lifetime_segments.specs.Ordered.{place_in}
 use Rattle.lifetime_segments.proofs.Places.{place-within, is_in-end, is_in-at}
 use Rattle.lifetime_segments.proofs.sorted.holds.Goals as goal
 

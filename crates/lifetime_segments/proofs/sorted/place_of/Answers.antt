@@ -1,4 +1,4 @@
-use Rattle.std.proofs.Common.{◌≡◌, ◌+◌, ◌-◌, ◌/◌, ◌≤◌, suc, sym, ◌∙◌, arith}
+use Rattle.std.proofs.Common.{◌+◌, ◌-◌, ◌/◌, ◌≤◌, suc, sym, ◌∙◌, arith}
 use Rattle.lifetime_segments.specs.Ordered.{place_in}
 use Rattle.lifetime_segments.proofs.Places.{place-within, place-above, place-not_behind}
 use Rattle.lifetime_segments.proofs.sorted.place_of.Goals as goal

@@ -1,4 +1,4 @@
-use Rattle.std.proofs.Common.{◌≡◌, ap, ◌∙◌, arith, rules}
+use Rattle.std.proofs.Common.{◌≡◌, ap, ◌∙◌, arith}
 use Rattle.std.specs.List.{insert}
 use Rattle.lifetime_segments.specs.Ordered.{put_in}
 use Rattle.lifetime_segments.proofs.Places.{place-within, insert-place}
