@@ -1,0 +1,101 @@
+-- What an edit leaves are the lifetimes of the edited rows.
+use Rattle.std.proofs.Common.{◌≡◌, ℕ, ℤ, Option, Some, None, List, [], ◌∷◌, ◌++◌, refl, sym, ap, ◌∙◌, arith}
+use Rattle.std.specs.Option.{option_and_then}
+use Rattle.key_index.specs.KeyRows.{KeyRow, key_of}
+use Rattle.lifetime_segments.specs.declared.lifetime.Lifetime.{Lifetime}
+use Rattle.lifetime_segments.specs.Lifetimes.{stands_earlier}
+use Rattle.lifetime_segments.specs.LifetimeLaws.{earlier_order}
+use Rattle.lifetime_segments.specs.OrderedLaws.{without-put_in}
+use Rattle.retro_dictionary.specs.Changes.{Placed, placed_by, up_to_label}
+use Rattle.retro_dictionary.specs.Edited.{placed_at, all_put, all_taken, cut_at, joined_at}
+use Rattle.retro_dictionary.specs.Kept.{ordered}
+use Rattle.retro_dictionary.specs.Lifetimes.{end_of, put_by, begun, lifetimes_of}
+use Rattle.retro_dictionary.specs.PairSearchLaws.{pair_order}
+use Rattle.retro_dictionary.specs.SameItems.{HaveSameItems}
+use Rattle.retro_dictionary.proofs.AsMany.{count-append}
+use Rattle.retro_dictionary.proofs.EditedLifetimes.{edited, last_on, put_key}
+use Rattle.retro_dictionary.proofs.InOrder.{in_order-same}
+
+abbrev Lives : Type 0
+Lives = List (Lifetime (ℤ × ℤ))
+
+same-ordered : (xs ys : Lives) → HaveSameItems xs ys → ordered xs ≡ ordered ys
+same-ordered xs ys same = in_order-same (earlier_order pair_order) xs ys same
+
+put-ordered : (new : Option Placed) (to : ℕ) (xs : Lives) → all_put (up_to_label new to) (ordered xs) ≡ ordered (up_to_label new to ++ xs)
+put-ordered None to xs = refl
+put-ordered (Some placed) to xs = refl
+
+taken-ordered : (old : Option Placed) (to : ℕ) (xs : Lives) → all_taken (up_to_label old to) (ordered (up_to_label old to ++ xs)) ≡ ordered xs
+taken-ordered None to xs = refl
+taken-ordered (Some placed) to xs = without-put_in (earlier_order pair_order) _ (ordered xs)
+
+-- what a row begins, where the next row on its key is known
+begun-is : (row : KeyRow) (behind : List KeyRow) (put : Option (ℤ × ℤ)) → put_by row.1 ≡ put → begun row.0 put behind ≡ up_to_label (placed_at row.0 put) (end_of (key_of row.1) behind)
+begun-is row behind None puts = refl
+begun-is row behind (Some pair) puts = ap (λ key. up_to_label (placed_at row.0 (Some pair)) (end_of key behind)) (sym (put_key row.1 pair puts))
+
+module _ (front : List KeyRow) (row : KeyRow) (behind : List KeyRow) where
+  abbrev left : Option Placed
+  left = option_and_then placed_by (last_on (key_of row.1) front)
+
+  abbrev next : ℕ
+  next = end_of (key_of row.1) behind
+
+  abbrev own : Lives
+  own = up_to_label (placed_at row.0 (put_by row.1)) next
+
+  front_swap : (a b c : Lives) → HaveSameItems (a ++ (b ++ c)) (b ++ (a ++ c))
+  front_swap a b c = record { as_many = λ test. omega (arith, count-append test a (b ++ c), count-append test b c, count-append test b (a ++ c), count-append test a c) }
+
+  without-is : ordered (lifetimes_of (front ++ behind)) ≡ ordered (up_to_label left next ++ (edited row behind front).others)
+  without-is = same-ordered (lifetimes_of (front ++ behind)) (up_to_label left next ++ (edited row behind front).others) (edited row behind front).without_row
+
+  with-is : ordered (lifetimes_of (front ++ row ∷ behind)) ≡ ordered (up_to_label left row.0 ++ (own ++ (edited row behind front).others))
+  with-is =
+      same-ordered (lifetimes_of (front ++ row ∷ behind)) (up_to_label left row.0 ++ (begun row.0 (put_by row.1) behind ++ (edited row behind front).others)) (edited row behind front).with_row
+      ∙ ap (λ xs. ordered (up_to_label left row.0 ++ (xs ++ (edited row behind front).others))) (begun-is row behind (put_by row.1) refl)
+
+  pub cut-is : cut_at left row.0 (put_by row.1) next (ordered (lifetimes_of (front ++ behind))) ≡ ordered (lifetimes_of (front ++ row ∷ behind))
+  cut-is =
+      let others = (edited row behind front).others in
+      ap (λ xs. cut_at left row.0 (put_by row.1) next xs) without-is
+      ∙ ap (λ xs. all_taken (up_to_label left next) (all_put (up_to_label left row.0) xs)) (put-ordered (placed_at row.0 (put_by row.1)) next (up_to_label left next ++ others))
+      ∙ ap (all_taken (up_to_label left next)) (put-ordered left row.0 (own ++ (up_to_label left next ++ others)) ∙ same-ordered (up_to_label left row.0 ++ (own ++ (up_to_label left next ++ others))) (up_to_label left next ++ (up_to_label left row.0 ++ (own ++ others))) (moved others))
+      ∙ taken-ordered left next (up_to_label left row.0 ++ (own ++ others))
+      ∙ sym with-is where
+        moved : (others : Lives) → HaveSameItems (up_to_label left row.0 ++ (own ++ (up_to_label left next ++ others))) (up_to_label left next ++ (up_to_label left row.0 ++ (own ++ others)))
+        moved others = record {
+          as_many = λ test.
+              omega (
+                arith,
+                count-append test (up_to_label left row.0) (own ++ (up_to_label left next ++ others)),
+                count-append test own (up_to_label left next ++ others),
+                count-append test (up_to_label left next) others,
+                count-append test (up_to_label left next) (up_to_label left row.0 ++ (own ++ others)),
+                count-append test (up_to_label left row.0) (own ++ others),
+                count-append test own others,
+              );
+        }
+
+  pub joined-is : joined_at left row.0 (put_by row.1) next (ordered (lifetimes_of (front ++ row ∷ behind))) ≡ ordered (lifetimes_of (front ++ behind))
+  joined-is =
+      let others = (edited row behind front).others in
+      ap (λ xs. joined_at left row.0 (put_by row.1) next xs) with-is
+      ∙ ap (λ xs. all_taken own (all_taken (up_to_label left row.0) xs)) (put-ordered left next (up_to_label left row.0 ++ (own ++ others)) ∙ same-ordered (up_to_label left next ++ (up_to_label left row.0 ++ (own ++ others))) (up_to_label left row.0 ++ (own ++ (up_to_label left next ++ others))) (moved others))
+      ∙ ap (all_taken own) (taken-ordered left row.0 (own ++ (up_to_label left next ++ others)))
+      ∙ taken-ordered (placed_at row.0 (put_by row.1)) next (up_to_label left next ++ others)
+      ∙ sym without-is where
+        moved : (others : Lives) → HaveSameItems (up_to_label left next ++ (up_to_label left row.0 ++ (own ++ others))) (up_to_label left row.0 ++ (own ++ (up_to_label left next ++ others)))
+        moved others = record {
+          as_many = λ test.
+              omega (
+                arith,
+                count-append test (up_to_label left row.0) (own ++ (up_to_label left next ++ others)),
+                count-append test own (up_to_label left next ++ others),
+                count-append test (up_to_label left next) others,
+                count-append test (up_to_label left next) (up_to_label left row.0 ++ (own ++ others)),
+                count-append test (up_to_label left row.0) (own ++ others),
+                count-append test own others,
+              );
+        }

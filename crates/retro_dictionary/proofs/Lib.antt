@@ -1,0 +1,15 @@
+pub mod AsMany
+pub mod PairsInOrder
+pub mod HeldPairs
+pub mod InOrder
+pub mod EditedLifetimes
+pub mod Answered
+pub mod LabelledRows
+pub mod Performed
+pub mod AskedPast
+pub mod FailingRow
+pub mod CountedPairs
+pub mod MeasuredPairs
+pub mod RangeOfPairs
+pub mod OrderedEdits
+pub mod KeptLifetimes

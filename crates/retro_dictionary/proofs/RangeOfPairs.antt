@@ -1,0 +1,96 @@
+-- The pairs whose keys lie in a range stand side by side.
+use Rattle.std.proofs.Common.{◌≡◌, ℕ, zero, suc, ◌+◌, ◌-◌, ◌<◌, ◌≤◌, ℤ, Bool, true, false, not, ◌&&◌, cond, List, [], ◌∷◌, ◌++◌, length, take, drop, refl, sym, ap, ◌∙◌, arith, subst, min}
+use Rattle.std.specs.Prelude.{int_le, int_lt}
+use Rattle.std.specs.List.{AllByRecursion, filter, slice_range}
+use Rattle.std.proofs.lemmas.Int.{ints}
+use Rattle.std.proofs.lemmas.List.{length-take, length-drop, take-take, take-append-drop, drop-take}
+use Rattle.std.proofs.lemmas.List.Elements.{filter-append}
+use Rattle.lifetime_segments.specs.Lawful.{IsLawful, AnswerTogether, most_items}
+use Rattle.lifetime_segments.specs.Ordered.{AreInOrder}
+use Rattle.retro_base.specs.Answers.{pairs_between}
+use Rattle.retro_base.specs.OrderLaws.{all_weaker}
+use Rattle.retro_dictionary.specs.declared.pairs.Found.{Found}
+use Rattle.retro_dictionary.specs.declared.search.Spot.TheVariants.{Below, UpTo}
+use Rattle.retro_dictionary.specs.PairSearch.{pair_before, found_in}
+use Rattle.retro_dictionary.specs.Spots.{reaches}
+use Rattle.retro_dictionary.proofs.CountedPairs.{none_pass, all_pass, filter_passes}
+use Rattle.retro_dictionary.proofs.MeasuredPairs.{all_taken}
+
+filter_both : {A : Type 0} (test other : A → Bool) (xs : List A) → filter (λ x. test x && other x) xs ≡ filter test (filter other xs)
+filter_both test other [] = refl
+filter_both test other (x ∷ xs) = elim (other x) as (λ b. cond (test x && b) (x ∷ filter (λ y. test y && other y) xs) (filter (λ y. test y && other y) xs) ≡ filter test (cond b (x ∷ filter other xs) (filter other xs))) [
+  | true ↦ elim (test x) as (λ b. cond (b && true) (x ∷ filter (λ y. test y && other y) xs) (filter (λ y. test y && other y) xs) ≡ cond b (x ∷ filter test (filter other xs)) (filter test (filter other xs))) [
+    | true ↦ ap (λ ys. x ∷ ys) (filter_both test other xs)
+    | false ↦ filter_both test other xs
+  ]
+  | false ↦ elim (test x) as (λ b. cond (b && false) (x ∷ filter (λ y. test y && other y) xs) (filter (λ y. test y && other y) xs) ≡ filter test (filter other xs)) [
+    | true ↦ filter_both test other xs
+    | false ↦ filter_both test other xs
+  ]
+]
+
+-- pairs in their order stay so where some are left out
+all_left : (P : ℤ × ℤ → Type 0) (test : ℤ × ℤ → Bool) (ps : List (ℤ × ℤ)) → AllByRecursion P ps → AllByRecursion P (filter test ps)
+all_left P test [] all = tt
+all_left P test (p ∷ ps) all = elim (test p) as (λ b. AllByRecursion P (cond b (p ∷ filter test ps) (filter test ps))) [ true ↦ (all.0, all_left P test ps all.1) | false ↦ all_left P test ps all.1 ]
+
+pub filter-ordered : (test : ℤ × ℤ → Bool) (ps : List (ℤ × ℤ)) → AreInOrder pair_before ps → AreInOrder pair_before (filter test ps)
+filter-ordered test [] ordered = tt
+filter-ordered test (p ∷ ps) ordered = elim (test p) as (λ b. AreInOrder pair_before (cond b (p ∷ filter test ps) (filter test ps))) [
+  | true ↦ (all_left (λ (q : ℤ × ℤ). pair_before q p ≡ false) test ps ordered.0, filter-ordered test ps ordered.1)
+  | false ↦ filter-ordered test ps ordered.1
+]
+
+module _ (items : List (ℤ × ℤ)) (low high : ℤ) (from to : ℕ) (front : take from items ≡ filter (reaches (Below low)) items) (back : drop from items ≡ filter (λ (pair : ℤ × ℤ). not (reaches (Below low) pair)) items) (front_to : take to items ≡ filter (reaches (UpTo high)) items) where
+  abbrev from_low : ℤ × ℤ → Bool
+  from_low pair = int_le low pair.0
+
+  inside-is : pairs_between low high items ≡ filter from_low (take to items)
+  inside-is = filter_both from_low (reaches (UpTo high)) items ∙ ap (filter from_low) (sym front_to)
+
+  is_below : (pair : ℤ × ℤ) → reaches (Below low) pair ≡ true → from_low pair ≡ false
+  is_below pair below = grind (arith, ints)
+
+  is_from : (pair : ℤ × ℤ) → not (reaches (Below low) pair) ≡ true → from_low pair ≡ true
+  is_from pair above = grind (arith, ints)
+
+  all_below : AllByRecursion (λ (pair : ℤ × ℤ). from_low pair ≡ false) (take from items)
+  all_below = subst (AllByRecursion (λ (pair : ℤ × ℤ). from_low pair ≡ false)) (sym front) (all_weaker (λ (pair : ℤ × ℤ). reaches (Below low) pair ≡ true) (λ (pair : ℤ × ℤ). from_low pair ≡ false) (filter (reaches (Below low)) items) is_below (filter_passes (reaches (Below low)) items))
+
+  all_from : AllByRecursion (λ (pair : ℤ × ℤ). from_low pair ≡ true) (drop from items)
+  all_from = subst (AllByRecursion (λ (pair : ℤ × ℤ). from_low pair ≡ true)) (sym back) (all_weaker (λ (pair : ℤ × ℤ). not (reaches (Below low) pair) ≡ true) (λ (pair : ℤ × ℤ). from_low pair ≡ true) (filter (λ (pair : ℤ × ℤ). not (reaches (Below low) pair)) items) is_from (filter_passes (λ (pair : ℤ × ℤ). not (reaches (Below low) pair)) items))
+
+  pub none-inside : to ≤ from → pairs_between low high items ≡ []
+  none-inside order =
+      inside-is ∙ ap (filter from_low) (sym (take-take to from items order))
+      ∙ none_pass from_low (take to (take from items)) (all_taken (λ (pair : ℤ × ℤ). from_low pair ≡ false) (take from items) to all_below)
+
+  parts : from ≤ to → take to items ≡ take from items ++ take (to - from) (drop from items)
+  parts order =
+      sym (take-append-drop from (take to items)) ∙ ap (λ xs. xs ++ drop from (take to items)) (take-take from to items order)
+      ∙ ap (λ n. take from items ++ drop from (take n items)) (let sum : to ≡ from + (to - from) = omega arith in sum) ∙ ap (λ xs. take from items ++ xs) (drop-take from (to - from) items)
+
+  pub slice-inside : from ≤ to → slice_range items from to ≡ pairs_between low high items
+  slice-inside order =
+      sym (inside-is ∙ ap (filter from_low) (parts order) ∙ filter-append from_low (take from items) (take (to - from) (drop from items))
+      ∙ ap (λ xs. xs ++ filter from_low (take (to - from) (drop from items))) (none_pass from_low (take from items) all_below)
+      ∙ all_pass from_low (take (to - from) (drop from items)) (all_taken (λ (pair : ℤ × ℤ). from_low pair ≡ true) (drop from items) (to - from) all_from))
+
+  pub length-slice : from ≤ to → to ≤ length items → length (slice_range items from to) ≡ to - from
+  length-slice order within = omega (arith, length-take (to - from) (drop from items), length-drop from items)
+
+-- no more pairs lie in a range than there are
+filter-le : (test : ℤ × ℤ → Bool) (ps : List (ℤ × ℤ)) → length (filter test ps) ≤ length ps
+filter-le test [] = omega arith
+filter-le test (p ∷ ps) = elim (test p) as (λ b. length (cond b (p ∷ filter test ps) (filter test ps)) ≤ suc (length ps)) [ true ↦ omega (arith, filter-le test ps) | false ↦ omega (arith, filter-le test ps) ]
+
+pub counts-fit : (first second : Found) → AnswerTogether pair_before found_in first second → first.count + second.count ≤ most_items
+counts-fit first second both =
+    omega (
+      arith,
+      ap (λ (f : Found). f.count) both.first_is,
+      ap (λ (f : Found). f.count) both.second_is,
+      both.lawful.few,
+      filter-le (λ (pair : ℤ × ℤ). int_le both.query.low pair.0 && int_le pair.0 both.query.high) both.first_items,
+      filter-le (λ (pair : ℤ × ℤ). int_le both.query.low pair.0 && int_le pair.0 both.query.high) both.second_items,
+    )

@@ -1,0 +1,14 @@
+pub use Rattle.key_index.specs.KeyRows
+pub mod Lifetimes
+pub mod SameItems
+pub mod Changes
+pub mod PairSearch
+pub mod PairMeasure
+pub mod PairSearchLaws
+pub mod Asked
+pub mod Labelled
+pub mod Kept
+pub mod Failures
+pub mod Spots
+pub mod DictionaryLaws
+pub mod Edited

@@ -1,0 +1,160 @@
+ghost use Rattle.std.specs.Prelude.{◌≡◌, ◌<◌, ◌≤◌, length, take, drop, not, false};
+ghost use Rattle.std.specs.List.{filter};
+ghost use Rattle.std.specs.Option.{option_map_or, option_map};
+ghost use Rattle.lifetime_segments.specs.Lawful.{IsLawful};
+ghost use Rattle.retro_dictionary.specs.PairSearch.{pair_before, found_in, none_found, found_together, lesser, greater};
+ghost use Rattle.retro_dictionary.specs.PairMeasure.{PairsMeasured};
+ghost use Rattle.retro_dictionary.specs.Spots.{reaches, Falls};
+
+use crate::pairs::{Found, KeyPair, KeyRange, PairsMeasure};
+use lifetime_segments::Decomposable;
+use retro_base::Steps;
+use std::marker::Brand;
+use std::sync::ledger::{Blank, Ledger};
+use weighted_tree::Tree;
+
+/// The search of a dictionary: how many pairs have keys in a range, their sum, and the least and the greatest of them.
+pub struct PairSearch;
+
+impl Decomposable for PairSearch {
+    ghost use Rattle.retro_dictionary.specs.PairSearch.{pair_before, found_in, none_found, found_together};
+    ghost use Rattle.retro_dictionary.specs.PairSearchLaws.{pair_order, pair_laws};
+
+    type Item = KeyPair;
+
+    type Query = KeyRange;
+
+    type Part = Found;
+
+    ghost stands_before = { pair_before };
+
+    ghost answer = { found_in };
+
+    ghost empty_part = { none_found };
+
+    ghost combined = { found_together };
+
+    ghost order = { pair_order };
+
+    ghost laws = { pair_laws };
+
+    fn before(first: &KeyPair, second: &KeyPair) -> bool {
+        *first < *second
+    }
+
+    fn empty() -> Found {
+        Found {
+            count: 0,
+            sum: 0,
+            least: None,
+            greatest: None,
+        }
+    }
+
+    fn ask(items: &Tree<KeyPair>, query: KeyRange) -> Found {
+        found_in::<Brand>(items, query, Blank::new(1))
+    }
+
+    fn combine(first: Found, second: Found) -> Found {
+        Found {
+            count: first.count + second.count,
+            sum: first.sum.wrapping_add(second.sum),
+            least: lesser(first.least, second.least),
+            greatest: greater(first.greatest, second.greatest),
+        }
+    }
+}
+
+/// The lesser of two pairs, where they are there.
+fn lesser(first: Option<KeyPair>, second: Option<KeyPair>) -> Option<KeyPair>
+    ensures { result ≡ lesser first second }
+{
+    match (first, second) {
+        (Some(a), Some(b)) => { if b < a { second } else { first } }
+        (None, _) => second,
+        (_, None) => first,
+    }
+}
+
+/// The greater of two pairs, where they are there.
+fn greater(first: Option<KeyPair>, second: Option<KeyPair>) -> Option<KeyPair>
+    ensures { result ≡ greater first second }
+{
+    match (first, second) {
+        (Some(a), Some(b)) => { if b < a { first } else { second } }
+        (None, _) => second,
+        (_, None) => first,
+    }
+}
+
+/// What is found of the pairs whose keys lie in a range.
+fn found_in<L: Ledger>(items: &Tree<KeyPair>, range: KeyRange, blank: Blank) -> Found
+    requires name { blank.name ≡ L.name }
+    requires parts { blank.parts ≡ L.parts }
+    requires shared { 0 < blank.parts }
+    requires lawful { IsLawful pair_before items.now }
+    ensures { result ≡ found_in items.now range }
+{
+    let mut steps = Steps::<L>::new(blank);
+    let from = count_up_to(items, Spot::Below { key: range.low }, &mut steps);
+    let to = count_up_to(items, Spot::UpTo { key: range.high }, &mut steps);
+    if to <= from {
+        return PairSearch::empty();
+    }
+    found_of(to - from, &items.measure(from, to, &mut steps))
+}
+
+/// What is found of so many pairs, by what they measure.
+fn found_of(count: u32, measure: &PairsMeasure) -> Found
+    ensures { PairsMeasured count measure.now result }
+{
+    let extremes = measure.second();
+    Found {
+        count,
+        sum: measure.first().sum(),
+        least: extremes.first().element(),
+        greatest: extremes.second().element(),
+    }
+}
+
+/// Up to where pairs are looked for.
+#[derive(Clone, Copy)]
+enum Spot {
+    /// Below a key.
+    Below { key: i64 },
+    /// Up to a key.
+    UpTo { key: i64 },
+}
+
+/// Whether a pair stands up to the spot.
+fn reaches(spot: Spot, pair: KeyPair) -> bool
+    ensures { result ≡ reaches spot pair }
+{
+    match spot {
+        Spot::Below { key } => pair.key < key,
+        Spot::UpTo { key } => pair.key <= key,
+    }
+}
+
+/// How many pairs stand up to the spot.
+fn count_up_to<L: Ledger>(items: &Tree<KeyPair>, spot: Spot, steps: &mut Steps<L>) -> u32
+    requires { IsLawful pair_before items.now }
+    ensures front { take result items.now ≡ filter (reaches spot) items.now }
+    ensures back { drop result items.now ≡ filter (λ pair. not (reaches spot pair)) items.now }
+    ensures within { result ≤ length items.now }
+{
+    match items.first_place(0, |measure: &PairsMeasure| is_past(spot, measure), steps) {
+        Some(place) => place - 1,
+        None => items.len(),
+    }
+}
+
+/// Whether the greatest pair of a range stands past the spot.
+fn is_past(spot: Spot, measure: &PairsMeasure) -> bool
+    ensures { result ≡ option_map_or (λ pair. not (reaches spot pair)) (option_map (λ first. first.0) measure.now.1.1.first) false }
+{
+    match measure.second().second().element() {
+        Some(pair) => !reaches(spot, pair),
+        None => false,
+    }
+}
