@@ -1,11 +1,13 @@
 -- What an edit leaves are the lifetimes of the edited rows.
-use Rattle.std.proofs.Common.{◌≡◌, ℕ, ℤ, Option, Some, None, List, [], ◌∷◌, ◌++◌, refl, sym, ap, ◌∙◌, arith}
+use Rattle.std.proofs.Common.{◌≡◌, ℕ, ◌+◌, ◌≤◌, ℤ, Option, Some, None, List, [], ◌∷◌, ◌++◌, length, refl, sym, ap, ◌∙◌, arith}
 use Rattle.std.specs.Option.{option_and_then}
 use Rattle.key_index.specs.KeyRows.{KeyRow, key_of}
 use Rattle.lifetime_segments.specs.declared.lifetime.Lifetime.{Lifetime}
-use Rattle.lifetime_segments.specs.Lifetimes.{stands_earlier}
+use Rattle.lifetime_segments.specs.Lifetimes.{lifetime, stands_earlier}
 use Rattle.lifetime_segments.specs.LifetimeLaws.{earlier_order}
-use Rattle.lifetime_segments.specs.OrderedLaws.{without-put_in}
+use Rattle.lifetime_segments.specs.OrderedLaws.{without-put_in, length-put_in, length-in_order}
+use Rattle.std.proofs.lemmas.List.{length-append}
+use Rattle.retro_dictionary.specs.PairSearch.{pair_before}
 use Rattle.retro_dictionary.specs.Changes.{Placed, placed_by, up_to_label}
 use Rattle.retro_dictionary.specs.Edited.{placed_at, all_put, all_taken, cut_at, joined_at}
 use Rattle.retro_dictionary.specs.Kept.{ordered}
@@ -99,3 +101,24 @@ module _ (front : List KeyRow) (row : KeyRow) (behind : List KeyRow) where
                 count-append test own others,
               );
         }
+
+-- what was put in is taken out again
+pub taken-put : (placed : Option Placed) (to : ℕ) (xs : Lives) → all_taken (up_to_label placed to) (all_put (up_to_label placed to) xs) ≡ xs
+taken-put None to xs = refl
+taken-put (Some placed) to xs = without-put_in (earlier_order pair_order) _ xs
+
+pub length-all_put : (placed : Option Placed) (to : ℕ) (xs : Lives) → length (all_put (up_to_label placed to) xs) ≤ length xs + 1
+length-all_put None to xs = omega arith
+length-all_put (Some placed) to xs = omega (arith, length-put_in (stands_earlier pair_before) (lifetime placed.0 to placed.1) xs)
+
+-- as many lifetimes as rows at most
+begun-le : (label : ℕ) (put : Option (ℤ × ℤ)) (rows : List KeyRow) → length (begun label put rows) ≤ 1
+begun-le label None rows = omega arith
+begun-le label (Some pair) rows = omega arith
+
+pub length-lifetimes : (rows : List KeyRow) → length (lifetimes_of rows) ≤ length rows
+length-lifetimes [] = omega arith
+length-lifetimes (row ∷ rows) = omega (arith, length-append (begun row.0 (put_by row.1) rows) (lifetimes_of rows), begun-le row.0 (put_by row.1) rows, length-lifetimes rows)
+
+pub length-ordered : (rows : List KeyRow) → length (ordered (lifetimes_of rows)) ≤ length rows
+length-ordered rows = omega (arith, length-in_order (stands_earlier pair_before) (lifetimes_of rows), length-lifetimes rows)

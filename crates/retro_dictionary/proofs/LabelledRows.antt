@@ -1,5 +1,5 @@
 -- Rows beside labels that rise: an edit by label is one by place.
-use Rattle.std.proofs.Common.{◌≡◌, ℕ, zero, suc, ◌+◌, ◌<◌, ◌≤◌, ℤ, Bool, true, false, ◌&&◌, not, ◌==◌, cond, Option, Some, None, Result, Ok, List, [], ◌∷◌, ◌++◌, map, length, take, drop, slice_get, refl, sym, ap, ◌∙◌, arith, inl, inr, subst, leb, ltb}
+use Rattle.std.proofs.Common.{◌≡◌, ℕ, zero, suc, ◌+◌, ◌-◌, ◌<◌, ◌≤◌, ℤ, Bool, true, false, ◌&&◌, not, ◌==◌, cond, Option, Some, None, Result, Ok, List, [], ◌∷◌, ◌++◌, map, length, take, drop, slice_get, refl, sym, ap, ◌∙◌, arith, inl, inr, subst, leb, ltb}
 use Rattle.std.specs.List.{AllByRecursion, filter, find, insert, remove}
 use Rattle.std.specs.Map.{lookup, remove_entry}
 use Rattle.std.specs.Option.{option_map_or, option_or}
@@ -9,9 +9,15 @@ use Rattle.retro_base.specs.declared.row.Row.{Row}
 use Rattle.retro_base.specs.declared.op.Op.{Op}
 use Rattle.retro_base.specs.OrderLaws.{all_weaker}
 use Rattle.key_index.specs.KeyRows.{KeyRow, LabelsRise, AreKeyRows, is_on, last_of, last_before, first_after, op_at, without, up_to, behind, with_row, key_of}
-use Rattle.lifetime_segments.specs.Lifetimes.{label_end}
+use Rattle.lifetime_segments.specs.declared.lifetime.Lifetime.{Lifetime}
+use Rattle.lifetime_segments.specs.Lifetimes.{label_end, items_at}
+use Rattle.lifetime_segments.specs.Ordered.{in_order}
+use Rattle.retro_dictionary.specs.declared.pairs.Found.{Found}
+use Rattle.retro_dictionary.specs.declared.pairs.KeyRange.{KeyRange}
+use Rattle.retro_dictionary.specs.Asked.{found_at}
+use Rattle.retro_dictionary.specs.PairSearch.{pair_before, found_in}
 use Rattle.order_labels.specs.Labels.{AreApart, label_limit, label_before, label_behind}
-use Rattle.retro_dictionary.specs.Edited.{label_or_end}
+use Rattle.retro_dictionary.specs.Edited.{IsBetween, label_or_end}
 use Rattle.retro_dictionary.specs.Labelled.{labelled}
 use Rattle.retro_dictionary.specs.Lifetimes.{end_of}
 
@@ -113,7 +119,7 @@ module _ (label : ℕ) where
   lookup-none [] (row ∷ back) below above = ap (λ b. cond b (Some row.1) (op_at label back)) (ne_eqb row.0 label (λ same. omega arith)) ∙ lookup-none [] back below above.1
   lookup-none (row ∷ front) back below above = ap (λ b. cond b (Some row.1) (op_at label (front ++ back))) (ne_eqb row.0 label (λ same. omega arith)) ∙ lookup-none front back below.1 above
 
-  without-parts : (front back : List KeyRow) (op : Op) → AllBelow label front → without label (front ++ (label, op) ∷ back) ≡ front ++ back
+  pub without-parts : (front back : List KeyRow) (op : Op) → AllBelow label front → without label (front ++ (label, op) ∷ back) ≡ front ++ back
   without-parts [] back op below = ap (λ b. cond b back ((label, op) ∷ without label back)) (eq-eqb label label refl)
   without-parts (row ∷ front) back op below = ap (λ b. cond b (front ++ (label, op) ∷ back) (row ∷ without label (front ++ (label, op) ∷ back))) (ne_eqb row.0 label (λ same. omega arith)) ∙ ap (λ rest. row ∷ rest) (without-parts front back op below.1)
 
@@ -178,11 +184,6 @@ beside first last [] zero within apart = (omega arith, omega arith)
 beside first last [] (suc place) within apart = absurd (omega arith)
 beside first last (label ∷ labels) zero within apart = (omega (arith, apart.0), omega (arith, first_below_last last label labels apart.1))
 beside first last (label ∷ labels) (suc place) within apart = beside label last labels place (omega arith) apart.1
-
--- what is known of an edit at a place, at a label that lies between those beside it
-pub record IsBetween (labels : List ℕ) (place label : ℕ) : Type 0 where
-  pub before : label_before 0 labels place < label
-  pub behind_it : label < label_behind label_limit labels place
 
 module _ (labels : List ℕ) (rows : List Row) (place : ℕ) (same : length labels ≡ length rows) (apart : AreApart 1 0 label_limit labels) where
   abbrev pub front_rows : List KeyRow
@@ -265,3 +266,27 @@ module _ (labels : List ℕ) (rows : List Row) (place : ℕ) (same : length labe
             more : (rs : List KeyRow) → AllBelow label rs → AllByRecursion (λ (r : KeyRow). r.0 ≤ label) (rs ++ (label, row.op) ∷ [])
             more [] all = (omega arith, tt)
             more (r ∷ rs) all = (omega (arith, all.0), more rs all.1)
+
+-- each label is below the last number
+pub label-below : (last first : ℕ) (labels : List ℕ) (place label : ℕ) → AreApart 1 first last labels → slice_get labels place ≡ Some label → label < last
+label-below last first [] place label apart there = absurd (cc)
+label-below last first (next ∷ labels) zero label apart there = let same : next ≡ label = cc in omega (arith, first_below_last last next labels apart.1)
+label-below last first (next ∷ labels) (suc place) label apart there = label-below last next labels place label apart.1 there
+
+-- what is read before a place
+pub before-read : (first : ℕ) (labels : List ℕ) (place label : ℕ) → slice_get labels place ≡ Some label → label_before first labels (suc place) ≡ label
+before-read first [] place label read = absurd (cc)
+before-read first (next ∷ labels) zero label read = cc
+before-read first (next ∷ labels) (suc place) label read = before-read next labels place label read
+
+pub found-behind : (labels : List ℕ) (lifetimes : List (Lifetime (ℤ × ℤ))) (place label : ℕ) (range : KeyRange) (value : Found) → 0 < place → slice_get labels (place - 1) ≡ Some label
+    → value ≡ found_in (in_order pair_before (items_at label lifetimes)) range → value ≡ found_at labels lifetimes place range
+found-behind labels lifetimes zero label range value some read is = absurd (omega arith)
+found-behind labels lifetimes (suc place) label range value some read is =
+    let there : slice_get labels place ≡ Some label = subst (λ n. slice_get labels n ≡ Some label) (let less : suc place - 1 ≡ place = omega arith in less) read in
+    is ∙ ap (λ l. found_in (in_order pair_before (items_at l lifetimes)) range) (sym (before-read 0 labels place label there))
+
+pub length-labelled : (labels : List ℕ) (rows : List Row) → length (labelled labels rows) ≤ length rows
+length-labelled [] rows = omega arith
+length-labelled (label ∷ labels) [] = omega arith
+length-labelled (label ∷ labels) (row ∷ rows) = omega (arith, length-labelled labels rows)

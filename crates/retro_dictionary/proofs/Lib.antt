@@ -7,9 +7,9 @@ pub mod Answered
 pub mod LabelledRows
 pub mod Performed
 pub mod AskedPast
-pub mod FailingRow
 pub mod CountedPairs
 pub mod MeasuredPairs
 pub mod RangeOfPairs
 pub mod OrderedEdits
 pub mod KeptLifetimes
+pub mod KeptEdits

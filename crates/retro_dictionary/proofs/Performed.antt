@@ -14,7 +14,7 @@ use Rattle.retro_base.specs.State.{State, pairs, perform, step, with_key, withou
 use Rattle.retro_base.specs.Replay.{one_later, fold_rows, run, failure}
 use Rattle.key_index.specs.KeyRows.{KeyRow, as_row, failure_of}
 use Rattle.retro_dictionary.specs.Asked.{IsNumber, AreOfNumbers}
-use Rattle.retro_dictionary.specs.Kept.{IsOfNumbers, HaveNumbers}
+use Rattle.retro_dictionary.specs.Numbers.{IsOfNumbers, HaveNumbers}
 use Rattle.retro_dictionary.specs.Labelled.{labelled}
 
 -- the pairs behind an operation

@@ -1,20 +1,21 @@
 -- What the lifetimes of a dictionary tell of it, and how an edit changes them.
-use Rattle.std.specs.Prelude.{◌≡◌, ℕ, ℤ, ◌≤◌, ◌++◌, ◌∷◌, List, length}
-use Rattle.std.specs.List.{filter}
+use Rattle.std.specs.Prelude.{◌≡◌, ℕ, ℤ, ◌≤◌, ◌++◌, ◌∷◌, Some, None, List, length, slice_get}
+use Rattle.std.specs.List.{filter, insert, remove}
 use Rattle.std.specs.Option.{option_and_then}
 use Rattle.retro_base.specs.declared.kind.Kind.TheVariants.{Dict}
 use Rattle.retro_base.specs.declared.question.Question.{Question}
 use Rattle.retro_base.specs.declared.row.Row.{Row}
-use Rattle.retro_base.specs.Answers.{answer_of, content}
+use Rattle.retro_base.specs.Answers.{answer_of}
 use Rattle.retro_base.specs.Replay.{state_at}
 use Rattle.retro_base.specs.State.{pairs}
-use Rattle.key_index.specs.KeyRows.{KeyRow, key_of, is_on, last_of}
+use Rattle.key_index.specs.KeyRows.{KeyRow, key_of, is_on, last_of, op_at, with_row, without}
 use Rattle.lifetime_segments.specs.declared.lifetime.Lifetime.{Lifetime}
 use Rattle.lifetime_segments.specs.Lifetimes.{items_at}
 use Rattle.lifetime_segments.specs.Ordered.{in_order}
 use Rattle.order_labels.specs.Labels.{label_before}
 use Rattle.retro_dictionary.specs.Asked.{range_of, answer_from, found_at}
 use Rattle.retro_dictionary.specs.Changes.{placed_by, up_to_label}
+use Rattle.retro_dictionary.specs.Edited.{IsBetween, CanInsert, CanRemove, CanPut, CanCut, left_of, next_of, cut_by, joined_by}
 use Rattle.retro_dictionary.specs.Kept.{AreKept, ordered}
 use Rattle.retro_dictionary.specs.Lifetimes.{end_of, put_by, begun, lifetimes_of}
 use Rattle.retro_dictionary.specs.PairSearch.{pair_before}
@@ -39,3 +40,17 @@ pub record EndsOne (front : List KeyRow) (row : KeyRow) (behind : List KeyRow) :
 
 abbrev pub EditsEndOne : Type 0
 EditsEndOne = (front : List KeyRow) (row : KeyRow) (behind : List KeyRow) → EndsOne front row behind
+
+-- a row that is put in at a label between those beside its place has this label alone, its lifetimes have room, and what is kept of the rows is kept with it
+abbrev pub InsertionsAreKept : Type 0
+InsertionsAreKept =
+    (rows : List Row) (labels : List ℕ) (index : List KeyRow) (lifetimes : List (Lifetime (ℤ × ℤ))) (place label : ℕ) (row : Row) → AreKept rows labels index lifetimes → IsBetween labels place label → CanInsert rows place row
+    → (op_at label index ≡ None) × CanCut (left_of index label row.op) label (next_of index label row.op) lifetimes
+    × AreKept (insert rows place row) (insert labels place label) (with_row label row.op index) (cut_by label row.op index lifetimes)
+
+-- so it is where a row is taken out
+abbrev pub RemovalsAreKept : Type 0
+RemovalsAreKept =
+    (rows : List Row) (labels : List ℕ) (index : List KeyRow) (lifetimes : List (Lifetime (ℤ × ℤ))) (place label : ℕ) (row : Row) → AreKept rows labels index lifetimes → slice_get labels place ≡ Some label → slice_get rows place ≡ Some row → CanRemove rows place
+    → CanPut (left_of index label row.op) (next_of index label row.op) lifetimes
+    × AreKept (remove rows place) (remove labels place) (without label index) (joined_by label row.op index lifetimes)

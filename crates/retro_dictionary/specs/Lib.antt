@@ -8,7 +8,7 @@ pub mod PairSearchLaws
 pub mod Asked
 pub mod Labelled
 pub mod Kept
-pub mod Failures
 pub mod Spots
 pub mod DictionaryLaws
 pub mod Edited
+pub mod Numbers

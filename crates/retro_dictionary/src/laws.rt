@@ -1,4 +1,4 @@
-ghost use Rattle.retro_dictionary.specs.DictionaryLaws.{LifetimesHoldContent, SearchAnswers, EditsEndOne};
+ghost use Rattle.retro_dictionary.specs.DictionaryLaws.{LifetimesHoldContent, SearchAnswers, EditsEndOne, InsertionsAreKept, RemovalsAreKept};
 
 /// A law: at each place the pairs whose lifetimes hold the label of the row before it are the content there.
 pub fn lifetimes_hold_the_content()
@@ -14,4 +14,15 @@ pub fn search_answers()
 /// puts itself, and leaves all others as they are.
 pub fn an_edit_ends_one_lifetime()
     ensures { EditsEndOne }
+{}
+
+/// A law: what is kept of rows is kept where a row is put in at a label between those beside its place: the row by its label,
+/// and the two lifetimes that it changes, the new ones put in before the old one is taken out.
+pub fn insertions_are_kept()
+    ensures { InsertionsAreKept }
+{}
+
+/// A law: so it is where a row is taken out.
+pub fn removals_are_kept()
+    ensures { RemovalsAreKept }
 {}
