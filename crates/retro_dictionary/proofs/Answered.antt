@@ -1,5 +1,5 @@
 -- Each question of a dictionary is answered by what is found of the pairs in a range of keys.
-use Rattle.std.proofs.Common.{◌≡◌, ℕ, zero, suc, ◌+◌, ◌-◌, ◌*◌, ◌^◌, ◌<◌, ◌≤◌, ◌≤ℤ◌, ◌+ℤ◌, neg_ℤ, ℤ, pos, negsuc, Bool, true, false, ◌&&◌, cond, Option, Some, None, List, [], ◌∷◌, ◌++◌, length, reverse, refl, sym, ap, ◌∙◌, arith}
+use Rattle.std.proofs.Common.{◌≡◌, ℕ, suc, ◌+◌, ◌-◌, ◌*◌, ◌^◌, ◌<◌, ◌≤◌, ◌≤ℤ◌, ◌+ℤ◌, neg_ℤ, ℤ, pos, negsuc, Bool, true, false, ◌&&◌, cond, Option, Some, None, List, [], ◌∷◌, ◌++◌, length, reverse, refl, sym, ap, ◌∙◌, arith}
 use Rattle.std.specs.Prelude.{int_le, slice_get}
 use Rattle.std.specs.Int.{w128}
 use Rattle.std.specs.Int.RustNames.{FitsSigned}
@@ -10,7 +10,6 @@ use Rattle.std.specs.Ordering.{int_eq}
 use Rattle.std.proofs.lemmas.Int.{ints, int_wrap_fits}
 use Rattle.std.proofs.lemmas.List.{reverse-append}
 use Rattle.retro_base.specs.OrderLaws.{all_weaker}
-use Rattle.retro_base.specs.declared.kind.Kind.TheVariants.{Dict}
 use Rattle.retro_base.specs.declared.question.Question.{Question}
 use Rattle.retro_base.specs.declared.question.Question.TheVariants.{Size, Front, Back, Top, Left, Right, Min, Nth, Get, Succ, Pred, Count, Sum}
 use Rattle.retro_base.specs.declared.question.Answer.TheVariants.{Number}

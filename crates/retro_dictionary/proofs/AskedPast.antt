@@ -1,5 +1,5 @@
 -- What is found of the lifetimes that hold the label of a row is what is found of the pairs behind it.
-use Rattle.std.proofs.Common.{◌≡◌, ℕ, zero, suc, ◌+◌, ◌-◌, ◌<◌, ◌≤◌, ℤ, Bool, true, false, Option, Some, None, Result, Ok, Err, Less, List, [], ◌∷◌, ◌++◌, map, take, length, slice_get, refl, sym, ap, ◌∙◌, arith, subst}
+use Rattle.std.proofs.Common.{◌≡◌, ℕ, zero, suc, ◌+◌, ◌-◌, ◌<◌, ◌≤◌, ℤ, false, Ok, Less, List, [], ◌∷◌, ◌++◌, map, take, length, refl, sym, ap, ◌∙◌, arith}
 use Rattle.std.specs.List.{AllByRecursion}
 use Rattle.std.specs.List.Sorted.{IsStrictlySortedBy}
 use Rattle.std.specs.Map.{keys_of}
@@ -9,7 +9,6 @@ use Rattle.std.proofs.lemmas.Int.{ints}
 use Rattle.std.proofs.lemmas.List.{append-nil, length-take}
 use Rattle.retro_base.specs.Limits.{most_rows}
 use Rattle.retro_base.specs.declared.kind.Kind.TheVariants.{Dict}
-use Rattle.retro_base.specs.declared.question.Question.{Question}
 use Rattle.retro_base.specs.declared.row.Row.{Row}
 use Rattle.retro_base.specs.Answers.{answer_of}
 use Rattle.retro_base.specs.Replay.{run, state_at}
@@ -32,7 +31,7 @@ use Rattle.retro_dictionary.specs.PairSearchLaws.{pair_order}
 use Rattle.retro_dictionary.specs.Asked.{AreOfNumbers, found_at, range_of, answer_from}
 use Rattle.retro_dictionary.proofs.HeldPairs.{held}
 use Rattle.retro_dictionary.proofs.InOrder.{in_order-same}
-use Rattle.retro_dictionary.proofs.LabelledRows.{beside, length-fronts, below-last, rises, up_to-is}
+use Rattle.retro_dictionary.proofs.LabelledRows.{beside, length-fronts, rises, up_to-is}
 use Rattle.retro_dictionary.proofs.PairsInOrder.{AreSorted, sorted_nil}
 use Rattle.retro_dictionary.proofs.Performed.{Leave, leave, run-labelled, run-none}
 

@@ -1,7 +1,7 @@
 -- A row more cuts one lifetime of those that begin before it, and leaves all others as they are.
-use Rattle.std.proofs.Common.{◌≡◌, ℕ, ℤ, Bool, true, false, cond, Option, Some, None, List, [], ◌∷◌, ◌++◌, refl, sym, ap, ◌∙◌, arith, subst, inl, inr, append_assoc}
+use Rattle.std.proofs.Common.{◌≡◌, ℕ, ℤ, false, cond, Option, Some, None, List, [], ◌∷◌, ◌++◌, refl, sym, ap, ◌∙◌, arith, subst, inl, inr, append_assoc}
 use Rattle.std.specs.List.{filter}
-use Rattle.std.specs.Option.{option_or, option_and_then, option_map}
+use Rattle.std.specs.Option.{option_or, option_and_then}
 use Rattle.std.specs.Ordering.{int_eq}
 use Rattle.std.proofs.lemmas.Bool.{cases_Bool}
 use Rattle.std.proofs.lemmas.Bool.Decides.{Decides-int_eq}
@@ -12,7 +12,7 @@ use Rattle.key_index.specs.KeyRows.{KeyRow, key_of, is_on, last_of}
 use Rattle.lifetime_segments.specs.declared.lifetime.Lifetime.{Lifetime}
 use Rattle.lifetime_segments.specs.Lifetimes.{lifetime}
 use Rattle.retro_dictionary.specs.Lifetimes.{end_of, put_by, begun, lifetimes_of}
-use Rattle.retro_dictionary.specs.Changes.{Placed, placed_by, up_to_label}
+use Rattle.retro_dictionary.specs.Changes.{placed_by, up_to_label}
 use Rattle.retro_dictionary.specs.SameItems.{HaveSameItems}
 use Rattle.retro_dictionary.proofs.AsMany.{count-append, same-refl, same-append}
 

@@ -1,19 +1,18 @@
 -- What a tree measures of pairs in their order: their sum, the first and the last.
-use Rattle.std.proofs.Common.{◌≡◌, ℕ, zero, suc, ◌+◌, ◌-◌, ◌≤◌, ℤ, pos, ◌+ℤ◌, Bool, true, false, not, ◌&&◌, cond, Option, Some, None, Less, Equal, Greater, Ordering, List, [], ◌∷◌, ◌++◌, length, take, drop, slice_get, refl, sym, ap, ◌∙◌, arith, subst}
-use Rattle.std.specs.Prelude.{int_le, int_lt}
-use Rattle.std.specs.List.{AllByRecursion, filter, fold, slice_range}
+use Rattle.std.proofs.Common.{◌≡◌, ℕ, zero, suc, ◌+◌, ◌-◌, ℤ, pos, ◌+ℤ◌, false, Option, Some, None, Less, Equal, Greater, Ordering, List, [], ◌∷◌, length, take, slice_get, refl, sym, ap, ◌∙◌, arith, subst}
+use Rattle.std.specs.List.{AllByRecursion, fold, slice_range}
 use Rattle.std.specs.Option.{option_map, option_or}
-use Rattle.std.specs.Ordering.{int_cmp, int_eq, ordering_then, flip_args}
+use Rattle.std.specs.Ordering.{int_cmp, ordering_then, flip_args}
 use Rattle.std.specs.Int.{w128}
 use Rattle.std.specs.Int.RustNames.{FitsSigned}
 use Rattle.std.proofs.lemmas.Int.{ints, int_wrap_fits}
 use Rattle.std.proofs.lemmas.Map.Lookups.{exact_signed}
 use Rattle.monoid_laws.specs.Both.{joined_both}
-use Rattle.monoid_laws.specs.Extreme.{Extreme, no_extreme, joined_extreme, greater_of, first_greatest, moved}
+use Rattle.monoid_laws.specs.Extreme.{no_extreme, joined_extreme, greater_of, first_greatest, moved}
 use Rattle.monoid_laws.specs.Measure.{measure_of}
-use Rattle.monoid_laws.specs.Summed.{Summed, no_sum, joined_sum}
+use Rattle.monoid_laws.specs.Summed.{no_sum, joined_sum}
 use Rattle.lifetime_segments.specs.Ordered.{AreInOrder}
-use Rattle.retro_base.specs.Answers.{pairs_between, sum_of_values}
+use Rattle.retro_base.specs.Answers.{sum_of_values}
 use Rattle.retro_base.specs.Answers as answers
 use Rattle.key_index.specs.KeyRows.{last_of}
 use Rattle.retro_dictionary.specs.PairMeasure.{Measured, one_pair, PairsMeasured}

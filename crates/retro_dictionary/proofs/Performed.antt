@@ -1,7 +1,6 @@
 -- Rows of a dictionary are performed by their operations alone, and leave pairs.
-use Rattle.std.proofs.Common.{◌≡◌, ℕ, zero, suc, ◌+◌, ◌≤◌, ℤ, pos, neg_ℤ, Bool, true, false, cond, Option, Some, None, Result, Ok, Err, Less, Equal, Greater, List, [], ◌∷◌, map, take, length, refl, sym, ap, ◌∙◌, arith}
+use Rattle.std.proofs.Common.{◌≡◌, ℕ, zero, suc, ◌+◌, ◌≤◌, ℤ, true, false, cond, Option, Some, None, Result, Ok, Err, Less, Equal, Greater, List, [], ◌∷◌, map, take, length, refl, sym, ap, ◌∙◌, arith}
 use Rattle.std.specs.Prelude.{if◌then◌else◌}
-use Rattle.std.specs.List.{AllByRecursion}
 use Rattle.std.specs.Map.{lookup, remove_entry}
 use Rattle.std.specs.Option.{is_some, option_map, option_map_or}
 use Rattle.std.specs.Ordering.{int_cmp, int_eq, match_ordering}
@@ -12,7 +11,7 @@ use Rattle.retro_base.specs.declared.kind.Kind.TheVariants.{Dict}
 use Rattle.retro_base.specs.declared.row.Row.{Row}
 use Rattle.retro_base.specs.State.{State, pairs, perform, step, with_key, without_key}
 use Rattle.retro_base.specs.Replay.{one_later, fold_rows, run, failure}
-use Rattle.key_index.specs.KeyRows.{KeyRow, as_row, failure_of}
+use Rattle.key_index.specs.KeyRows.{as_row, failure_of}
 use Rattle.retro_dictionary.specs.Asked.{IsNumber, AreOfNumbers}
 use Rattle.retro_dictionary.specs.Numbers.{IsOfNumbers, HaveNumbers}
 use Rattle.retro_dictionary.specs.Labelled.{labelled}

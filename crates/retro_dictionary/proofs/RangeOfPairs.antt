@@ -1,11 +1,11 @@
 -- The pairs whose keys lie in a range stand side by side.
-use Rattle.std.proofs.Common.{◌≡◌, ℕ, zero, suc, ◌+◌, ◌-◌, ◌<◌, ◌≤◌, ℤ, Bool, true, false, not, ◌&&◌, cond, List, [], ◌∷◌, ◌++◌, length, take, drop, refl, sym, ap, ◌∙◌, arith, subst, min}
-use Rattle.std.specs.Prelude.{int_le, int_lt}
+use Rattle.std.proofs.Common.{◌≡◌, ℕ, suc, ◌+◌, ◌-◌, ◌≤◌, ℤ, Bool, true, false, not, ◌&&◌, cond, List, [], ◌∷◌, ◌++◌, length, take, drop, refl, sym, ap, ◌∙◌, arith, subst}
+use Rattle.std.specs.Prelude.{int_le}
 use Rattle.std.specs.List.{AllByRecursion, filter, slice_range}
 use Rattle.std.proofs.lemmas.Int.{ints}
 use Rattle.std.proofs.lemmas.List.{length-take, length-drop, take-take, take-append-drop, drop-take}
 use Rattle.std.proofs.lemmas.List.Elements.{filter-append}
-use Rattle.lifetime_segments.specs.Lawful.{IsLawful, AnswerTogether, most_items}
+use Rattle.lifetime_segments.specs.Lawful.{AnswerTogether, most_items}
 use Rattle.lifetime_segments.specs.Ordered.{AreInOrder}
 use Rattle.retro_base.specs.Answers.{pairs_between}
 use Rattle.retro_base.specs.OrderLaws.{all_weaker}

@@ -1,6 +1,6 @@
 -- How the lifetimes of a dictionary change by an edit: a row at a label ends the pair that the last row before it on its key put.
 use Rattle.std.specs.Prelude.{ℕ, ℤ, Option, Some, None, List, [], ◌∷◌}
-use Rattle.std.specs.Option.{option_and_then, option_map}
+use Rattle.std.specs.Option.{option_map}
 use Rattle.key_index.specs.KeyRows.{KeyRow}
 use Rattle.lifetime_segments.specs.declared.lifetime.Lifetime.{Lifetime}
 use Rattle.lifetime_segments.specs.Lifetimes.{lifetime}

@@ -1,5 +1,5 @@
 -- What is asked of pairs of a key and a value: those whose keys lie in a range, their number, their sum, and both ends.
-use Rattle.std.specs.Prelude.{ℕ, ◌+◌, ℤ, ◌+ℤ◌, Bool, ◌&&◌, ◌||◌, int_lt, Option, Some, None, List, [], length, slice_get, if◌then◌else◌}
+use Rattle.std.specs.Prelude.{◌+◌, ℤ, ◌+ℤ◌, Bool, ◌&&◌, ◌||◌, int_lt, Option, Some, None, List, [], length, slice_get, if◌then◌else◌}
 use Rattle.std.specs.Int.{int_wrap, w128}
 use Rattle.std.specs.Ordering.{int_eq}
 use Rattle.retro_base.specs.Answers.{pairs_between, sum_of_values, last_of}

@@ -1,12 +1,12 @@
 -- What is found of two lists of pairs is put together from what is found of each.
-use Rattle.std.proofs.Common.{◌≡◌, ℕ, ◌+◌, ◌-◌, zero, suc, ℤ, pos, ◌+ℤ◌, ◌<ℤ◌, ◌⊎◌, Bool, true, false, ◌&&◌, ◌||◌, cond, Option, Some, None, List, [], ◌∷◌, ◌++◌, length, refl, sym, ap, ◌∙◌, arith, inl, inr}
+use Rattle.std.proofs.Common.{◌≡◌, ℕ, ◌+◌, ◌-◌, suc, ℤ, pos, ◌+ℤ◌, ◌<ℤ◌, ◌⊎◌, Bool, true, false, ◌&&◌, ◌||◌, cond, Option, Some, None, List, [], ◌∷◌, ◌++◌, length, refl, sym, ap, ◌∙◌, arith, inl, inr}
 use Rattle.std.specs.Prelude.{int_le, int_lt, slice_get}
 use Rattle.std.specs.List.{AllByRecursion, filter, fold}
 use Rattle.std.specs.Ordering.{int_eq}
 use Rattle.std.specs.Int.{w128}
 use Rattle.std.proofs.lemmas.Int.{ints, int_wrap_fits, SFits-int_wrap, int_wrap-add_left, int_wrap-add_right}
 use Rattle.retro_base.specs.Answers.{pairs_between, sum_of_values, last_of}
-use Rattle.lifetime_segments.specs.Lawful.{AreLawful, IsLawful, SearchLaws}
+use Rattle.lifetime_segments.specs.Lawful.{AreLawful, SearchLaws}
 use Rattle.lifetime_segments.specs.Ordered.{IsOrder, AreInOrder, put_in, in_order}
 use Rattle.lifetime_segments.specs.OrderedLaws.{in_order-ordered, between}
 use Rattle.retro_dictionary.specs.declared.pairs.Found.{Found}

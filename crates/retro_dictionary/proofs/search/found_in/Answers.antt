@@ -1,12 +1,10 @@
-use Rattle.std.proofs.Common.{◌-◌, ◌≡◌, ◌≤◌, SFits, w64, length, take, drop, not, ℤ, subst, sym, ap, ◌∙◌, arith, rules}
+use Rattle.std.proofs.Common.{◌-◌, ◌≡◌, ◌≤◌, SFits, w64, length, subst, sym, ap, ◌∙◌, arith, rules}
 use Rattle.std.specs.Int.{w128}
-use Rattle.std.specs.List.{filter, slice_range}
+use Rattle.std.specs.List.{slice_range}
 use Rattle.std.proofs.lemmas.Int.{to_z-of_z}
 use Rattle.retro_base.specs.Answers.{pairs_between}
-use Rattle.retro_dictionary.specs.declared.search.Spot.TheVariants.{Below, UpTo}
 use Rattle.retro_dictionary.specs.PairSearch.{found_of}
 use Rattle.retro_dictionary.specs.PairMeasure.{PairsMeasured}
-use Rattle.retro_dictionary.specs.Spots.{reaches}
 use Rattle.retro_dictionary.proofs.MeasuredPairs.{measure, measured-found}
 use Rattle.retro_dictionary.proofs.RangeOfPairs.{none-inside, slice-inside, length-slice, filter-ordered}
 use Rattle.retro_dictionary.proofs.search.found_in.Goals as goal

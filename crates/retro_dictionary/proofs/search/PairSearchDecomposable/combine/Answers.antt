@@ -1,4 +1,4 @@
-use Rattle.std.proofs.Common.{◌+◌, SFits, refl, arith, rules}
+use Rattle.std.proofs.Common.{SFits, refl, arith, rules}
 use Rattle.std.specs.Int.{w128}
 use Rattle.std.proofs.lemmas.Int.{wrapping_add_is}
 use Rattle.retro_dictionary.proofs.MeasuredPairs.{same}
