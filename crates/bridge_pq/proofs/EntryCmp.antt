@@ -2,7 +2,6 @@
 use Rattle.std.proofs.Common.{◌≡◌, ℕ, ℤ, Bool, true, false, ◌&&◌, ◌||◌, ◌⊎◌, inl, inr, refl, sym, subst, arith, int_cmp, nat_cmp}
 use Rattle.std.specs.Prelude.{int_lt, nat_lt}
 use Rattle.std.specs.Ordering.{is_gt, ordering_then, int_eq}
-use Rattle.std.specs.declared.cmp.Ordering.TheVariants.{Less}
 use Rattle.std.proofs.lemmas.Int.{ints}
 use Rattle.std.proofs.lemmas.Bool.Decides.{nat_tests}
 use Rattle.retro_base.specs.declared.row.Entry.{Entry}
@@ -19,9 +18,6 @@ by_keys k l = grind (arith, ints, nat_tests)
 number_agrees : (m n : ℕ) → is_gt (nat_cmp m n) ≡ false → nat_lt n m ≡ false
 number_agrees m n upto = grind (arith, nat_tests)
 
-number_less : (m n : ℕ) → nat_lt m n ≡ true → nat_cmp m n ≡ Less
-number_less m n less = rw less refl
-
 not_less : (k l : ℤ) → int_lt k l ≡ true → int_lt l k ≡ false
 not_less k l less = grind (arith, ints, nat_tests)
 
@@ -30,9 +26,6 @@ not_itself k = grind (arith, ints, nat_tests)
 
 agrees_at : (k : ℤ) (m n : ℕ) → is_gt (ordering_then (int_cmp k k) (nat_cmp m n)) ≡ false → pair_before k n k m ≡ false
 agrees_at k m n upto = rw (not_itself k) (number_agrees m n (rw (not_itself k) at upto))
-
-less_at : (k : ℤ) (m n : ℕ) → pair_before k m k n ≡ true → ordering_then (int_cmp k k) (nat_cmp m n) ≡ Less
-less_at k m n before = rw (not_itself k) (number_less m n (rw (not_itself k) at before))
 
 pair_agrees : (k : ℤ) (m : ℕ) (l : ℤ) (n : ℕ) → is_gt (ordering_then (int_cmp k l) (nat_cmp m n)) ≡ false → pair_before l n k m ≡ false
 pair_agrees k m l n upto = elim (by_keys k l) [
@@ -43,17 +36,5 @@ pair_agrees k m l n upto = elim (by_keys k l) [
   ]
 ]
 
-pair_less : (k : ℤ) (m : ℕ) (l : ℤ) (n : ℕ) → pair_before k m l n ≡ true → ordering_then (int_cmp k l) (nat_cmp m n) ≡ Less
-pair_less k m l n before = elim (by_keys k l) [
-  | inl less ↦ rw less refl
-  | inr other ↦ elim other [
-    | inl greater ↦ let wrong : false ≡ true = rw (not_less l k greater, greater) at before in absurd (cc)
-    | inr same ↦ subst (λ j. ordering_then (int_cmp k j) (nat_cmp m n) ≡ Less) same (less_at k m n (subst (λ j. pair_before k m j n ≡ true) (sym same) before))
-  ]
-]
-
 pub agrees : (a b : Entry) → is_gt (entry_order a b) ≡ false → comes_before b a ≡ false
 agrees a b upto = pair_agrees a.key a.number b.key b.number upto
-
-pub before-less : (a b : Entry) → comes_before a b ≡ true → entry_order a b ≡ Less
-before-less a b before = pair_less a.key a.number b.key b.number before

@@ -1,14 +1,13 @@
 -- Entries in their order, as they are measured: where one of them has its place, and which is the k-th of the present.
-use Rattle.std.proofs.Common.{◌≡◌, ℕ, zero, suc, ◌+◌, ◌-◌, ◌<◌, ◌≤◌, ℤ, pos, ◌+ℤ◌, Bool, true, false, List, [], ◌∷◌, map, take, length, refl, sym, ap, ◌∙◌, arith, subst, Option, Some, None}
+use Rattle.std.proofs.Common.{◌≡◌, ℕ, zero, suc, ◌-◌, ◌<◌, ◌≤◌, ℤ, pos, ◌+ℤ◌, Bool, true, false, List, [], ◌∷◌, take, length, refl, sym, ap, ◌∙◌, arith, subst, Option, Some, None}
 use Rattle.std.specs.Prelude.{not, slice_index_or, if◌then◌else◌}
-use Rattle.std.specs.List.{AllByRecursion, AllWithin, slice_get, slice_range}
+use Rattle.std.specs.List.{AllWithin, slice_get, slice_range}
 use Rattle.std.specs.Int.Signed.{lt_z}
+use Rattle.std.specs.Option.{option_or}
 use Rattle.std.proofs.lemmas.Int.{ints}
 use Rattle.std.proofs.lemmas.List.{take_all, length-map}
-use Rattle.monoid_laws.specs.Both.{joined_both}
-use Rattle.monoid_laws.specs.Extreme.{Extreme, no_extreme, joined_extreme, one_element, extreme_of, first_greatest, moved}
 use Rattle.monoid_laws.specs.Measure.{measure_of}
-use Rattle.monoid_laws.specs.Summed.{Summed, no_sum, joined_sum}
+use Rattle.monoid_laws.specs.Summed.{Summed}
 use Rattle.retro_base.specs.declared.row.Entry.{Entry}
 use Rattle.retro_base.specs.EntriesInOrder.{AreInOrder}
 use Rattle.retro_base.specs.OrderLaws.{all_weaker}
@@ -17,20 +16,11 @@ use Rattle.retro_base.proofs.EntrySteps.{partitioned}
 use Rattle.retro_base.proofs.bridges.EntryOrder.{before_one_way}
 use Rattle.weighted_tree.specs.Search.{HoldsNowhere, IsFirstPlace, IsRising}
 use Rattle.bridge_pq.specs.declared.marked_entry.MarkedEntry.{MarkedEntry}
-use Rattle.bridge_pq.specs.MarkedEntries.{entries_in, present_in, Rise, entry_measure, reaches}
-use Rattle.bridge_pq.specs.EntryOrder.{entry_order}
-use Rattle.bridge_pq.proofs.EntryCmp.{before-less}
+use Rattle.bridge_pq.specs.MarkedEntries.{entries_in, present_in, Rise, no_entries, joined_entries, entry_measure, reaches}
 
--- what a range measures, part by part
-abbrev pub measures_in : List MarkedEntry → Summed × Extreme Entry
-measures_in items = measure_of (no_sum, no_extreme) (joined_both joined_sum (joined_extreme entry_order)) entry_measure items
-
-abbrev pub somes : List MarkedEntry → List (Option Entry)
-somes items = map (λ item. Some item.entry) items
-
-pub extreme-part : (items : List MarkedEntry) → (measures_in items).1 ≡ extreme_of entry_order (somes items)
-extreme-part [] = refl
-extreme-part (item ∷ items) = ap (joined_extreme entry_order (one_element (Some item.entry))) (extreme-part items)
+-- what a range measures
+abbrev pub measures_in : List MarkedEntry → Summed × Option Entry
+measures_in items = measure_of no_entries joined_entries entry_measure items
 
 one_more : (b : Bool) (item : MarkedEntry) (rest : List Entry) (z : ℤ) → z ≡ pos (length rest) → pos (if b then 1 else 0) +ℤ z ≡ pos (length (if b then item.entry ∷ rest else rest))
 one_more true item rest z is = omega (arith, ints)
@@ -47,34 +37,14 @@ pub rise_in_order : (xs : List Entry) → Rise xs → AreInOrder xs
 rise_in_order [] rise = tt
 rise_in_order (x ∷ xs) rise = (all_weaker (λ y. comes_before x y ≡ true) (λ y. comes_before y x ≡ false) xs (λ y before. before_one_way x y before) rise.0, rise_in_order xs rise.1)
 
--- the greatest of entries in order is the last
+-- the last entry
 abbrev last_in : MarkedEntry → List MarkedEntry → Entry
 last_in item [] = item.entry
 last_in item (next ∷ items) = last_in next items
 
-last_above : (e : Entry) (item : MarkedEntry) (items : List MarkedEntry) → AllByRecursion (λ y. comes_before e y ≡ true) (entries_in (item ∷ items)) → comes_before e (last_in item items) ≡ true
-last_above e item [] above = above.0
-last_above e item (next ∷ items) above = last_above e next items above.1
-
-overtaken : (e l : Entry) (k : ℕ) (first : Option (Entry × ℕ)) → comes_before e l ≡ true → first ≡ Some (l, k) → first_greatest entry_order (Some (e, 0)) (moved 1 first) ≡ Some (l, 1 + k)
-overtaken e l k first before is = rw (is, before-less e l before) refl
-
-greatest_last : (item : MarkedEntry) (items : List MarkedEntry) → Rise (entries_in (item ∷ items))
-    → (k : ℕ) × ((extreme_of entry_order (somes (item ∷ items))).first ≡ Some (last_in item items, k))
-greatest_last item [] rise = (0, refl)
-greatest_last item (next ∷ items) rise =
-    let rest = greatest_last next items rise.1 in
-    (1 + rest.0, overtaken item.entry (last_in next items) rest.0 (extreme_of entry_order (somes (next ∷ items))).first (last_above item.entry next items rise.0) rest.1)
-
-above_take : (e : Entry) (items : List MarkedEntry) (n : ℕ) → AllByRecursion (λ y. comes_before e y ≡ true) (entries_in items) → AllByRecursion (λ y. comes_before e y ≡ true) (entries_in (take n items))
-above_take e items zero above = tt
-above_take e [] (suc n) above = tt
-above_take e (item ∷ items) (suc n) above = (above.0, above_take e items n above.1)
-
-rise_take : (items : List MarkedEntry) (n : ℕ) → Rise (entries_in items) → Rise (entries_in (take n items))
-rise_take items zero rise = tt
-rise_take [] (suc n) rise = tt
-rise_take (item ∷ items) (suc n) rise = (above_take item.entry items n rise.0, rise_take items n rise.1)
+last_is : (item : MarkedEntry) (items : List MarkedEntry) → (measures_in (item ∷ items)).1 ≡ Some (last_in item items)
+last_is item [] = refl
+last_is item (next ∷ items) = ap (λ last. option_or last (Some item.entry)) (last_is next items)
 
 last_at : (item : MarkedEntry) (items : List MarkedEntry) (n : ℕ) (d : Entry) → n ≤ length items → last_in item (take n items) ≡ slice_index_or (entries_in (item ∷ items)) n d
 last_at item items zero d within = refl
@@ -92,17 +62,15 @@ not_true true is = absurd (cc)
 module _ (e : Entry) (items : List MarkedEntry) (rise : Rise (entries_in items)) where
   -- the first so many reach it
   abbrev pub reached : ℕ → Bool
-  reached place = reaches e (extreme_of entry_order (somes (take place items))).first
+  reached place = reaches e (measures_in (take place items)).1
 
-  reached_by : (all : List MarkedEntry) (n : ℕ) (d : Entry) → Rise (entries_in all) → n < length all
-      → reaches e (extreme_of entry_order (somes (take (suc n) all))).first ≡ not (comes_before (slice_index_or (entries_in all) n d) e)
-  reached_by [] n d order within = absurd (omega arith)
-  reached_by (item ∷ rest) n d order within =
-      let last = greatest_last item (take n rest) (rise_take (item ∷ rest) (suc n) order) in
-      ap (reaches e) last.1 ∙ ap (λ l. not (comes_before l e)) (last_at item rest n d (omega arith))
+  reached_by : (all : List MarkedEntry) (n : ℕ) (d : Entry) → n < length all
+      → reaches e (measures_in (take (suc n) all)).1 ≡ not (comes_before (slice_index_or (entries_in all) n d) e)
+  reached_by [] n d within = absurd (omega arith)
+  reached_by (item ∷ rest) n d within = ap (reaches e) (last_is item (take n rest)) ∙ ap (λ l. not (comes_before l e)) (last_at item rest n d (omega arith))
 
   reached_at : (n : ℕ) (d : Entry) → n < length items → reached (suc n) ≡ not (comes_before (slice_index_or (entries_in items) n d) e)
-  reached_at n d within = reached_by items n d rise within
+  reached_at n d within = reached_by items n d within
 
   entries_length : length (entries_in items) ≡ length items
   entries_length = simp length-map
@@ -153,8 +121,8 @@ module _ (e : Entry) (items : List MarkedEntry) (rise : Rise (entries_in items))
     behind = λ k d low high. absurd (omega arith);
   }
 
-  pub reached-told : (place : ℕ) → reaches e (measures_in (slice_range items 0 place)).1.first ≡ reached place
-  reached-told place = ap (λ m. reaches e m.first) (extreme-part (slice_range items 0 place) ∙ ap (λ l. extreme_of entry_order (somes l)) (range-is items place))
+  pub reached-told : (place : ℕ) → reaches e (measures_in (slice_range items 0 place)).1 ≡ reached place
+  reached-told place = ap (λ l. reaches e (measures_in l).1) (range-is items place)
 
 -- the k-th of the present
 more_is : (k m : ℕ) → lt_z (pos k) (pos m) ≡ true → k < m

@@ -11,6 +11,11 @@ spot_by false key number offset = Some (record { key = key; number = number }, o
 abbrev pub spot_of : ℤ → ℕ → ℕ → Option (Entry × ℕ)
 spot_of key number offset = spot_by (offset == 4294967295) key number offset
 
+-- whether there is none
+abbrev pub holds_none : Option (Entry × ℕ) → Bool
+holds_none None = true
+holds_none (Some spot) = false
+
 -- where there is no entry, its fields are 0
 abbrev pub IsTidy : ℤ → ℕ → ℕ → Type 0
 IsTidy key number offset = offset ≡ 4294967295 → (key ≡ pos 0) × (number ≡ 0)

@@ -1,6 +1,4 @@
 ghost use Rattle.std.specs.Prelude.{◌≡◌, pos, Some, if◌then◌else◌};
-ghost use Rattle.std.specs.Option.{option_map};
-ghost use Rattle.monoid_laws.specs.Extreme.{one_element};
 ghost use Rattle.monoid_laws.specs.Summed.{one_sum};
 
 use crate::spot::Spot;
@@ -8,39 +6,40 @@ use monoid_laws::Monoid;
 use retro_base::Entry;
 use std::marker::Model;
 
-/// What a range of entries measures: how many of them are in the present, and the greatest.
+/// What a range of entries measures: how many of them are in the present, and the last of them.
 #[derive(Clone, Copy)]
 pub(crate) struct EntryMeasure {
     entries: u32,
     present: u32,
-    greatest: Spot,
+    last: Spot,
 }
 
-// Clauses see what `Both` of a `Sum` and a `Greatest` would measure.
 impl Model for EntryMeasure {
-    ghost use Rattle.std.specs.Prelude.{pos, nat_abs, ◌≤◌};
-    ghost use Rattle.monoid_laws.specs.Extreme.{Extreme, IsOffsetWithin};
+    ghost use Rattle.std.specs.Prelude.{◌≡◌, pos, nat_abs, ◌≤◌, Option};
+    ghost use Rattle.std.specs.Option.{option_map};
     ghost use Rattle.monoid_laws.specs.Summed.{Summed};
     ghost use Rattle.retro_base.specs.declared.row.Entry.{Entry};
 
-    ghost Value = { Summed × Extreme Entry };
+    ghost Value = { Summed × Option Entry };
 
-    ghost view = { λ m. (record { items = m.entries; sum = pos m.present }, record { items = m.entries; first = m.greatest }) };
+    ghost view = { λ m. (record { items = m.entries; sum = pos m.present }, option_map (λ spot. spot.0) m.last) };
 
-    ghost inverse = { λ v. record { entries = v.0.items; present = nat_abs v.0.sum; greatest = v.1.first } };
+    ghost inverse = { λ v. record { entries = v.0.items; present = nat_abs v.0.sum; last = option_map (λ entry. (entry, 0)) v.1 } };
 
-    ghost invariant = { λ m. (m.present ≤ m.entries) × IsOffsetWithin m.entries m.greatest };
+    ghost inverse_ok = { λ m h i. record { entries = m.entries; present = m.present; last = h.1 i } };
+
+    ghost invariant = { λ m. (m.present ≤ m.entries) × (option_map (λ entry. (entry, 0)) (option_map (λ spot. spot.0) m.last) ≡ m.last) };
 }
 
 impl EntryMeasure {
     /// The value of one entry.
     pub(crate) fn single(entry: Entry, present: bool) -> EntryMeasure
-        ensures { result ≡ (one_sum (pos (if present then 1 else 0)), one_element (Some entry)) }
+        ensures { result ≡ (one_sum (pos (if present then 1 else 0)), Some entry) }
     {
         EntryMeasure {
             entries: 1,
             present: if present { 1 } else { 0 },
-            greatest: Spot::new(Some((entry, 0))),
+            last: Spot::at_start(entry),
         }
     }
 
@@ -51,11 +50,11 @@ impl EntryMeasure {
         self.present
     }
 
-    /// The greatest entry.
-    pub(crate) fn greatest(&self) -> Option<Entry>
-        ensures { result ≡ option_map (λ spot. spot.0) self.now.1.first }
+    /// The last entry.
+    pub(crate) fn last(&self) -> Option<Entry>
+        ensures { result ≡ self.now.1 }
     {
-        self.greatest.found().map(|spot| spot.0)
+        self.last.element()
     }
 }
 
@@ -74,7 +73,7 @@ impl Monoid for EntryMeasure {
         EntryMeasure {
             entries: 0,
             present: 0,
-            greatest: Spot::new(None),
+            last: Spot::none(),
         }
     }
 
@@ -86,9 +85,7 @@ impl Monoid for EntryMeasure {
         EntryMeasure {
             entries: self.entries + other.entries,
             present: self.present + other.present,
-            greatest: self
-                .greatest
-                .greater(self.entries, other.greatest, other.entries),
+            last: other.last.or(self.last),
         }
     }
 }

@@ -10,12 +10,12 @@ use retro_base::{Entry, NoMemory, Steps};
 use std::sync::ledger::Ledger;
 use weighted_tree::Tree;
 
-/// Whether the greatest entry of a range does not come before an entry.
+/// Whether the last entry of a range does not come before an entry.
 fn reaches(range: &EntryMeasure, entry: Entry) -> bool
-    ensures { result ≡ reaches entry range.now.1.first }
+    ensures { result ≡ reaches entry range.now.1 }
 {
-    match range.greatest() {
-        Some(greatest) => !greatest.comes_before(entry),
+    match range.last() {
+        Some(last) => !last.comes_before(entry),
         None => false,
     }
 }

@@ -10,7 +10,8 @@
 //!
 //! Two trees of `weighted_tree` are all that it keeps. One has the rows with their marks; a range of them
 //! measures the walk of their weights, the greatest dead entry and the least survivor. The other has the
-//! entries that the rows add, in order, with the same marks; a range measures how many are in the present.
+//! entries that the rows add, in order, with the same marks; a range measures how many are in the present,
+//! and the last entry.
 //! That weights and marks are those of the definitions is the invariant (`IsBridged` of specs/Bridged.antt),
 //! and the laws of `retro_base` on bridges give the changes and the refusals. Where the past is asked too,
 //! or rows come at the end alone, `PlainList` serves better.
@@ -28,9 +29,10 @@
 //! | `copy` | each once | as many nodes |
 //!
 //! What the layer above may rely on: the clauses of `Partial`, of which 144 d is the bound for each call.
-//! Files: `marked_row`, `marked_entry` (what is measured), `row_search` (bridges and the changed entries),
-//! `entry_tree` (entries by their order), `turned`, `changes`, `failure` (what an edit changes, or which row
-//! it stops), `edit` (the two trees together), `bridge_queue`.
+//! Files: `marked_row`, `marked_entry` (what stands in the trees), `row_measure`, `entry_measure`, `spot` (what
+//! a range of them measures, kept small, since each node has two), `row_search` (bridges and the changed
+//! entries), `entry_tree` (entries by their order), `turned`, `changes`, `failure` (what an edit changes, or
+//! which row it stops), `edit` (the two trees together), `bridge_queue`.
 #![tactic(auto)]
 
 mod bridge_queue;

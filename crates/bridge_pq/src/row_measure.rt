@@ -47,8 +47,8 @@ impl RowMeasure {
             rows: 1,
             falls: 1,
             rises: 0,
-            dead: Spot::new(None),
-            alive: Spot::new(None),
+            dead: Spot::none(),
+            alive: Spot::none(),
         }
     }
 
@@ -60,8 +60,8 @@ impl RowMeasure {
             rows: 1,
             falls: 0,
             rises: 0,
-            dead: Spot::new(None),
-            alive: Spot::new(Some((entry, 0))),
+            dead: Spot::none(),
+            alive: Spot::at_start(entry),
         }
     }
 
@@ -73,8 +73,8 @@ impl RowMeasure {
             rows: 1,
             falls: 0,
             rises: 1,
-            dead: Spot::new(Some((entry, 0))),
-            alive: Spot::new(None),
+            dead: Spot::at_start(entry),
+            alive: Spot::none(),
         }
     }
 
@@ -103,14 +103,14 @@ impl RowMeasure {
     pub(crate) fn dead_offset(&self) -> Option<u32>
         ensures { (added : List (Option Entry)) → self.now.1.0 ≡ extreme_of entry_order added → IsGreatestOffset entry_order added result }
     {
-        self.dead.found().map(|spot| spot.1)
+        self.dead.offset()
     }
 
     /// How many rows stand before that of the least survivor.
     pub(crate) fn alive_offset(&self) -> Option<u32>
         ensures { (added : List (Option Entry)) → self.now.1.1 ≡ extreme_of (flip_args entry_order) added → IsGreatestOffset (flip_args entry_order) added result }
     {
-        self.alive.found().map(|spot| spot.1)
+        self.alive.offset()
     }
 }
 
@@ -130,8 +130,8 @@ impl Monoid for RowMeasure {
             rows: 0,
             falls: 0,
             rises: 0,
-            dead: Spot::new(None),
-            alive: Spot::new(None),
+            dead: Spot::none(),
+            alive: Spot::none(),
         }
     }
 

@@ -1,10 +1,11 @@
-ghost use Rattle.std.specs.Prelude.{◌≡◌, ◌+◌, ◌^◌, ◌<◌};
+ghost use Rattle.std.specs.Prelude.{◌≡◌, ◌+◌, ◌^◌, ◌<◌, false, None, Some, IfSome};
+ghost use Rattle.std.specs.Option.{option_map, option_or};
 ghost use Rattle.std.specs.Ordering.{flip_args};
 ghost use Rattle.monoid_laws.specs.Extreme.{first_greatest, moved, IsOffsetWithin};
 ghost use Rattle.bridge_pq.specs.EntryOrder.{entry_order};
+ghost use Rattle.bridge_pq.specs.Spots.{holds_none};
 
 use retro_base::Entry;
-use std::cmp::Ordering;
 use std::marker::Model;
 
 /// An entry with an offset, or none, in half the memory of the option.
@@ -32,99 +33,111 @@ impl Model for Spot {
 }
 
 impl Spot {
-    pub(crate) fn new(found: Option<(Entry, u32)>) -> Spot
-        requires { IsOffsetWithin 4294967295 found }
-        ensures { result ≡ found }
+    /// No entry.
+    pub(crate) fn none() -> Spot
+        ensures { result ≡ None }
     {
-        match found {
-            Some((entry, offset)) => Spot {
-                key: entry.key,
-                number: entry.number,
-                offset,
-            },
-            None => Spot {
-                key: 0,
-                number: 0,
-                offset: u32::MAX,
-            },
+        Spot {
+            key: 0,
+            number: 0,
+            offset: u32::MAX,
         }
     }
 
-    pub(crate) fn found(self) -> Option<(Entry, u32)>
-        ensures { result ≡ self }
+    /// An entry at the start.
+    pub(crate) fn at_start(entry: Entry) -> Spot
+        ensures { result ≡ Some (entry, 0) }
     {
-        if self.offset == u32::MAX {
+        Spot {
+            key: entry.key,
+            number: entry.number,
+            offset: 0,
+        }
+    }
+
+    fn is_none(self) -> bool
+        ensures { result ≡ holds_none self }
+    {
+        self.offset == u32::MAX
+    }
+
+    /// The entry.
+    pub(crate) fn element(self) -> Option<Entry>
+        ensures { result ≡ option_map (λ spot. spot.0) self }
+    {
+        if self.is_none() {
             return None;
         }
-        let entry = Entry {
+        Some(self.entry())
+    }
+
+    /// The offset.
+    pub(crate) fn offset(self) -> Option<u32>
+        ensures { result ≡ option_map (λ spot. spot.1) self }
+    {
+        if self.is_none() {
+            return None;
+        }
+        Some(self.offset)
+    }
+
+    /// This one where it holds an entry, and else the other.
+    pub(crate) fn or(self, other: Spot) -> Spot
+        ensures { result ≡ option_or self other }
+    {
+        if self.is_none() { other } else { self }
+    }
+
+    fn entry(self) -> Entry
+        ensures { IfSome self (λ spot. result ≡ spot.0) }
+    {
+        Entry {
             key: self.key,
             number: self.number,
-        };
-        Some((entry, self.offset))
+        }
+    }
+
+    /// The same entry, seen from `before` items further back.
+    fn further_on(self, before: u32, items: u32) -> Spot
+        requires some { holds_none self ≡ false }
+        requires within { IsOffsetWithin items self }
+        requires fits { before + items < 2 ^ 32 }
+        ensures { result ≡ moved before self }
+    {
+        Spot {
+            key: self.key,
+            number: self.number,
+            offset: before + self.offset,
+        }
     }
 
     /// The greater of this one and a later one behind so many items, and of equal ones this.
-    #[inline(always)]
     pub(crate) fn greater(self, before: u32, later: Spot, items: u32) -> Spot
-        requires this { IsOffsetWithin before self }
         requires later { IsOffsetWithin items later }
         requires fits { before + items < 2 ^ 32 }
-        ensures value { result ≡ first_greatest entry_order self (moved before later) }
-        ensures within { IsOffsetWithin (before + items) result }
+        ensures { result ≡ first_greatest entry_order self (moved before later) }
     {
-        Spot::new(greater(self.found(), further_on(before, items, later.found())))
+        if later.is_none() {
+            return self;
+        }
+        if self.is_none() || self.entry().comes_before(later.entry()) {
+            return later.further_on(before, items);
+        }
+        self
     }
 
     /// The lesser of the two.
-    #[inline(always)]
     pub(crate) fn lesser(self, before: u32, later: Spot, items: u32) -> Spot
-        requires this { IsOffsetWithin before self }
         requires later { IsOffsetWithin items later }
         requires fits { before + items < 2 ^ 32 }
-        ensures value { result ≡ first_greatest (flip_args entry_order) self (moved before later) }
-        ensures within { IsOffsetWithin (before + items) result }
+        ensures { result ≡ first_greatest (flip_args entry_order) self (moved before later) }
     {
-        Spot::new(lesser(self.found(), further_on(before, items, later.found())))
-    }
-}
-
-/// An offset among `items` items, seen from `before` items further back.
-fn further_on(before: u32, items: u32, found: Option<(Entry, u32)>) -> Option<(Entry, u32)>
-    requires within { IsOffsetWithin items found }
-    requires fits { before + items < 2 ^ 32 }
-    ensures moved { result ≡ moved before found }
-    ensures within { IsOffsetWithin (before + items) result }
-{
-    match found {
-        Some((entry, offset)) => Some((entry, before + offset)),
-        None => None,
-    }
-}
-
-/// The greater of two, the earlier of equal ones.
-fn greater(earlier: Option<(Entry, u32)>, later: Option<(Entry, u32)>) -> Option<(Entry, u32)>
-    ensures { result ≡ first_greatest entry_order earlier later }
-{
-    match (earlier, later) {
-        (Some(a), Some(b)) => match a.0.cmp(&b.0) {
-            Ordering::Less => later,
-            Ordering::Equal | Ordering::Greater => earlier,
-        },
-        (None, _) => later,
-        (_, None) => earlier,
-    }
-}
-
-/// The lesser of two, the earlier of equal ones.
-fn lesser(earlier: Option<(Entry, u32)>, later: Option<(Entry, u32)>) -> Option<(Entry, u32)>
-    ensures { result ≡ first_greatest (flip_args entry_order) earlier later }
-{
-    match (earlier, later) {
-        (Some(a), Some(b)) => match b.0.cmp(&a.0) {
-            Ordering::Less => later,
-            Ordering::Equal | Ordering::Greater => earlier,
-        },
-        (None, _) => later,
-        (_, None) => earlier,
+        if later.is_none() {
+            return self;
+        }
+        if self.is_none() || later.entry().comes_before(self.entry()) {
+            return later.further_on(before, items);
+        }
+        self
     }
 }

@@ -11,7 +11,7 @@ pub overflow_sub-result : goal.overflow_sub-result
 overflow_sub-result g c =
     let first : IsFirstPlace (reached c.args.entry c.args.entries.now c.requires) 0 (length c.args.entries.now) c.in-Some.end =
     c.in-Some.ensures.first (reached c.args.entry c.args.entries.now c.requires) (λ place answer above within call.
-    let told : answer ≡ reaches c.args.entry (measures_in (slice_range c.args.entries.now 0 place)).1.first = search rules in
+    let told : answer ≡ reaches c.args.entry (measures_in (slice_range c.args.entries.now 0 place)).1 = search rules in
     told ∙ reached-told c.args.entry c.args.entries.now c.requires place)
     (reached-rises c.args.entry c.args.entries.now c.requires) in
     place-some c.args.entry c.args.entries.now c.requires c.in-Some.end first
@@ -20,7 +20,7 @@ pub returns-in-Some-clause-before : goal.returns-in-Some-clause-before
 returns-in-Some-clause-before g c =
     let first : IsFirstPlace (reached c.args.entry c.args.entries.now c.requires) 0 (length c.args.entries.now) c.in-Some.end =
     c.in-Some.ensures.first (reached c.args.entry c.args.entries.now c.requires) (λ place answer above within call.
-    let told : answer ≡ reaches c.args.entry (measures_in (slice_range c.args.entries.now 0 place)).1.first = search rules in
+    let told : answer ≡ reaches c.args.entry (measures_in (slice_range c.args.entries.now 0 place)).1 = search rules in
     told ∙ reached-told c.args.entry c.args.entries.now c.requires place)
     (reached-rises c.args.entry c.args.entries.now c.requires) in
     (place-before c.args.entry c.args.entries.now c.requires c.in-Some.end first).before
@@ -29,7 +29,7 @@ pub returns-in-Some-clause-behind : goal.returns-in-Some-clause-behind
 returns-in-Some-clause-behind g c =
     let first : IsFirstPlace (reached c.args.entry c.args.entries.now c.requires) 0 (length c.args.entries.now) c.in-Some.end =
     c.in-Some.ensures.first (reached c.args.entry c.args.entries.now c.requires) (λ place answer above within call.
-    let told : answer ≡ reaches c.args.entry (measures_in (slice_range c.args.entries.now 0 place)).1.first = search rules in
+    let told : answer ≡ reaches c.args.entry (measures_in (slice_range c.args.entries.now 0 place)).1 = search rules in
     told ∙ reached-told c.args.entry c.args.entries.now c.requires place)
     (reached-rises c.args.entry c.args.entries.now c.requires) in
     (place-before c.args.entry c.args.entries.now c.requires c.in-Some.end first).behind
@@ -38,7 +38,7 @@ pub returns-in-None-clause-before : goal.returns-in-None-clause-before
 returns-in-None-clause-before g c =
     let nowhere : HoldsNowhere (reached c.args.entry c.args.entries.now c.requires) 0 (length c.args.entries.now) =
     c.in-None.ensures.first (reached c.args.entry c.args.entries.now c.requires) (λ place answer above within call.
-    let told : answer ≡ reaches c.args.entry (measures_in (slice_range c.args.entries.now 0 place)).1.first = search rules in
+    let told : answer ≡ reaches c.args.entry (measures_in (slice_range c.args.entries.now 0 place)).1 = search rules in
     told ∙ reached-told c.args.entry c.args.entries.now c.requires place)
     (reached-rises c.args.entry c.args.entries.now c.requires) in
     subst (λ n. AllWithin (λ other. comes_before other c.args.entry ≡ true) (entries_in c.args.entries.now) 0 n) (sym c.len.ensures)
