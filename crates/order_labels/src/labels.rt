@@ -55,6 +55,14 @@ impl Labels {
         self.rows.len()
     }
 
+    /// Whether a new row at a place gets a label of its own while the others stay.
+    pub fn has_room(&self, place: u32) -> bool
+        requires within { place ≤ length self.now }
+        ensures { result ≡ has_room self.now place }
+    {
+        lies_between::<Brand>(&self.rows, place, Blank::new(1))
+    }
+
     /// Labels a new row at a place. After `NoMemory` all is as before.
     pub fn insert(&mut self, place: u32) -> Result<Fresh, NoMemory>
         requires within { place ≤ length self.old }
@@ -126,6 +134,21 @@ fn put_in<L: Ledger>(rows: &mut Tree<Label>, place: u32, blank: Blank) -> Result
         label: rows.get(place, &mut steps).number(),
         relabelled: true,
     })
+}
+
+/// Whether a number lies between the labels beside a place.
+fn lies_between<L: Ledger>(rows: &Tree<Label>, place: u32, blank: Blank) -> bool
+    requires name { blank.name ≡ L.name }
+    requires parts { blank.parts ≡ L.parts }
+    requires shared { 0 < blank.parts }
+    requires within { place ≤ length rows.now }
+    requires labels { AreLabels rows.now }
+    ensures { result ≡ has_room rows.now place }
+{
+    let mut steps = Steps::<L>::new(blank);
+    let before = label_before(rows, place, &mut steps);
+    let behind = label_behind(rows, place, &mut steps);
+    behind - before >= 2
 }
 
 /// The label before a place, or 0.

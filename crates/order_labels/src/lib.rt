@@ -9,10 +9,11 @@
 //! | Call | Cost, with n rows |
 //! |---|---|
 //! | `len` | constant |
-//! | `label_at`, `place_of_label`, `remove` | log n |
+//! | `label_at`, `place_of_label`, `has_room`, `remove` | log n |
 //! | `insert` | log n, and n log n where it relabels |
 //!
-//! Where something is kept by label, `insert` says whether the other labels have changed. It takes memory for one row, also
+//! Where something is kept by label, `has_room` says whether an insertion will change the other labels, and `gap_of` what
+//! they will be: so all else can be made ready before. `insert` takes memory for one row, also
 //! where it relabels, and leaves all as it was where there is none; no other call takes any.
 //!
 //! What the layer above may rely on: the rule of specs/Labels.antt, which says what the labels are behind every insertion;
@@ -34,6 +35,7 @@ pub use highest::Highest;
 pub use labels::{Fresh, Labels};
 pub use laws::{labels_are_spread_evenly, relabelling_is_rare};
 pub use search::count_up_to;
+pub use spread::gap_of;
 
 #[cfg(test)]
 mod tests;

@@ -25,8 +25,8 @@ pub(crate) fn spread<L: Ledger>(rows: &mut Tree<Label>, steps: &mut Steps<L>)
     }
 }
 
-/// How far the labels of so many rows are spread.
-pub(crate) fn gap_of(count: u32) -> u64
+/// How far apart the labels of so many rows are once all are relabelled: the row at index i gets i + 1 times as much.
+pub fn gap_of(count: u32) -> u64
     requires { count ≤ most_rows }
     ensures value { result ≡ gap_of count }
     ensures fits { (count + 1) * result ≤ label_limit }

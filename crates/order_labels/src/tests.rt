@@ -1,4 +1,4 @@
-use crate::{Fresh, Labels};
+use crate::{Fresh, Labels, gap_of};
 use std::test::Fail;
 
 #[test]
@@ -51,6 +51,11 @@ fn forty_insertions_at_the_front_use_the_labels_up(rt: HostRuntime) -> Result<()
         );
     }
     assert_eq!(rt; labels.len(), 40);
+    for (place, room) in [(0, false), (1, false), (2, true), (3, true), (40, true)] {
+        assert!(rt; place <= labels.len());
+        assert_eq!(rt; labels.has_room(place), room);
+    }
+    assert_eq!(rt; gap_of(41), 17_179_869_184);
     assert_eq!(rt;
         labels.insert(0)?,
         Fresh {
