@@ -68,6 +68,7 @@ impl KeyIndex {
     pub fn remove(&mut self, label: u64) -> Option<Op>
         ensures found { result ≡ op_at label self.old }
         ensures rows { self.new ≡ without label self.old }
+        ensures listed { AreKeyRows self.old }
     {
         let op = op_at::<Brand>(&self.rows, label, Blank::new(1))?;
         take_out::<Brand>(&mut self.rows, &mut self.by_key, label, op, Blank::new(1));

@@ -14,8 +14,8 @@
 //! | `insert`, `remove`, `before`, `after`, `bad_after_insert`, `bad_after_remove` | log n |
 //! | `relabel` | n log n |
 //!
-//! `insert` takes memory for two nodes, and leaves all as it was where there is none; no other call takes any, so a
-//! relabelling can be written last, once whatever else it needs is there.
+//! `insert` takes memory for two nodes, and leaves all as it was where there is none; no other call of it takes any, so a
+//! relabelling can be written last, once the two lists of labels and whatever else it needs are there.
 //!
 //! What the layer above may rely on: the definitions of specs/KeyRows.antt, over plain lists.
 //!

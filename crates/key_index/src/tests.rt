@@ -12,6 +12,9 @@ const PUT: Op = Op::Put { key: 1, value: 10 };
 
 const DEL: Op = Op::Del { key: 1 };
 
+/// A row on another key, right behind the first one.
+const OTHER: Op = Op::Put { key: 2, value: 20 };
+
 /// Puts a row in at a label that no row has, where the rows can then all be performed.
 fn put(rt: &impl Abort, index: &mut KeyIndex, label: u64, op: Op) -> Result<(), Fail>
     requires fresh { op_at label index.old ≡ None }
@@ -32,12 +35,17 @@ fn rows_beside_an_edit_decide(rt: HostRuntime) -> Result<(), Fail> {
     let mut index = KeyIndex::new(rt.alloc());
     assert_eq!(rt; index.bad_after_insert(50, DEL), Some(Bad::Inserted));
     put(&rt, &mut index, 100, PUT)?;
+    put(&rt, &mut index, 101, OTHER)?;
     put(&rt, &mut index, 200, DEL)?;
     assert_eq!(rt; index.bad_after_remove(100), Some(200));
+    assert_eq!(rt; index.bad_after_remove(101), None);
     assert_eq!(rt; index.bad_after_remove(200), None);
     for (behind, op, bad) in [
         (150, DEL, Some(Bad::Present { label: 200 })),
         (50, DEL, Some(Bad::Inserted)),
+        (100, DEL, Some(Bad::Present { label: 200 })),
+        (100, Op::Del { key: 2 }, Some(Bad::Inserted)),
+        (101, Op::Del { key: 2 }, None),
         (200, DEL, Some(Bad::Inserted)),
         (199, PUT, None),
         (u64::MAX, PUT, None),
@@ -52,14 +60,17 @@ fn rows_beside_an_edit_decide(rt: HostRuntime) -> Result<(), Fail> {
 fn neighbours_are_those_on_the_key(rt: HostRuntime) -> Result<(), Fail> {
     let mut index = KeyIndex::new(rt.alloc());
     index.insert(100, PUT)?;
+    index.insert(101, OTHER)?;
     index.insert(200, DEL)?;
     for (key, label, row) in [
         (1, 200, Some((100, PUT))),
         (1, u64::MAX, Some((200, DEL))),
         (1, 100, None),
         (1, 0, None),
+        (1, 101, Some((100, PUT))),
         (0, 200, None),
-        (2, 200, None),
+        (2, 101, None),
+        (2, 200, Some((101, OTHER))),
     ] {
         assert_eq!(rt; index.before(key, label), row);
     }
@@ -69,7 +80,8 @@ fn neighbours_are_those_on_the_key(rt: HostRuntime) -> Result<(), Fail> {
         (1, 200, None),
         (1, u64::MAX, None),
         (0, 100, None),
-        (2, 100, None),
+        (2, 100, Some((101, OTHER))),
+        (2, 101, None),
     ] {
         assert_eq!(rt; index.after(key, label), row);
     }

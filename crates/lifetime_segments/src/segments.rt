@@ -1,7 +1,8 @@
 ghost use Rattle.std.specs.Prelude.{◌≡◌, ◌<◌, ◌≤◌, [], length, OnOk, OnErr};
+ghost use Rattle.std.specs.List.{AllByRecursion};
 ghost use Rattle.lifetime_segments.specs.Lawful.{most_items};
 ghost use Rattle.lifetime_segments.specs.Lifetimes.{label_end, lifetime, IsInRange, items_at, stands_earlier};
-ghost use Rattle.lifetime_segments.specs.Ordered.{put_in, in_order, is_in, without};
+ghost use Rattle.lifetime_segments.specs.Ordered.{AreInOrder, put_in, in_order, is_in, without};
 ghost use Rattle.lifetime_segments.specs.Tries.{AreHeld};
 
 use crate::decomposable::Decomposable;
@@ -66,6 +67,8 @@ impl<D: Decomposable> Segments<D> {
     pub fn take(&mut self, from: u64, to: u64, item: D::Item) -> bool
         ensures found { result ≡ is_in (stands_earlier D.stands_before) (lifetime from to item) self.old }
         ensures rest { self.new ≡ without (stands_earlier D.stands_before) (lifetime from to item) self.old }
+        ensures ordered { AreInOrder (stands_earlier D.stands_before) self.old }
+        ensures in_range { AllByRecursion IsInRange self.old }
     {
         let life = Lifetime { from, to, item };
         take_held::<D, Brand>(&mut self.held, &mut self.root, life, Blank::new(1))
