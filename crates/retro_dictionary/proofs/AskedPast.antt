@@ -24,11 +24,12 @@ use Rattle.retro_dictionary.specs.DictionaryLaws.{LifetimesHoldContent, SearchAn
 use Rattle.retro_dictionary.specs.Kept.{AreKept}
 use Rattle.retro_dictionary.proofs.Answered.{answer-found}
 use Rattle.retro_dictionary.specs.Labelled.{labelled}
+use Rattle.retro_dictionary.specs.Listed.{AreThere}
 use Rattle.retro_dictionary.specs.Lifetimes.{lifetimes_of}
 use Rattle.retro_dictionary.specs.PairSearch.{pair_before, found_in}
 use Rattle.retro_dictionary.specs.declared.pairs.KeyRange.{KeyRange}
 use Rattle.retro_dictionary.specs.PairSearchLaws.{pair_order}
-use Rattle.retro_dictionary.specs.Asked.{AreOfNumbers, found_at, range_of, answer_from}
+use Rattle.retro_dictionary.specs.Asked.{found_at, range_of, answer_from}
 use Rattle.retro_dictionary.proofs.HeldPairs.{held}
 use Rattle.retro_dictionary.proofs.InOrder.{in_order-same}
 use Rattle.retro_dictionary.proofs.LabelledRows.{beside, length-fronts, rises, up_to-is}
@@ -51,9 +52,8 @@ pairs-ordered (p ∷ ps) s = (all_behind ps s.0, pairs-ordered ps s.1) where
 pub record IsThere (rows : List Row) (labels : List ℕ) (lifetimes : List (Lifetime (ℤ × ℤ))) (place : ℕ) : Type 0 where
   pub left : List (ℤ × ℤ)
   pub state : state_at Dict rows place ≡ pairs left
-  pub keys : AreOfNumbers left
   pub few : length left ≤ most_rows
-  pub found : (range : KeyRange) → found_at labels lifetimes place range ≡ found_in left range
+  pub listed : AreThere labels lifetimes place left
 
 module _ (rows : List Row) (labels : List ℕ) (index : List KeyRow) (lifetimes : List (Lifetime (ℤ × ℤ))) (place : ℕ) (kept : AreKept rows labels index lifetimes) (within : place ≤ length rows) where
   first_rows : Leave (take place rows) []
@@ -81,6 +81,11 @@ module _ (rows : List Row) (labels : List ℕ) (index : List KeyRow) (lifetimes 
       ∙ in_order-same pair_order (items_at label (lifetimes_of (labelled labels rows)) ++ []) first_rows.left theirs.same
       ∙ in_order-kept pair_order first_rows.left (pairs-ordered first_rows.left theirs.sorted)
 
+  sorted_first : AreSorted first_rows.left
+  sorted_first =
+      let below = before_behind in
+      (held (label_before 0 labels place) (omega (arith, below.0, below.1)) (labelled labels rows) [] first_rows.left (rises label_limit 0 labels rows apart) sorted_nil (run_first (label_before 0 labels place) refl)).sorted
+
   found_later : (earlier : ℕ) (range : KeyRange) → place ≡ suc earlier → found_at labels lifetimes (suc earlier) range ≡ found_in first_rows.left range
   found_later earlier range is =
       ap (λ ps. found_in ps range) (found_first (label_before 0 labels (suc earlier)) (ap (label_before 0 labels) is) (omega (arith, before_behind.0, before_behind.1, ap (label_before 0 labels) is)))
@@ -99,9 +104,8 @@ module _ (rows : List Row) (labels : List ℕ) (index : List KeyRow) (lifetimes 
   there = record {
     left = first_rows.left;
     state = ap (λ r. result_unwrap_or r (empty Dict)) first_rows.ran;
-    keys = first_rows.keys;
     few = omega (arith, first_rows.few, length-take place rows, kept.replayable.few);
-    found = λ range. found_at-is range;
+    listed = record { rising = sorted_first; of_numbers = first_rows.keys; found = λ range. found_at-is range };
   }
 
 -- the pairs that are there in their order
@@ -119,4 +123,4 @@ holds-content rows labels index lifetimes place kept some within = content_at ro
 pub answers-found : SearchAnswers
 answers-found rows labels index lifetimes place question kept within =
     let at = there rows labels index lifetimes place kept within in
-    ap (λ state. answer_of state question) at.state ∙ answer-found at.left question at.keys at.few ∙ ap (answer_from question) (sym (at.found (range_of question)))
+    ap (λ state. answer_of state question) at.state ∙ answer-found at.left question at.listed.of_numbers at.few ∙ ap (answer_from question) (sym (at.listed.found (range_of question)))

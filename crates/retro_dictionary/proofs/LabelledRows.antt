@@ -277,6 +277,11 @@ before-read first [] place label read = absurd (cc)
 before-read first (next ∷ labels) zero label read = cc
 before-read first (next ∷ labels) (suc place) label read = before-read next labels place label read
 
+pub before-is : (labels : List ℕ) (place label : ℕ) → 0 < place → slice_get labels (place - 1) ≡ Some label → label ≡ label_before 0 labels place
+before-is labels zero label some read = absurd (omega arith)
+before-is labels (suc place) label some read =
+    sym (before-read 0 labels place label (subst (λ n. slice_get labels n ≡ Some label) (let less : suc place - 1 ≡ place = omega arith in less) read))
+
 pub found-behind : (labels : List ℕ) (lifetimes : List (Lifetime (ℤ × ℤ))) (place label : ℕ) (range : KeyRange) (value : Found) → 0 < place → slice_get labels (place - 1) ≡ Some label
     → value ≡ found_in (in_order pair_before (items_at label lifetimes)) range → value ≡ found_at labels lifetimes place range
 found-behind labels lifetimes zero label range value some read is = absurd (omega arith)

@@ -13,3 +13,6 @@ pub mod RangeOfPairs
 pub mod OrderedEdits
 pub mod KeptLifetimes
 pub mod KeptEdits
+pub mod EditSteps
+pub mod FailingRow
+pub mod ListedPairs

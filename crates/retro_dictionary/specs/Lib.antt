@@ -6,9 +6,11 @@ pub mod PairSearch
 pub mod PairMeasure
 pub mod PairSearchLaws
 pub mod Asked
+pub mod Listed
 pub mod Labelled
 pub mod Kept
 pub mod Spots
 pub mod DictionaryLaws
 pub mod Edited
 pub mod Numbers
+pub mod Failures

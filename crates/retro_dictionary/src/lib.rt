@@ -6,22 +6,45 @@
 //! in Demaine, Iacono and Langerman, "Retroactive Data Structures", section 4. An edit ends or lengthens one lifetime and
 //! begins or takes one, however long the history is.
 //!
-//! `PairSearch` is that search, as `lifetime_segments` asks for it: how many pairs have keys in a range, their sum, and
-//! the least and the greatest of them. Every question of a dictionary is answered by it. The laws say why, over lists of
-//! rows alone; the structure that keeps the lifetimes of its rows is not in this crate yet.
+//! [`RetroDictionary`] is seen as its rows, and implements `Retro` of `retro_base`. It keeps them by place, with a label for
+//! each, an index of them by key, which knows the row that fails first, and the lifetimes of all pairs. `PairSearch` is the
+//! search, as `lifetime_segments` asks for it: how many pairs have keys in a range, their sum, and the least and the
+//! greatest of them; it answers every question of a dictionary.
 //!
-//! What the layer above may rely on: the definitions of specs/Lifetimes.antt, which lifetimes rows have; of
+//! | Call | Cost, with n rows |
+//! |---|---|
+//! | `failure_after_insert`, `failure_after_remove` | log n |
+//! | `insert`, `remove` | log² n in each of at most 80 spans, for each of at most three lifetimes |
+//! | `insert`, where no label is left | as much for each row, but at least 23 insertions lie between two such |
+//! | `ask`, `ask_now` | log n in each of at most 41 spans |
+//! | `all` | as much for each pair |
+//!
+//! `insert`, `remove` and `all` take memory; where there is none, all is as before.
+//!
+//! What the layer above may rely on, beside `Retro`: the definitions of specs/Lifetimes.antt, which lifetimes rows have; of
 //! specs/Asked.antt, which range of keys answers a question; of specs/Edited.antt, which lifetimes an edit puts in and
 //! takes out; and the laws of specs/DictionaryLaws.antt over them.
 //!
-//! - `pairs`: `KeyPair`, `KeyRange`, `Found`. `search`: `PairSearch`.
+//! - `dictionary`: the type and its calls. `edit`: rows put in and taken out; `relabel`, where no label is left; `lifetimes`,
+//!   what becomes of two lifetimes. `failing`: the place of the row that fails first.
+//! - `asked`: questions, by what is found of a range of keys. `listed`: the whole content.
+//! - `pairs`: `KeyPair`, `KeyRange`, `Found`. `search`: `PairSearch`. `kept_row`: a row as its tree keeps it.
 //! - `laws`: what lifetimes tell of a dictionary, and how an edit changes them.
 #![tactic(auto)]
 
+mod asked;
+mod dictionary;
+mod edit;
+mod failing;
+mod kept_row;
 mod laws;
+mod lifetimes;
+mod listed;
 mod pairs;
+mod relabel;
 mod search;
 
+pub use dictionary::RetroDictionary;
 pub use laws::{
     an_edit_ends_one_lifetime, insertions_are_kept, lifetimes_hold_the_content, removals_are_kept,
     search_answers,

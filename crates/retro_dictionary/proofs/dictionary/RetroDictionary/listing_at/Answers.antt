@@ -1,0 +1,15 @@
+use Rattle.std.proofs.Common.{◌≡◌, ◌≤◌, length, sym, ap, ◌∙◌, rules}
+use Rattle.std.proofs.lemmas.Result.{IfOk-weaker}
+use Rattle.retro_base.specs.State.{pairs}
+use Rattle.retro_base.specs.declared.kind.Kind.TheVariants.{Dict}
+use Rattle.retro_base.specs.Answers.{content}
+use Rattle.retro_base.specs.Replay.{state_at}
+use Rattle.retro_dictionary.proofs.AskedPast.{there}
+use Rattle.retro_dictionary.proofs.dictionary.RetroDictionary.listing_at.Goals as goal
+
+pub returns : goal.returns
+returns c =
+    let within : c.args.place ≤ length c.self.inside.rows = search rules in
+    let at = there c.self.inside.rows c.self.inside.labels c.self.inside.index c.self.inside.segments c.args.place c.self.invariant within in
+    let state : state_at Dict c.args.self.now c.args.place ≡ pairs at.left = sym (ap (λ rows. state_at Dict rows c.args.place) c.self.view_is) ∙ at.state in
+    IfOk-weaker c.list_at.result _ _ (λ listing is. is at.left at.listed ∙ sym (ap content state)) c.list_at.ensures

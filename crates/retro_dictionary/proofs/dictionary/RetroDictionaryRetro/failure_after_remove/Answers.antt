@@ -1,0 +1,26 @@
+use Rattle.std.proofs.Common.{◌≡◌, ap, ◌∙◌}
+use Rattle.std.specs.List.{remove}
+use Rattle.retro_base.specs.declared.kind.Kind.TheVariants.{Dict}
+use Rattle.retro_base.specs.Replay.{failure}
+use Rattle.retro_dictionary.proofs.FailingRow.{fails-without, index-replays, label-there, within-without}
+use Rattle.retro_dictionary.proofs.dictionary.RetroDictionaryRetro.failure_after_remove.Goals as goal
+
+pub bad_after_remove-requires-clause-replays : goal.bad_after_remove-requires-clause-replays
+bad_after_remove-requires-clause-replays c = index-replays c.self.inside.rows c.self.inside.labels c.self.inside.index c.self.inside.segments c.self.invariant
+
+pub bad_after_remove-requires-clause-there : goal.bad_after_remove-requires-clause-there
+bad_after_remove-requires-clause-there c =
+    label-there c.self.inside.rows c.self.inside.labels c.self.inside.index c.self.inside.segments c.self.invariant c.args.place c.label_at-label.result c.label_at-label.ensures
+
+first : (c : goal.After-place_of_bad_label) → c.place_of_bad_label.result ≡ failure Dict (remove c.args.self.now c.args.place)
+first c =
+    c.place_of_bad_label.ensures
+    ∙ fails-without c.self.inside.rows c.self.inside.labels c.self.inside.index c.self.inside.segments c.self.invariant c.args.place
+    c.label_at-label.result c.label_at-label.ensures c.bad_after_remove.result c.bad_after_remove.ensures.bad c.bad_after_remove.ensures.good
+    ∙ ap (λ rows. failure Dict (remove rows c.args.place)) c.self.view_is
+
+pub returns-clause-first : goal.returns-clause-first
+returns-clause-first c = first c
+
+pub returns-clause-index : goal.returns-clause-index
+returns-clause-index c = within-without c.args.self.now c.args.place c.place_of_bad_label.result c.requires (first c)

@@ -1,0 +1,4 @@
+use Rattle.retro_dictionary.proofs.dictionary.RetroDictionaryRetro.insert.Given as goal
+
+abbrev pub ghosts-put : goal.ghosts-put
+ghosts-put a = record { name = a.blank.name; parts = a.blank.parts }
