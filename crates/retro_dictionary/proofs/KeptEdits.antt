@@ -61,15 +61,15 @@ last_below : (label : ℕ) (key : ℤ) (rows : List KeyRow) → AllBelow label r
 last_below label key rows below =
     placed_from label (last_of (filter (is_on key) rows)) (last_passes (λ (row : KeyRow). row.0 < label) (filter (is_on key) rows) (all_filter (λ (row : KeyRow). row.0 < label) (is_on key) rows below))
 
-end_above : (label : ℕ) (key : ℤ) (rows : List KeyRow) → label < label_end → AllAbove label rows → label < end_of key rows
+pub end_above : (label : ℕ) (key : ℤ) (rows : List KeyRow) → label < label_end → AllAbove label rows → label < end_of key rows
 end_above label key [] limit all = limit
 end_above label key (row ∷ rows) limit all = elim (is_on key row) as (λ b. label < cond b row.0 (end_of key rows)) [ true ↦ all.0 | false ↦ end_above label key rows limit all.1 ]
 
-end_within : (key : ℤ) (rows : List KeyRow) → AllBelow label_end rows → end_of key rows ≤ label_end
+pub end_within : (key : ℤ) (rows : List KeyRow) → AllBelow label_end rows → end_of key rows ≤ label_end
 end_within key [] all = omega arith
 end_within key (row ∷ rows) all = elim (is_on key row) as (λ b. cond b row.0 (end_of key rows) ≤ label_end) [ true ↦ omega (arith, all.0) | false ↦ end_within key rows all.1 ]
 
-below_all : (front back : List KeyRow) → AllBelow label_end (front ++ back) → AllBelow label_end back
+pub below_all : (front back : List KeyRow) → AllBelow label_end (front ++ back) → AllBelow label_end back
 below_all [] back all = all
 below_all (row ∷ front) back all = below_all front back all.1
 

@@ -24,7 +24,7 @@ Lives = List (Lifetime (ℤ × ℤ))
 same-ordered : (xs ys : Lives) → HaveSameItems xs ys → ordered xs ≡ ordered ys
 same-ordered xs ys same = in_order-same (earlier_order pair_order) xs ys same
 
-put-ordered : (new : Option Placed) (to : ℕ) (xs : Lives) → all_put (up_to_label new to) (ordered xs) ≡ ordered (up_to_label new to ++ xs)
+pub put-ordered : (new : Option Placed) (to : ℕ) (xs : Lives) → all_put (up_to_label new to) (ordered xs) ≡ ordered (up_to_label new to ++ xs)
 put-ordered None to xs = refl
 put-ordered (Some placed) to xs = refl
 
@@ -33,7 +33,7 @@ taken-ordered None to xs = refl
 taken-ordered (Some placed) to xs = without-put_in (earlier_order pair_order) _ (ordered xs)
 
 -- what a row begins, where the next row on its key is known
-begun-is : (row : KeyRow) (behind : List KeyRow) (put : Option (ℤ × ℤ)) → put_by row.1 ≡ put → begun row.0 put behind ≡ up_to_label (placed_at row.0 put) (end_of (key_of row.1) behind)
+pub begun-is : (row : KeyRow) (behind : List KeyRow) (put : Option (ℤ × ℤ)) → put_by row.1 ≡ put → begun row.0 put behind ≡ up_to_label (placed_at row.0 put) (end_of (key_of row.1) behind)
 begun-is row behind None puts = refl
 begun-is row behind (Some pair) puts = ap (λ key. up_to_label (placed_at row.0 (Some pair)) (end_of key behind)) (sym (put_key row.1 pair puts))
 

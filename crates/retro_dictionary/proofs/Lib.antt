@@ -16,3 +16,5 @@ pub mod KeptEdits
 pub mod EditSteps
 pub mod FailingRow
 pub mod ListedPairs
+pub mod Relabelling
+pub mod MadeLifetimes

@@ -14,3 +14,4 @@ pub mod DictionaryLaws
 pub mod Edited
 pub mod Numbers
 pub mod Failures
+pub mod Relabelling
