@@ -1,9 +1,10 @@
 ghost use Rattle.std.specs.Prelude.{◌≡◌, []};
 ghost use Rattle.engine.specs.Engine.{kind_inside, rows_inside};
 
-use crate::{DictList, PqList};
+use crate::PqList;
 use retro_base::{Answer, Change, Kind, Listing, NoMemory, Op, PlainList, Question, Retro, Row};
 use retro_deque::RetroDeque;
+use retro_dictionary::RetroDictionary;
 use retro_queue::RetroQueue;
 use retro_stack::RetroStack;
 use std::alloc::Global;
@@ -14,7 +15,7 @@ pub enum Engine {
     Queue { inner: RetroQueue },
     Stack { inner: RetroStack },
     Deque { inner: RetroDeque },
-    Dict { inner: DictList },
+    Dict { inner: RetroDictionary },
     Pq { inner: PqList },
 }
 
@@ -35,9 +36,7 @@ impl Engine {
                 inner: RetroDeque::new(alloc),
             },
             Kind::Dict => Engine::Dict {
-                inner: DictList {
-                    list: PlainList::new(alloc, kind),
-                },
+                inner: RetroDictionary::new(alloc),
             },
             Kind::Pq => Engine::Pq {
                 inner: PqList {
@@ -58,7 +57,7 @@ impl Retro for Engine {
             Engine::Queue { inner } => inner.kind(),
             Engine::Stack { inner } => inner.kind(),
             Engine::Deque { inner } => inner.kind(),
-            Engine::Dict { inner } => inner.list.kind(),
+            Engine::Dict { inner } => inner.kind(),
             Engine::Pq { inner } => inner.list.kind(),
         }
     }
@@ -68,7 +67,7 @@ impl Retro for Engine {
             Engine::Queue { inner } => inner.len(),
             Engine::Stack { inner } => inner.len(),
             Engine::Deque { inner } => inner.len(),
-            Engine::Dict { inner } => inner.list.len(),
+            Engine::Dict { inner } => inner.len(),
             Engine::Pq { inner } => inner.list.len(),
         }
     }
@@ -78,7 +77,7 @@ impl Retro for Engine {
             Engine::Queue { inner } => inner.failure_after_insert(place, op),
             Engine::Stack { inner } => inner.failure_after_insert(place, op),
             Engine::Deque { inner } => inner.failure_after_insert(place, op),
-            Engine::Dict { inner } => inner.list.failure_after_insert(place, op),
+            Engine::Dict { inner } => inner.failure_after_insert(place, op),
             Engine::Pq { inner } => inner.list.failure_after_insert(place, op),
         }
     }
@@ -88,7 +87,7 @@ impl Retro for Engine {
             Engine::Queue { inner } => inner.failure_after_remove(place),
             Engine::Stack { inner } => inner.failure_after_remove(place),
             Engine::Deque { inner } => inner.failure_after_remove(place),
-            Engine::Dict { inner } => inner.list.failure_after_remove(place),
+            Engine::Dict { inner } => inner.failure_after_remove(place),
             Engine::Pq { inner } => inner.list.failure_after_remove(place),
         }
     }
@@ -98,7 +97,7 @@ impl Retro for Engine {
             Engine::Queue { inner } => inner.insert(place, row),
             Engine::Stack { inner } => inner.insert(place, row),
             Engine::Deque { inner } => inner.insert(place, row),
-            Engine::Dict { inner } => inner.list.insert(place, row),
+            Engine::Dict { inner } => inner.insert(place, row),
             Engine::Pq { inner } => inner.list.insert(place, row),
         }
     }
@@ -108,7 +107,7 @@ impl Retro for Engine {
             Engine::Queue { inner } => inner.remove(place),
             Engine::Stack { inner } => inner.remove(place),
             Engine::Deque { inner } => inner.remove(place),
-            Engine::Dict { inner } => inner.list.remove(place),
+            Engine::Dict { inner } => inner.remove(place),
             Engine::Pq { inner } => inner.list.remove(place),
         }
     }
@@ -118,7 +117,7 @@ impl Retro for Engine {
             Engine::Queue { inner } => inner.ask_now(question),
             Engine::Stack { inner } => inner.ask_now(question),
             Engine::Deque { inner } => inner.ask_now(question),
-            Engine::Dict { inner } => inner.list.ask_now(question),
+            Engine::Dict { inner } => inner.ask_now(question),
             Engine::Pq { inner } => inner.list.ask_now(question),
         }
     }
@@ -128,7 +127,7 @@ impl Retro for Engine {
             Engine::Queue { inner } => inner.ask(place, question),
             Engine::Stack { inner } => inner.ask(place, question),
             Engine::Deque { inner } => inner.ask(place, question),
-            Engine::Dict { inner } => inner.list.ask(place, question),
+            Engine::Dict { inner } => inner.ask(place, question),
             Engine::Pq { inner } => inner.list.ask(place, question),
         }
     }
@@ -138,7 +137,7 @@ impl Retro for Engine {
             Engine::Queue { inner } => inner.all(place),
             Engine::Stack { inner } => inner.all(place),
             Engine::Deque { inner } => inner.all(place),
-            Engine::Dict { inner } => inner.list.all(place),
+            Engine::Dict { inner } => inner.all(place),
             Engine::Pq { inner } => inner.list.all(place),
         }
     }

@@ -1,24 +1,6 @@
 use retro_base::PlainList;
 use std::marker::Model;
 
-/// A plain list of the rows of a dictionary, seen as its rows.
-#[derive(Drop)]
-pub struct DictList {
-    pub(crate) list: PlainList,
-}
-
-impl Model for DictList {
-    ghost use Rattle.std.specs.Prelude.{◌≡◌, List};
-    ghost use Rattle.retro_base.specs.declared.kind.Kind.TheVariants.{Dict};
-    ghost use Rattle.retro_base.specs.declared.row.Row.{Row};
-
-    ghost Value = { List Row };
-
-    ghost view = { λ inner. inner.list.rows };
-
-    ghost invariant = { λ inner. inner.list.kind ≡ Dict };
-}
-
 /// A plain list of the rows of a priority queue, seen as its rows.
 #[derive(Drop)]
 pub struct PqList {

@@ -51,3 +51,6 @@ pub use laws::{
 };
 pub use pairs::{Found, KeyPair, KeyRange};
 pub use search::PairSearch;
+
+#[cfg(test)]
+mod tests;
