@@ -1,5 +1,3 @@
-pub mod Apart
-pub mod Powers
 pub mod Spreading
 pub mod Rare
 pub mod Found

@@ -7,9 +7,9 @@ use Rattle.retro_base.specs.Limits.{most_rows}
 use Rattle.order_labels.specs.Labels.{AreApart, label_limit, middle, exponent, gap_of, spread}
 use Rattle.order_labels.specs.LabelLaws.{LabelEdit, EndInRelabelling, insertions, least_insertions, RelabellingIsRare}
 use Rattle.order_labels.specs.LabelLaws.LabelEdit.{Insert, Remove}
-use Rattle.order_labels.proofs.Apart.{gap_at, apart_without}
+use Rattle.order_labels.specs.ApartLaws.{gap_at, apart_without}
 use Rattle.order_labels.proofs.Rule.{halved, no_room}
-use Rattle.order_labels.proofs.Spreading.{spread-apart}
+use Rattle.order_labels.specs.SpreadLaws.{spread-apart}
 
 double : (k : ℕ) → 2 ^ suc k ≡ 2 * 2 ^ k
 double k = omega (arith, pow-add 2 1 k, (let same : suc k ≡ 1 + k = omega arith in ap (λ n. 2 ^ n) same))

@@ -5,8 +5,8 @@ use Rattle.std.specs.List.{insert, remove}
 use Rattle.std.proofs.lemmas.List.Edits.{length-insert, length-remove}
 use Rattle.retro_base.specs.Limits.{most_rows}
 use Rattle.order_labels.specs.Labels.{AreApart, AreLabels, label_limit, label_before, label_behind, has_room, middle, gap_of, spread, inserted}
-use Rattle.order_labels.proofs.Apart.{gap_at, apart_with, apart_without, less_apart, middle_apart}
-use Rattle.order_labels.proofs.Spreading.{spread-apart, some_gap, length-multiples}
+use Rattle.order_labels.specs.ApartLaws.{gap_at, apart_with, apart_without, less_apart, middle_apart}
+use Rattle.order_labels.specs.SpreadLaws.{spread-rises, length-multiples}
 
 room : (labels : List ℕ) (place : ℕ) → has_room labels place ≡ true → 2 ≤ label_behind label_limit labels place - label_before 0 labels place
 room labels place is = leb-true 2 (label_behind label_limit labels place - label_before 0 labels place) is
@@ -34,7 +34,7 @@ labels_with labels place within few are = elim (cases_Bool (has_room labels plac
   })
   | inr not ↦ rw not (record {
     few = omega (arith, length-multiples (gap_of (length labels + 1)) (length labels + 1));
-    rising = less_apart (gap_of (length labels + 1)) 1 0 label_limit (spread (length labels + 1)) (some_gap (length labels + 1)) (spread-apart (length labels + 1) (omega arith));
+    rising = spread-rises (length labels + 1) (omega arith);
   })
 ]
 

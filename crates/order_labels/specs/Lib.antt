@@ -4,3 +4,6 @@ pub mod LabelLaws
 pub mod Highest
 pub mod HighestLaws
 pub mod Order
+pub mod ApartLaws
+pub mod PowerLaws
+pub mod SpreadLaws

@@ -1,5 +1,5 @@
 -- What is kept of rows stays so where a row is put in or taken out.
-use Rattle.std.proofs.Common.{◌≡◌, ℕ, zero, suc, ◌<◌, ◌≤◌, ℤ, Bool, true, false, cond, Option, Some, None, List, [], ◌∷◌, ◌++◌, length, take, drop, slice_get, sym, ap, ◌∙◌, arith, subst}
+use Rattle.std.proofs.Common.{◌≡◌, ℕ, suc, ◌<◌, ◌≤◌, ℤ, Bool, true, false, cond, Option, Some, None, List, [], ◌∷◌, ◌++◌, length, take, drop, slice_get, sym, ap, ◌∙◌, arith, subst}
 use Rattle.std.specs.Prelude.{IfSome}
 use Rattle.std.specs.List.{AllByRecursion, filter, insert, remove}
 use Rattle.std.specs.Option.{option_and_then, option_or, option_map}
@@ -9,7 +9,8 @@ use Rattle.retro_base.specs.OrderLaws.{all_with, all_without}
 use Rattle.key_index.specs.KeyRows.{KeyRow, key_of, is_on, last_of, op_at, with_row, without}
 use Rattle.lifetime_segments.specs.declared.lifetime.Lifetime.{Lifetime}
 use Rattle.lifetime_segments.specs.Lifetimes.{label_end}
-use Rattle.order_labels.specs.Labels.{AreApart, label_limit, label_before, label_behind}
+use Rattle.order_labels.specs.ApartLaws.{apart_with, apart_without}
+use Rattle.order_labels.specs.Labels.{AreApart, label_limit}
 use Rattle.retro_dictionary.specs.Changes.{Placed, placed_by}
 use Rattle.retro_dictionary.specs.Edited.{IsBetween, CanPut, CanCut, CanInsert, CanRemove, left_of, next_of, cut_at, joined_at, cut_by, joined_by}
 use Rattle.retro_dictionary.specs.DictionaryLaws.{InsertionsAreKept, RemovalsAreKept}
@@ -19,22 +20,6 @@ use Rattle.retro_dictionary.specs.Lifetimes.{end_of, put_by, lifetimes_of}
 use Rattle.retro_dictionary.specs.Numbers.{IsOfNumbers}
 use Rattle.retro_dictionary.proofs.KeptLifetimes.{cut-is, joined-is, length-ordered}
 use Rattle.retro_dictionary.proofs.LabelledRows.{AllAbove, AllBelow, in_two, with-inserted, front-below, back-above, below-last, label_before-below, label-behind, beside, with_row-is, fresh-is, last-is, next-is, at-parts, removed-parts, without-is, last-at, next-at, length-labelled}
-
--- a label between two others
-apart_with : (first last : ℕ) (labels : List ℕ) (place label : ℕ) → place ≤ length labels → AreApart 1 first last labels → label_before first labels place < label → label < label_behind last labels place → AreApart 1 first last (insert labels place label)
-apart_with first last [] zero label within apart before behind = (omega arith, omega arith)
-apart_with first last [] (suc place) label within apart before behind = absurd (omega arith)
-apart_with first last (next ∷ labels) zero label within apart before behind = (omega arith, (omega arith, apart.1))
-apart_with first last (next ∷ labels) (suc place) label within apart before behind = (apart.0, apart_with next last labels place label (omega arith) apart.1 before behind)
-
-from_lower : (first lower last : ℕ) (labels : List ℕ) → lower ≤ first → AreApart 1 first last labels → AreApart 1 lower last labels
-from_lower first lower last [] order apart = omega arith
-from_lower first lower last (label ∷ labels) order apart = (omega (arith, apart.0), apart.1)
-
-apart_without : (first last : ℕ) (labels : List ℕ) (place : ℕ) → place < length labels → AreApart 1 first last labels → AreApart 1 first last (remove labels place)
-apart_without first last [] place within apart = absurd (omega arith)
-apart_without first last (label ∷ labels) zero within apart = from_lower label first last labels (omega (arith, apart.0)) apart.1
-apart_without first last (label ∷ labels) (suc place) within apart = (apart.0, apart_without label last labels place (omega arith) apart.1)
 
 -- the row that left a pair stands before a label
 placed_below : (label : ℕ) (row : KeyRow) → row.0 < label → (put : Option (ℤ × ℤ)) → IfSome (option_map (λ (pair : ℤ × ℤ). let placed : Placed = (row.0, pair) in placed) put) (λ (pair : Placed). pair.0 < label)
@@ -127,7 +112,7 @@ module _ (rows : List Row) (labels : List ℕ) (index : List KeyRow) (lifetimes 
     as_many = omega (arith, length-insert labels place label (omega (arith, within, kept.as_many)), length-insert rows place row within, kept.as_many);
     rising = record {
       few = omega (arith, length-insert labels place label (omega (arith, within, kept.as_many)), length-insert rows place row within, kept.as_many, can.after.few);
-      rising = apart_with 0 label_limit labels place label (omega (arith, within, kept.as_many)) apart between.before between.behind_it;
+      rising = apart_with 1 0 label_limit labels place label (omega (arith, within, kept.as_many)) apart (omega (arith, between.before)) (omega (arith, between.behind_it));
     };
     indexed = ap (with_row label row.op) kept.indexed ∙ with_row-is labels rows place kept.as_many apart label row (omega (arith, between.before)) between.behind_it;
     held = cut-held;
@@ -195,7 +180,7 @@ module _ (rows : List Row) (labels : List ℕ) (index : List KeyRow) (lifetimes 
     as_many = omega (arith, length-remove labels place (omega (arith, can.within, kept.as_many)), length-remove rows place can.within, kept.as_many);
     rising = record {
       few = omega (arith, length-remove labels place (omega (arith, can.within, kept.as_many)), kept.rising.few);
-      rising = apart_without 0 label_limit labels place (omega (arith, can.within, kept.as_many)) rising_labels;
+      rising = apart_without 1 0 label_limit labels place (omega (arith, can.within, kept.as_many)) rising_labels;
     };
     indexed = ap (without label) kept.indexed ∙ without-is labels rows place kept.as_many rising_labels label row label_there row_there;
     held = joined-held;

@@ -13,8 +13,8 @@ use Rattle.key_index.specs.KeyRows.{KeyRow, op_at, with_row, without}
 use Rattle.key_index.specs.Relabelled.{Rise, HoldsLabels, counterpart, relabelled, is_in}
 use Rattle.lifetime_segments.specs.declared.lifetime.Lifetime.{Lifetime}
 use Rattle.order_labels.specs.Labels.{AreApart, label_limit, label_before, label_behind, has_room, middle, gap_of, multiples, spread, inserted}
-use Rattle.order_labels.proofs.Apart.{apart_without, less_apart}
-use Rattle.order_labels.proofs.Spreading.{length-multiples, multiple-at, some_gap, spread-apart}
+use Rattle.order_labels.specs.ApartLaws.{apart_without}
+use Rattle.order_labels.specs.SpreadLaws.{length-multiples, multiple-at, spread-rises}
 use Rattle.retro_dictionary.specs.Edited.{IsBetween, CanInsert}
 use Rattle.retro_dictionary.specs.Kept.{AreKept, ordered}
 use Rattle.retro_dictionary.specs.Labelled.{labelled}
@@ -110,9 +110,6 @@ others-are count place within =
     ∙ ap (λ n. take place (multiples gap (count + 1)) ++ drop n (multiples gap (count + 1))) (add-one place)
 
 -- labels that are spread
-pub spread-rises : (count : ℕ) → count ≤ most_rows → AreApart 1 0 label_limit (spread count)
-spread-rises count few = less_apart (gap_of count) 1 0 label_limit (spread count) (some_gap count) (spread-apart count (omega arith))
-
 pub length-spread : (count : ℕ) → length (spread count) ≡ count
 length-spread count = length-multiples (gap_of count) count
 

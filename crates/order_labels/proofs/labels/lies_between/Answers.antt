@@ -1,6 +1,6 @@
 use Rattle.std.proofs.Common.{arith}
 use Rattle.order_labels.specs.Labels.{label_limit}
-use Rattle.order_labels.proofs.Apart.{gap_at}
+use Rattle.order_labels.specs.ApartLaws.{gap_at}
 use Rattle.order_labels.proofs.labels.lies_between.Goals as goal
 
 pub overflow_sub-result : goal.overflow_sub-result

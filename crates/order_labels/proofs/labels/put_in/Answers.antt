@@ -1,6 +1,6 @@
 use Rattle.std.proofs.Common.{Some, slice_get, ap, ◌∙◌, arith}
 use Rattle.order_labels.specs.Labels.{label_limit}
-use Rattle.order_labels.proofs.Apart.{gap_at, behind_within}
+use Rattle.order_labels.specs.ApartLaws.{gap_at, behind_within}
 use Rattle.order_labels.proofs.Rule.{read_back, length-spread_with}
 use Rattle.order_labels.proofs.labels.put_in.Goals as goal
 

@@ -1,7 +1,7 @@
 use Rattle.std.proofs.Common.{◌+◌, ◌/◌, arith}
 use Rattle.retro_base.specs.Limits.{most_rows}
 use Rattle.order_labels.specs.Labels.{label_limit}
-use Rattle.order_labels.proofs.Powers.{exponent-is}
+use Rattle.order_labels.specs.PowerLaws.{exponent-is}
 use Rattle.order_labels.proofs.Rare.{rare}
 use Rattle.order_labels.proofs.laws.relabelling_is_rare.Goals as goal
 

@@ -1,6 +1,6 @@
 use Rattle.std.proofs.Common.{◌+◌, ◌*◌, ◌≤◌, ◌/◌, ◌^◌, ap, sym, subst, ◌∙◌, arith}
 use Rattle.order_labels.specs.Labels.{gap_of, exponent, label_limit}
-use Rattle.order_labels.proofs.Spreading.{gap-fits}
+use Rattle.order_labels.specs.SpreadLaws.{gap-fits}
 use Rattle.order_labels.proofs.spread.gap_of.Goals as goal
 
 pub returns-clause-value : goal.returns-clause-value

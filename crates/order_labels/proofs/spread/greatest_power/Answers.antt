@@ -1,5 +1,5 @@
 use Rattle.std.proofs.Common.{◌+◌, arith}
-use Rattle.order_labels.proofs.Powers.{power-is, power-doubled}
+use Rattle.order_labels.specs.PowerLaws.{power-is, power-doubled}
 use Rattle.order_labels.proofs.spread.greatest_power.Goals as goal
 
 pub loop-power-preserved : goal.loop-power-preserved

@@ -1,7 +1,8 @@
 use Rattle.std.proofs.Common.{◌≡◌, ◌-◌, Some, length, slice_get, sym, ap, ◌∙◌, arith}
 use Rattle.order_labels.specs.Labels.{spread}
+use Rattle.order_labels.specs.SpreadLaws.{spread-rises}
 use Rattle.retro_dictionary.proofs.MadeLifetimes.{none-made, can-begin, one-made}
-use Rattle.retro_dictionary.proofs.Relabelling.{label-there, length-spread, spread-rises}
+use Rattle.retro_dictionary.proofs.Relabelling.{label-there, length-spread}
 use Rattle.retro_dictionary.proofs.relabel.segments_of.Given.{Over}
 use Rattle.retro_dictionary.proofs.relabel.segments_of.Goals as goal
 use Rattle.retro_dictionary.proofs.relabel.segments_of.Goals.{After-label_of}
@@ -16,7 +17,7 @@ next-label g c =
 
 pub begin-requires : goal.begin-requires
 begin-requires g c = record {
-  can = can-begin (spread (length c.args.rows.now)) c.args.rows.now c.args.index.now (length-spread (length c.args.rows.now)) (spread-rises (length c.args.rows.now) c.requires.few) c.requires.few c.requires.indexed
+  can = can-begin (spread (length c.args.rows.now)) c.args.rows.now c.args.index.now (length-spread (length c.args.rows.now)) (spread-rises (length c.args.rows.now) (omega (arith, c.requires.few))) c.requires.few c.requires.indexed
       (c.loop-place.place - 1) c.label_of.result c.row-op.result (next-label g (goal.at.begin-requires g c).After-label_of) (c.get.ensures.item ∙ ap Some (sym c.row-op.ensures))
       c.loop-place.place c.loop-place.segments (omega arith) c.loop-place.invariant;
 }
@@ -24,6 +25,6 @@ begin-requires g c = record {
 pub loop-place-preserved : goal.loop-place-preserved
 loop-place-preserved g c =
     c.in_ok-begin.ensures.ok
-    ∙ one-made (spread (length c.args.rows.now)) c.args.rows.now c.args.index.now (length-spread (length c.args.rows.now)) (spread-rises (length c.args.rows.now) c.requires.few) c.requires.few c.requires.indexed
+    ∙ one-made (spread (length c.args.rows.now)) c.args.rows.now c.args.index.now (length-spread (length c.args.rows.now)) (spread-rises (length c.args.rows.now) (omega (arith, c.requires.few))) c.requires.few c.requires.indexed
     (c.loop-place.place - 1) c.label_of.result c.row-op.result (next-label g (goal.at.loop-place-preserved g c).After-label_of) (c.get.ensures.item ∙ ap Some (sym c.row-op.ensures))
     c.loop-place.place c.loop-place.segments (omega arith) c.loop-place.invariant
