@@ -21,9 +21,9 @@
 //!
 //! `insert`, `remove` and `all` take memory; where there is none, all is as before.
 //!
-//! What the layer above may rely on, beside `Retro`: the definitions of specs/Lifetimes.antt, which lifetimes rows have; of
-//! specs/Asked.antt, which range of keys answers a question; of specs/Edited.antt, which lifetimes an edit puts in and
-//! takes out; and the laws of specs/DictionaryLaws.antt over them.
+//! What the layer above may rely on is `Retro`. Why it holds is told by specs/Lifetimes.antt, which lifetimes rows have;
+//! specs/Asked.antt, which range of keys answers a question; specs/Kept.antt, what is kept of rows; and the laws over them
+//! in specs/DictionaryLaws.antt.
 //!
 //! - `dictionary`: the type and its calls. `edit`: rows put in and taken out; `relabel`, where no label is left; `lifetimes`,
 //!   what becomes of two lifetimes. `failing`: the place of the row that fails first.
