@@ -38,6 +38,14 @@ labels_with labels place within few are = elim (cases_Bool (has_room labels plac
   })
 ]
 
+-- a label of another's choice, between those beside its place
+pub labels_labelled : (labels : List ℕ) (place label : ℕ) → place ≤ length labels → length labels < most_rows → label_before 0 labels place < label → label < label_behind label_limit labels place → AreLabels labels
+    → AreLabels (insert labels place label)
+labels_labelled labels place label within few above below are = record {
+  few = omega (arith, length-insert labels place label within);
+  rising = apart_with 1 0 label_limit labels place label within are.rising (omega arith) (omega arith);
+}
+
 pub labels_without : (labels : List ℕ) (place : ℕ) → place < length labels → AreLabels labels → AreLabels (remove labels place)
 labels_without labels place within are = record {
   few = omega (arith, length-remove labels place within, are.few);
@@ -64,10 +72,9 @@ read_back (next ∷ labels) zero label within = refl
 read_back (next ∷ labels) (suc place) label within = read_back labels place label (omega arith)
 
 -- whatever the answer of an insertion is
-pub labels_kept : {X E : Type 0} (labels behind : List ℕ) (place : ℕ) (result : Result X E) → place ≤ length labels → length labels < most_rows → AreLabels labels
-    → OnOk result (behind ≡ inserted labels place) → OnErr result (behind ≡ labels) → AreLabels behind
-labels_kept labels behind place (Ok x) within few are ok err = subst AreLabels (sym ok) (labels_with labels place within few are)
-labels_kept labels behind place (Err e) within few are ok err = subst AreLabels (sym err) are
+pub labels_kept : {X E : Type 0} (labels next behind : List ℕ) (result : Result X E) → AreLabels labels → AreLabels next → OnOk result (behind ≡ next) → OnErr result (behind ≡ labels) → AreLabels behind
+labels_kept labels next behind (Ok x) are will ok err = subst AreLabels (sym ok) will
+labels_kept labels next behind (Err e) are will ok err = subst AreLabels (sym err) are
 
 -- all rows are spread once one more is there
 pub length-spread_with : (labels more behind : List ℕ) (place label : ℕ) → place ≤ length labels → more ≡ insert labels place label → behind ≡ spread (length more) → length behind ≡ length labels + 1

@@ -55,14 +55,6 @@ impl Labels {
         self.rows.len()
     }
 
-    /// Whether a new row at a place gets a label of its own while the others stay.
-    pub fn has_room(&self, place: u32) -> bool
-        requires within { place ≤ length self.now }
-        ensures { result ≡ has_room self.now place }
-    {
-        lies_between::<Brand>(&self.rows, place, Blank::new(1))
-    }
-
     /// Labels a new row at a place. After `NoMemory` all is as before.
     pub fn insert(&mut self, place: u32) -> Result<Fresh, NoMemory>
         requires within { place ≤ length self.old }
@@ -75,6 +67,18 @@ impl Labels {
         ensures err { OnErr result (self.new ≡ self.old) }
     {
         put_in::<Brand>(&mut self.rows, place, Blank::new(1))
+    }
+
+    /// Gives a new row at a place a label of the caller's choice, between those beside it. After `NoMemory` all is as before.
+    pub fn insert_labelled(&mut self, place: u32, label: u64) -> Result<(), NoMemory>
+        requires within { place ≤ length self.old }
+        requires room { length self.old < most_rows }
+        requires above { label_before 0 self.old place < label }
+        requires below { label < label_behind label_limit self.old place }
+        ensures ok { OnOk result (self.new ≡ insert self.old place label) }
+        ensures err { OnErr result (self.new ≡ self.old) }
+    {
+        put_labelled::<Brand>(&mut self.rows, place, label, Blank::new(1))
     }
 
     /// Takes the label at a place out; the others stay.
@@ -136,19 +140,22 @@ fn put_in<L: Ledger>(rows: &mut Tree<Label>, place: u32, blank: Blank) -> Result
     })
 }
 
-/// Whether a number lies between the labels beside a place.
-fn lies_between<L: Ledger>(rows: &Tree<Label>, place: u32, blank: Blank) -> bool
+fn put_labelled<L: Ledger>(
+    rows: &mut Tree<Label>,
+    place: u32,
+    label: u64,
+    blank: Blank,
+) -> Result<(), NoMemory>
     requires name { blank.name ≡ L.name }
     requires parts { blank.parts ≡ L.parts }
     requires shared { 0 < blank.parts }
-    requires within { place ≤ length rows.now }
-    requires labels { AreLabels rows.now }
-    ensures { result ≡ has_room rows.now place }
+    requires within { place ≤ length rows.old }
+    requires room { length rows.old < most_rows }
+    ensures ok { OnOk result (rows.new ≡ insert rows.old place label) }
+    ensures err { OnErr result (rows.new ≡ rows.old) }
 {
     let mut steps = Steps::<L>::new(blank);
-    let before = label_before(rows, place, &mut steps);
-    let behind = label_behind(rows, place, &mut steps);
-    behind - before >= 2
+    rows.insert(place, Label::new(label), &mut steps)
 }
 
 /// The label before a place, or 0.

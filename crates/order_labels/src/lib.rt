@@ -9,12 +9,13 @@
 //! | Call | Cost, with n rows |
 //! |---|---|
 //! | `len` | constant |
-//! | `label_at`, `place_of_label`, `has_room`, `remove` | log n |
+//! | `label_at`, `place_of_label`, `insert_labelled`, `remove` | log n |
 //! | `insert` | log n, and n log n where it relabels |
 //!
-//! Where something is kept by label, `has_room` says whether an insertion will change the other labels, and `gap_of` what
-//! they will be: so all else can be made ready before. `insert` takes memory for one row, also
-//! where it relabels, and leaves all as it was where there is none; no other call takes any.
+//! Where something is kept by label, `insert` says whether the other labels have changed, and `gap_of` what they will be
+//! if they do: so all else can be made ready before. A caller with a rule of its own for where rows will come in gives a
+//! label itself by `insert_labelled`; the law on how rare relabellings are does not speak of these. Each of the two takes
+//! memory for one row, `insert` also where it relabels, and leaves all as it was where there is none; no other call takes any.
 //!
 //! What the layer above may rely on: the rule of specs/Labels.antt, which says what the labels are behind every insertion;
 //! the law of specs/LabelLaws.antt on the insertions between two relabellings. `Highest` and `count_up_to` serve any tree

@@ -51,10 +51,6 @@ fn forty_insertions_at_the_front_use_the_labels_up(rt: HostRuntime) -> Result<()
         );
     }
     assert_eq!(rt; labels.len(), 40);
-    for (place, room) in [(0, false), (1, false), (2, true), (3, true), (40, true)] {
-        assert!(rt; place <= labels.len());
-        assert_eq!(rt; labels.has_room(place), room);
-    }
     assert_eq!(rt; gap_of(41), 17_179_869_184);
     assert_eq!(rt;
         labels.insert(0)?,
@@ -71,5 +67,19 @@ fn forty_insertions_at_the_front_use_the_labels_up(rt: HostRuntime) -> Result<()
             (u64::from(place) + 1) * 17_179_869_184
         );
     }
+    Ok(())
+}
+
+#[test]
+fn a_label_is_chosen_by_the_caller(rt: HostRuntime) -> Result<(), Fail> {
+    let mut labels = Labels::new(rt.alloc());
+    labels.insert_labelled(0, 7)?;
+    labels.insert_labelled(1, (1 << 40) - 1)?;
+    labels.insert_labelled(1, 8)?;
+    for (place, label) in [(0, 7), (1, 8), (2, (1 << 40) - 1)] {
+        assert!(rt; place < labels.len());
+        assert_eq!(rt; labels.label_at(place), label);
+    }
+    assert_eq!(rt; labels.place_of_label(8), Some(1));
     Ok(())
 }

@@ -4,8 +4,9 @@ ghost use Rattle.retro_base.specs.Answers.{answer_of, content};
 ghost use Rattle.retro_base.specs.Replay.{state_at};
 
 use crate::asked::{answer_from, found_at, range_of};
+use crate::beside::label_before;
 use crate::edit::{put, take_out};
-use crate::failing::{label_before, place_of_bad, place_of_bad_label};
+use crate::failing::{place_of_bad, place_of_bad_label};
 use crate::kept_row::KeptRow;
 use crate::listed::list_at;
 use crate::search::PairSearch;

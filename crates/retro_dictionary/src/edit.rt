@@ -1,13 +1,13 @@
-ghost use Rattle.std.specs.Prelude.{◌≡◌, ◌<◌, ◌≤◌, length, slice_get, true, Some, None, OnOk, OnErr, IfOk};
+ghost use Rattle.std.specs.Prelude.{◌≡◌, ◌<◌, ◌≤◌, length, slice_get, Some, None, OnOk, OnErr, IfOk};
 ghost use Rattle.std.specs.List.{insert, remove};
 ghost use Rattle.key_index.specs.KeyRows.{op_at, with_row, without};
-ghost use Rattle.order_labels.specs.Labels.{has_room};
 ghost use Rattle.retro_base.specs.declared.kind.Kind.TheVariants.{Dict};
 ghost use Rattle.retro_base.specs.Kind.{kind_of};
 ghost use Rattle.retro_base.specs.Limits.{most_rows};
-ghost use Rattle.retro_dictionary.specs.Edited.{CanPut, CanCut, CanInsert, CanRemove, left_of, next_of, cut_by, joined_by};
+ghost use Rattle.retro_dictionary.specs.Edited.{CanPut, CanCut, CanInsert, CanRemove, IsBetween, left_of, next_of, cut_by, joined_by};
 ghost use Rattle.retro_dictionary.specs.Kept.{AreKept};
 
+use crate::beside::free_label;
 use crate::kept_row::KeptRow;
 use crate::lifetimes::{cut, join, key_of, left_before, next_label, put_by};
 use crate::relabel::put_relabelled;
@@ -70,13 +70,14 @@ fn take_labelled(
     Ok(())
 }
 
-/// Puts a row in at a place where a label is left. After `NoMemory` all is as before.
+/// Puts a row in at a place, at a label that is left there. After `NoMemory` all is as before.
 fn put_between<L: Ledger>(
     rows: &mut Tree<KeptRow>,
     labels: &mut Labels,
     index: &mut KeyIndex,
     segments: &mut Segments<PairSearch>,
     place: u32,
+    label: u64,
     row: Row,
     blank: Blank,
 ) -> Result<(), NoMemory>
@@ -87,18 +88,18 @@ fn put_between<L: Ledger>(
     requires can { CanInsert rows.old place row }
     requires dict { kind_of row.op ≡ Dict }
     requires few { length rows.old < most_rows }
-    requires room { has_room labels.old place ≡ true }
+    requires between { IsBetween labels.old place label }
     ensures ok { OnOk result (rows.new ≡ insert rows.old place row) }
     ensures err { OnErr result (rows.new ≡ rows.old) }
     ensures kept { AreKept rows.new labels.new index.new segments.new }
 {
     let mut steps = Steps::<L>::new(blank);
-    let fresh = labels.insert(place)?;
+    labels.insert_labelled(place, label)?;
     if rows.insert(place, KeptRow::new(row), &mut steps).is_err() {
         labels.remove(place);
         return Err(NoMemory);
     }
-    if put_labelled(index, segments, fresh.label, row.op).is_err() {
+    if put_labelled(index, segments, label, row.op).is_err() {
         rows.remove(place, &mut steps);
         labels.remove(place);
         return Err(NoMemory);
@@ -127,10 +128,9 @@ pub(crate) fn put<L: Ledger>(
     ensures err { OnErr result (rows.new ≡ rows.old) }
     ensures kept { AreKept rows.new labels.new index.new segments.new }
 {
-    if labels.has_room(place) {
-        put_between::<L>(rows, labels, index, segments, place, row, blank)
-    } else {
-        put_relabelled::<L>(rows, labels, index, segments, place, row, blank)
+    match free_label(labels, place) {
+        Some(label) => put_between::<L>(rows, labels, index, segments, place, label, row, blank),
+        None => put_relabelled::<L>(rows, labels, index, segments, place, row, blank),
     }
 }
 

@@ -1,21 +1,9 @@
 ghost use Rattle.std.specs.Prelude.{◌≡◌, ◌≤◌, ◌<◌, length};
-ghost use Rattle.order_labels.specs.Labels.{label_before};
 ghost use Rattle.retro_base.specs.Limits.{most_rows};
 ghost use Rattle.retro_dictionary.specs.Failures.{place_of_bad, place_of_bad_label};
 
 use key_index::Bad;
 use order_labels::Labels;
-
-/// The label of the row before a place, or 0.
-pub(crate) fn label_before(labels: &Labels, place: u32) -> u64
-    requires { place ≤ length labels.now }
-    ensures { result ≡ label_before 0 labels.now place }
-{
-    if place == 0 {
-        return 0;
-    }
-    labels.label_at(place - 1)
-}
 
 /// The index of the row that fails first once a row is put in at a place, where its label is known.
 pub(crate) fn place_of_bad(labels: &Labels, place: u32, bad: Option<Bad>) -> Option<u32>

@@ -15,7 +15,7 @@
 //! |---|---|
 //! | `failure_after_insert`, `failure_after_remove` | log n |
 //! | `insert`, `remove` | log² n in each of at most 80 spans, for each of at most three lifetimes |
-//! | `insert`, where no label is left | as much for each row, but at least 23 insertions lie between two such |
+//! | `insert`, where no label is left | as much for each row; rows that come in one behind the other leave labels enough |
 //! | `ask`, `ask_now` | log n in each of at most 41 spans |
 //! | `all` | as much for each pair |
 //!
@@ -25,14 +25,15 @@
 //! specs/Asked.antt, which range of keys answers a question; specs/Kept.antt, what is kept of rows; and the laws over them
 //! in specs/DictionaryLaws.antt.
 //!
-//! - `dictionary`: the type and its calls. `edit`: rows put in and taken out; `relabel`, where no label is left; `lifetimes`,
-//!   what becomes of two lifetimes. `failing`: the place of the row that fails first.
+//! - `dictionary`: the type and its calls. `edit`: rows put in and taken out; `beside`, the label of a new row, and `relabel`,
+//!   where none is left; `lifetimes`, what becomes of two lifetimes. `failing`: the place of the row that fails first.
 //! - `asked`: questions, by what is found of a range of keys. `listed`: the whole content.
 //! - `pairs`: `KeyPair`, `KeyRange`, `Found`. `search`: `PairSearch`. `kept_row`: a row as its tree keeps it.
 //! - `laws`: what lifetimes tell of a dictionary, and how an edit changes them.
 #![tactic(auto)]
 
 mod asked;
+mod beside;
 mod dictionary;
 mod edit;
 mod failing;

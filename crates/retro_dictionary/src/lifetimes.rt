@@ -12,7 +12,7 @@ use lifetime_segments::Segments;
 use retro_base::{NoMemory, Op};
 
 /// Where labels end.
-const END: u64 = 1 << 40;
+pub(crate) const END: u64 = 1 << 40;
 
 /// The key of an operation of a dictionary.
 pub(crate) fn key_of(op: Op) -> i64
