@@ -1,6 +1,7 @@
 //! The priority queue of crates/bridge_pq in plain Rust without proofs, for comparison: rows with their marks in one
-//! weight-balanced tree, the entries in their order in another. Beside it a list of rows that is replayed by std's
-//! BinaryHeap from the edited place on; the heap as it is at that place is given to it.
+//! weight-balanced tree, the entries in their order in another. A bridge is found by a walk that carries the sum of the
+//! weights; here that is faster than to measure where the sum is first lowest, as the crate does. Beside it a list of
+//! rows that is replayed by std's BinaryHeap from the edited place on; the heap as it is at that place is given to it.
 //!
 //!     rustc -O -o bridges bench/bridges.rs
 //!     ./bridges trees|replay edit random|front ROWS MORE
@@ -491,7 +492,15 @@ impl Trees {
         self.rows.size
     }
 
+    /// Whether a survivor stands before a place: then one stands before each bridge behind it.
+    fn survives_before(&self, place: u32, steps: &mut impl Steps) -> bool {
+        self.rows.before(place, steps).alive.is_some()
+    }
+
     fn accepts_take<S: Steps>(&self, place: u32, steps: &mut S) -> bool {
+        if self.survives_before(place, steps) {
+            return true;
+        }
         let bridge = self.first_bridge(place, steps);
         self.lost(bridge, steps).is_some()
     }
@@ -499,6 +508,9 @@ impl Trees {
     fn accepts_cut<S: Steps>(&self, place: u32, steps: &mut S) -> bool {
         let item = self.rows.get(place, steps);
         if item.row.added().is_none() || item.survives {
+            return true;
+        }
+        if self.survives_before(place, steps) {
             return true;
         }
         let bridge = self.first_bridge(place + 1, steps);

@@ -1,8 +1,8 @@
 -- The first row that could not be performed after an edit of a queue by bridges.
-use Rattle.std.proofs.Common.{◌≡◌, ℕ, zero, suc, ◌+◌, ◌≤◌, ◌-◌, true, List, [], ◌∷◌, length, refl, sym, ap, ◌∙◌, arith, subst, Some, None, Option, Result, Err}
+use Rattle.std.proofs.Common.{◌≡◌, ℕ, zero, suc, ◌+◌, ◌≤◌, ◌-◌, true, List, [], ◌∷◌, take, length, inl, inr, refl, sym, ap, ◌∙◌, arith, subst, Some, None, Option, Result, Err}
 use Rattle.std.specs.Prelude.{Contains, is_some}
-use Rattle.std.specs.List.{insert, remove, slice_get}
-use Rattle.std.specs.Option.{option_map_or}
+use Rattle.std.specs.List.{insert, remove, slice_get, cons_option}
+use Rattle.std.specs.Option.{option_map_or, MatchOption}
 use Rattle.std.specs.Result.{result_err}
 use Rattle.retro_base.specs.declared.kind.Kind.TheVariants.{Pq}
 use Rattle.retro_base.specs.declared.op.Op.{Op}
@@ -10,7 +10,7 @@ use Rattle.retro_base.specs.declared.op.Op.TheVariants.{Enq, Deq, Push, Pop, Pus
 use Rattle.retro_base.specs.declared.row.Entry.{Entry}
 use Rattle.retro_base.specs.declared.row.Row.{Row}
 use Rattle.retro_base.specs.Bridges.{survivors, IsFirstBridge}
-use Rattle.retro_base.specs.BridgeTable.{IsSurvivorBefore}
+use Rattle.retro_base.specs.BridgeTable.{added, IsSurvivorBefore}
 use Rattle.retro_base.specs.Carried.{IsPqHistory, IsPqEdit}
 use Rattle.retro_base.specs.Counting.{quantity_of, quantity_after, counted}
 use Rattle.retro_base.specs.Edits.{add, cut}
@@ -20,6 +20,7 @@ use Rattle.retro_base.specs.Timeline.{IsFresh}
 use Rattle.retro_base.specs.Weights.{added_as, added_by}
 use Rattle.retro_base.proofs.Counted.{failure_with}
 use Rattle.retro_base.proofs.Folds.{fold_rows-cons}
+use Rattle.retro_base.proofs.bridges.Entries.{In, contains_in, in_contains}
 use Rattle.retro_base.proofs.bridges.EditsCarry.{giving_accepted}
 use Rattle.retro_base.proofs.bridges.LossTable.{added_take_loses, cut_dead_loses, cut_survivor_loses}
 
@@ -102,6 +103,24 @@ not-take-adds PopL number of_kind not_take = absurd (cc)
 not-take-adds PopR number of_kind not_take = absurd (cc)
 not-take-adds (Put key value) number of_kind not_take = absurd (cc)
 not-take-adds (Del key) number of_kind not_take = absurd (cc)
+
+-- a survivor from before a place is one from before each place behind it
+added_later : (rows : List Row) (place later : ℕ) (e : Entry) → place ≤ later → In e (added (take place rows)) → In e (added (take later rows))
+added_later rows zero later e order inside = absurd inside
+added_later [] (suc place) later e order inside = absurd inside
+added_later (first ∷ rows) (suc place) zero e order inside = absurd (omega arith)
+added_later (first ∷ rows) (suc place) (suc later) e order inside =
+    elim (added_by first) as (λ m. In e (cons_option m (added (take place rows))) → In e (cons_option m (added (take later rows)))) [
+      | Some x ↦ λ here. elim here [ inl same ↦ inl same | inr behind ↦ inr (added_later rows place later e (omega arith) behind) ]
+      | None ↦ λ behind. added_later rows place later e (omega arith) behind
+    ] inside
+
+pub survivor-later : (rows : List Row) (place later : ℕ) (e : Entry) → place ≤ later → IsSurvivorBefore rows place e → IsSurvivorBefore rows later e
+survivor-later rows place later e order early = (in_contains _ e (added_later rows place later e order (contains_in _ e early.0)), early.1)
+
+pub found-some : (found : Option ℕ) (none : Type 0) (some : ℕ → Type 0) → is_some found ≡ true → MatchOption found none some → (place : ℕ) × some place
+found-some None none some there is = absurd (cc)
+found-some (Some place) none some there is = (place, is)
 
 module _ (rows : List Row) (place : ℕ) (row : Row) (history : IsPqHistory rows) (within : place ≤ length rows) (of_kind : kind_of row.op ≡ Pq) where
   possible : IsPqEdit rows (add place (numbered_above rows row))

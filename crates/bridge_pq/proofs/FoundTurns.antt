@@ -1,9 +1,8 @@
 -- What is found at a bridge is what the edit turns.
-use Rattle.std.proofs.Common.{◌≡◌, ◌≢◌, ℕ, suc, ◌+◌, ◌-◌, ◌<◌, ◌≤◌, true, false, List, length, cond, ◌⊎◌, inl, inr, refl, sym, ap, ◌∙◌, arith, subst, add-one, Option, Some, None}
+use Rattle.std.proofs.Common.{◌≡◌, ◌≢◌, ℕ, suc, ◌+◌, ◌-◌, ◌≤◌, true, false, List, length, cond, ◌⊎◌, inl, inr, refl, sym, ap, ◌∙◌, arith, subst, add-one, Option, Some, None}
 use Rattle.std.specs.Prelude.{nat_lt, Contains}
 use Rattle.std.specs.List.{insert, remove, slice_get}
 use Rattle.std.proofs.lemmas.Bool.{cases_lt}
-use Rattle.std.proofs.lemmas.Bool.Decides.{nat_tests}
 use Rattle.retro_base.specs.declared.kind.Kind.TheVariants.{Pq}
 use Rattle.retro_base.specs.declared.row.Change.TheVariants.{Gain, Lose}
 use Rattle.retro_base.specs.declared.row.Entry.{Entry}
@@ -20,6 +19,7 @@ use Rattle.retro_base.proofs.bridges.LossTable.{added_take_loses, cut_dead_loses
 use Rattle.retro_base.proofs.bridges.NamedChange.{added_entry_changes, added_take_changes, cut_take_changes, cut_dead_changes, cut_take_leaves_dead}
 use Rattle.bridge_pq.specs.Bridged.{AddsAt}
 use Rattle.bridge_pq.specs.Turns.{Turns}
+use Rattle.bridge_pq.proofs.LowestPlaces.{lt_true, lt_false}
 use Rattle.bridge_pq.proofs.Places.{insert-at, insert-before, insert-behind, remove-before, remove-behind}
 use Rattle.bridge_pq.proofs.TurnedRows.{turned-gain, turned-loss}
 
@@ -33,12 +33,6 @@ none_one : {X : Type 0} {x : X} (o : Option X) → o ≡ None → o ≡ Some x �
 none_one o e f = cc
 
 -- the place of a row after another one came in or went
-lt_true : (a b : ℕ) → a < b → nat_lt a b ≡ true
-lt_true a b below = grind (arith, nat_tests)
-
-lt_false : (a b : ℕ) → b ≤ a → nat_lt a b ≡ false
-lt_false a b above = grind (arith, nat_tests)
-
 pub adds-with : (rows : List Row) (place p : ℕ) (row : Row) (e : Entry) → place ≤ length rows → AddsAt rows p e → AddsAt (insert rows place row) (cond (nat_lt p place) p (p + 1)) e
 adds-with rows place p row e within at = elim (cases_lt p place) [
   | inl before ↦ subst (λ n. AddsAt (insert rows place row) n e) (sym (ap (λ b. cond b p (p + 1)) (lt_true p place before))) (at.0, insert-before rows place p row before within ∙ at.1, at.2)

@@ -1,4 +1,5 @@
 pub mod Costs
+pub mod LowestPlaces
 pub mod RowMeasures
 pub mod EntryCmp
 pub mod EntryPlaces

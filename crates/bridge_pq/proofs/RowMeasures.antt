@@ -1,6 +1,6 @@
 -- What a range of marked rows measures, part by part: the walk of the weights, and the extremes of the dead and of the survivors.
-use Rattle.std.proofs.Common.{◌≡◌, ℕ, zero, suc, ◌-◌, ℤ, pos, ◌+ℤ◌, Bool, List, [], ◌∷◌, map, take, drop, refl, sym, ap, ◌∙◌, arith, Option, Some, None}
-use Rattle.std.specs.List.{slice_range, fold}
+use Rattle.std.proofs.Common.{◌≡◌, ℕ, zero, suc, ℤ, pos, ◌+ℤ◌, Bool, List, [], ◌∷◌, map, take, drop, refl, sym, ap, ◌∙◌, arith, Option, Some, None}
+use Rattle.std.specs.List.{fold}
 use Rattle.std.specs.declared.cmp.Ordering.{Ordering}
 use Rattle.std.specs.Ordering.{flip_args}
 use Rattle.std.proofs.lemmas.Int.{ints}
@@ -8,8 +8,7 @@ use Rattle.monoid_laws.specs.Both.{joined_both}
 use Rattle.monoid_laws.specs.Extreme.{Extreme, no_extreme, joined_extreme, one_element, extreme_of}
 use Rattle.monoid_laws.specs.Measure.{measure_of}
 use Rattle.monoid_laws.specs.Summed.{sum_of, sum_to}
-use Rattle.monoid_laws.specs.Walk.{Walk, no_walk, one_step, joined_walk, walk_of, end_of}
-use Rattle.monoid_laws.specs.WalkLaws.{end-walk_of}
+use Rattle.bridge_pq.specs.Dips.{Dip, no_dip, one_dip, joined_dip, dip_of}
 use Rattle.retro_base.specs.declared.row.Entry.{Entry}
 use Rattle.retro_base.specs.declared.row.Row.{Row}
 use Rattle.retro_base.specs.Bridges.{survivors}
@@ -25,12 +24,12 @@ abbrev pub alive_of : List MarkedRow → List (Option Entry)
 alive_of items = map (λ item. alive_in item.survives (added_by item.row)) items
 
 module _ (order : Entry → Entry → Ordering) where
-  abbrev pub measures_of : List MarkedRow → Walk × (Extreme Entry × Extreme Entry)
-  measures_of items = measure_of (no_walk, (no_extreme, no_extreme)) (joined_both joined_walk (joined_both (joined_extreme order) (joined_extreme (flip_args order)))) row_measure items
+  abbrev pub measures_of : List MarkedRow → Dip × (Extreme Entry × Extreme Entry)
+  measures_of items = measure_of (no_dip, (no_extreme, no_extreme)) (joined_both joined_dip (joined_both (joined_extreme order) (joined_extreme (flip_args order)))) row_measure items
 
-  pub walk-part : (items : List MarkedRow) → (measures_of items).0 ≡ walk_of (weights_of items)
-  walk-part [] = refl
-  walk-part (item ∷ items) = ap (joined_walk (one_step (weight_in item.survives (added_by item.row)))) (walk-part items)
+  pub dip-part : (items : List MarkedRow) → (measures_of items).0 ≡ dip_of (weights_of items)
+  dip-part [] = refl
+  dip-part (item ∷ items) = ap (joined_dip (one_dip (weight_in item.survives (added_by item.row)))) (dip-part items)
 
   pub dead-part : (items : List MarkedRow) → (measures_of items).1.0 ≡ extreme_of order (dead_of items)
   dead-part [] = refl
@@ -51,17 +50,9 @@ module _ {A B : Type 0} (f : A → B) where
   map-drop [] (suc n) = refl
   map-drop (x ∷ xs) (suc n) = map-drop xs n
 
-  pub map-range : (xs : List A) (from to : ℕ) → map f (slice_range xs from to) ≡ slice_range (map f xs) from to
-  map-range xs from to = map-take (drop from xs) (to - from) ∙ ap (take (to - from)) (map-drop xs from)
-
--- the walk of a range, and the sum of the first weights
-pub range-walk : (order : Entry → Entry → Ordering) (items : List MarkedRow) (from to : ℕ) → (measures_of order (slice_range items from to)).0 ≡ walk_of (slice_range (weights_of items) from to)
-range-walk order items from to = walk-part order (slice_range items from to) ∙ ap walk_of (map-range (λ item. weight_in item.survives (added_by item.row)) items from to)
-
-pub prefix-is : (order : Entry → Entry → Ordering) (items : List MarkedRow) (place : ℕ) → end_of (measures_of order (slice_range items 0 place)).0 ≡ sum_to (weights_of items) place
-prefix-is order items place =
-    ap end_of (range-walk order items 0 place) ∙ end-walk_of (slice_range (weights_of items) 0 place)
-    ∙ ap (λ n. sum_of (take n (weights_of items))) (let same : place - 0 ≡ place = omega arith in same)
+-- the walk of the weights from a place on
+pub dip-behind : (order : Entry → Entry → Ordering) (items : List MarkedRow) (from : ℕ) → (measures_of order (drop from items)).0 ≡ dip_of (drop from (weights_of items))
+dip-behind order items from = dip-part order (drop from items) ∙ ap dip_of (map-drop (λ item. weight_in item.survives (added_by item.row)) items from)
 
 -- the marks make the weights those of the definitions
 weighs_by : (alive : List Entry) (m : Option Entry) (survives : Bool) → survives ≡ is_one_of alive m → weight_in survives m ≡ weight_as alive m

@@ -1,5 +1,7 @@
 pub mod EntryOrder
 pub mod Spots
+pub mod Dips
+pub mod DipLaws
 pub mod MarkedRows
 pub mod MarkedEntries
 pub mod Bridged

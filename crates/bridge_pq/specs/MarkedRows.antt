@@ -1,23 +1,20 @@
 -- Rows with a mark that tells whether the entry that they add survives: what they weigh, and what a range of them measures.
-use Rattle.std.specs.Prelude.{◌≡◌, ℕ, ℤ, pos, negsuc, Bool, true, false, List, map, if◌then◌else◌, refl}
+use Rattle.std.specs.Prelude.{◌≡◌, ℤ, pos, negsuc, Bool, true, false, List, map, if◌then◌else◌, refl}
 use Rattle.std.specs.Prelude.{Option, Some, None}
-use Rattle.std.specs.List.{AllByRecursion, slice_range}
-use Rattle.std.specs.Int.Signed.{le_z}
-use Rattle.std.specs.Prelude.{◌+ℤ◌, ◌-ℤ◌}
+use Rattle.std.specs.List.{AllByRecursion}
 use Rattle.std.specs.Ordering.{flip_args}
 use Rattle.monoid_laws.specs.Both.{joined_both}
 use Rattle.monoid_laws.specs.BothLaws.{both_laws}
 use Rattle.monoid_laws.specs.Extreme.{Extreme, no_extreme, joined_extreme, one_element}
 use Rattle.monoid_laws.specs.ExtremeLaws.{extreme_laws, least_laws}
 use Rattle.monoid_laws.specs.Laws.{MonoidLaws}
-use Rattle.monoid_laws.specs.Summed.{sum_to}
-use Rattle.monoid_laws.specs.Walk.{Walk, no_walk, one_step, joined_walk, walk_of, lowest_of, height_of}
-use Rattle.monoid_laws.specs.WalkLaws.{walk_laws}
 use Rattle.bridge_pq.specs.EntryOrder.{entry_order, entry_total}
 use Rattle.retro_base.specs.declared.row.Entry.{Entry}
 use Rattle.retro_base.specs.declared.row.Row.{Row}
 use Rattle.retro_base.specs.Bridges.{is_among}
 use Rattle.retro_base.specs.Weights.{added_by}
+use Rattle.bridge_pq.specs.Dips.{Dip, no_dip, one_dip, joined_dip}
+use Rattle.bridge_pq.specs.DipLaws.{dip_laws}
 use Rattle.bridge_pq.specs.declared.marked_row.MarkedRow.{MarkedRow}
 
 -- the rows alone
@@ -52,33 +49,25 @@ abbrev pub weights_of : List MarkedRow → List ℤ
 weights_of items = map (λ item. weight_in item.survives (added_by item.row)) items
 
 -- what rows measure: none of them, and one range behind another
-abbrev pub no_rows : Walk × (Extreme Entry × Extreme Entry)
-no_rows = (no_walk, (no_extreme, no_extreme))
+abbrev pub no_rows : Dip × (Extreme Entry × Extreme Entry)
+no_rows = (no_dip, (no_extreme, no_extreme))
 
-abbrev pub joined_rows : Walk × (Extreme Entry × Extreme Entry) → Walk × (Extreme Entry × Extreme Entry) → Walk × (Extreme Entry × Extreme Entry)
-joined_rows = joined_both joined_walk (joined_both (joined_extreme entry_order) (joined_extreme (flip_args entry_order)))
+abbrev pub joined_rows : Dip × (Extreme Entry × Extreme Entry) → Dip × (Extreme Entry × Extreme Entry) → Dip × (Extreme Entry × Extreme Entry)
+joined_rows = joined_both joined_dip (joined_both (joined_extreme entry_order) (joined_extreme (flip_args entry_order)))
 
 pub rows_laws : MonoidLaws (λ m. m.0.items) no_rows joined_rows
-rows_laws = both_laws walk_laws (both_laws (extreme_laws entry_total) (least_laws entry_total))
+rows_laws = both_laws dip_laws (both_laws (extreme_laws entry_total) (least_laws entry_total))
 
 -- what one marked row measures
-abbrev pub row_measure : MarkedRow → Walk × (Extreme Entry × Extreme Entry)
+abbrev pub row_measure : MarkedRow → Dip × (Extreme Entry × Extreme Entry)
 row_measure item = (
-  one_step (weight_in item.survives (added_by item.row)),
+  one_dip (weight_in item.survives (added_by item.row)),
   (one_element (dead_in item.survives (added_by item.row)), one_element (alive_in item.survives (added_by item.row))),
 )
 
-one_step-items : (x : ℤ) → (one_step x).items ≡ 1
-one_step-items (pos n) = refl
-one_step-items (negsuc n) = refl
+one_dip-items : (x : ℤ) → (one_dip x).items ≡ 1
+one_dip-items (pos n) = refl
+one_dip-items (negsuc n) = refl
 
 pub row_measure-items : (item : MarkedRow) → (row_measure item).0.items ≡ 1
-row_measure-items item = one_step-items (weight_in item.survives (added_by item.row))
-
--- on the way from one place to another the sum falls to 0
-abbrev pub falls_from : List ℤ → ℕ → ℕ → Bool
-falls_from xs from place = le_z (sum_to xs from +ℤ lowest_of (walk_of (slice_range xs from place))) (pos 0)
-
--- on the way from a place to another the sum is at 0 or below
-abbrev pub keeps_up_to : List ℤ → ℕ → ℕ → Bool
-keeps_up_to xs to place = le_z (sum_to xs to -ℤ height_of (walk_of (slice_range xs place to))) (pos 0)
+row_measure-items item = one_dip-items (weight_in item.survives (added_by item.row))

@@ -31,6 +31,10 @@ pub(crate) fn failure_after_take<L: Ledger>(
     ensures index { IfSome result (λ index. index ≤ length rows.now) }
     ensures visits { VisitsWithin 36 (length rows.now) steps.old steps.new }
 {
+    // Most often a survivor stands before the place, and so before the bridge: then no bridge is looked for.
+    if least_survivor(rows, place, steps).is_some() {
+        return None;
+    }
     let bridge = first_bridge(rows, place, steps);
     match least_survivor(rows, bridge, steps) {
         Some(_) => None,
@@ -54,6 +58,9 @@ pub(crate) fn failure_without_dead<L: Ledger>(
     ensures index { IfSome result (λ index. index + 1 < length rows.now) }
     ensures visits { VisitsWithin 36 (length rows.now) steps.old steps.new }
 {
+    if least_survivor(rows, place, steps).is_some() {
+        return None;
+    }
     let bridge = first_bridge(rows, place + 1, steps);
     match least_survivor(rows, bridge, steps) {
         Some(_) => None,

@@ -8,10 +8,13 @@
 //! last bridge on, and what is lost is the least survivor from before the first bridge. Of entries with
 //! equal keys the one with the lesser number comes first.
 //!
+//! The sum is never below 0, and behind all rows it is 0. So from any place on the weights are first at their
+//! lowest sum at the next bridge, and no weight before the place is needed to find it.
+//!
 //! Two trees of `weighted_tree` are all that it keeps. One has the rows with their marks; a range of them
-//! measures the walk of their weights, the greatest dead entry and the least survivor. The other has the
-//! entries that the rows add, in order, with the same marks; a range measures how many are in the present,
-//! and the last entry.
+//! measures where the sum of their weights is first lowest, the greatest dead entry and the least survivor.
+//! The other has the entries that the rows add, in order, with the same marks; a range measures how many are
+//! in the present, and the last entry.
 //! That weights and marks are those of the definitions is the invariant (`IsBridged` of specs/Bridged.antt),
 //! and the laws of `retro_base` on bridges give the changes and the refusals. Where the past is asked too,
 //! or rows come at the end alone, `PlainList` serves better.

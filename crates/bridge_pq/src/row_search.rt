@@ -1,14 +1,14 @@
 ghost use Rattle.std.specs.Prelude.{◌≡◌, ℕ, pos, ◌<◌, ◌≤◌, List, length, slice_get, slice_set, MatchOption, Some};
-ghost use Rattle.monoid_laws.specs.Summed.{sum_to};
 ghost use Rattle.retro_base.specs.declared.row.Entry.{Entry};
 ghost use Rattle.retro_base.specs.BridgeTable.{IsDeadFrom, IsSurvivorBefore, IsGreatest, IsLeast};
 ghost use Rattle.retro_base.specs.Bridges.{survivors, IsLastBridge, IsFirstBridge};
 ghost use Rattle.retro_base.specs.Carried.{IsPqHistory};
 ghost use Rattle.retro_base.specs.Visits.{VisitsWithin};
 ghost use Rattle.bridge_pq.specs.Bridged.{AddsAt};
-ghost use Rattle.bridge_pq.specs.MarkedRows.{rows_of, weights_of, AreMarked, falls_from, keeps_up_to};
+ghost use Rattle.bridge_pq.specs.MarkedRows.{rows_of, weights_of, AreMarked};
 ghost use Rattle.bridge_pq.specs.declared.marked_row.MarkedRow.{MarkedRow};
-ghost use Rattle.weighted_tree.specs.Search.{IsFirstOrNone, IsLastOrNone};
+ghost use Rattle.bridge_pq.specs.Dips.{is_lowest_up_to};
+ghost use Rattle.weighted_tree.specs.Search.{IsLastOrNone};
 
 use crate::marked_row::MarkedRow;
 use crate::row_measure::RowMeasure;
@@ -16,39 +16,16 @@ use retro_base::{Entry, Steps};
 use std::sync::ledger::Ledger;
 use weighted_tree::Tree;
 
-/// How many dead entries are held at a place.
-fn dead_at<L: Ledger>(rows: &Tree<MarkedRow>, place: u32, steps: &mut Steps<L>) -> i64
-    requires { place ≤ length rows.now }
-    ensures sum { result ≡ sum_to (weights_of rows.now) place }
+/// The last place from which on the sum of the weights is first lowest at a place up to `to`.
+fn last_lowest<L: Ledger>(rows: &Tree<MarkedRow>, to: u32, steps: &mut Steps<L>) -> Option<u32>
+    requires { to ≤ length rows.now }
+    ensures last { IsLastOrNone (is_lowest_up_to (weights_of rows.now) to) (length rows.now) result }
     ensures visits { VisitsWithin 12 (length rows.now) steps.old steps.new }
 {
-    rows.measure(0, place, steps).sum()
-}
-
-/// The least place from `from` on up to which the dead that are held once were none.
-fn first_falling<L: Ledger>(rows: &Tree<MarkedRow>, from: u32, steps: &mut Steps<L>) -> Option<u32>
-    requires { from ≤ length rows.now }
-    ensures first { IsFirstOrNone (falls_from (weights_of rows.now) from) from (length rows.now) result }
-    ensures visits { VisitsWithin 24 (length rows.now) steps.old steps.new }
-{
-    let start = i128::from(dead_at(rows, from, steps));
-    rows.first_place(
-        from,
-        |range: &RowMeasure| start + i128::from(range.least()) <= 0,
-        steps,
-    )
-}
-
-/// The greatest place up to `to` from which on the dead that are held once are none.
-fn last_keeping<L: Ledger>(rows: &Tree<MarkedRow>, to: u32, steps: &mut Steps<L>) -> Option<u32>
-    requires { to ≤ length rows.now }
-    ensures last { IsLastOrNone (keeps_up_to (weights_of rows.now) to) to result }
-    ensures visits { VisitsWithin 24 (length rows.now) steps.old steps.new }
-{
-    let end = i128::from(dead_at(rows, to, steps));
+    let behind = rows.len() - to;
     rows.last_place(
-        to,
-        |range: &RowMeasure| end - i128::from(range.height()) <= 0,
+        rows.len(),
+        |range: &RowMeasure| behind <= range.behind_lowest(),
         steps,
     )
 }
@@ -63,15 +40,15 @@ pub(crate) fn last_bridge<L: Ledger>(
     requires marked { AreMarked (survivors (rows_of rows.now)) rows.now }
     requires within { place ≤ length rows.now }
     ensures bridge { IsLastBridge (rows_of rows.now) place result }
-    ensures visits { VisitsWithin 24 (length rows.now) steps.old steps.new }
+    ensures visits { VisitsWithin 12 (length rows.now) steps.old steps.new }
 {
-    match last_keeping(rows, place, steps) {
+    match last_lowest(rows, place, steps) {
         Some(bridge) => bridge,
         None => unreachable!(),
     }
 }
 
-/// The first bridge from a place on.
+/// The first bridge from a place on: the sum of the weights from there on is first lowest at it.
 pub(crate) fn first_bridge<L: Ledger>(
     rows: &Tree<MarkedRow>,
     place: u32,
@@ -81,12 +58,10 @@ pub(crate) fn first_bridge<L: Ledger>(
     requires marked { AreMarked (survivors (rows_of rows.now)) rows.now }
     requires within { place ≤ length rows.now }
     ensures bridge { IsFirstBridge (rows_of rows.now) place result }
-    ensures visits { VisitsWithin 24 (length rows.now) steps.old steps.new }
+    ensures visits { VisitsWithin 12 (length rows.now) steps.old steps.new }
 {
-    match first_falling(rows, place, steps) {
-        Some(bridge) => bridge,
-        None => unreachable!(),
-    }
+    let range = rows.measure(place, rows.len(), steps);
+    place + range.before_lowest()
 }
 
 /// The place of the row that adds the greatest dead entry from a bridge on.

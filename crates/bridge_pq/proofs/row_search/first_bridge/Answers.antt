@@ -1,8 +1,23 @@
-use Rattle.bridge_pq.proofs.FoundBridges.{first-found, first-there}
+use Rattle.std.proofs.Common.{arith, Fits, w32, rules}
+use Rattle.bridge_pq.proofs.Edited.{rows-length}
+use Rattle.bridge_pq.proofs.FoundBridges.{lowest-behind, next-bridge}
 use Rattle.bridge_pq.proofs.row_search.first_bridge.Goals as goal
 
-pub unreachable-requires : goal.unreachable-requires
-unreachable-requires g c = first-there c.args.rows.now c.requires.history c.requires.marked c.args.place c.requires.within c.in-None.ensures.first
+pub overflow_add-result : goal.overflow_add-result
+overflow_add-result g c =
+    let items = c.args.rows.now in
+    let few : Fits w32 c.len.result = search rules in
+    omega (
+      arith,
+      lowest-behind items c.args.place c.len.result c.before_lowest.result c.measure-range.result c.requires.within c.len.ensures c.measure-range.ensures.value c.before_lowest.ensures,
+      (next-bridge items c.requires.history c.requires.marked c.args.place c.requires.within).within,
+      rows-length items,
+      few,
+      c.len.ensures,
+    )
 
 pub returns-clause-bridge : goal.returns-clause-bridge
-returns-clause-bridge g c = first-found c.args.rows.now c.requires.history c.requires.marked c.args.place c.in-Some.bridge c.in-Some.ensures.first
+returns-clause-bridge g c =
+    let items = c.args.rows.now in
+    rw (lowest-behind items c.args.place c.len.result c.before_lowest.result c.measure-range.result c.requires.within c.len.ensures c.measure-range.ensures.value c.before_lowest.ensures)
+    (next-bridge items c.requires.history c.requires.marked c.args.place c.requires.within)

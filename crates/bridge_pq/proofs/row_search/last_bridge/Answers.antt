@@ -2,7 +2,7 @@ use Rattle.bridge_pq.proofs.FoundBridges.{last-found, last-there}
 use Rattle.bridge_pq.proofs.row_search.last_bridge.Goals as goal
 
 pub unreachable-requires : goal.unreachable-requires
-unreachable-requires g c = last-there c.args.rows.now c.requires.history c.requires.marked c.args.place c.in-None.ensures.last
+unreachable-requires g c = last-there c.args.rows.now c.requires.history c.requires.marked c.args.place c.requires.within c.in-None.ensures.last
 
 pub returns-clause-bridge : goal.returns-clause-bridge
-returns-clause-bridge g c = last-found c.args.rows.now c.requires.history c.requires.marked c.args.place c.in-Some.bridge c.in-Some.ensures.last
+returns-clause-bridge g c = last-found c.args.rows.now c.requires.history c.requires.marked c.args.place c.requires.within c.in-Some.bridge c.in-Some.ensures.last
