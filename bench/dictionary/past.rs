@@ -1,0 +1,307 @@
+//! A dictionary whose past can be edited and asked: as crates/retro_dictionary has it, and as a list of rows that is replayed.
+
+use crate::index::{Bad, KeyIndex, Op};
+use crate::labels::{spread, Labels, END};
+use crate::spans::{Found, KeyPair, Lifetime, Segments};
+use crate::weighted::{Item, Tree};
+use std::collections::BTreeMap;
+
+#[derive(Clone, Copy)]
+#[allow(dead_code)]
+pub struct Row {
+    pub number: u32,
+    pub time: u64,
+    pub op: Op,
+}
+
+impl Item for Row {
+    type Measure = u32;
+
+    fn measure(&self) -> u32 {
+        1
+    }
+}
+
+#[derive(Clone, Copy)]
+pub enum Question {
+    Get { key: i64 },
+    Succ { key: i64 },
+    Pred { key: i64 },
+    Count { low: i64, high: i64 },
+    Sum { low: i64, high: i64 },
+}
+
+#[derive(Clone, Copy, Debug, PartialEq, Eq)]
+pub enum Answer {
+    Number(i128),
+    Pair(KeyPair),
+    Nothing,
+}
+
+/// A row is put in or taken out only where its test names no row that fails.
+pub trait Past {
+    fn len(&self) -> u32;
+    fn failure_after_insert(&self, place: u32, op: Op) -> Option<u32>;
+    fn failure_after_remove(&self, place: u32) -> Option<u32>;
+    fn insert(&mut self, place: u32, row: Row);
+    fn remove(&mut self, place: u32) -> Row;
+    fn ask(&self, place: u32, question: Question) -> Answer;
+    fn all(&self, place: u32) -> Vec<KeyPair>;
+}
+
+/// A pair with the label at which it is put.
+type Placed = Option<(u64, KeyPair)>;
+
+fn placed(label: u64, op: Op) -> Placed {
+    match op {
+        Op::Put { key, value } => Some((label, KeyPair { key, value })),
+        Op::Del { .. } => None,
+    }
+}
+
+fn add(segments: &mut Segments, placed: Placed, to: u64) {
+    if let Some((from, pair)) = placed {
+        segments.add(Lifetime { from, to, pair });
+    }
+}
+
+fn take(segments: &mut Segments, placed: Placed, to: u64) {
+    if let Some((from, pair)) = placed {
+        segments.take(Lifetime { from, to, pair });
+    }
+}
+
+pub struct Dictionary {
+    rows: Tree<Row>,
+    labels: Labels,
+    index: KeyIndex,
+    segments: Segments,
+}
+
+impl Dictionary {
+    pub fn new() -> Dictionary {
+        Dictionary {
+            rows: Tree::Empty,
+            labels: Labels::new(),
+            index: KeyIndex::new(),
+            segments: Segments::new(),
+        }
+    }
+
+    pub fn rows(&self) -> Vec<Row> {
+        (0..self.len()).map(|place| self.rows.get(place)).collect()
+    }
+
+    pub fn tenths_of_spans(&self) -> u64 {
+        self.segments.tenths_of_spans()
+    }
+
+    /// The label of the next row on a key.
+    fn next(&self, key: i64, label: u64) -> u64 {
+        self.index.after(key, label).map_or(END, |row| row.label)
+    }
+
+    /// What the last row before a label on its key put, and the label of the next row on it.
+    fn beside(&self, key: i64, label: u64) -> (Placed, u64) {
+        let left = self.index.before(key, label);
+        let left = left.and_then(|row| placed(row.label, row.op));
+        (left, self.next(key, label))
+    }
+
+    fn insert_between(&mut self, place: u32, row: Row) {
+        let label = self.labels.insert(place);
+        self.rows.insert(place, row);
+        let (left, next) = self.beside(row.op.key(), label);
+        self.index.insert(label, row.op);
+        add(&mut self.segments, placed(label, row.op), next);
+        add(&mut self.segments, left, label);
+        take(&mut self.segments, left, next);
+    }
+
+    /// Puts a row in where no label is left: all rows are relabelled, and the lifetimes are made anew.
+    fn insert_relabelled(&mut self, place: u32, row: Row) {
+        let former = self.labels.all();
+        let count = self.len() + 1;
+        let others = (0..count).filter(|index| *index != place);
+        let fresh: Vec<u64> = others.map(|index| spread(index, count)).collect();
+        let fresh_of = |label| fresh[former.binary_search(&label).unwrap()];
+        self.index.relabel(fresh_of);
+        self.index.insert(spread(place, count), row.op);
+        self.rows.insert(place, row);
+        let mut segments = Segments::new();
+        for index in (0..count).rev() {
+            let (op, label) = (self.rows.get(index).op, spread(index, count));
+            let next = self.next(op.key(), label);
+            add(&mut segments, placed(label, op), next);
+        }
+        self.labels.insert(place);
+        self.segments = segments;
+    }
+
+    fn found(&self, place: u32, low: i64, high: i64) -> Found {
+        if place == 0 {
+            return Found::NONE;
+        }
+        self.segments.ask(self.labels.at(place - 1), low, high)
+    }
+}
+
+impl Past for Dictionary {
+    fn len(&self) -> u32 {
+        self.rows.len()
+    }
+
+    fn failure_after_insert(&self, place: u32, op: Op) -> Option<u32> {
+        match self.index.bad_after_insert(self.labels.before(place), op)? {
+            Bad::Inserted => Some(place),
+            Bad::Present(label) => {
+                let index = self.labels.place_of(label)?;
+                Some(if index < place { index } else { index + 1 })
+            }
+        }
+    }
+
+    fn failure_after_remove(&self, place: u32) -> Option<u32> {
+        let label = self.index.bad_after_remove(self.labels.at(place))?;
+        let index = self.labels.place_of(label)?;
+        Some(if index < place { index } else { index - 1 })
+    }
+
+    fn insert(&mut self, place: u32, row: Row) {
+        if self.labels.has_room(place) {
+            self.insert_between(place, row);
+        } else {
+            self.insert_relabelled(place, row);
+        }
+    }
+
+    fn remove(&mut self, place: u32) -> Row {
+        let row = self.rows.get(place);
+        let label = self.labels.at(place);
+        let (left, next) = self.beside(row.op.key(), label);
+        add(&mut self.segments, left, next);
+        take(&mut self.segments, left, label);
+        take(&mut self.segments, placed(label, row.op), next);
+        self.index.remove(label);
+        self.labels.remove(place);
+        self.rows.remove(place)
+    }
+
+    fn ask(&self, place: u32, question: Question) -> Answer {
+        let (low, high) = match question {
+            Question::Get { key } => (key, key),
+            Question::Succ { key } => (key, i64::MAX),
+            Question::Pred { key } => (i64::MIN, key),
+            Question::Count { low, high } | Question::Sum { low, high } => (low, high),
+        };
+        let found = self.found(place, low, high);
+        match question {
+            Question::Get { .. } => number(found.least.map(|pair| pair.value)),
+            Question::Succ { .. } => pair(found.least),
+            Question::Pred { .. } => pair(found.greatest),
+            Question::Count { .. } => Answer::Number(i128::from(found.count)),
+            Question::Sum { .. } => Answer::Number(found.sum),
+        }
+    }
+
+    /// One pair after another, each by a search from behind the key before it.
+    fn all(&self, place: u32) -> Vec<KeyPair> {
+        let (mut pairs, mut low) = (Vec::new(), Some(i64::MIN));
+        while let Some(from) = low {
+            let next = self.found(place, from, i64::MAX).least;
+            pairs.extend(next);
+            low = next.and_then(|pair| pair.key.checked_add(1));
+        }
+        pairs
+    }
+}
+
+fn number(value: Option<i64>) -> Answer {
+    value.map_or(Answer::Nothing, |value| Answer::Number(i128::from(value)))
+}
+
+fn pair(pair: Option<KeyPair>) -> Answer {
+    pair.map_or(Answer::Nothing, Answer::Pair)
+}
+
+/// The rows alone: each test and each question performs them from the first one on.
+pub struct Replayed(pub Vec<Row>);
+
+/// Performs rows, and gives the index of the first one that fails.
+fn perform<'a>(held: &mut BTreeMap<i64, i64>, ops: impl Iterator<Item = &'a Op>) -> Option<u32> {
+    for (index, op) in ops.enumerate() {
+        match *op {
+            Op::Put { key, value } => {
+                held.insert(key, value);
+            }
+            Op::Del { key } => {
+                if held.remove(&key).is_none() {
+                    return Some(index as u32);
+                }
+            }
+        }
+    }
+    None
+}
+
+impl Replayed {
+    fn ops(&self) -> impl Iterator<Item = &Op> {
+        self.0.iter().map(|row| &row.op)
+    }
+
+    fn at(&self, place: u32) -> BTreeMap<i64, i64> {
+        let mut held = BTreeMap::new();
+        perform(&mut held, self.ops().take(place as usize));
+        held
+    }
+}
+
+impl Past for Replayed {
+    fn len(&self) -> u32 {
+        self.0.len() as u32
+    }
+
+    fn failure_after_insert(&self, place: u32, op: Op) -> Option<u32> {
+        let place = place as usize;
+        let behind = self.ops().skip(place);
+        let ops = self.ops().take(place).chain([&op]).chain(behind);
+        perform(&mut BTreeMap::new(), ops)
+    }
+
+    fn failure_after_remove(&self, place: u32) -> Option<u32> {
+        let place = place as usize;
+        let ops = self.ops().take(place).chain(self.ops().skip(place + 1));
+        perform(&mut BTreeMap::new(), ops)
+    }
+
+    fn insert(&mut self, place: u32, row: Row) {
+        self.0.insert(place as usize, row);
+    }
+
+    fn remove(&mut self, place: u32) -> Row {
+        self.0.remove(place as usize)
+    }
+
+    fn ask(&self, place: u32, question: Question) -> Answer {
+        let held = self.at(place);
+        let to_pair = |(key, value): (&i64, &i64)| KeyPair {
+            key: *key,
+            value: *value,
+        };
+        match question {
+            Question::Get { key } => number(held.get(&key).copied()),
+            Question::Succ { key } => pair(held.range(key..).next().map(to_pair)),
+            Question::Pred { key } => pair(held.range(..=key).next_back().map(to_pair)),
+            Question::Count { low, high } => Answer::Number(held.range(low..=high).count() as i128),
+            Question::Sum { low, high } => {
+                let values = held.range(low..=high).map(|pair| i128::from(*pair.1));
+                Answer::Number(values.sum())
+            }
+        }
+    }
+
+    fn all(&self, place: u32) -> Vec<KeyPair> {
+        let pairs = self.at(place).into_iter();
+        pairs.map(|(key, value)| KeyPair { key, value }).collect()
+    }
+}

@@ -1,0 +1,282 @@
+//! Lifetimes in the spans of a segment tree, searched at any label, as crates/lifetime_segments has them with the search of
+//! crates/retro_dictionary.
+
+use crate::weighted::{Item, Monoid, Tree};
+
+#[derive(Clone, Copy, Debug, PartialEq, Eq, PartialOrd, Ord)]
+pub struct KeyPair {
+    pub key: i64,
+    pub value: i64,
+}
+
+/// An extreme pair with its offset in a range.
+#[derive(Clone, Copy)]
+pub struct Extreme {
+    items: u32,
+    first: Option<(KeyPair, u32)>,
+}
+
+impl Extreme {
+    const NONE: Extreme = Extreme {
+        items: 0,
+        first: None,
+    };
+
+    fn single(pair: KeyPair) -> Extreme {
+        Extreme {
+            items: 1,
+            first: Some((pair, 0)),
+        }
+    }
+
+    #[inline(always)]
+    fn join(self, other: Extreme, is_better: impl Fn(KeyPair, KeyPair) -> bool) -> Extreme {
+        let later = other.first.map(|(pair, at)| (pair, self.items + at));
+        let first = match (self.first, later) {
+            (Some(a), Some(b)) => Some(if is_better(b.0, a.0) { b } else { a }),
+            (None, found) | (found, None) => found,
+        };
+        Extreme {
+            items: self.items + other.items,
+            first,
+        }
+    }
+
+    fn pair(&self) -> Option<KeyPair> {
+        self.first.map(|(pair, _)| pair)
+    }
+}
+
+#[derive(Clone, Copy)]
+pub struct Pairs {
+    items: u32,
+    sum: i128,
+    least: Extreme,
+    greatest: Extreme,
+}
+
+impl Monoid for Pairs {
+    const UNIT: Pairs = Pairs {
+        items: 0,
+        sum: 0,
+        least: Extreme::NONE,
+        greatest: Extreme::NONE,
+    };
+
+    #[inline(always)]
+    fn join(self, other: Pairs) -> Pairs {
+        Pairs {
+            items: self.items + other.items,
+            sum: self.sum + other.sum,
+            least: self.least.join(other.least, |a, b| a < b),
+            greatest: self.greatest.join(other.greatest, |a, b| a > b),
+        }
+    }
+}
+
+impl Item for KeyPair {
+    type Measure = Pairs;
+
+    fn measure(&self) -> Pairs {
+        Pairs {
+            items: 1,
+            sum: i128::from(self.value),
+            least: Extreme::single(*self),
+            greatest: Extreme::single(*self),
+        }
+    }
+}
+
+/// What is found of the pairs whose keys lie in a range.
+#[derive(Clone, Copy)]
+pub struct Found {
+    pub count: u32,
+    pub sum: i128,
+    pub least: Option<KeyPair>,
+    pub greatest: Option<KeyPair>,
+}
+
+impl Found {
+    pub const NONE: Found = Found {
+        count: 0,
+        sum: 0,
+        least: None,
+        greatest: None,
+    };
+
+    fn of(pairs: &Tree<KeyPair>, low: i64, high: i64) -> Found {
+        let greatest = |measure: &Pairs| measure.greatest.pair();
+        let from = pairs.count_up_to(|it| greatest(it).is_some_and(|pair| low <= pair.key));
+        let to = pairs.count_up_to(|it| greatest(it).is_some_and(|pair| high < pair.key));
+        if to <= from {
+            return Found::NONE;
+        }
+        let measure = pairs.between(from, to);
+        Found {
+            count: to - from,
+            sum: measure.sum,
+            least: measure.least.pair(),
+            greatest: measure.greatest.pair(),
+        }
+    }
+
+    fn combine(self, other: Found) -> Found {
+        let least = match (self.least, other.least) {
+            (Some(a), Some(b)) => Some(a.min(b)),
+            (None, found) | (found, None) => found,
+        };
+        Found {
+            count: self.count + other.count,
+            sum: self.sum.wrapping_add(other.sum),
+            least,
+            greatest: self.greatest.max(other.greatest),
+        }
+    }
+}
+
+/// A pair, and the labels at which it is there.
+#[derive(Clone, Copy, PartialEq, Eq, PartialOrd, Ord)]
+pub struct Lifetime {
+    pub from: u64,
+    pub to: u64,
+    pub pair: KeyPair,
+}
+
+impl Item for Lifetime {
+    type Measure = u32;
+
+    fn measure(&self) -> u32 {
+        1
+    }
+}
+
+impl Lifetime {
+    fn is_whole(&self, level: u32) -> bool {
+        self.from == 0 && 1 << level <= self.to
+    }
+
+    /// What of it is in a second half of this level, seen from where that half begins.
+    fn in_second(self, level: u32) -> Lifetime {
+        Lifetime {
+            from: self.from.saturating_sub(1 << level),
+            to: self.to.saturating_sub(1 << level),
+            ..self
+        }
+    }
+}
+
+/// The pairs in a span of labels and in the spans below it; a span with nothing is left out.
+type Spans = Option<Box<Span>>;
+
+struct Span {
+    pairs: Tree<KeyPair>,
+    left: Spans,
+    right: Spans,
+}
+
+/// The level of the span of all labels.
+const LEVELS: u32 = 40;
+
+fn closed(span: Box<Span>) -> Spans {
+    let is_empty = span.pairs.len() == 0 && span.left.is_none() && span.right.is_none();
+    if is_empty {
+        None
+    } else {
+        Some(span)
+    }
+}
+
+fn add(spans: &mut Spans, level: u32, life: Lifetime) {
+    let mut span = spans.take().unwrap_or_else(|| {
+        Box::new(Span {
+            pairs: Tree::Empty,
+            left: None,
+            right: None,
+        })
+    });
+    if life.is_whole(level) {
+        span.pairs.put(life.pair);
+    } else {
+        if life.from < 1 << (level - 1) {
+            add(&mut span.left, level - 1, life);
+        }
+        if 1 << (level - 1) < life.to {
+            add(&mut span.right, level - 1, life.in_second(level - 1));
+        }
+    }
+    *spans = closed(span);
+}
+
+fn take(spans: &mut Spans, level: u32, life: Lifetime) {
+    let Some(mut span) = spans.take() else { return };
+    if life.is_whole(level) {
+        span.pairs.take_out(life.pair);
+    } else {
+        if life.from < 1 << (level - 1) {
+            take(&mut span.left, level - 1, life);
+        }
+        if 1 << (level - 1) < life.to {
+            take(&mut span.right, level - 1, life.in_second(level - 1));
+        }
+    }
+    *spans = closed(span);
+}
+
+fn ask(spans: &Spans, level: u32, label: u64, low: i64, high: i64) -> Found {
+    let Some(span) = spans else {
+        return Found::NONE;
+    };
+    let own = Found::of(&span.pairs, low, high);
+    if level == 0 {
+        return own;
+    }
+    let half = 1 << (level - 1);
+    own.combine(if label < half {
+        ask(&span.left, level - 1, label, low, high)
+    } else {
+        ask(&span.right, level - 1, label - half, low, high)
+    })
+}
+
+/// How many pairs lie in all spans.
+fn places(spans: &Spans) -> u64 {
+    spans.as_ref().map_or(0, |span| {
+        u64::from(span.pairs.len()) + places(&span.left) + places(&span.right)
+    })
+}
+
+/// Lifetimes by where they begin, and their pairs in the spans that make them up.
+pub struct Segments {
+    held: Tree<Lifetime>,
+    root: Spans,
+}
+
+impl Segments {
+    pub fn new() -> Segments {
+        Segments {
+            held: Tree::Empty,
+            root: None,
+        }
+    }
+
+    pub fn add(&mut self, life: Lifetime) {
+        self.held.put(life);
+        add(&mut self.root, LEVELS, life);
+    }
+
+    pub fn take(&mut self, life: Lifetime) {
+        if self.held.holds(life) {
+            self.held.take_out(life);
+            take(&mut self.root, LEVELS, life);
+        }
+    }
+
+    pub fn ask(&self, label: u64, low: i64, high: i64) -> Found {
+        ask(&self.root, LEVELS, label, low, high)
+    }
+
+    /// How many spans a lifetime lies in, in tenths.
+    pub fn tenths_of_spans(&self) -> u64 {
+        10 * places(&self.root) / u64::from(self.held.len().max(1))
+    }
+}
