@@ -1,4 +1,4 @@
-ghost use Rattle.std.specs.Prelude.{◌≡◌, ◌≤◌, false, length, IfSome, IfNone};
+ghost use Rattle.std.specs.Prelude.{◌≡◌, ◌+◌, ◌<◌, ◌≤◌, false, length, IfSome, IfNone};
 ghost use Rattle.order_labels.specs.Labels.{AreLabels, label_before, label_behind, label_limit, has_room};
 ghost use Rattle.retro_dictionary.specs.Edited.{IsBetween};
 
@@ -43,11 +43,33 @@ pub(crate) fn free_label(labels: &Labels, place: u32) -> Option<u64>
     if room < 2 {
         return None;
     }
-    let is_last = 0 < place && place == labels.len();
-    let step = if is_last {
-        (room / u64::from(MAX_ROWS)).max(1)
+    Some(if 0 < place && place == labels.len() {
+        label_at_end(before, room)
     } else {
-        room / 2
-    };
-    Some(before + step)
+        before + room / 2
+    })
+}
+
+/// A label little behind another one. It is a round number, since lifetimes between round labels are made up of few spans.
+fn label_at_end(before: u64, room: u64) -> u64
+    requires room { 2 ≤ room }
+    requires within { before + room ≤ label_limit }
+    ensures above { before < result }
+    ensures below { result < before + room }
+{
+    let unit = power_within((room / u64::from(MAX_ROWS)).max(1));
+    (before / unit + 1) * unit
+}
+
+/// The greatest power of two that is at most n.
+fn power_within(n: u64) -> u64
+    requires { 0 < n }
+    ensures some { 0 < result }
+    ensures within { result ≤ n }
+{
+    let mut power = 1;
+    while power <= n / 2 {
+        power *= 2;
+    }
+    power
 }
