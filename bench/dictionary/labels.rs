@@ -1,4 +1,4 @@
-//! Labels of rows, as crates/order_labels has them.
+//! Labels of rows, as crates/order_labels has them, chosen as crates/retro_dictionary does.
 
 use crate::weighted::{Item, Monoid, Tree};
 
@@ -78,11 +78,18 @@ impl Labels {
         self.behind(place) - self.before(place) >= 2
     }
 
-    /// The label of a new row: the middle of its neighbours, or all rows are relabelled.
+    /// The label of a new row: the middle of its neighbours, at the end a round one little behind the last, or all rows are
+    /// relabelled.
     pub fn insert(&mut self, place: u32) -> u64 {
         let (before, behind) = (self.before(place), self.behind(place));
-        if behind - before >= 2 {
-            let label = (before + behind) / 2;
+        let room = behind - before;
+        if room >= 2 {
+            let label = if 0 < place && place == self.0.len() {
+                let unit = 1 << (room / 65_536).max(1).ilog2();
+                (before / unit + 1) * unit
+            } else {
+                before + room / 2
+            };
             self.0.insert(place, Label(label));
             return label;
         }
