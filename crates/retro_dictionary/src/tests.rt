@@ -110,36 +110,56 @@ fn number(value: i128) -> Answer {
     Answer::Number { value }
 }
 
-/// `put 1 10`, `del 1`, `put 1 20`, of which the second came last.
-#[test]
-fn a_row_comes_in_between(rt: HostRuntime) -> Result<(), Fail> {
-    let mut history = History::new(rt.alloc());
-    let get = Question::Get { key: 1 };
-    let del = Op::Del { key: 1 };
-    assert_eq!(rt; history.failing_with(&rt, 0, del), Some(0));
-    history.put(&rt, 0, Op::Put { key: 1, value: 10 })?;
-    history.put(&rt, 1, Op::Put { key: 1, value: 20 })?;
-    history.expect_answers(&rt, &[(1, get, number(10)), (2, get, number(20))])?;
-    history.put(&rt, 1, del)?;
+const GET: Question = Question::Get { key: 1 };
+
+const DEL: Op = Op::Del { key: 1 };
+
+/// `put 1 10`, `put 1 20`.
+fn two_rows(rt: &impl Abort, alloc: Global) -> Result<History, Fail> {
+    let mut history = History::new(alloc);
+    assert_eq!(rt; history.failing_with(rt, 0, DEL), Some(0));
+    history.put(rt, 0, Op::Put { key: 1, value: 10 })?;
+    history.put(rt, 1, Op::Put { key: 1, value: 20 })?;
+    Ok(history)
+}
+
+fn expect_two_rows(rt: &impl Abort, history: &mut History) -> Result<(), Fail> {
+    history.expect_answers(rt, &[(1, GET, number(10)), (2, GET, number(20))])
+}
+
+/// `del 1` comes in between.
+fn expect_three_rows(rt: &impl Abort, history: &mut History) -> Result<(), Fail> {
+    let count = Question::Count { low: 0, high: 9 };
+    let sum = Question::Sum { low: 0, high: 9 };
     history.expect_answers(
-        &rt,
+        rt,
         &[
-            (0, get, Answer::Nothing),
-            (1, get, number(10)),
-            (2, get, Answer::Nothing),
-            (2, Question::Count { low: 0, high: 9 }, number(0)),
-            (3, Question::Sum { low: 0, high: 9 }, number(20)),
+            (0, GET, Answer::Nothing),
+            (1, GET, number(10)),
+            (2, GET, Answer::Nothing),
+            (2, count, number(0)),
+            (3, sum, number(20)),
         ],
-    )?;
-    assert_eq!(rt; history.failing_without(&rt, 0), Some(0));
-    assert_eq!(rt; history.failing_without(&rt, 1), None);
-    assert_eq!(rt; history.failing_with(&rt, 1, del), Some(2));
-    assert_eq!(rt; history.failing_with(&rt, 0, del), Some(0));
-    assert_eq!(rt; history.failing_with(&rt, 3, del), None);
-    let row = history.cut(&rt, 1)?;
-    assert_eq!(rt; (row.number, row.op), (3, del));
-    history.expect_answers(&rt, &[(1, get, number(10)), (2, get, number(20))])?;
-    history.cut(&rt, 1)?;
+    )
+}
+
+fn expect_failures(rt: &impl Abort, history: &History) {
+    for (place, failing) in [(0, Some(0)), (1, None)] {
+        assert_eq!(rt; history.failing_without(rt, place), failing);
+    }
+    for (place, failing) in [(0, Some(0)), (1, Some(2)), (3, None)] {
+        assert_eq!(rt; history.failing_with(rt, place, DEL), failing);
+    }
+}
+
+fn take_back(rt: &impl Abort, history: &mut History) -> Result<(), Fail> {
+    let row = history.cut(rt, 1)?;
+    assert_eq!(rt; (row.number, row.op), (3, DEL));
+    Ok(())
+}
+
+fn expect_present(rt: &impl Abort, history: &mut History) -> Result<(), Fail> {
+    history.cut(rt, 1)?;
     let sum = Question::Sum { low: 0, high: 9 };
     assert!(rt; sum.suits(Kind::Dict));
     assert_eq!(rt; history.dictionary.ask_now(sum), number(10));
@@ -147,52 +167,86 @@ fn a_row_comes_in_between(rt: HostRuntime) -> Result<(), Fail> {
 }
 
 #[test]
-fn the_least_and_the_greatest_numbers_are_there(rt: HostRuntime) -> Result<(), Fail> {
-    let mut history = History::new(rt.alloc());
-    let (low, high) = (i64::MIN, i64::MAX);
+fn a_row_comes_in_between(rt: HostRuntime) -> Result<(), Fail> {
+    let mut history = two_rows(&rt, rt.alloc())?;
+    expect_two_rows(&rt, &mut history)?;
+    history.put(&rt, 1, DEL)?;
+    expect_three_rows(&rt, &mut history)?;
+    expect_failures(&rt, &history);
+    take_back(&rt, &mut history)?;
+    expect_two_rows(&rt, &mut history)?;
+    expect_present(&rt, &mut history)
+}
+
+const LOW: i64 = i64::MIN;
+
+const HIGH: i64 = i64::MAX;
+
+/// The least key and the greatest one.
+fn both_ends(rt: &impl Abort, alloc: Global) -> Result<History, Fail> {
+    let mut history = History::new(alloc);
     history.put(
-        &rt,
+        rt,
         0,
         Op::Put {
-            key: low,
-            value: high,
+            key: LOW,
+            value: HIGH,
         },
     )?;
     history.put(
-        &rt,
+        rt,
         1,
         Op::Put {
-            key: high,
-            value: high,
+            key: HIGH,
+            value: HIGH,
         },
     )?;
-    let last = Answer::Pair {
-        key: high,
-        value: high,
-    };
-    let first = Answer::Pair {
-        key: low,
-        value: high,
+    Ok(history)
+}
+
+fn pair(key: i64, value: i64) -> Answer {
+    Answer::Pair { key, value }
+}
+
+fn expect_neighbours(rt: &impl Abort, history: &mut History) -> Result<(), Fail> {
+    history.expect_answers(
+        rt,
+        &[
+            (2, Question::Succ { key: 0 }, pair(HIGH, HIGH)),
+            (2, Question::Pred { key: 0 }, pair(LOW, HIGH)),
+            (2, Question::Succ { key: HIGH }, pair(HIGH, HIGH)),
+            (2, Question::Pred { key: LOW }, pair(LOW, HIGH)),
+        ],
+    )
+}
+
+fn expect_sums(rt: &impl Abort, history: &mut History) -> Result<(), Fail> {
+    let sum = Question::Sum {
+        low: LOW,
+        high: HIGH,
     };
     history.expect_answers(
-        &rt,
+        rt,
         &[
-            (
-                2,
-                Question::Sum { low, high },
-                number(18_446_744_073_709_551_614),
-            ),
-            (2, Question::Succ { key: 0 }, last),
-            (2, Question::Pred { key: 0 }, first),
-            (2, Question::Succ { key: high }, last),
-            (2, Question::Pred { key: low }, first),
+            (2, sum, number(18_446_744_073_709_551_614)),
             (2, Question::Count { low: 1, high: 0 }, number(0)),
             (1, Question::Size, number(1)),
         ],
-    )?;
-    history.expect_pairs(&rt, 2, &[(low, high), (high, high)])?;
-    history.expect_pairs(&rt, 1, &[(low, high)])?;
-    history.expect_pairs(&rt, 0, &[])
+    )
+}
+
+fn expect_contents(rt: &impl Abort, history: &mut History) -> Result<(), Fail> {
+    history.expect_pairs(rt, 2, &[(LOW, HIGH), (HIGH, HIGH)])?;
+    history.expect_pairs(rt, 1, &[(LOW, HIGH)])?;
+    history.expect_pairs(rt, 0, &[])
+}
+
+#[test]
+fn the_least_and_the_greatest_numbers_are_there(rt: HostRuntime) -> Result<(), Fail> {
+    let mut history = both_ends(&rt, rt.alloc())?;
+    expect_neighbours(&rt, &mut history)?;
+    expect_sums(&rt, &mut history)?;
+    expect_contents(&rt, &mut history)
 }
 
 /// Forty-one rows that come in at the front, of two keys in turn: the last of them uses the labels up, and all get new
@@ -209,46 +263,82 @@ fn relabelled(rt: &impl Abort, alloc: Global) -> Result<History, Fail> {
     Ok(history)
 }
 
+fn expect_place(rt: &impl Abort, history: &mut History, place: u32) -> Result<(), Fail> {
+    let (size, sum) = match place {
+        0 => (0, 0),
+        1 => (1, 140),
+        _ => (2, 283 - 2 * i128::from(place)),
+    };
+    let question = Question::Sum { low: 0, high: 9 };
+    history.expect_answers(
+        rt,
+        &[
+            (place, Question::Size, number(size)),
+            (place, question, number(sum)),
+        ],
+    )
+}
+
 #[test]
 fn relabelled_rows_answer_as_before(rt: HostRuntime) -> Result<(), Fail> {
     let mut history = relabelled(&rt, rt.alloc())?;
-    let sum = Question::Sum { low: 0, high: 9 };
-    history.expect_answers(&rt, &[(0, sum, number(0)), (1, sum, number(140))])?;
-    for place in 2..42u32 {
-        let newest = 141 - i64::from(place);
-        history.expect_answers(
-            &rt,
-            &[
-                (place, Question::Size, number(2)),
-                (place, sum, number(i128::from(2 * newest + 1))),
-            ],
-        )?;
+    for place in 0..42u32 {
+        expect_place(&rt, &mut history, place)?;
     }
     history.expect_pairs(&rt, 40, &[(0, 102), (1, 101)])?;
     history.expect_pairs(&rt, 41, &[(0, 100), (1, 101)])
 }
 
+fn expect_del(rt: &impl Abort, history: &mut History) -> Result<(), Fail> {
+    history.put(rt, 5, DEL)?;
+    assert_eq!(rt; history.failing_with(rt, 5, DEL), Some(6));
+    assert_eq!(rt; history.failing_without(rt, 3), None);
+    history.expect_answers(
+        rt,
+        &[
+            (5, GET, number(137)),
+            (6, GET, Answer::Nothing),
+            (6, Question::Size, number(1)),
+            (7, GET, number(135)),
+        ],
+    )
+}
+
+fn expect_cuts(rt: &impl Abort, history: &mut History) -> Result<(), Fail> {
+    history.cut(rt, 5)?;
+    history.expect_answers(rt, &[(5, GET, number(137)), (6, GET, number(135))])?;
+    history.cut(rt, 3)?;
+    history.expect_answers(rt, &[(4, GET, number(139)), (5, GET, number(135))])
+}
+
 #[test]
 fn relabelled_rows_are_edited(rt: HostRuntime) -> Result<(), Fail> {
     let mut history = relabelled(&rt, rt.alloc())?;
-    let get = Question::Get { key: 1 };
-    let del = Op::Del { key: 1 };
-    history.put(&rt, 5, del)?;
-    history.expect_answers(
-        &rt,
-        &[
-            (5, get, number(137)),
-            (6, get, Answer::Nothing),
-            (6, Question::Size, number(1)),
-            (7, get, number(135)),
-        ],
-    )?;
-    assert_eq!(rt; history.failing_with(&rt, 5, del), Some(6));
-    assert_eq!(rt; history.failing_without(&rt, 3), None);
-    history.cut(&rt, 5)?;
-    history.expect_answers(&rt, &[(5, get, number(137)), (6, get, number(135))])?;
-    history.cut(&rt, 3)?;
-    history.expect_answers(&rt, &[(4, get, number(139)), (5, get, number(135))])
+    expect_del(&rt, &mut history)?;
+    expect_cuts(&rt, &mut history)
+}
+
+const FIRST: KeyPair = KeyPair { key: 1, value: 10 };
+
+const SECOND: KeyPair = KeyPair { key: 2, value: 20 };
+
+/// What is found of these two at a label, as far as they are there.
+fn wanted(first: bool, second: bool) -> Found {
+    match (first, second) {
+        (false, false) => found(0, 0, None, None),
+        (true, false) => found(1, 10, Some(FIRST), Some(FIRST)),
+        (false, true) => found(1, 20, Some(SECOND), Some(SECOND)),
+        (true, true) => found(2, 30, Some(FIRST), Some(SECOND)),
+    }
+}
+
+fn found(count: u32, sum: i128, least: Option<KeyPair>, greatest: Option<KeyPair>) -> Found {
+    Found {
+        count,
+        sum,
+        least,
+        greatest,
+    }
 }
 
 /// What is found of the pairs that are there at a label.
@@ -257,45 +347,29 @@ fn found_at(rt: &impl Abort, segments: &Segments<PairSearch>, label: u64) -> Fou
     segments.ask(label, KeyRange { low: 0, high: 9 })
 }
 
+fn expect_both(rt: &impl Abort, segments: &Segments<PairSearch>) {
+    for (label, first, second) in [
+        (1, false, false),
+        (2, true, false),
+        (3, true, false),
+        (4, true, true),
+        (5, true, true),
+        (7, true, true),
+        (8, false, true),
+        ((1 << 40) - 1, false, true),
+    ] {
+        assert_eq!(rt; found_at(rt, segments, label), wanted(first, second));
+    }
+}
+
 #[test]
 fn pairs_are_found_by_their_lifetimes(rt: HostRuntime) -> Result<(), Fail> {
-    let first = KeyPair { key: 1, value: 10 };
-    let second = KeyPair { key: 2, value: 20 };
     let mut segments = Segments::<PairSearch>::new(rt.alloc());
-    segments.add(2, 8, first)?;
-    segments.add(4, 1 << 40, second)?;
-    let none = Found {
-        count: 0,
-        sum: 0,
-        least: None,
-        greatest: None,
-    };
-    let one = |pair: KeyPair| Found {
-        count: 1,
-        sum: i128::from(pair.value),
-        least: Some(pair),
-        greatest: Some(pair),
-    };
-    let both = Found {
-        count: 2,
-        sum: 30,
-        least: Some(first),
-        greatest: Some(second),
-    };
-    for (label, found) in [
-        (1, none),
-        (2, one(first)),
-        (3, one(first)),
-        (4, both),
-        (5, both),
-        (7, both),
-        (8, one(second)),
-        ((1 << 40) - 1, one(second)),
-    ] {
-        assert_eq!(rt; found_at(&rt, &segments, label), found);
-    }
-    assert!(rt; segments.take(2, 8, first));
-    assert!(rt; !segments.take(2, 8, first));
-    assert_eq!(rt; found_at(&rt, &segments, 5), one(second));
+    segments.add(2, 8, FIRST)?;
+    segments.add(4, 1 << 40, SECOND)?;
+    expect_both(&rt, &segments);
+    assert!(rt; segments.take(2, 8, FIRST));
+    assert!(rt; !segments.take(2, 8, FIRST));
+    assert_eq!(rt; found_at(&rt, &segments, 5), wanted(false, true));
     Ok(())
 }
