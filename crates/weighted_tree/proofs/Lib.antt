@@ -1,5 +1,6 @@
 pub mod Descents
 pub mod FoundPlaces
+pub mod InPlace
 pub mod Joins
 pub mod Levels
 pub mod Middles

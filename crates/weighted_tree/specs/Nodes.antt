@@ -1,7 +1,7 @@
 -- What a link leads to.
 use Rattle.std.specs.Prelude.{◌≡◌, ℕ, ◌^◌, ◌<◌, List, [], ◌∷◌, ◌++◌, length}
 use Rattle.monoid_laws.specs.Measure.{measure_of}
-use Rattle.weighted_tree.specs.Balance.{weight, IsBalanced}
+use Rattle.weighted_tree.specs.Balance.{weight, IsBalanced, IsNearlyBalanced}
 use Rattle.weighted_tree.specs.declared.subtree.Link.{Link}
 use Rattle.weighted_tree.specs.declared.subtree.Link.TheVariants.{Empty, Full}
 use Rattle.weighted_tree.specs.declared.subtree.Node.{Node}
@@ -30,6 +30,11 @@ pub record IsNode {A M : Type 0} (unit : M) (join : M → M → M) (measured : A
 abbrev pub IsSound : {A M : Type 0} → M → (M → M → M) → (A → M) → Link A M → Type 0
 IsSound unit join measured Empty = Unit {0}
 IsSound unit join measured (Full size node measure) = IsNode unit join measured size measure node.value
+
+-- one side of the node gained or lost an item, whatever the link tells of it
+abbrev pub IsUnsettled : {A M : Type 0} → Link A M → Type 0
+IsUnsettled Empty = Unit {0}
+IsUnsettled (Full size node measure) = IsNearlyBalanced (weight node.value.left) (weight node.value.right) × (length (node_items node.value) < 2 ^ 32)
 
 -- the node is the root of a tree of these items, whose number has 32 bits
 pub record IsRoot {A M : Type 0} (items : List A) (node : Node A M) : Type 0 where

@@ -1,13 +1,45 @@
 ghost use Rattle.std.specs.Prelude.{◌≡◌, ◌+◌, ◌^◌, ◌<◌, ◌≤◌, length};
 ghost use Rattle.weighted_tree.specs.Balance.{weight, IsNearlyBalanced, IsTooHeavy};
-ghost use Rattle.weighted_tree.specs.Nodes.{node_items};
+ghost use Rattle.weighted_tree.specs.Nodes.{node_items, items_of, IsSound, IsUnsettled};
 ghost use Rattle.weighted_tree.specs.Sides.{other, side_of};
 
 use crate::node::Side;
-use crate::subtree::{Node, Subtree};
+use crate::subtree::{Link, Node, Subtree};
 use monoid_laws::Measured;
 use retro_base::Steps;
+use std::mem;
 use std::sync::ledger::Ledger;
+
+impl<T: Measured> Link<T> {
+    /// Tells again what the link leads to, and restores its balance, where one side of its node gained or
+    /// lost an item since.
+    pub(crate) fn settle<L: Ledger>(&mut self, steps: &mut Steps<L>)
+        requires nearly { IsUnsettled self.old }
+        ensures sound { IsSound T.Measure.unit_value T.Measure.joined T.measured self.new }
+        ensures items { items_of self.new ≡ items_of self.old }
+        ensures none_lost { steps.old ≤ steps.new }
+        ensures visits { steps.new ≤ steps.old + 2 }
+    {
+        let Link::Full {
+            size,
+            node,
+            measure,
+        } = self
+        else {
+            return;
+        };
+        let node = &mut **node;
+        if node.is_balanced() {
+            *size = node.size();
+            *measure = node.measure();
+            return;
+        }
+        let Link::Full { node, .. } = mem::replace(self, Link::Empty) else {
+            unreachable!()
+        };
+        *self = Subtree::balanced(node, steps).link;
+    }
+}
 
 impl<T: Measured> Subtree<T> {
     /// The tree of a node of which one side gained or lost an item since it was in balance.

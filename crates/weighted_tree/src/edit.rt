@@ -4,7 +4,7 @@ ghost use Rattle.weighted_tree.specs.Balance.{weight, IsBalanced};
 ghost use Rattle.weighted_tree.specs.Levels.{IsWithinLevels, FourALevel};
 
 use crate::node::Side;
-use crate::subtree::{Node, Subtree};
+use crate::subtree::{Link, Node, Subtree};
 use monoid_laws::Measured;
 use retro_base::Steps;
 use std::mem;
@@ -27,17 +27,19 @@ impl<T: Measured> Subtree<T> {
         ensures some { 0 < length self.old → steps.old + 1 ≤ steps.new }
         ensures visits { FourALevel (weight self.old) steps.old steps.new }
     {
-        let Some(mut node) = mem::replace(self, Subtree::new()).into_root(steps) else {
+        let Link::Full { node, .. } = &mut self.link else {
             *self = Subtree::of_root(fresh);
             return;
         };
+        steps.tick();
+        let node = &mut **node;
         let before = node.left.len();
         if place <= before {
             node.left.insert_below(place, fresh, steps);
         } else {
             node.right.insert_below(place - before - 1, fresh, steps);
         }
-        *self = Subtree::balanced(node, steps);
+        self.link.settle(steps);
     }
 
     /// Removes the item at a place, and gives it; those after it move one place back.
@@ -48,20 +50,24 @@ impl<T: Measured> Subtree<T> {
         ensures some { steps.old + 1 ≤ steps.new }
         ensures visits { FourALevel (weight self.old) steps.old steps.new }
     {
-        let Some(mut node) = mem::replace(self, Subtree::new()).into_root(steps) else {
+        let Link::Full { node, .. } = &mut self.link else {
             unreachable!()
         };
+        steps.tick();
+        let node = &mut **node;
         let before = node.left.len();
-        if place == before {
-            *self = merged(node.take(Side::Left), node.take(Side::Right), steps);
-            return node.item;
-        }
         let item = if place < before {
             node.left.remove_below(place, steps)
-        } else {
+        } else if place > before {
             node.right.remove_below(place - before - 1, steps)
+        } else {
+            let Link::Full { mut node, .. } = mem::replace(&mut self.link, Link::Empty) else {
+                unreachable!()
+            };
+            *self = merged(node.take(Side::Left), node.take(Side::Right), steps);
+            return node.item;
         };
-        *self = Subtree::balanced(node, steps);
+        self.link.settle(steps);
         item
     }
 
@@ -72,16 +78,21 @@ impl<T: Measured> Subtree<T> {
         ensures none_lost { steps.old ≤ steps.new }
         ensures visits { FourALevel (weight self.old) steps.old steps.new }
     {
-        let Some(mut node) = mem::replace(self, Subtree::new()).into_root(steps) else {
+        let Link::Full { node, .. } = &mut self.link else {
             unreachable!()
         };
-        if node.left.len() == 0 {
-            *self = node.take(Side::Right);
-            return node;
+        steps.tick();
+        let node = &mut **node;
+        if node.left.len() > 0 {
+            let first = node.left.take_first(steps);
+            self.link.settle(steps);
+            return first;
         }
-        let first = node.left.take_first(steps);
-        *self = Subtree::balanced(node, steps);
-        first
+        let Link::Full { mut node, .. } = mem::replace(&mut self.link, Link::Empty) else {
+            unreachable!()
+        };
+        *self = node.take(Side::Right);
+        node
     }
 
     /// Puts another item at a place, and gives the one that was there.
@@ -97,9 +108,11 @@ impl<T: Measured> Subtree<T> {
         ensures some { steps.old + 1 ≤ steps.new }
         ensures visits { FourALevel (weight self.old) steps.old steps.new }
     {
-        let Some(mut node) = mem::replace(self, Subtree::new()).into_root(steps) else {
+        let Link::Full { node, measure, .. } = &mut self.link else {
             unreachable!()
         };
+        steps.tick();
+        let node = &mut **node;
         let before = node.left.len();
         let old = if place < before {
             node.left.replace_below(place, item, steps)
@@ -108,7 +121,7 @@ impl<T: Measured> Subtree<T> {
         } else {
             mem::replace(&mut node.item, item)
         };
-        *self = Subtree::of_root(node);
+        *measure = node.measure();
         old
     }
 }

@@ -1,7 +1,7 @@
-ghost use Rattle.std.specs.Prelude.{◌≡◌, ◌+◌, ◌^◌, ◌<◌, [], List, length};
+ghost use Rattle.std.specs.Prelude.{◌≡◌, ◌+◌, ◌^◌, ◌<◌, [], List, length, IsTrue};
 ghost use Rattle.weighted_tree.specs.Measures.{measure_in};
 ghost use Rattle.weighted_tree.specs.Balance.{weight};
-ghost use Rattle.weighted_tree.specs.Nodes.{node_items, IsRoot};
+ghost use Rattle.weighted_tree.specs.Nodes.{node_items, HasBalance, IsRoot};
 ghost use Rattle.weighted_tree.specs.Sides.{other, side_of, with_side, join_from, IsOpened};
 
 use crate::subtree::{Node, Subtree};
@@ -105,6 +105,15 @@ impl<T: Measured> Node<T> {
             Side::Left => self.left.weight(),
             Side::Right => self.right.weight(),
         }
+    }
+
+    /// Whether neither side is too heavy.
+    pub(crate) fn is_balanced(&self) -> bool
+        requires fits { length (node_items self.now) < 2 ^ 32 }
+        ensures { IsTrue result → HasBalance self.now }
+    {
+        let (left, right) = (self.left.weight(), self.right.weight());
+        left <= 3 * right && right <= 3 * left
     }
 
     /// Takes a side off.

@@ -14,14 +14,14 @@ use std::sync::ledger::Ledger;
 #[cycle(subtree)]
 #[derive(Drop)]
 pub(crate) struct Subtree<T: Measured> {
-    link: Link<T>,
+    pub(crate) link: Link<T>,
 }
 
 // What a node has to know of a subtree without reading its root. Fields lie in memory as they stand here,
 // and the box fills the gap before a measure that is aligned to 16 bytes.
 #[cycle(subtree)]
 #[derive(Drop)]
-enum Link<T: Measured> {
+pub(crate) enum Link<T: Measured> {
     Empty,
     Full {
         size: u32,

@@ -1,38 +1,68 @@
-use Rattle.std.proofs.Common.{◌≡◌, ◌-◌, refl, arith, ◌∙◌, ◌∷◌, ◌++◌, ap, sym, subst, length}
-use Rattle.std.specs.Prelude.{slice_set}
-use Rattle.weighted_tree.specs.Nodes.{node_items, IsRoot}
+use Rattle.std.proofs.Common.{◌≡◌, ◌-◌, arith, ◌∙◌, ◌∷◌, sym, ap, subst, length}
+use Rattle.std.specs.Prelude.{slice_set, slice_get, Some}
+use Rattle.weighted_tree.specs.Nodes.{node_items, items_of, IsSound}
+use Rattle.weighted_tree.proofs.InPlace.{IsSetAt, set_left, set_right, set_here, sound_with, root_of}
 use Rattle.weighted_tree.proofs.Levels.{level_left, level_right, level_end}
-use Rattle.weighted_tree.proofs.Middles.{set-before, set-middle, set-after}
+use Rattle.weighted_tree.proofs.Middles.{get-before, get-middle, get-after}
 use Rattle.weighted_tree.proofs.subtree.Subtree.+replace_below.Goals as goal
 use Rattle.weighted_tree.proofs.subtree.Subtree.+replace_below.Goals.{then-place-before, else-place-before+then-place-before-2, else-place-before+else-place-before-2}
 
-pub returns-clause-items : goal.returns-clause-items
-returns-clause-items g t c =
-    let node = c.in-Some.node.value in
-    let items = sym c.replace.ensures.value ∙ c.in-Some.ensures.0.items_are in
-    let whole = ap (λ xs. slice_set xs c.args.place c.args.item) (sym items) in
-    let before = ap (λ n. length n.left) c.deref.ensures in
+pub invariant_of-self : goal.invariant_of-self
+invariant_of-self g = λ t c.
+    let node = c.in-Full.node.value in
+    let opened = c.deref_mut-node.ensures.value in
+    let before = ap (λ n. length n.left) opened in
+    let sound = subst (IsSound g.T.Measure.Monoid.unit_value g.T.Measure.Monoid.joined g.T.Measured.measured) c.in-Full.is c.self.invariant in
+    let set : IsSetAt node c.if-place-before.node c.args.place c.args.item =
     elim c.if-place-before.branch [
-      | then-place-before w ↦
-          let new : node_items c.if-place-before.node.value ≡ slice_set node.left c.args.place c.args.item ++ node.item ∷ node.right = rw (w.node-is, w.replace_below-old.ensures.items, w.deref_mut.ensures.value) refl in
-          c.of_root.ensures ∙ new ∙ sym (set-before node.left node.right node.item c.args.place c.args.item (omega arith)) ∙ whole
+      | then-place-before w ↦ rw (w.node-is, w.replace_below-old.ensures.items, opened) (set_left node c.args.place c.args.item (omega arith))
       | else-place-before+then-place-before-2 w ↦
           let place : c.args.place - c.len-before.result - 1 ≡ c.args.place - length node.left - 1 = omega arith in
-          let new : node_items c.if-place-before.node.value ≡ node.left ++ node.item ∷ slice_set node.right (c.args.place - length node.left - 1) c.args.item = rw (w.node-is, w.replace_below.ensures.items, w.deref_mut-then-place-before-2.ensures.value, place) refl in
-          c.of_root.ensures ∙ new ∙ sym (set-after node.left node.right node.item c.args.place c.args.item (omega arith)) ∙ whole
+          rw (w.node-is, w.replace_below.ensures.items, opened, place) (set_right node c.args.place c.args.item (omega arith))
+      | else-place-before+else-place-before-2 w ↦ rw (w.node-is, w.replace.ensures.after, opened) (set_here node c.args.place c.args.item (omega arith))
+    ] in
+    sound_with sound set c.measure.ensures
+
+pub returns-clause-item : goal.returns-clause-item
+returns-clause-item g t c =
+    let node = c.in-Full.node.value in
+    let opened = c.deref_mut-node.ensures.value in
+    let before = ap (λ n. length n.left) opened in
+    let there = ap (λ xs. slice_get xs c.args.place) (sym c.self.view_is ∙ ap items_of c.in-Full.is) in
+    elim c.if-place-before.branch [
+      | then-place-before w ↦ there ∙ get-before node.left (node.item ∷ node.right) c.args.place (omega arith) ∙ ap (λ n. slice_get n.left c.args.place) (sym opened) ∙ w.replace_below-old.ensures.item ∙ ap Some (sym w.old-is)
+      | else-place-before+then-place-before-2 w ↦
+          let place : c.args.place - length node.left - 1 ≡ c.args.place - c.len-before.result - 1 = omega arith in
+          there ∙ get-after node.left node.right node.item c.args.place (omega arith) ∙ ap (slice_get node.right) place ∙ ap (λ n. slice_get n.right (c.args.place - c.len-before.result - 1)) (sym opened) ∙ w.replace_below.ensures.item ∙ ap Some (sym w.old-is)
       | else-place-before+else-place-before-2 w ↦
-          let place : length node.left ≡ c.args.place = omega arith in
-          let new : node_items c.if-place-before.node.value ≡ node.left ++ c.args.item ∷ node.right = rw (w.node-is, w.replace-else-place-before-2.ensures.after, w.deref_mut-else-place-before-2.ensures.value) refl in
-          c.of_root.ensures ∙ new ∙ sym (set-middle node.left node.right node.item c.args.item) ∙ ap (λ k. slice_set (node.left ++ node.item ∷ node.right) k c.args.item) place ∙ whole
+          let place : c.args.place ≡ length node.left = omega arith in
+          there ∙ ap (slice_get (node_items node)) place ∙ get-middle node.left node.right node.item ∙ ap (λ n. Some n.item) (sym opened) ∙ ap Some (sym w.replace.ensures.value ∙ sym w.old-is)
     ]
+
+pub returns-clause-items : goal.returns-clause-items
+returns-clause-items g t c =
+    let node = c.in-Full.node.value in
+    let opened = c.deref_mut-node.ensures.value in
+    let before = ap (λ n. length n.left) opened in
+    let whole : node_items node ≡ c.args.self.now = sym (ap items_of c.in-Full.is) ∙ c.self.view_is in
+    let set : IsSetAt node c.if-place-before.node c.args.place c.args.item =
+    elim c.if-place-before.branch [
+      | then-place-before w ↦ rw (w.node-is, w.replace_below-old.ensures.items, opened) (set_left node c.args.place c.args.item (omega arith))
+      | else-place-before+then-place-before-2 w ↦
+          let place : c.args.place - c.len-before.result - 1 ≡ c.args.place - length node.left - 1 = omega arith in
+          rw (w.node-is, w.replace_below.ensures.items, opened, place) (set_right node c.args.place c.args.item (omega arith))
+      | else-place-before+else-place-before-2 w ↦ rw (w.node-is, w.replace.ensures.after, opened) (set_here node c.args.place c.args.item (omega arith))
+    ] in
+    set.items_are ∙ ap (λ xs. slice_set xs c.args.place c.args.item) whole
 
 pub returns-clause-visits : goal.returns-clause-visits
 returns-clause-visits g t c =
-    let node = c.in-Some.node.value in
-    let root = subst (λ items. IsRoot items node) c.replace.ensures.value c.in-Some.ensures.0 in
-    let visit = c.in-Some.ensures.1 in
+    let node = c.in-Full.node.value in
+    let opened = c.deref_mut-node.ensures.value in
+    let sound = subst (IsSound g.T.Measure.Monoid.unit_value g.T.Measure.Monoid.joined g.T.Measured.measured) c.in-Full.is c.self.invariant in
+    let root = root_of sound (sym (ap items_of c.in-Full.is) ∙ c.self.view_is) in
     elim c.if-place-before.branch [
-      | then-place-before w ↦ level_left _ node _ _ _ _ root visit (rw w.deref_mut.ensures.value at w.replace_below-old.ensures.visits) (omega arith)
-      | else-place-before+then-place-before-2 w ↦ level_right _ node _ _ _ _ root visit (rw w.deref_mut-then-place-before-2.ensures.value at w.replace_below.ensures.visits) (omega arith)
-      | else-place-before+else-place-before-2 w ↦ level_end _ node _ _ 0 _ root visit (omega arith)
+      | then-place-before w ↦ level_left _ node _ _ _ _ root c.tick.ensures (rw opened at w.replace_below-old.ensures.visits) (omega arith)
+      | else-place-before+then-place-before-2 w ↦ level_right _ node _ _ _ _ root c.tick.ensures (rw opened at w.replace_below.ensures.visits) (omega arith)
+      | else-place-before+else-place-before-2 w ↦ level_end _ node _ _ 0 _ root c.tick.ensures (omega arith)
     ]

@@ -1,10 +1,12 @@
-use Rattle.std.proofs.Common.{subst, arith}
-use Rattle.weighted_tree.specs.Nodes.{IsRoot}
+use Rattle.std.proofs.Common.{◌∙◌, ap, sym, subst, arith}
+use Rattle.weighted_tree.specs.Nodes.{items_of, IsSound}
+use Rattle.weighted_tree.proofs.InPlace.{root_of}
 use Rattle.weighted_tree.proofs.Levels.{level_left}
 use Rattle.weighted_tree.proofs.subtree.Subtree.+take_first.Goals as goal
 
-pub returns-clause-visits : goal.returns-clause-visits
-returns-clause-visits g t c =
-    let node = c.in-Some.node.value in
-    let root = subst (λ items. IsRoot items node) c.replace.ensures.value c.in-Some.ensures.0 in
-    level_left _ node _ _ _ _ root c.in-Some.ensures.1 (rw c.deref_mut-2.ensures.value at c.take_first-first.ensures.visits) (omega arith)
+pub returns-then-len-gt0-clause-visits : goal.returns-then-len-gt0-clause-visits
+returns-then-len-gt0-clause-visits g t c =
+    let node = c.in-Full.node.value in
+    let sound = subst (IsSound g.T.Measure.Monoid.unit_value g.T.Measure.Monoid.joined g.T.Measured.measured) c.in-Full.is c.self.invariant in
+    let root = root_of sound (sym (ap items_of c.in-Full.is) ∙ c.self.view_is) in
+    level_left _ node _ _ _ _ root c.tick.ensures (rw c.deref_mut-node.ensures.value at c.take_first-first.ensures.visits) (omega arith)
