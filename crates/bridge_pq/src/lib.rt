@@ -31,7 +31,8 @@
 //! | `all_now` | at most 12 d for each entry that a row adds | the listing |
 //! | `copy` | each once | as many nodes |
 //!
-//! What the layer above may rely on: the clauses of `Partial`, of which 144 d is the bound for each call.
+//! What the layer above may rely on: the clauses of `Partial`, of which 144 d is the bound for each call. The lesser
+//! numbers of this table follow from the bodies, and no public clause names them.
 //! Files: `marked_row`, `marked_entry` (what stands in the trees), `row_measure`, `entry_measure`, `spot` (what
 //! a range of them measures, kept small, since each node has two), `row_search` (bridges and the changed
 //! entries), `entry_tree` (entries by their order), `turned`, `changes`, `failure` (what an edit changes, or
