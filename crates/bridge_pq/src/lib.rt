@@ -41,8 +41,6 @@
 
 mod bridge_queue;
 mod changes;
-#[cfg(test)]
-mod compared;
 mod edit;
 mod entry_measure;
 mod entry_tree;
@@ -52,8 +50,6 @@ mod marked_row;
 mod row_measure;
 mod row_search;
 mod spot;
-#[cfg(test)]
-mod tests;
 mod turned;
 
 pub use bridge_queue::BridgeQueue;

@@ -142,6 +142,3 @@ impl Retro for Engine {
         }
     }
 }
-
-#[cfg(test)]
-mod tests;

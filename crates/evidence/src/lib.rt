@@ -18,8 +18,6 @@ pub mod laws;
 mod numbers;
 mod print;
 mod read;
-#[cfg(test)]
-mod tests;
 mod words;
 
 pub use evidence::Evidence;

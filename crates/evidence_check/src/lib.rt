@@ -24,8 +24,6 @@ mod edits;
 mod error;
 pub mod laws;
 mod marked_row;
-#[cfg(test)]
-mod tests;
 mod told;
 
 pub use checker::Checker;

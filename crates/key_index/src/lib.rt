@@ -34,6 +34,3 @@ mod trees;
 
 pub use key_index::{Bad, KeyIndex};
 pub use labels::Labels2;
-
-#[cfg(test)]
-mod tests;

@@ -5,5 +5,4 @@ pub mod LifetimeLaws
 pub mod Lifetimes
 pub mod Ordered
 pub mod OrderedLaws
-pub mod Totals
 pub mod Tries

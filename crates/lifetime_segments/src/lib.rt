@@ -40,6 +40,3 @@ mod trie;
 pub use decomposable::Decomposable;
 pub use lifetime::Lifetime;
 pub use segments::Segments;
-
-#[cfg(test)]
-mod tests;

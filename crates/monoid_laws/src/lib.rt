@@ -35,6 +35,3 @@ pub use extreme::{Greatest, Least};
 pub use monoid::{Measured, Monoid};
 pub use prefix::{GreatestPrefix, LeastPrefix};
 pub use sum::Sum;
-
-#[cfg(test)]
-mod tests;

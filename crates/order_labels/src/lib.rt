@@ -37,6 +37,3 @@ pub use labels::{Fresh, Labels};
 pub use laws::{labels_are_spread_evenly, relabelling_is_rare};
 pub use search::count_up_to;
 pub use spread::gap_of;
-
-#[cfg(test)]
-mod tests;

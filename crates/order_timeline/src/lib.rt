@@ -38,6 +38,3 @@ mod timeline;
 mod total;
 
 pub use timeline::Timeline;
-
-#[cfg(test)]
-mod tests;

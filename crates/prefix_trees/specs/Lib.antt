@@ -11,5 +11,4 @@ pub mod EditLaws
 pub mod SizeLaws
 pub mod WriterLaws
 pub mod FoundLaws
-pub mod EditedLists
 pub mod Asked

@@ -18,15 +18,15 @@
 //! | `insert`, `remove`, `prefix`, `kth_marked` of `SignTree` | at most 12 d |
 //! | `first_at_most`, `last_at_most` of `SignTree` | at most 24 d |
 //! | `row_at`, `size_at`, `value_at` of `SignedRows` | at most 12 d |
-//! | `insert`, `remove`, `failure_after_insert`, `failure_after_remove` of `SignedRows` | at most 36 d |
+//! | `remove`, `failure_after_insert`, `failure_after_remove` of `SignedRows` | at most 36 d |
+//! | `insert` of `SignedRows` | at most 24 d, and 48 d where memory runs out |
 //! | `ask_line` | at most 120 d, of which the search of the structure is 96 d |
 //!
 //! What the layer above may rely on: the clauses of these types, in the words of lists; specs/Prefixes.antt for
 //! the searches; specs/Growth.antt and the laws beside it on the rows of a line.
 //!
 //! - Trees: `SignTree`, `SignedRows`. Rows as signs: `sign_of`, `left_growth`, `right_growth`, `adds`, `value_of`.
-//! - Lines: `Line`, `size_at`, `ask_line`, `list_line`, `failure_with`, `failure_without`.
-//! - The calls of `Partial` with a counter of their own: `uncounted`.
+//! - Lines: `Line`, `size_at`, `ask_line`, `ask_uncounted`, `list_line`, `failure_with`, `failure_without`.
 #![tactic(auto)]
 
 mod asked;
@@ -35,12 +35,8 @@ mod line;
 mod sign_tree;
 mod signed;
 mod signed_rows;
-pub mod uncounted;
 
 pub use growth::{adds, left_growth, right_growth, sign_of, value_of};
-pub use line::{Line, ask_line, failure_with, failure_without, list_line, size_at};
+pub use line::{Line, ask_line, ask_uncounted, failure_with, failure_without, list_line, size_at};
 pub use sign_tree::SignTree;
 pub use signed_rows::SignedRows;
-
-#[cfg(test)]
-mod tests;

@@ -4,6 +4,7 @@ pub mod Name
 pub mod State
 pub mod Replay
 pub mod Answers
+pub mod EditedLists
 pub mod Edits
 pub mod Places
 pub mod Timeline

@@ -12,17 +12,18 @@
 //! - Rows: `Kind`, `Op`, `Row`, `Rows`, `Entry`, `Change`. Questions: `Question`, `Answer`, `Item`, `Listing`.
 //! - Structures: `Retro`; `Partial`, which answers of the present alone and takes no memory to remove;
 //!   `PlainList`, `PerformedRows`.
+//! - The calls of `Partial` with a counter of their own: `uncounted`.
 //! - Texts: `Name`, `Text`, `print_op`. Costs: `Steps`. Memory: `NoMemory`.
-//! - Laws on the bridges of a priority queue: the functions of `bridge_laws.rt`, which have no body.
+//! - Laws on the bridges of a priority queue: the functions of the module `laws`, which have no body.
 //! - Limits: `MAX_ROWS`, `MAX_NEXT`, which are those of `specs/Limits.antt`.
 #![tactic(auto)]
 
-mod bridge_laws;
 mod bridge_search;
 mod content;
 mod counting;
 mod entries;
 mod kind;
+pub mod laws;
 mod limits;
 mod line;
 mod listing;
@@ -40,12 +41,8 @@ mod row;
 mod rows;
 mod steps;
 mod text;
+pub mod uncounted;
 
-pub use bridge_laws::{
-    carried_entry_changes_at_takes, dead_come_first, greatest_from_bridge_is_gained,
-    least_before_bridge_is_lost, one_change_is_named, one_entry_is_carried, table_names_the_change,
-    weights_count_the_dead,
-};
 pub use kind::Kind;
 pub use limits::{MAX_NEXT, MAX_ROWS, limits_are_those_stated};
 pub use listing::Listing;

@@ -36,6 +36,3 @@ pub use words::Words;
 
 /// The most bytes of an input.
 const MAX_BYTES: u64 = 1 << 30;
-
-#[cfg(test)]
-mod tests;

@@ -17,6 +17,3 @@ mod deque;
 mod ends;
 
 pub use deque::RetroDeque;
-
-#[cfg(test)]
-mod tests;

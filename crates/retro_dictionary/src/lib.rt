@@ -52,6 +52,3 @@ pub use laws::{
 };
 pub use pairs::{Found, KeyPair, KeyRange};
 pub use search::PairSearch;
-
-#[cfg(test)]
-mod tests;

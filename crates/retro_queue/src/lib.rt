@@ -15,6 +15,3 @@
 mod queue;
 
 pub use queue::RetroQueue;
-
-#[cfg(test)]
-mod tests;

@@ -15,6 +15,3 @@
 mod stack;
 
 pub use stack::RetroStack;
-
-#[cfg(test)]
-mod tests;

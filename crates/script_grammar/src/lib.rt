@@ -23,8 +23,6 @@ mod operands;
 mod operation;
 mod query;
 mod spot;
-#[cfg(test)]
-mod tests;
 mod words;
 
 pub use answer::print_answer;
@@ -33,3 +31,4 @@ pub use command::{Command, LineError, Moment, Query, Spot};
 pub use line::{kind_of_word, read_line};
 pub use listing::print_listing;
 pub use numbers::read_natural_up_to;
+pub use retro_base::print_op;

@@ -12,8 +12,6 @@
 mod block;
 pub mod laws;
 mod print;
-#[cfg(test)]
-mod tests;
 
 pub use block::{BlockError, BlockReader, RowCause};
 pub use print::print_block;

@@ -24,15 +24,11 @@
 mod edit;
 mod error;
 mod failing;
-mod laws;
+pub mod laws;
 mod noted;
 mod session;
 mod turn;
 
 pub use error::{EditError, UndoError};
-pub use laws::an_undo_leads_back;
 pub use session::{MAX_STEPS, Session};
 pub use turn::{Put, Turn};
-
-#[cfg(test)]
-mod tests;

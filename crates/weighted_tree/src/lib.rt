@@ -40,6 +40,3 @@ mod subtree;
 mod tree;
 
 pub use tree::Tree;
-
-#[cfg(test)]
-mod tests;

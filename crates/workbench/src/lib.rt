@@ -14,8 +14,6 @@ mod named_timeline;
 mod open_block;
 mod outcome;
 mod position;
-#[cfg(test)]
-mod tests;
 mod timelines;
 mod told;
 

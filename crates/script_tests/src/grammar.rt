@@ -1,0 +1,336 @@
+use retro_base::{Answer, Item, Kind, Listing, Name, Op, Question, Text};
+use script_grammar::{
+    Command, LineError, Moment, Query, Spot, print_answer, print_listing, read_line,
+};
+use std::process::Abort;
+use std::test::Fail;
+
+fn read(rt: &impl Abort, line: &[u8]) -> Result<Command, LineError> {
+    assert!(rt; line.len() <= 4096);
+    read_line(line, false)
+}
+
+fn ask(name: Name, moment: Moment, question: Question) -> Command {
+    let query = Query::One { question };
+    Command::Ask {
+        name,
+        moment,
+        query,
+    }
+}
+
+#[test]
+fn commands(rt: HostRuntime) -> Result<(), Fail> {
+    let q = Name::read(b"q").ok_or("q")?;
+    let at = Name::read(b"at").ok_or("at")?;
+    let long = Name::read(b"Abcdefghijklmnopqrstuvwxyz-_0123").ok_or("32 bytes")?;
+    let lines: [(&[u8], Command); 24] = [
+        (b"", Command::Nothing),
+        (b"   ", Command::Nothing),
+        (b";note", Command::Nothing),
+        (b"  ;\t\xff new q queue", Command::Nothing),
+        (
+            b"new q queue",
+            Command::New {
+                name: q,
+                kind: Kind::Queue,
+            },
+        ),
+        (
+            b"new at stack",
+            Command::New {
+                name: at,
+                kind: Kind::Stack,
+            },
+        ),
+        (
+            b" new  Abcdefghijklmnopqrstuvwxyz-_0123 deque  ",
+            Command::New {
+                name: long,
+                kind: Kind::Deque,
+            },
+        ),
+        (
+            b"new q dict",
+            Command::New {
+                name: q,
+                kind: Kind::Dict,
+            },
+        ),
+        (
+            b" q  at 03 pushl -0",
+            Command::Insert {
+                name: q,
+                spot: Spot::At { time: 3 },
+                op: Op::PushL { value: 0 },
+            },
+        ),
+        (
+            b"at at 18446744073709551615 deq",
+            Command::Insert {
+                name: at,
+                spot: Spot::At {
+                    time: 18446744073709551615,
+                },
+                op: Op::Deq,
+            },
+        ),
+        (
+            b"q before #1 pop",
+            Command::Insert {
+                name: q,
+                spot: Spot::Before { number: 1 },
+                op: Op::Pop,
+            },
+        ),
+        (
+            b"q after #16777215 popl",
+            Command::Insert {
+                name: q,
+                spot: Spot::After { number: 16777215 },
+                op: Op::PopL,
+            },
+        ),
+        (b"q delete #007", Command::Delete { name: q, number: 7 }),
+        (b"q undo", Command::Undo { name: q }),
+        (b" at  redo ", Command::Redo { name: at }),
+        (
+            b"new q pq",
+            Command::New {
+                name: q,
+                kind: Kind::Pq,
+            },
+        ),
+        (b"save q", Command::Save { name: q }),
+        (
+            b"timeline at queue next 016777216",
+            Command::Header {
+                name: at,
+                kind: Kind::Queue,
+                next: 16777216,
+            },
+        ),
+        (
+            b" timeline q dict  next 1 ",
+            Command::Header {
+                name: q,
+                kind: Kind::Dict,
+                next: 1,
+            },
+        ),
+        (
+            b"q ask all",
+            Command::Ask {
+                name: q,
+                moment: Moment::Now,
+                query: Query::All,
+            },
+        ),
+        (
+            b"q ask after #2 all",
+            Command::Ask {
+                name: q,
+                moment: Moment::Then {
+                    spot: Spot::After { number: 2 },
+                },
+                query: Query::All,
+            },
+        ),
+        (b"at ask size", ask(at, Moment::Now, Question::Size)),
+        (
+            b"q ask at 5 front",
+            ask(
+                q,
+                Moment::Then {
+                    spot: Spot::At { time: 5 },
+                },
+                Question::Front,
+            ),
+        ),
+        (
+            b"q ask before #3 top",
+            ask(
+                q,
+                Moment::Then {
+                    spot: Spot::Before { number: 3 },
+                },
+                Question::Top,
+            ),
+        ),
+    ];
+    for (line, command) in lines {
+        assert_eq!(rt; read(&rt, line), Ok(command), "{line:?}");
+    }
+    Ok(())
+}
+
+#[test]
+fn operations(rt: HostRuntime) -> Result<(), Fail> {
+    let name = Name::read(b"q").ok_or("q")?;
+    let spot = Spot::At { time: 1 };
+    let lines: [(&[u8], Op); 13] = [
+        (b"q at 1 enq 5", Op::Enq { value: 5 }),
+        (
+            b"q at 1 enq -9223372036854775808",
+            Op::Enq { value: i64::MIN },
+        ),
+        (
+            b"q at 1 push 9223372036854775807",
+            Op::Push { value: i64::MAX },
+        ),
+        (b"q at 1 pop", Op::Pop),
+        (b"q at 1 pushl 0042", Op::PushL { value: 42 }),
+        (b"q at 1 pushr -7", Op::PushR { value: -7 }),
+        (b"q at 1 popl", Op::PopL),
+        (b"q at 1 popr", Op::PopR),
+        (b"q at 1 put 1 10", Op::Put { key: 1, value: 10 }),
+        (b"q at 1 del 1", Op::Del { key: 1 }),
+        (b"q at 1 ins 2", Op::Ins { key: 2 }),
+        (b"q at 1 delmin", Op::DelMin),
+        (b"q at 1 deq", Op::Deq),
+    ];
+    for (line, op) in lines {
+        assert_eq!(rt;
+            read(&rt, line),
+            Ok(Command::Insert { name, spot, op }),
+            "{line:?}"
+        );
+    }
+    Ok(())
+}
+
+#[test]
+fn questions(rt: HostRuntime) -> Result<(), Fail> {
+    let name = Name::read(b"q").ok_or("q")?;
+    let lines: [(&[u8], Question); 13] = [
+        (b"q ask size", Question::Size),
+        (b"q ask front", Question::Front),
+        (b"q ask back", Question::Back),
+        (b"q ask top", Question::Top),
+        (b"q ask left", Question::Left),
+        (b"q ask right", Question::Right),
+        (b"q ask min", Question::Min),
+        (
+            b"q ask nth 18446744073709551615",
+            Question::Nth { index: u64::MAX },
+        ),
+        (b"q ask get -1", Question::Get { key: -1 }),
+        (b"q ask succ 0", Question::Succ { key: 0 }),
+        (b"q ask pred 0", Question::Pred { key: 0 }),
+        (b"q ask count 1 0", Question::Count { low: 1, high: 0 }),
+        (b"q ask sum -2 2", Question::Sum { low: -2, high: 2 }),
+    ];
+    for (line, question) in lines {
+        assert_eq!(rt;
+            read(&rt, line),
+            Ok(ask(name, Moment::Now, question)),
+            "{line:?}"
+        );
+    }
+    Ok(())
+}
+
+#[test]
+fn no_commands(rt: HostRuntime) {
+    let lines: [&[u8]; 62] = [
+        b"new",
+        b"new q",
+        b"new q heap",
+        b"new q queue queue",
+        b"new new queue",
+        b"new mute queue",
+        b"new 1q queue",
+        b"new q.r queue",
+        b"new Abcdefghijklmnopqrstuvwxyz-_01234 queue",
+        b"NEW q queue",
+        b"q",
+        b"q frob",
+        b"q undo 1",
+        b"q redo q",
+        b"save",
+        b"save 1q",
+        b"save q r",
+        b"timeline q queue next 0",
+        b"timeline q queue next 16777217",
+        b"timeline q queue next #1",
+        b"timeline q queue 1",
+        b"timeline q queue next 1 ;",
+        b"timeline save queue next 1",
+        b"end",
+        b"#1 10 enq 5",
+        b"q ;note",
+        b"q ask",
+        b"q ask size 1",
+        b"q ask size\r",
+        b"q\task size",
+        b"q ask all 1",
+        b"q ask at 1",
+        b"q ask at size",
+        b"q ask at 1 size 1",
+        b"q ask now size",
+        b"q ask before 1 size",
+        b"q ask nth",
+        b"q ask nth -1",
+        b"q ask nth 1 2",
+        b"q ask nth 18446744073709551616",
+        b"q ask get",
+        b"q ask get 1 2",
+        b"q ask sum 1",
+        b"q ask sum 1 2 3",
+        b"q at 18446744073709551616 deq",
+        b"q at -1 deq",
+        b"q at deq",
+        b"q at 1",
+        b"q at 1 deq 5",
+        b"q at 1 enq",
+        b"q at 1 enq +5",
+        b"q at 1 enq -",
+        b"q at 1 enq -9223372036854775809",
+        b"q at 1 enq 9223372036854775808",
+        b"q at 1 put 1",
+        b"q before #0 deq",
+        b"q after #16777216 deq",
+        b"q after # 1 deq",
+        b"q after 1 deq",
+        b"q delete",
+        b"q delete 1",
+        b"q delete #1 #2",
+    ];
+    for line in lines {
+        assert_eq!(rt; read(&rt, line), Err(LineError::Syntax), "{line:?}");
+    }
+    assert_eq!(rt; read_line(&[b' '; 4096], true), Err(LineError::Long));
+}
+
+#[test]
+fn answers(rt: HostRuntime) -> Result<(), Fail> {
+    let mut out = Text::new(rt.alloc());
+    let pair = Answer::Pair {
+        key: i64::MIN,
+        value: 7,
+    };
+    for answer in [Answer::Number { value: -12 }, pair, Answer::Nothing] {
+        print_answer(answer, &mut out)?;
+    }
+    assert_eq!(rt;
+        out.as_bytes(),
+        b"= -12= -9223372036854775808:7= none".as_slice()
+    );
+    Ok(())
+}
+
+#[test]
+fn listings(rt: HostRuntime) -> Result<(), Fail> {
+    let mut out = Text::new(rt.alloc());
+    let mut listing = Listing::new(rt.alloc());
+    print_listing(&listing, &mut out)?;
+    listing.push(Item::Single { value: 3 })?;
+    listing.push(Item::Pair { key: -1, value: 20 })?;
+    listing.push(Item::Single { value: i64::MIN })?;
+    print_listing(&listing, &mut out)?;
+    assert_eq!(rt;
+        out.as_bytes(),
+        b"= empty= 3 -1:20 -9223372036854775808".as_slice()
+    );
+    Ok(())
+}

@@ -1,0 +1,21 @@
+//! Tests of the script and of the program over streams in memory. They see only what is public, and stand apart so that a
+//! change of a test proves none of the crates anew.
+//!
+//! One file for each crate: `grammar` of `script_grammar`, `blocks` of `timeline_file`, `evidence_lines` of `evidence`, `judging` of
+//! `evidence_check`, `sessions` of `timeline_undo`, `benches` of `workbench`, `runs` of `retro_cli`.
+#![tactic(auto)]
+
+#[cfg(test)]
+mod benches;
+#[cfg(test)]
+mod blocks;
+#[cfg(test)]
+mod evidence_lines;
+#[cfg(test)]
+mod grammar;
+#[cfg(test)]
+mod judging;
+#[cfg(test)]
+mod runs;
+#[cfg(test)]
+mod sessions;

@@ -1,0 +1,19 @@
+//! Tests of the structures. They see only what is public, and stand apart so that a change of a test proves none of the
+//! crates anew.
+//!
+//! One file for each crate: `queues`, `stacks`, `deques` and `dictionaries` of the four fully retroactive structures, `bridges`
+//! of `bridge_pq`, which is compared with a plain list, and `engines` of `engine`.
+#![tactic(auto)]
+
+#[cfg(test)]
+mod bridges;
+#[cfg(test)]
+mod deques;
+#[cfg(test)]
+mod dictionaries;
+#[cfg(test)]
+mod engines;
+#[cfg(test)]
+mod queues;
+#[cfg(test)]
+mod stacks;

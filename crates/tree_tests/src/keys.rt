@@ -1,0 +1,112 @@
+ghost use Rattle.std.specs.Prelude.{◌≡◌, None, OnOk};
+ghost use Rattle.retro_base.specs.declared.kind.Kind.TheVariants.{Dict};
+ghost use Rattle.retro_base.specs.Kind.{kind_of};
+ghost use Rattle.key_index.specs.KeyRows.{Replays, op_at, with_row};
+
+use key_index::{Bad, KeyIndex, Labels2};
+use retro_base::{Kind, Op};
+use std::process::Abort;
+use std::test::Fail;
+
+const PUT: Op = Op::Put { key: 1, value: 10 };
+
+const DEL: Op = Op::Del { key: 1 };
+
+/// A row on another key, right behind the first one.
+const OTHER: Op = Op::Put { key: 2, value: 20 };
+
+/// Puts a row in at a label that no row has, where the rows can then all be performed.
+fn put(rt: &impl Abort, index: &mut KeyIndex, label: u64, op: Op) -> Result<(), Fail>
+    requires fresh { op_at label index.old ≡ None }
+    requires dict { kind_of op ≡ Dict }
+    requires replays { Replays index.old }
+    ensures rows { OnOk result (index.new ≡ with_row label op index.old) }
+    ensures replays { OnOk result (Replays index.new) }
+{
+    if index.bad_after_insert(label, op).is_some() {
+        panic!(rt; "the row fails");
+    }
+    index.insert(label, op)?;
+    Ok(())
+}
+
+#[test]
+fn rows_beside_an_edit_decide(rt: HostRuntime) -> Result<(), Fail> {
+    let mut index = KeyIndex::new(rt.alloc());
+    assert_eq!(rt; index.bad_after_insert(50, DEL), Some(Bad::Inserted));
+    put(&rt, &mut index, 100, PUT)?;
+    put(&rt, &mut index, 101, OTHER)?;
+    put(&rt, &mut index, 200, DEL)?;
+    assert_eq!(rt; index.bad_after_remove(100), Some(200));
+    assert_eq!(rt; index.bad_after_remove(101), None);
+    assert_eq!(rt; index.bad_after_remove(200), None);
+    for (behind, op, bad) in [
+        (150, DEL, Some(Bad::Present { label: 200 })),
+        (50, DEL, Some(Bad::Inserted)),
+        (100, DEL, Some(Bad::Present { label: 200 })),
+        (100, Op::Del { key: 2 }, Some(Bad::Inserted)),
+        (101, Op::Del { key: 2 }, None),
+        (200, DEL, Some(Bad::Inserted)),
+        (199, PUT, None),
+        (u64::MAX, PUT, None),
+    ] {
+        assert!(rt; op.kind() == Kind::Dict);
+        assert_eq!(rt; index.bad_after_insert(behind, op), bad);
+    }
+    Ok(())
+}
+
+#[test]
+fn neighbours_are_those_on_the_key(rt: HostRuntime) -> Result<(), Fail> {
+    let mut index = KeyIndex::new(rt.alloc());
+    index.insert(100, PUT)?;
+    index.insert(101, OTHER)?;
+    index.insert(200, DEL)?;
+    for (key, label, row) in [
+        (1, 200, Some((100, PUT))),
+        (1, u64::MAX, Some((200, DEL))),
+        (1, 100, None),
+        (1, 0, None),
+        (1, 101, Some((100, PUT))),
+        (0, 200, None),
+        (2, 101, None),
+        (2, 200, Some((101, OTHER))),
+    ] {
+        assert_eq!(rt; index.before(key, label), row);
+    }
+    for (key, label, row) in [
+        (1, 0, Some((100, PUT))),
+        (1, 100, Some((200, DEL))),
+        (1, 200, None),
+        (1, u64::MAX, None),
+        (0, 100, None),
+        (2, 100, Some((101, OTHER))),
+        (2, 101, None),
+    ] {
+        assert_eq!(rt; index.after(key, label), row);
+    }
+    assert_eq!(rt; index.remove(150), None);
+    assert_eq!(rt; index.remove(100), Some(PUT));
+    assert_eq!(rt; index.before(1, 200), None);
+    Ok(())
+}
+
+#[test]
+fn relabelled_rows_keep_their_order(rt: HostRuntime) -> Result<(), Fail> {
+    let mut index = KeyIndex::new(rt.alloc());
+    index.insert(100, PUT)?;
+    index.insert(200, DEL)?;
+    let mut former = Labels2::new(rt.alloc());
+    former.push(100)?;
+    former.push(150)?;
+    former.push(200)?;
+    assert_eq!(rt; former.len(), 3);
+    let mut fresh = Labels2::new(rt.alloc());
+    fresh.push(1_000)?;
+    fresh.push(2_000)?;
+    fresh.push(3_000)?;
+    index.relabel(&former, &fresh);
+    assert_eq!(rt; index.before(1, 3_000), Some((1_000, PUT)));
+    assert_eq!(rt; index.after(1, 1_000), Some((3_000, DEL)));
+    Ok(())
+}

@@ -1,0 +1,178 @@
+ghost use Rattle.std.specs.Prelude.{◌≡◌, ◌<◌, ◌≤◌, length, nat_lt, OnOk};
+ghost use Rattle.lifetime_segments.specs.Lawful.{most_items};
+ghost use Rattle.lifetime_segments.specs.Lifetimes.{label_end, lifetime, stands_earlier};
+ghost use Rattle.lifetime_segments.specs.Ordered.{put_in};
+ghost use Rattle.tree_tests.specs.Totals.{total_of};
+
+use lifetime_segments::{Decomposable, Segments};
+use monoid_laws::{Count, Measured};
+use retro_base::Steps;
+use std::marker::{Brand, Model};
+use std::process::Abort;
+use std::sync::ledger::{Blank, Ledger};
+use std::test::Fail;
+use weighted_tree::Tree;
+
+/// The label behind all labels.
+const END: u64 = 1 << 40;
+
+#[derive(Clone, Copy)]
+struct Amount {
+    value: u32,
+}
+
+impl Model for Amount {
+    ghost use Rattle.std.specs.Prelude.{ℕ};
+
+    ghost Value = { ℕ };
+
+    ghost view = { λ amount. amount.value };
+
+    ghost inverse = { λ n. record { value = n } };
+}
+
+impl Measured for Amount {
+    ghost use Rattle.std.specs.Prelude.{refl};
+
+    type Measure = Count;
+
+    ghost measured = { λ amount. 1 };
+
+    ghost single = { λ amount. refl };
+
+    fn measure(&self) -> Count {
+        Count::single()
+    }
+}
+
+/// How many amounts there are, and their sum.
+#[derive(Clone, Copy, Debug, PartialEq, Eq)]
+struct Total {
+    count: u32,
+    sum: u64,
+}
+
+impl Model for Total {
+    ghost use Rattle.std.specs.Prelude.{ℕ};
+
+    ghost Value = { ℕ × ℕ };
+
+    ghost view = { λ total. (total.count, total.sum) };
+
+    ghost inverse = { λ pair. record { count = pair.0; sum = pair.1 } };
+}
+
+struct Totals;
+
+impl Decomposable for Totals {
+    ghost use Rattle.std.specs.Prelude.{nat_lt};
+    ghost use Rattle.tree_tests.specs.Totals.{totals, both_totals, amount_order, total_laws};
+
+    type Item = Amount;
+
+    type Query = ();
+
+    type Part = Total;
+
+    ghost stands_before = { nat_lt };
+
+    ghost answer = { totals };
+
+    ghost empty_part = { (0, 0) };
+
+    ghost combined = { both_totals };
+
+    ghost order = { amount_order };
+
+    ghost laws = { total_laws };
+
+    fn before(first: &Amount, second: &Amount) -> bool {
+        first.value < second.value
+    }
+
+    fn empty() -> Total {
+        Total { count: 0, sum: 0 }
+    }
+
+    fn ask(items: &Tree<Amount>, _query: ()) -> Total {
+        counted::<Brand>(items, Blank::new(1))
+    }
+
+    fn combine(first: Total, second: Total) -> Total {
+        Total {
+            count: first.count + second.count,
+            sum: first.sum.saturating_add(second.sum),
+        }
+    }
+}
+
+fn counted<L: Ledger>(items: &Tree<Amount>, blank: Blank) -> Total
+    requires name { blank.name ≡ L.name }
+    requires parts { blank.parts ≡ L.parts }
+    requires shared { 0 < blank.parts }
+    ensures { result ≡ (length items.now, total_of items.now) }
+{
+    let mut steps = Steps::<L>::new(blank);
+    let mut sum = 0u64;
+    for place in 0..items.len() {
+        let amount = items.get(place, &mut steps);
+        sum = sum.saturating_add(u64::from(amount.value));
+    }
+    Total {
+        count: items.len(),
+        sum,
+    }
+}
+
+/// Adds a lifetime, where there is room for another.
+fn add(segments: &mut Segments<Totals>, from: u64, to: u64, value: u32) -> Result<(), Fail>
+    requires rises { from < to }
+    requires within { to ≤ label_end }
+    requires room { length segments.old < most_items }
+    ensures { OnOk result (segments.new ≡ put_in (stands_earlier nat_lt) (lifetime from to value) segments.old) }
+{
+    segments.add(from, to, Amount { value })?;
+    Ok(())
+}
+
+#[test]
+fn answers_at_labels(rt: HostRuntime) -> Result<(), Fail> {
+    let mut segments = Segments::<Totals>::new(rt.alloc());
+    add(&mut segments, 2, 8, 10)?;
+    add(&mut segments, 4, END, 20)?;
+    for (label, count, sum) in [
+        (0, 0, 0),
+        (1, 0, 0),
+        (2, 1, 10),
+        (4, 2, 30),
+        (5, 2, 30),
+        (7, 2, 30),
+        (8, 1, 20),
+        (END - 1, 1, 20),
+    ] {
+        assert!(rt; label < END);
+        assert_eq!(rt; segments.ask(label, ()), Total { count, sum });
+    }
+    Ok(())
+}
+
+#[test]
+fn takes_what_is_held(rt: HostRuntime) -> Result<(), Fail> {
+    let mut segments = Segments::<Totals>::new(rt.alloc());
+    add(&mut segments, 2, 8, 10)?;
+    add(&mut segments, 4, END, 20)?;
+    for (from, to, value, held) in [
+        (2, 8, 20, false),
+        (2, 7, 10, false),
+        (2, 8, 10, true),
+        (2, 8, 10, false),
+    ] {
+        assert_eq!(rt; segments.take(from, to, Amount { value }), held);
+    }
+    for (label, count, sum) in [(2, 0, 0), (5, 1, 20)] {
+        assert!(rt; label < END);
+        assert_eq!(rt; segments.ask(label, ()), Total { count, sum });
+    }
+    assert!(rt; segments.take(4, END, Amount { value: 20 }));
+    Ok(())
+}

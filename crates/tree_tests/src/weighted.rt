@@ -1,0 +1,205 @@
+ghost use Rattle.std.specs.Prelude.{◌≡◌, ◌+◌, ◌^◌, ◌<◌, ◌≤◌, pos, [], map, take, length};
+ghost use Rattle.std.specs.Int.Signed.{le_z};
+ghost use Rattle.monoid_laws.specs.Summed.{sum_of};
+ghost use Rattle.retro_base.specs.Visits.{VisitsWithin};
+ghost use Rattle.weighted_tree.specs.Search.{IsFirstOrNone};
+
+use monoid_laws::{Measured, Monoid, Sum};
+use retro_base::Steps;
+use std::alloc::Global;
+use std::marker::Brand;
+use std::process::Abort;
+use std::sync::ledger::{Blank, Ledger};
+use weighted_tree::Tree;
+
+#[derive(Clone, Copy)]
+struct Amount {
+    value: i64,
+}
+
+impl Measured for Amount {
+    ghost use Rattle.std.specs.Prelude.{refl};
+    ghost use Rattle.monoid_laws.specs.Summed.{one_sum};
+
+    type Measure = Sum;
+
+    ghost measured = { λ a. one_sum a.value };
+
+    ghost single = { λ a. refl };
+
+    fn measure(&self) -> Sum {
+        Sum::single(self.value)
+    }
+}
+
+/// The list 5, -2, 7 by three inserts.
+fn five_and_seven<L: Ledger>(rt: &impl Abort, alloc: Global, steps: &mut Steps<L>) -> Tree<Amount> {
+    let mut tree = Tree::new(alloc);
+    tree.insert(0, Amount { value: 5 }, steps)
+        .expect(rt, "memory");
+    assert_eq!(rt; tree.len(), 1);
+    tree.insert(1, Amount { value: 7 }, steps)
+        .expect(rt, "memory");
+    assert_eq!(rt; tree.len(), 2);
+    tree.insert(1, Amount { value: -2 }, steps)
+        .expect(rt, "memory");
+    tree
+}
+
+fn items<L: Ledger>(tree: &Tree<Amount>, steps: &mut Steps<L>) -> [i64; 3]
+    requires { length tree.now ≡ 3 }
+{
+    let first = tree.get(0, steps).value;
+    let second = tree.get(1, steps).value;
+    let third = tree.get(2, steps).value;
+    [first, second, third]
+}
+
+fn searches<L: Ledger>(tree: &Tree<Amount>, steps: &mut Steps<L>) -> [Option<u32>; 3]
+    requires { length tree.now ≡ 3 }
+{
+    let first = tree.first_place(0, |m: &Sum| m.items() >= 2, steps);
+    let last = tree.last_place(3, |m: &Sum| m.items() >= 2, steps);
+    let none = tree.first_place(0, |m: &Sum| m.items() >= 4, steps);
+    [first, last, none]
+}
+
+fn asked<L: Ledger>(
+    rt: &impl Abort,
+    tree: &Tree<Amount>,
+    copy: &Tree<Amount>,
+    steps: &mut Steps<L>,
+) {
+    assert_eq!(rt; tree.len(), 3);
+    assert_eq!(rt; items(tree, steps), [5, -2, 7]);
+    assert_eq!(rt; tree.measure(0, 2, steps).sum(), 3);
+    assert_eq!(rt; searches(tree, steps), [Some(2), Some(1), None]);
+    assert_eq!(rt; copy.len(), 3);
+    assert_eq!(rt; items(copy, steps), [5, -2, 7]);
+}
+
+fn edited<L: Ledger>(rt: &impl Abort, tree: &mut Tree<Amount>, steps: &mut Steps<L>) {
+    assert_eq!(rt; tree.len(), 3);
+    assert_eq!(rt; tree.remove(1, steps).value, -2);
+    assert_eq!(rt; tree.len(), 2);
+    assert_eq!(rt; tree.replace(0, Amount { value: 6 }, steps).value, 5);
+    assert_eq!(rt; tree.len(), 2);
+    assert_eq!(rt; tree.get(0, steps).value, 6);
+    assert_eq!(rt; tree.get(1, steps).value, 7);
+}
+
+fn answers<L: Ledger>(rt: &impl Abort, alloc: Global, blank: Blank)
+    requires name { blank.name ≡ L.name }
+    requires parts { blank.parts ≡ L.parts }
+    requires shared { 0 < blank.parts }
+{
+    let mut steps = Steps::<L>::new(blank);
+    let mut tree = five_and_seven(rt, alloc, &mut steps);
+    let copy = tree.copy(&mut steps).expect(rt, "memory");
+    asked(rt, &tree, &copy, &mut steps);
+    edited(rt, &mut tree, &mut steps);
+}
+
+#[test]
+fn answers_as_a_list(rt: HostRuntime) {
+    answers::<Brand>(&rt, rt.alloc(), Blank::new(1));
+}
+
+/// A piece of a whole, of some size.
+#[derive(Clone, Copy)]
+struct Piece {
+    size: u32,
+}
+
+impl Measured for Piece {
+    ghost use Rattle.std.specs.Prelude.{pos, refl};
+    ghost use Rattle.monoid_laws.specs.Summed.{one_sum};
+
+    type Measure = Sum;
+
+    ghost measured = { λ piece. one_sum (pos piece.size) };
+
+    ghost single = { λ piece. refl };
+
+    fn measure(&self) -> Sum {
+        Sum::single(i64::from(self.size))
+    }
+}
+
+/// The least number of pieces, from the first on, whose sizes add up to `goal` or more.
+fn first_reaching<L: Ledger>(tree: &Tree<Piece>, goal: i128, steps: &mut Steps<L>) -> Option<u32>
+    ensures { IsFirstOrNone (λ place. le_z goal (sum_of (map (λ piece. pos piece.size) (take place tree.now)))) 0 (length tree.now) result }
+{
+    tree.first_place(0, |sum: &Sum| goal <= sum.sum(), steps)
+}
+
+// The prefixes of 3, 0, 4 have the sums 0, 3, 3, 7.
+fn reaching<L: Ledger>(rt: &impl Abort, alloc: Global, blank: Blank)
+    requires name { blank.name ≡ L.name }
+    requires parts { blank.parts ≡ L.parts }
+    requires shared { 0 < blank.parts }
+{
+    let mut steps = Steps::<L>::new(blank);
+    let mut tree = Tree::new(alloc);
+    for size in [4, 0, 3] {
+        if tree.len() < 3 {
+            tree.insert(0, Piece { size }, &mut steps)
+                .expect(rt, "memory");
+        }
+    }
+    assert_eq!(rt; tree.len(), 3);
+    assert_eq!(rt; first_reaching(&tree, 0, &mut steps), Some(0));
+    assert_eq!(rt; first_reaching(&tree, 3, &mut steps), Some(1));
+    assert_eq!(rt; first_reaching(&tree, 4, &mut steps), Some(3));
+    assert_eq!(rt; first_reaching(&tree, 8, &mut steps), None);
+}
+
+#[test]
+fn finds_by_a_closure(rt: HostRuntime) {
+    reaching::<Brand>(&rt, rt.alloc(), Blank::new(1));
+}
+
+/// One more amount at the front, after no more visits than are stated.
+fn insert_first<L: Ledger>(
+    rt: &impl Abort,
+    tree: &mut Tree<Amount>,
+    value: i64,
+    steps: &mut Steps<L>,
+)
+    requires { length tree.old < 2 ^ 31 }
+    ensures length { length tree.new ≡ length tree.old + 1 }
+    ensures visits { VisitsWithin 12 (length tree.new) steps.old steps.new }
+{
+    tree.insert(0, Amount { value }, steps).expect(rt, "memory");
+}
+
+/// Two thousand amounts: 11 digits, and so at most 132 visits an insertion.
+fn fill<L: Ledger>(rt: &impl Abort, tree: &mut Tree<Amount>, steps: &mut Steps<L>)
+    requires { tree.old ≡ [] }
+    ensures length { length tree.new ≡ 2000 }
+    ensures visits { steps.new ≤ steps.old + 264000 }
+{
+    for count in 0..2000u32 {
+        insert_first(rt, tree, i64::from(count), steps);
+    }
+}
+
+fn two_thousand<L: Ledger>(rt: &impl Abort, alloc: Global, blank: Blank)
+    requires name { blank.name ≡ L.name }
+    requires parts { blank.parts ≡ L.parts }
+    requires shared { 0 < blank.parts }
+{
+    let mut steps = Steps::<L>::new(blank);
+    let mut tree = Tree::new(alloc);
+    fill(rt, &mut tree, &mut steps);
+    let copy = tree.copy(&mut steps).expect(rt, "memory");
+    insert_first(rt, &mut tree, 7, &mut steps);
+    assert_eq!(rt; (copy.len(), tree.len()), (2000, 2001));
+    assert_eq!(rt; tree.measure(0, 3, &mut steps).sum(), 4004);
+    assert_eq!(rt; copy.measure(0, 3, &mut steps).sum(), 5994);
+}
+
+#[test]
+fn grows_at_the_front(rt: HostRuntime) {
+    two_thousand::<Brand>(&rt, rt.alloc(), Blank::new(1));
+}

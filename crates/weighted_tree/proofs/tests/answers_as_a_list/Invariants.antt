@@ -1,4 +1,0 @@
-use Rattle.weighted_tree.proofs.tests.answers_as_a_list.Given as goal
-
-abbrev pub ghosts-answers : goal.ghosts-answers
-ghosts-answers g a = record { name = a.blank.name; parts = a.blank.parts }

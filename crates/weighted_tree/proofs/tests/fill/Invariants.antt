@@ -1,5 +1,0 @@
-use Rattle.std.proofs.Common.{◌≡◌, ◌+◌, ◌*◌, ◌≤◌, length}
-use Rattle.weighted_tree.proofs.tests.fill.Given as goal
-
-abbrev pub invariant-loop-count : goal.invariant-loop-count
-invariant-loop-count g l = (length l.tree ≡ l.count) × (l.steps ≤ l.initial.steps + 132 * l.count)

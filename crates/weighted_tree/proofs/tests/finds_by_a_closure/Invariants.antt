@@ -1,4 +1,0 @@
-use Rattle.weighted_tree.proofs.tests.finds_by_a_closure.Given as goal
-
-abbrev pub ghosts-reaching : goal.ghosts-reaching
-ghosts-reaching g a = record { name = a.blank.name; parts = a.blank.parts }
