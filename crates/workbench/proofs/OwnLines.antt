@@ -7,7 +7,7 @@ use Rattle.script_grammar.specs.BlockLines.{is_end}
 use Rattle.workbench.specs.declared.outcome.Outcome.TheVariants.{Silent, Refused}
 use Rattle.workbench.specs.declared.outcome.Refusal.TheVariants as refusals
 use Rattle.workbench.specs.Bench.{NamedTimeline, OpenBlock, Bench, empty_bench}
-use Rattle.workbench.specs.OwnLines.{name_of_block, names, event_of, block_behind, own_from, told_from, answers_from, MeetsNoLimit, OwnLinesAlone}
+use Rattle.workbench.specs.OwnLines.{name_of_block, names, event_of, block_behind, own_from, close_answers, own_answers_from, answers_from, MeetsNoLimit, OwnLinesAlone}
 use Rattle.workbench.specs.Reaction.{BenchEffect, leaves, ends, inside, happens, spelled, with_block, with_line, reaction_of, reacts, opened, obeys}
 use Rattle.workbench.proofs.Shares.{share, share_of_block, share_of_bench, share_of_all, own_obeys, own_opened, other_obeys, other_opened, own_closes, other_closes}
 
@@ -63,11 +63,11 @@ module _ (name : List ℕ) where
   other_happens timelines (Some block) line apart =
       other_inside timelines block line (is_long line) apart ∙ ap (λ b. record { timelines = share name timelines; block = b }) (sym (other_block block apart))
 
-  -- the block that is open behind a line has the name that the lines tell
-  block_told : (timelines : List NamedTimeline) (block : Option OpenBlock) (line : List ℕ)
+  -- the block that is open behind a line has the name that the lines give
+  block_named : (timelines : List NamedTimeline) (block : Option OpenBlock) (line : List ℕ)
       → block_behind (name_of_block block) line ≡ name_of_block (happens timelines block line (is_long line)).bench.block
-  block_told timelines None line = refl
-  block_told timelines (Some block) line =
+  block_named timelines None line = refl
+  block_named timelines (Some block) line =
       elim (not (is_long line) && is_end line) as (λ b. cond b None (Some block.name)
       ≡ name_of_block (cond b (ends timelines (Some block) true) (with_block (Some (with_line block line (is_long line))) (leaves timelines Silent))).bench.block) [
         | true ↦ refl
@@ -75,34 +75,35 @@ module _ (name : List ℕ) where
       ]
 
   -- at the end of the input
-  told_end : (timelines : List NamedTimeline) (block : Option OpenBlock) → (ends timelines block false).outcome ≢ Refused refusals.Timelines
-      → cond (names name (name_of_block block)) (reaction_of (ends timelines block false)).answer []
-      ≡ (reaction_of (ends (share name timelines) (share_of_block name block) false)).answer
-  told_end timelines None room = refl
-  told_end timelines (Some block) room =
-      elim (bytes_eq block.name name) as (λ b. bytes_eq block.name name ≡ b → cond (bytes_eq block.name name) (reaction_of (ends timelines (Some block) false)).answer []
-      ≡ (reaction_of (ends (share name timelines) (share_of_block name (Some block)) false)).answer) [
-        | true ↦ λ is. rw is (ap (λ e. (reaction_of e).answer) (own_ends timelines block false is room))
+  end_answers : (timelines : List NamedTimeline) (block : Option OpenBlock) → (ends timelines block false).outcome ≢ Refused refusals.Timelines
+      → cond (names name (name_of_block block)) ((reaction_of (ends timelines block false)).answer ∷ []) []
+      ≡ close_answers (share_of_block name block) (reaction_of (ends (share name timelines) (share_of_block name block) false)).answer
+  end_answers timelines None room = refl
+  end_answers timelines (Some block) room =
+      elim (bytes_eq block.name name) as (λ b. bytes_eq block.name name ≡ b
+      → cond (bytes_eq block.name name) ((reaction_of (ends timelines (Some block) false)).answer ∷ []) []
+      ≡ close_answers (share_of_block name (Some block)) (reaction_of (ends (share name timelines) (share_of_block name (Some block)) false)).answer) [
+        | true ↦ λ is. rw is (ap (λ e. (reaction_of e).answer ∷ []) (own_ends timelines block false is room))
         | false ↦ λ apart. rw apart refl
       ] refl
 
   alone_from : (bench : Bench) (block : Option (List ℕ)) (lines : List (List ℕ)) → block ≡ name_of_block bench.block → MeetsNoLimit bench lines
-      → told_from name block bench lines ≡ answers_from (share_of_bench name bench) (own_from name block lines)
-  unfolding told_from own_from answers_from
-  alone_from bench block [] is room = rw is (told_end bench.timelines bench.block room)
+      → own_answers_from name block bench lines ≡ answers_from (share_of_bench name bench) (own_from name block lines)
+  unfolding own_answers_from own_from answers_from
+  alone_from bench block [] is room = rw is (end_answers bench.timelines bench.block room)
   alone_from bench block (line ∷ more) is room =
       let behind : block_behind block line ≡ name_of_block (reacts bench line).bench.block =
-      ap (λ b. block_behind b line) is ∙ block_told bench.timelines bench.block line in
+      ap (λ b. block_behind b line) is ∙ block_named bench.timelines bench.block line in
       let rest = alone_from (reacts bench line).bench (block_behind block line) more behind room.1 in
       elim (names name (event_of block line)) as (λ b. names name (event_of block line) ≡ b
-      → cond b (reacts bench line).answer [] ++ told_from name (block_behind block line) (reacts bench line).bench more
+      → cond b ((reacts bench line).answer ∷ own_answers_from name (block_behind block line) (reacts bench line).bench more) (own_answers_from name (block_behind block line) (reacts bench line).bench more)
       ≡ answers_from (share_of_bench name bench) (cond b (line ∷ own_from name (block_behind block line) more) (own_from name (block_behind block line) more))) [
         | true ↦ λ own.
             let same : share_of_all name (happens bench.timelines bench.block line (is_long line))
             ≡ happens (share name bench.timelines) (share_of_block name bench.block) line (is_long line) =
             own_happens bench.timelines bench.block line (subst (λ b. names name (event_of b line) ≡ true) is own) room.0 in
-            ap (λ xs. (reacts bench line).answer ++ xs) rest
-            ∙ ap (λ (e : BenchEffect). (reaction_of e).answer ++ answers_from e.bench (own_from name (block_behind block line) more)) same
+            ap (λ xs. (reacts bench line).answer ∷ xs) rest
+            ∙ ap (λ (e : BenchEffect). (reaction_of e).answer ∷ answers_from e.bench (own_from name (block_behind block line) more)) same
         | false ↦ λ apart.
             rest ∙ ap (λ b. answers_from b (own_from name (block_behind block line) more))
             (other_happens bench.timelines bench.block line (subst (λ b. names name (event_of b line) ≡ false) is apart))

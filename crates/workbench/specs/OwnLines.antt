@@ -1,6 +1,6 @@
 -- The lines of a script that are about one timeline, and what is answered to them. Outside a block each line is an event of its
 -- own; a header with all lines up to the close of its block is one event.
-use Rattle.std.specs.Prelude.{◌≡◌, ◌≢◌, ℕ, Bool, false, not, ◌&&◌, List, [], ◌∷◌, ◌++◌, if◌then◌else◌}
+use Rattle.std.specs.Prelude.{◌≡◌, ◌≢◌, ℕ, Bool, false, not, ◌&&◌, List, [], ◌∷◌, if◌then◌else◌}
 use Rattle.std.specs.Prelude.{Option, Some, None, option_map, Result, Ok, Err}
 use Rattle.std.specs.Str.{bytes_eq}
 use Rattle.script_grammar.specs.declared.command.Command.{Command}
@@ -55,22 +55,29 @@ own_from name block (line ∷ more) =
 abbrev pub own : List ℕ → List (List ℕ) → List (List ℕ)
 own name lines = own_from name None lines
 
--- the answers to the events that name a timeline; the end of the input ends the event of a block that is being read
-unfoldable pub told_from : List ℕ → Option (List ℕ) → Bench → List (List ℕ) → List ℕ
-told_from name block bench [] = if names name block then (closing bench).answer else []
-told_from name block bench (line ∷ more) =
-    (if names name (event_of block line) then (reacts bench line).answer else [])
-    ++ told_from name (block_behind block line) (reacts bench line).bench more
+-- the answer of the close, where a block is being read at the end of the input
+abbrev pub close_answers : Option OpenBlock → List ℕ → List (List ℕ)
+close_answers None answer = []
+close_answers (Some block) answer = answer ∷ []
 
-abbrev pub told : List ℕ → List (List ℕ) → List ℕ
-told name lines = told_from name None empty_bench lines
+-- the answers to the events that name a timeline, one for each of their lines: the answer of a block stands at the line that closes
+-- it, and the lines before that one have the empty answer; the end of the input closes a block that is being read
+unfoldable pub own_answers_from : List ℕ → Option (List ℕ) → Bench → List (List ℕ) → List (List ℕ)
+own_answers_from name block bench [] = if names name block then (closing bench).answer ∷ [] else []
+own_answers_from name block bench (line ∷ more) =
+    if names name (event_of block line)
+    then (reacts bench line).answer ∷ own_answers_from name (block_behind block line) (reacts bench line).bench more
+    else own_answers_from name (block_behind block line) (reacts bench line).bench more
 
--- all answers to lines, that of the close included
-unfoldable pub answers_from : Bench → List (List ℕ) → List ℕ
-answers_from bench [] = (closing bench).answer
-answers_from bench (line ∷ more) = (reacts bench line).answer ++ answers_from (reacts bench line).bench more
+abbrev pub own_answers : List ℕ → List (List ℕ) → List (List ℕ)
+own_answers name lines = own_answers_from name None empty_bench lines
 
-abbrev pub all_answers : List (List ℕ) → List ℕ
+-- all answers to lines, one for each line, and that of the close where there is one
+unfoldable pub answers_from : Bench → List (List ℕ) → List (List ℕ)
+answers_from bench [] = close_answers bench.block (closing bench).answer
+answers_from bench (line ∷ more) = (reacts bench line).answer ∷ answers_from (reacts bench line).bench more
+
+abbrev pub all_answers : List (List ℕ) → List (List ℕ)
 all_answers lines = answers_from empty_bench lines
 
 -- no `new` and no block among the lines meets the limit of timelines
@@ -79,6 +86,6 @@ MeetsNoLimit bench [] = (ends bench.timelines bench.block false).outcome ≢ Ref
 MeetsNoLimit bench (line ∷ more) =
     ((happens bench.timelines bench.block line (is_long line)).outcome ≢ Refused Timelines) × MeetsNoLimit (reacts bench line).bench more
 
--- what is answered to a timeline's own lines among others is what is answered to them alone
+-- each of a timeline's own lines has the answer among others that it has among them alone
 abbrev pub OwnLinesAlone : Type 0
-OwnLinesAlone = (name : List ℕ) (lines : List (List ℕ)) → MeetsNoLimit empty_bench lines → told name lines ≡ all_answers (own name lines)
+OwnLinesAlone = (name : List ℕ) (lines : List (List ℕ)) → MeetsNoLimit empty_bench lines → own_answers name lines ≡ all_answers (own name lines)
