@@ -2,13 +2,17 @@
 use Rattle.std.proofs.Common.{◌≡◌, ◌≢◌, ℕ, zero, suc, ◌+◌, ◌<◌, ◌≤◌, Bool, true, false, List, [], ◌∷◌, length, ◌⊎◌, inl, inr, refl, sym, ap, ◌∙◌, arith, subst, Result, Ok, Err}
 use Rattle.std.specs.Prelude.{slice_set, OnOk, OnErr}
 use Rattle.std.specs.List.{AllByRecursion, AllWithin, insert, remove}
+use Rattle.std.proofs.lemmas.List.{length-map}
 use Rattle.std.proofs.lemmas.List.Edits.{length-insert}
+use Rattle.retro_base.specs.declared.row.Row.{Row}
 use Rattle.retro_base.specs.declared.row.Entry.{Entry}
 use Rattle.retro_base.specs.Bridges.{same_entry}
 use Rattle.retro_base.specs.State.{comes_before}
 use Rattle.retro_base.proofs.bridges.EntryOrder.{before_irreflexive, before_one_way, before_or_after, same_entry-refl, not_same}
 use Rattle.retro_base.proofs.bridges.Entries.{In, above_in}
 use Rattle.bridge_pq.specs.declared.marked_entry.MarkedEntry.{MarkedEntry}
+use Rattle.bridge_pq.specs.declared.marked_row.MarkedRow.{MarkedRow}
+use Rattle.bridge_pq.specs.MarkedRows.{rows_of}
 use Rattle.bridge_pq.specs.MarkedEntries.{entries_in, Rise, put_marked, without_entry, marked_so}
 
 before_other : (a b : Entry) → comes_before a b ≡ true → a ≢ b
@@ -89,3 +93,13 @@ marked-at e b (x ∷ items) (suc place) rise inside before behind =
 pub no_longer : {X T E : Type 0} (r : Result T E) (old new : List X) (place : ℕ) (x : X) → place ≤ length old → OnOk r (new ≡ insert old place x) → OnErr r (new ≡ old) → length new ≤ length old + 1
 no_longer (Ok t) old new place x within ok err = omega (arith, ap length ok, length-insert old place x within)
 no_longer (Err e) old new place x within ok err = omega (arith, ap length err)
+
+-- no insertion leaves fewer items
+pub no_shorter : {X T E : Type 0} (r : Result T E) (old new : List X) (place : ℕ) (x : X) → place ≤ length old → OnOk r (new ≡ insert old place x) → OnErr r (new ≡ old) → length old ≤ length new
+no_shorter (Ok t) old new place x within ok err = omega (arith, ap length ok, length-insert old place x within)
+no_shorter (Err e) old new place x within ok err = omega (arith, ap length err)
+
+-- rows with one put in are one more
+pub one_longer : (old new : List MarkedRow) (place : ℕ) (row : Row) → place ≤ length old → rows_of new ≡ insert (rows_of old) place row → length new ≡ length old + 1
+one_longer old new place row within put =
+    omega (arith, ap length put, length-insert (rows_of old) place row (omega (arith, length-map old (λ (item : MarkedRow). item.row))), length-map new (λ (item : MarkedRow). item.row), length-map old (λ (item : MarkedRow). item.row))

@@ -33,11 +33,6 @@ module _ {A : Type 0} where
   remove-behind (y ∷ xs) (suc place) zero behind = absurd (omega arith)
   remove-behind (y ∷ xs) (suc place) (suc k) behind = remove-behind xs place k (omega arith)
 
-  pub remove-inserted : (xs : List A) (place : ℕ) (x : A) → place ≤ length xs → remove (insert xs place x) place ≡ xs
-  remove-inserted xs zero x within = refl
-  remove-inserted [] (suc place) x within = absurd (omega arith)
-  remove-inserted (y ∷ xs) (suc place) x within = ap (λ l. y ∷ l) (remove-inserted xs place x (omega arith))
-
 module _ {A B : Type 0} (f : A → B) where
   pub map-insert : (xs : List A) (place : ℕ) (x : A) → map f (insert xs place x) ≡ insert (map f xs) place (f x)
   map-insert xs zero x = refl

@@ -56,7 +56,7 @@ fn put_row<L: Ledger>(
     requires room { length rows.old < 2 ^ 31 }
     ensures ok { OnOk result (rows.new ≡ insert rows.old place (record { row = row; survives = false })) }
     ensures err { OnErr result (rows.new ≡ rows.old) }
-    ensures visits { VisitsWithin 12 (length rows.old + 1) steps.old steps.new }
+    ensures visits { VisitsWithin 12 (length rows.new) steps.old steps.new }
 {
     let item = MarkedRow {
         row,
@@ -82,12 +82,12 @@ fn put_row_with_entry<L: Ledger>(
     ensures rows { OnOk result (rows.new ≡ insert rows.old place (record { row = row; survives = false })) }
     ensures entries { OnOk result (entries.new ≡ put_marked (record { entry = entry; present = false }) entries.old) }
     ensures err { OnErr result ((rows.new ≡ rows.old) × (entries.new ≡ entries.old)) }
-    ensures ok_visits { OnOk result (VisitsWithin 36 (length rows.old + 1) steps.old steps.new) }
-    ensures visits { VisitsWithin 60 (length rows.old + 1) steps.old steps.new }
+    ensures ok_visits { OnOk result (VisitsWithin 36 (length rows.new) steps.old steps.new) }
+    ensures visits { VisitsWithin 72 (length rows.new) steps.old steps.new }
 {
-    put_entry(entries, entry, steps)?;
-    if let Err(error) = put_row(rows, place, row, steps) {
-        take_entry(entries, entry, steps);
+    put_row(rows, place, row, steps)?;
+    if let Err(error) = put_entry(entries, entry, steps) {
+        rows.remove(place, steps);
         return Err(error);
     }
     Ok(())
@@ -113,7 +113,7 @@ pub(crate) fn insert_adding<L: Ledger>(
     ensures rows { OnOk result (rows_of rows.new ≡ insert (rows_of rows.old) place row) }
     ensures change { IfOk result (IsPqChange (rows_of rows.old) (add place row)) }
     ensures err { OnErr result ((rows.new ≡ rows.old) × (entries.new ≡ entries.old)) }
-    ensures visits { VisitsWithin 144 (length rows.old + 1) steps.old steps.new }
+    ensures visits { VisitsWithin 144 (length rows.new) steps.old steps.new }
 {
     let turned = gained_with(rows, place, row, new, steps);
     put_row_with_entry(rows, entries, place, row, new, steps)?;
@@ -140,7 +140,7 @@ pub(crate) fn insert_taking<L: Ledger>(
     ensures rows { OnOk result (rows_of rows.new ≡ insert (rows_of rows.old) place row) }
     ensures change { IfOk result (IsPqChange (rows_of rows.old) (add place row)) }
     ensures err { OnErr result ((rows.new ≡ rows.old) × (entries.new ≡ entries.old)) }
-    ensures visits { VisitsWithin 144 (length rows.old + 1) steps.old steps.new }
+    ensures visits { VisitsWithin 144 (length rows.new) steps.old steps.new }
 {
     let turned = lost_with(rows, place, row, steps);
     put_row(rows, place, row, steps)?;

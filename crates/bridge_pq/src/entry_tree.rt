@@ -45,7 +45,7 @@ pub(crate) fn put_entry<L: Ledger>(
     requires room { length entries.old < 2 ^ 31 }
     ensures ok { OnOk result (entries.new ≡ put_marked (record { entry = entry; present = false }) entries.old) }
     ensures err { OnErr result (entries.new ≡ entries.old) }
-    ensures visits { VisitsWithin 24 (length entries.old + 1) steps.old steps.new }
+    ensures visits { VisitsWithin 24 (length entries.new) steps.old steps.new }
 {
     let place = place_of(entries, entry, steps);
     let item = MarkedEntry {

@@ -5,7 +5,8 @@ ghost use Rattle.retro_base.specs.Bridges.{first_bridge, last_bridge};
 ghost use Rattle.evidence_check.specs.Marks.{IsKept, better_of, greatest_dead, is_greater, is_less, least_alive, rows_of};
 
 use crate::marked_row::MarkedRow;
-use retro_base::{Entry, weights_count_the_dead};
+use retro_base::Entry;
+use retro_base::laws::weights_count_the_dead;
 
 /// The last bridge up to a place.
 pub(crate) fn last_bridge(rows: &[MarkedRow], place: u32) -> u32

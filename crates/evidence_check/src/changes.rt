@@ -11,10 +11,11 @@ use crate::CheckError;
 use crate::bridges::{first_bridge, greatest_dead, last_bridge, least_alive};
 use crate::marked_row::{MarkedRow, added_entry, is_same};
 use evidence::Evidence;
-use retro_base::{
-    Change, Entry, greatest_from_bridge_is_gained, least_before_bridge_is_lost,
-    one_change_is_named, one_entry_is_carried,
+use retro_base::laws::{
+    greatest_from_bridge_is_gained, least_before_bridge_is_lost, one_change_is_named,
+    one_entry_is_carried,
 };
+use retro_base::{Change, Entry};
 
 /// Why evidence is refused that tells of an edit which can be made in these rows, if it is.
 pub(crate) fn change_cause(rows: &[MarkedRow], evidence: &Evidence) -> Option<CheckError>

@@ -2,7 +2,7 @@
 
 ghost use Rattle.evidence_check.specs.Laws.{EditsAreSpelled, EditsAreTold, ToldStays, TrueIsAccepted};
 
-use retro_base::one_change_is_named;
+use retro_base::laws::one_change_is_named;
 
 /// Evidence is accepted exactly where it tells of an edit that is accepted and of the one change that this edit
 /// makes; and the rows that are told by it are a history again.

@@ -7,7 +7,8 @@ use crate::causes::cause_of;
 use crate::edits::make;
 use crate::marked_row::MarkedRow;
 use evidence::Evidence;
-use retro_base::{Name, one_change_is_named};
+use retro_base::Name;
+use retro_base::laws::one_change_is_named;
 use std::alloc::Global;
 use std::marker::Model;
 

@@ -135,8 +135,3 @@ module _ (label : ℕ) (op : Op) (rows by_key : List KeyRow) where
       ap (λ l. l ++ filter past_by_key by_key) (sym front_by_key) ∙ ap (λ l. take place_by_key by_key ++ l) (sym back_by_key) ∙ take-append-drop place_by_key by_key in
       rw (front, back, front_by_key, back_by_key) (indexed_around indexed fresh dict all all_by_key)
 
--- what was put in is taken out again
-pub back_out : (rows : List KeyRow) (place : ℕ) (row : KeyRow) → place ≤ length rows → remove (insert rows place row) place ≡ rows
-back_out rows zero row within = refl
-back_out [] (suc place) row within = absurd (omega arith)
-back_out (first ∷ rows) (suc place) row within = ap (λ rest. first ∷ rest) (back_out rows place row (omega arith))

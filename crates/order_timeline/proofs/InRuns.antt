@@ -9,7 +9,8 @@ use Rattle.retro_base.specs.Timeline.{IsFresh, HaveOwnNumbers}
 use Rattle.order_timeline.specs.Numbers.{IsNamed, Changes, Writes, WritesRun, written}
 use Rattle.order_timeline.specs.Runs.{rows_in, start_of, beside, IsInRun, TakesRow, IsInRuns, IsKept}
 use Rattle.order_timeline.specs.Rows.{MayCome}
-use Rattle.order_timeline.proofs.Rows.{taken_back, ordered_more}
+use Rattle.retro_base.specs.EditedLists.{remove-insert}
+use Rattle.order_timeline.proofs.Rows.{ordered_more}
 use Rattle.order_timeline.proofs.Maps.{named_with, named_without, named_again}
 use Rattle.order_timeline.proofs.Beside.{length-beside, beside_with, beside_without, beside_gone, beside_divided}
 
@@ -36,7 +37,7 @@ in_runs_same rows runs names others more numbers is each same = record { each = 
 pub in_runs_with : (rows : List Row) (runs names : List ℕ) (before after : BTreeMap ℕ ℕ) (index place : ℕ) (row : Row) (count name : ℕ) → IsInRuns rows runs names before → place ≤ length rows → IsFresh row.number rows
     → TakesRow runs index place → slice_get runs index ≡ Some count → slice_get names index ≡ Some name → Writes before after row.number name → IsInRuns (insert rows place row) (slice_set runs index (count + 1)) names after
 in_runs_with rows runs names before after index place row count name is within fresh takes long there writes =
-    let back = taken_back rows place row within in
+    let back = remove-insert rows place row within in
     let longer : beside (slice_set runs index (count + 1)) names ≡ insert (beside runs names) place name =
     beside_with runs names index place count name is.each long there takes.begun (omega (arith, takes.lasts, read_index runs index count long)) in
     record {

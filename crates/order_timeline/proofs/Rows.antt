@@ -30,9 +30,3 @@ pub ordered_more : (rows more : List Row) (place : ℕ) (row item : Row) → ite
 ordered_more rows more place row item same is ordered within room fresh fits =
     subst IsOrdered (sym (is ∙ ap (insert rows place) same)) (ordered_with rows place row ordered within room fresh fits)
 
--- a row that has just come, and goes again
-pub taken_back : {A : Type 0} (xs : List A) (place : ℕ) (x : A) → place ≤ length xs → remove (insert xs place x) place ≡ xs
-taken_back [] zero x within = refl
-taken_back [] (suc place) x within = absurd (omega arith)
-taken_back (y ∷ xs) zero x within = refl
-taken_back (y ∷ xs) (suc place) x within = ap (λ rest. y ∷ rest) (taken_back xs place x (omega arith))

@@ -89,6 +89,30 @@ pub fn ask_line<S: Line, L: Ledger>(
     }
 }
 
+/// The answer to a question about the state after the first so many rows, with a counter of its own.
+pub fn ask_uncounted<S: Line>(structure: &S, place: u32, question: Question) -> Answer
+    requires { place ≤ length (S.rows structure.now) }
+    ensures { result ≡ answer_of (state_at S.kind (S.rows structure.now) place) question }
+{
+    answer_at::<S, Brand>(structure, place, question, Blank::new(1))
+}
+
+fn answer_at<S: Line, L: Ledger>(
+    structure: &S,
+    place: u32,
+    question: Question,
+    blank: Blank,
+) -> Answer
+    requires within { place ≤ length (S.rows structure.now) }
+    requires name { blank.name ≡ L.name }
+    requires parts { blank.parts ≡ L.parts }
+    requires shared { 0 < blank.parts }
+    ensures { result ≡ answer_of (state_at S.kind (S.rows structure.now) place) question }
+{
+    let mut steps = Steps::<L>::new(blank);
+    ask_line(structure, place, question, &mut steps)
+}
+
 /// The whole content behind the first so many rows.
 pub fn list_line<S: Line>(structure: &S, place: u32) -> Result<Listing, NoMemory>
     requires { place ≤ length (S.rows structure.now) }

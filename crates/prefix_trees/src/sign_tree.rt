@@ -57,6 +57,7 @@ impl SignTree {
         requires sign { IsSign sign }
         ensures ok { OnOk result (self.new ≡ insert self.old place (sign, marked)) }
         ensures err { OnErr result (self.new ≡ self.old) }
+        ensures none { OnErr result (length self.old ≡ 0 → steps.new ≡ steps.old) }
         ensures visits { VisitsWithin 12 (length self.new) steps.old steps.new }
     {
         self.signs.insert(place, Signed::new(sign, marked), steps)

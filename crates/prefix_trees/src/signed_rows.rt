@@ -64,7 +64,6 @@ impl KeptRow {
 /// where it adds an item.
 #[derive(Drop)]
 pub struct SignedRows {
-    alloc: Global,
     rows: Tree<KeptRow>,
     signs: SignTree,
 }
@@ -87,7 +86,6 @@ impl SignedRows {
         ensures { result ≡ [] }
     {
         SignedRows {
-            alloc,
             rows: Tree::new(alloc),
             signs: SignTree::new(alloc),
         }
@@ -95,7 +93,7 @@ impl SignedRows {
 
     /// Where the memory comes from.
     pub fn alloc(&self) -> Global {
-        self.alloc
+        self.rows.alloc()
     }
 
     /// How many rows there are.
@@ -186,7 +184,8 @@ impl SignedRows {
         requires room { length self.old < 2 ^ 31 }
         ensures ok { OnOk result (self.new ≡ insert self.old place row) }
         ensures err { OnErr result (self.new ≡ self.old) }
-        ensures visits { VisitsWithin 36 (length self.old + 1) steps.old steps.new }
+        ensures ok_visits { OnOk result (VisitsWithin 24 (length self.new) steps.old steps.new) }
+        ensures visits { VisitsWithin 48 (length self.new) steps.old steps.new }
     {
         self.rows.insert(place, KeptRow::new(row), steps)?;
         let op = row.op;
@@ -218,11 +217,7 @@ impl SignedRows {
     {
         let rows = self.rows.copy(steps)?;
         let signs = self.signs.copy(steps)?;
-        Ok(SignedRows {
-            alloc: self.alloc,
-            rows,
-            signs,
-        })
+        Ok(SignedRows { rows, signs })
     }
 }
 

@@ -1,4 +1,4 @@
--- Laws on bridges; each is the contract of a function of `src/bridge_laws.rt`, which has no body. A row that adds a dead entry
+-- Laws on bridges; each is the contract of a function of `src/laws.rt`, which has no body. A row that adds a dead entry
 -- puts one on a heap, a row that takes takes one off, and a survivor counts for nothing: so the weights up to a place count the
 -- dead that are held there, and it is a bridge where they are none. Elsewhere the dead lie before the survivors, since the least
 -- entry is taken first and a survivor never is.

@@ -1,4 +1,4 @@
--- The table of changes, line by line; each is the contract of a function of `src/bridge_laws.rt`. An entry that comes in is
+-- The table of changes, line by line; each is the contract of a function of `src/laws.rt`. An entry that comes in is
 -- exchanged for each greater one that is taken behind it, and no dead entry reaches over a bridge: so the greatest dead one from
 -- the bridge on is gained. An entry that goes is made up for by the next one where it would be taken, until a bridge is reached:
 -- so the least survivor from before it is lost, or nothing is left to be taken.

@@ -1,4 +1,4 @@
--- Laws on the entry that an edit carries along; each is the contract of a function of `src/bridge_laws.rt`. Behind an edit both
+-- Laws on the entry that an edit carries along; each is the contract of a function of `src/laws.rt`. Behind an edit both
 -- lists have the same rows, and their states differ by one entry. Where a row takes this entry from the one list, it takes the
 -- next one from the other, and the states differ by that one from then on.
 --

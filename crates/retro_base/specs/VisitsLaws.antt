@@ -1,8 +1,8 @@
 -- How digits bound numbers, and how bounds by digits are joined. The layers above cite these laws.
-use Rattle.std.proofs.Common.{◌≡◌, ℕ, zero, suc, ◌+◌, ◌/◌, ◌^◌, ◌<◌, ◌≤◌, refl, arith, inl, inr}
+use Rattle.std.proofs.Common.{◌≡◌, ℕ, zero, suc, ◌+◌, ◌/◌, ◌^◌, ◌<◌, ◌≤◌, refl, ap, ◌∙◌, arith, inl, inr}
 use Rattle.std.proofs.lemmas.Bool.{lt-ltb, le-ltb, cases_lt}
 use Rattle.std.proofs.lemmas.Nat.{pow-add}
-use Rattle.std.proofs.Math.Nat.{add-mul, mul-le-mul_left}
+use Rattle.std.proofs.Math.Nat.{add-mul, mul-add, mul-le-mul_left}
 use Rattle.retro_base.specs.Digits.{digits_by, digits}
 use Rattle.retro_base.specs.Visits.{VisitsWithin}
 
@@ -57,6 +57,62 @@ pub visits-add : (first second length before between after : ℕ) → VisitsWith
 visits-add first second length before between after one two = record {
   none_lost = omega (arith, one.none_lost, two.none_lost);
   few = omega (arith, one.few, two.few, add-mul first second (digits (length + 1)));
+}
+
+-- one more is at most one digit more
+pub digits-one_more : (n : ℕ) → digits (n + 1) ≤ digits n + 1
+unfolding digits
+digits-one_more zero = omega arith
+digits-one_more (suc n) =
+    let halved : suc (n + n + 1) / 2 ≡ suc n = omega arith in
+    let doubled : digits_by (suc (n + n + 1)) (suc (n + n + 1)) ≡ 1 + digits_by (n + n + 1) (suc n) =
+    one_more (n + n + 1) (suc (n + n + 1)) (omega arith) ∙ ap (λ m. 1 + digits_by (n + n + 1) m) halved in
+    omega (
+      arith,
+      doubled,
+      monotone_by (suc n + 1) (suc (n + n + 1)) (suc n + 1) (suc (n + n + 1)) (omega arith) (omega arith) (omega arith),
+      monotone_by (n + n + 1) (suc n) (suc n) (suc n) (omega arith) (omega arith) (omega arith),
+    )
+
+digits-of_few : (digits 0 ≡ 1) × (digits 1 ≡ 1) × (digits 2 ≡ 2)
+unfolding digits
+digits-of_few = (refl, refl, refl)
+
+-- two and more have two digits
+two_digits : (n : ℕ) → 2 ≤ n → 2 ≤ digits n
+two_digits n h = omega (arith, digits-monotone 2 n h, digits-of_few)
+
+-- one more has at most twice as many digits
+twice_the_digits : (n : ℕ) → digits (n + 1) ≤ digits n + digits n
+twice_the_digits n = omega (arith, digits-one_more n, digits-monotone 0 n (omega arith), digits-of_few)
+
+-- a bound for one item more is twice that bound without it
+pub visits-one_longer : (factor length before after : ℕ) → VisitsWithin factor (length + 1) before after → VisitsWithin (factor + factor) length before after
+visits-one_longer factor length before after visits = record {
+  none_lost = visits.none_lost;
+  few = omega (
+    arith,
+    visits.few,
+    mul-le-mul_left factor (twice_the_digits (length + 1)),
+    add-mul factor factor (digits (length + 1)),
+    mul-add factor (digits (length + 1)) (digits (length + 1)),
+  );
+}
+
+-- an item that is put in, a growth that is refused, which visits nothing where nothing is there, and the item taken out again
+pub visits-taken_back : (length start put refused back : ℕ)
+    → VisitsWithin 12 (length + 1) start put
+    → VisitsWithin 12 length put refused
+    → (length ≡ 0 → refused ≡ put)
+    → VisitsWithin 12 (length + 1) refused back
+    → VisitsWithin 48 length start back
+visits-taken_back zero start put refused back first second none third = record {
+  none_lost = omega (arith, first.none_lost, second.none_lost, third.none_lost);
+  few = omega (arith, first.few, none refl, third.few, digits-of_few);
+}
+visits-taken_back (suc length) start put refused back first second none third = record {
+  none_lost = omega (arith, first.none_lost, second.none_lost, third.none_lost);
+  few = omega (arith, first.few, second.few, third.few, digits-one_more (suc length + 1), two_digits (suc length + 1) (omega arith));
 }
 
 -- worked out by hand

@@ -82,7 +82,7 @@ pub trait Partial: Sized {
         ensures replayable { OnOk result (IsReplayable (kind self.new) (rows self.new)) }
         ensures change { IfOk result (IsChange (kind self.old) (rows self.old) (add place row)) }
         ensures err { OnErr result (rows self.new ≡ rows self.old) }
-        ensures visits { VisitsWithin 144 (length (rows self.old) + 1) steps.old steps.new };
+        ensures visits { VisitsWithin 144 (length (rows self.new)) steps.old steps.new };
 
     /// Takes the row at the place out, gives it back, and answers the change of the present. It takes no
     /// memory.

@@ -33,7 +33,8 @@ pub(crate) fn put_in<L: Ledger>(
     ensures lefts { OnOk result (lefts.new ≡ insert lefts.old place (left_growth op, false)) }
     ensures rights { OnOk result (rights.new ≡ insert rights.old place (right_growth op, false)) }
     ensures err { OnErr result (Unchanged (lefts.old, rights.old) (lefts.new, rights.new)) }
-    ensures visits { VisitsWithin 36 (length lefts.old + 1) steps.old steps.new }
+    ensures ok_visits { OnOk result (VisitsWithin 24 (length lefts.new) steps.old steps.new) }
+    ensures visits { VisitsWithin 48 (length lefts.new) steps.old steps.new }
 {
     lefts.insert(place, left_growth(op), false, steps)?;
     match rights.insert(place, right_growth(op), false, steps) {

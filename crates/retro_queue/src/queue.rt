@@ -7,11 +7,10 @@ ghost use Rattle.retro_base.specs.Visits.{VisitsWithin};
 ghost use Rattle.prefix_trees.specs.Growth.{left_growth, grown};
 
 use prefix_trees::{
-    Line, SignedRows, ask_line, failure_with, failure_without, list_line, uncounted,
+    Line, SignedRows, ask_line, ask_uncounted, failure_with, failure_without, list_line,
 };
 use retro_base::{
-    Answer, Change, Kind, Listing, NoMemory, Op, Partial, Question, Retro, Row, Steps,
-};
+    Answer, Change, Kind, Listing, NoMemory, Op, Partial, Question, Retro, Row, Steps, uncounted};
 use std::alloc::Global;
 use std::marker::{Brand, Model};
 use std::sync::ledger::{Blank, Ledger};
@@ -199,7 +198,7 @@ impl Retro for RetroQueue {
     }
 
     fn ask(&mut self, place: u32, question: Question) -> Result<Answer, NoMemory> {
-        Ok(uncounted::ask(self, place, question))
+        Ok(ask_uncounted(self, place, question))
     }
 
     fn all(&mut self, place: u32) -> Result<Listing, NoMemory> {

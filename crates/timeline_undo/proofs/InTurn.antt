@@ -7,7 +7,7 @@ use Rattle.retro_base.specs.Edits.{Edit, edited, inverse, IsWithin}
 use Rattle.retro_base.specs.OrderLaws.{all_weaker}
 use Rattle.retro_base.specs.Timeline.{IsTimeline}
 use Rattle.timeline_undo.specs.Kept.{StandInTurn}
-use Rattle.timeline_undo.proofs.Edits.{can_go_back, there_and_back}
+use Rattle.retro_base.specs.EditedLists.{can_go_back, there_and_back}
 
 -- a timeline is one still where another number comes next
 pub timeline_later : (kind : Kind) (rows : List Row) (next : ℕ) → next < next_limit → IsTimeline kind rows next → IsTimeline kind rows (next + 1)

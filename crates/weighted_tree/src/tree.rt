@@ -73,6 +73,7 @@ impl<T: Measured> Tree<T> {
         ensures ok { OnOk result (self.new ≡ insert self.old place item) }
         ensures err { OnErr result (self.new ≡ self.old) }
         ensures some { OnOk result (0 < length self.old → steps.old + 1 ≤ steps.new) }
+        ensures none { OnErr result (length self.old ≡ 0 → steps.new ≡ steps.old) }
         ensures visits { VisitsWithin 12 (length self.new) steps.old steps.new }
     {
         let node = Box::new(self.alloc, Node::alone(item))?;

@@ -7,7 +7,8 @@ ghost use Rattle.workbench.specs.Told.{evidence_with, noted, told};
 use crate::evidence_lines::EvidenceLines;
 use crate::outcome::Outcome;
 use evidence::Evidence;
-use retro_base::{Kind, Name, NoMemory, one_change_is_named};
+use retro_base::laws::one_change_is_named;
+use retro_base::{Kind, Name, NoMemory};
 use std::alloc::Global;
 use timeline_undo::Turn;
 

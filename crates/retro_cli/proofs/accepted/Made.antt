@@ -9,6 +9,7 @@ use Rattle.retro_base.specs.declared.op.Op.{Op}
 use Rattle.retro_base.specs.declared.op.Op.TheVariants.{Enq, Deq, Push, Pop, PushL, PushR, PopL, PopR, Put, Del, Ins, DelMin}
 use Rattle.retro_base.specs.declared.row.Row.{Row}
 use Rattle.retro_base.specs.Carried.{AddsOwnRow, IsPqEdit}
+use Rattle.retro_base.specs.EditedLists.{can_go_back, there_and_back}
 use Rattle.retro_base.specs.Edits.{Edit, Step, add, cut, edited, edited_by, inverse, inverse_step, IsAccepted, IsWithin}
 use Rattle.retro_base.specs.Kind.{kind_of}
 use Rattle.retro_base.specs.Limits.{most_rows}
@@ -65,34 +66,6 @@ module _ (kind : Kind) (next later : ℕ) (more : next ≤ later) where
   step_later from to step made = leads_so (Makes kind next) (Makes kind later) makes_later step from to made
 
 -- An edit that was made can be taken back.
-stands_there : {X : Type 0} (xs : List X) (place : ℕ) (x : X) → place ≤ length xs → slice_get (insert xs place x) place ≡ Some x
-stands_there xs zero x within = refl
-stands_there [] (suc place) x within = absurd (omega arith)
-stands_there (y ∷ ys) (suc place) x within = stands_there ys place x (omega arith)
-
-taken_out_again : {X : Type 0} (xs : List X) (place : ℕ) (x : X) → place ≤ length xs → remove (insert xs place x) place ≡ xs
-taken_out_again xs zero x within = refl
-taken_out_again [] (suc place) x within = absurd (omega arith)
-taken_out_again (y ∷ ys) (suc place) x within = ap (λ more. y ∷ more) (taken_out_again ys place x (omega arith))
-
-put_in_again : {X : Type 0} (xs : List X) (place : ℕ) (x : X) → slice_get xs place ≡ Some x → insert (remove xs place) place x ≡ xs
-put_in_again [] place x there = absurd (cc)
-put_in_again (y ∷ ys) zero x there = let same : y ≡ x = cc in ap (λ z. z ∷ ys) (sym same)
-put_in_again (y ∷ ys) (suc place) x there = ap (λ more. y ∷ more) (put_in_again ys place x there)
-
-within_what_is_left : {X : Type 0} (xs : List X) (place : ℕ) (x : X) → slice_get xs place ≡ Some x → place ≤ length (remove xs place)
-within_what_is_left [] place x there = absurd (cc)
-within_what_is_left (y ∷ ys) zero x there = omega arith
-within_what_is_left (y ∷ ys) (suc place) x there = omega (arith, within_what_is_left ys place x there)
-
-can_go_back : (rows : List Row) (edit : Edit) → IsWithin rows edit → IsWithin (edited rows edit) (inverse edit)
-can_go_back rows (add place row) within = stands_there rows place row within
-can_go_back rows (cut place row) within = within_what_is_left rows place row within
-
-there_and_back : (rows : List Row) (edit : Edit) → IsWithin rows edit → edited (edited rows edit) (inverse edit) ≡ rows
-there_and_back rows (add place row) within = taken_out_again rows place row within
-there_and_back rows (cut place row) within = put_in_again rows place row within
-
 makes_back : (kind : Kind) (next : ℕ) (from to : List Row) (edit : Edit) → Makes kind next from edit to → Makes kind next to (inverse edit) from
 makes_back kind next from to edit made = record {
   before = made.behind;

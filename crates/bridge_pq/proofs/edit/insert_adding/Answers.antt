@@ -1,10 +1,12 @@
-use Rattle.std.proofs.Common.{◌≤◌, ◌+◌, length, ap, arith, false}
+use Rattle.std.proofs.Common.{◌≡◌, ◌+◌, length, ap, ◌∙◌, sym, subst, arith, false}
 use Rattle.std.proofs.lemmas.List.Edits.{length-insert}
 use Rattle.std.specs.List.{insert}
 use Rattle.retro_base.specs.Bridges.{survivors}
+use Rattle.retro_base.specs.Visits.{VisitsWithin}
 use Rattle.retro_base.specs.VisitsLaws.{visits-add, visits-longer}
 use Rattle.bridge_pq.specs.MarkedRows.{rows_of}
 use Rattle.bridge_pq.proofs.Costs.{visits-more}
+use Rattle.bridge_pq.proofs.EntryEdits.{one_longer}
 use Rattle.bridge_pq.proofs.Edited.{new-absent, few-entries, put-adding, turn-within, turn-few, turn-among, turn-done}
 use Rattle.bridge_pq.proofs.edit.insert_adding.Goals as goal
 
@@ -16,8 +18,11 @@ put_row_with_entry-requires-clause-absent g c = new-absent c.args.rows.now c.arg
 
 pub returns-in_err-put_row_with_entry-clause-visits : goal.returns-in_err-put_row_with_entry-clause-visits
 returns-in_err-put_row_with_entry-clause-visits g c =
-    visits-more 108 36 (length c.args.rows.now + 1) _ _
-    (visits-add 48 60 (length c.args.rows.now + 1) _ _ _ (visits-longer 48 (length c.args.rows.now) _ _ _ (omega arith) c.gained_with-turned.ensures.visits) c.put_row_with_entry.ensures.visits)
+    let same : c.args.rows.now ≡ c.put_row_with_entry.new.rows = sym c.in_err-put_row_with_entry.ensures.err.0 in
+    visits-more 120 24 (length c.put_row_with_entry.new.rows) _ _
+    (visits-add 48 72 (length c.put_row_with_entry.new.rows) _ _ _
+    (subst (λ rows. VisitsWithin 48 (length rows) c.args.steps.now c.gained_with-turned.new.steps) same c.gained_with-turned.ensures.visits)
+    c.put_row_with_entry.ensures.visits)
 
 pub turn-requires-clause-within : goal.turn-requires-clause-within
 turn-requires-clause-within g c = turn-within (insert (rows_of c.args.rows.now) c.args.place c.args.row) (survivors (rows_of c.args.rows.now)) c.put_row_with_entry.new.rows c.put_row_with_entry.new.entries (put-adding c.args.rows.now c.args.entries.now c.requires.bridged c.args.place c.args.row c.requires.within c.requires.room c.requires.fresh c.requires.of_kind c.requires.replays c.args.new c.requires.adds c.put_row_with_entry.new.rows c.put_row_with_entry.new.entries c.in_ok-put_row_with_entry.ensures.rows c.in_ok-put_row_with_entry.ensures.entries) c.gained_with-turned.result.place c.gained_with-turned.result.entry c.gained_with-turned.ensures.turns.there
@@ -39,9 +44,12 @@ returns-clause-rows g c = (turn-done (insert (rows_of c.args.rows.now) c.args.pl
 
 pub returns-clause-visits : goal.returns-clause-visits
 returns-clause-visits g c =
-    let longer : length c.put_row_with_entry.new.rows ≤ length c.args.rows.now + 1 =
-    omega (arith, ap length c.in_ok-put_row_with_entry.ensures.rows, length-insert c.args.rows.now c.args.place (record { row = c.args.row; survives = false }) c.requires.within) in
-    visits-more 132 12 (length c.args.rows.now + 1) _ _
-    (visits-add 84 48 (length c.args.rows.now + 1) _ _ _
-    (visits-add 48 36 (length c.args.rows.now + 1) _ _ _ (visits-longer 48 (length c.args.rows.now) _ _ _ (omega arith) c.gained_with-turned.ensures.visits) c.in_ok-put_row_with_entry.ensures.ok_visits)
-    (visits-longer 48 (length c.put_row_with_entry.new.rows) _ _ _ longer c.turn.ensures.visits))
+    let put = c.put_row_with_entry.new.rows in
+    let turned : length c.turn.new.rows ≡ length c.args.rows.now + 1 = one_longer c.args.rows.now c.turn.new.rows c.args.place c.args.row c.requires.within (returns-clause-rows g c) in
+    let longer : length put ≡ length c.args.rows.now + 1 = ap length c.in_ok-put_row_with_entry.ensures.rows ∙ length-insert c.args.rows.now c.args.place (record { row = c.args.row; survives = false }) c.requires.within in
+    visits-more 132 12 (length c.turn.new.rows) _ _
+    (visits-add 84 48 (length c.turn.new.rows) _ _ _
+    (visits-add 48 36 (length c.turn.new.rows) _ _ _
+    (visits-longer 48 (length c.args.rows.now) _ _ _ (omega (arith, turned)) c.gained_with-turned.ensures.visits)
+    (visits-longer 36 (length put) _ _ _ (omega (arith, turned, longer)) c.in_ok-put_row_with_entry.ensures.ok_visits))
+    (visits-longer 48 (length put) _ _ _ (omega (arith, turned, longer)) c.turn.ensures.visits))

@@ -2,7 +2,7 @@ use Rattle.std.proofs.Common.{◌≡◌, ◌≤◌, ◌+◌, length, subst, arit
 use Rattle.std.specs.Prelude.{OnOk, false}
 use Rattle.retro_base.specs.VisitsLaws.{visits-longer, visits-add}
 use Rattle.retro_base.proofs.bridges.Entries.{in_contains}
-use Rattle.bridge_pq.proofs.EntryEdits.{put-at, no_longer}
+use Rattle.bridge_pq.proofs.EntryEdits.{put-at, no_shorter}
 use Rattle.bridge_pq.proofs.entry_tree.put_entry.Goals as goal
 
 pub returns-clause-ok : goal.returns-clause-ok
@@ -14,6 +14,5 @@ returns-clause-ok g c =
 
 pub returns-clause-visits : goal.returns-clause-visits
 returns-clause-visits g c =
-    let longer : length c.insert.new.self ≤ length c.args.entries.now + 1 = no_longer c.insert.result c.args.entries.now c.insert.new.self c.place_of-place.result _ c.place_of-place.ensures.within c.insert.ensures.ok c.insert.ensures.err in
-    visits-add 12 12 (length c.args.entries.now + 1) _ _ _ (visits-longer 12 (length c.args.entries.now) _ _ _ (omega arith) c.place_of-place.ensures.visits)
-    (visits-longer 12 (length c.insert.new.self) _ _ _ longer c.insert.ensures.visits)
+    let kept : length c.args.entries.now ≤ length c.insert.new.self = no_shorter c.insert.result c.args.entries.now c.insert.new.self c.place_of-place.result _ c.place_of-place.ensures.within c.insert.ensures.ok c.insert.ensures.err in
+    visits-add 12 12 (length c.insert.new.self) _ _ _ (visits-longer 12 (length c.args.entries.now) _ _ _ kept c.place_of-place.ensures.visits) c.insert.ensures.visits

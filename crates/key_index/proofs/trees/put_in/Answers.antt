@@ -3,7 +3,8 @@ use Rattle.std.specs.List.{insert}
 use Rattle.std.proofs.lemmas.Int.{to_z-of_z}
 use Rattle.key_index.specs.KeyRows.{KeyRow, key_of}
 use Rattle.key_index.proofs.InOrder.{label_falls, key_falls}
-use Rattle.key_index.proofs.PutIn.{put_indexed, back_out}
+use Rattle.retro_base.specs.EditedLists.{remove-insert}
+use Rattle.key_index.proofs.PutIn.{put_indexed}
 use Rattle.key_index.proofs.trees.put_in.Goals as goal
 
 pub count_up_to-place-requires : goal.count_up_to-place-requires
@@ -17,7 +18,7 @@ pub returns-then-is_err-clause-indexed : goal.returns-then-is_err-clause-indexed
 returns-then-is_err-clause-indexed g c =
     let same : c.insert-2.new.self ≡ c.args.rows.now = search rules in
     let same_by_key : c.remove.new.self ≡ c.args.by_key.now =
-    c.remove.ensures.items ∙ rw c.in_ok-insert.ensures.ok (back_out c.args.by_key.now c.count_up_to-place_by_key.result c.new-row.result c.count_up_to-place_by_key.ensures.within) in
+    c.remove.ensures.items ∙ rw c.in_ok-insert.ensures.ok (remove-insert c.args.by_key.now c.count_up_to-place_by_key.result c.new-row.result c.count_up_to-place_by_key.ensures.within) in
     rw (same, same_by_key) c.requires.indexed
 
 pub returns-clause-indexed : goal.returns-clause-indexed

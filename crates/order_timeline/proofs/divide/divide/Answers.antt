@@ -2,7 +2,7 @@ use Rattle.std.proofs.Common.{◌≡◌, ◌+◌, ◌/◌, Some, slice_set, sym,
 use Rattle.std.specs.List.{insert, remove}
 use Rattle.order_timeline.specs.Runs.{IsInRuns}
 use Rattle.order_timeline.proofs.InRuns.{all_rows, ok_from, divided, rows_of_divided, start_of_divided, in_runs_behind}
-use Rattle.order_timeline.proofs.Rows.{taken_back}
+use Rattle.retro_base.specs.EditedLists.{remove-insert}
 use Rattle.order_timeline.proofs.Totals.{run_within}
 use Rattle.order_timeline.proofs.divide.divide.Goals as goal
 
@@ -10,7 +10,7 @@ pub returns-in-Err : goal.returns-in-Err
 returns-in-Err g c =
     let put = ok_from c.insert.result c.is_err.result _ c.is_err.ensures.value c.if-is_err.false c.insert.ensures.ok in
     let back : c.remove.new.self ≡ c.args.runs.now =
-    c.remove.ensures.items ∙ ap (λ runs. remove runs (c.args.run + 1)) put ∙ taken_back c.args.runs.now (c.args.run + 1) c.new.result (omega (arith, c.requires.there)) in
+    c.remove.ensures.items ∙ ap (λ runs. remove runs (c.args.run + 1)) put ∙ remove-insert c.args.runs.now (c.args.run + 1) c.new.result (omega (arith, c.requires.there)) in
     subst (λ runs. IsInRuns c.args.rows.now runs c.insert-2.new.self c.args.numbers.now) (sym back)
     (subst (λ names. IsInRuns c.args.rows.now c.args.runs.now names c.args.numbers.now) (sym c.in-Err.ensures.err) c.requires.in_runs)
 

@@ -1,7 +1,7 @@
 use Rattle.std.proofs.Common.{◌≡◌, ◌<◌, ◌++◌, [], ◌∷◌, length, slice_set, refl, sym, ap, ◌∙◌, subst}
 use Rattle.std.specs.List.{insert, remove, AllByRecursion}
 use Rattle.order_timeline.specs.Names.{AreDistinct}
-use Rattle.order_timeline.proofs.Rows.{taken_back}
+use Rattle.retro_base.specs.EditedLists.{remove-insert}
 use Rattle.order_timeline.proofs.Filed.{filed_is, filed_longer, filed_with, added_name, all_known, distinct_with}
 use Rattle.order_timeline.proofs.names.put_in.Goals as goal
 
@@ -36,11 +36,11 @@ returns-else-fresh-clause-filed g c =
 
 pub returns-in-Err-clause-err : goal.returns-in-Err-clause-err
 returns-in-Err-clause-err g c =
-    c.remove.ensures.items ∙ ap (λ names. remove names c.args.place) c.in_ok-insert.ensures.ok ∙ taken_back c.args.names.now c.args.place c.new.result c.requires.within
+    c.remove.ensures.items ∙ ap (λ names. remove names c.args.place) c.in_ok-insert.ensures.ok ∙ remove-insert c.args.names.now c.args.place c.new.result c.requires.within
 
 pub returns-in-Err-clause-filed : goal.returns-in-Err-clause-filed
 returns-in-Err-clause-filed g c =
     filed_is c.args.names.now c.args.labels.now (c.args.table.now ++ 0 ∷ []) c.remove.new.self c.insert-2.new.self c.add.new.self
     (filed_longer c.args.names.now c.args.labels.now c.args.table.now (0 ∷ []) c.requires.filed)
-    (c.remove.ensures.items ∙ ap (λ names. remove names c.args.place) c.in_ok-insert.ensures.ok ∙ taken_back c.args.names.now c.args.place c.new.result c.requires.within)
+    (c.remove.ensures.items ∙ ap (λ names. remove names c.args.place) c.in_ok-insert.ensures.ok ∙ remove-insert c.args.names.now c.args.place c.new.result c.requires.within)
     c.in-Err.ensures.err c.in_ok-name.ensures.ok

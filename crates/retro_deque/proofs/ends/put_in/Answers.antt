@@ -1,16 +1,15 @@
-use Rattle.std.proofs.Common.{◌≡◌, ◌+◌, length, false, ◌∙◌, ap, rules, arith}
+use Rattle.std.proofs.Common.{◌≡◌, ◌+◌, length, false, ◌∙◌, ap, sym, subst, rules, arith}
 use Rattle.std.specs.List.{insert, remove}
 use Rattle.std.proofs.lemmas.List.Edits.{length-insert}
-use Rattle.retro_base.specs.VisitsLaws.{digits-monotone, visits-longer, visits-add}
+use Rattle.retro_base.specs.Visits.{VisitsWithin}
+use Rattle.retro_base.specs.VisitsLaws.{visits-taken_back}
 use Rattle.prefix_trees.specs.Growth.{left_growth}
-use Rattle.prefix_trees.specs.EditedLists.{remove-insert}
+use Rattle.retro_base.specs.EditedLists.{remove-insert}
 use Rattle.retro_deque.proofs.ends.put_in.Goals as goal
 
 pub returns-in_err-insert-clause-visits : goal.returns-in_err-insert-clause-visits
 returns-in_err-insert-clause-visits g c =
-    let same : c.insert.new.self ≡ c.args.lefts.now = search rules in
-    let digits = digits-monotone (length c.insert.new.self + 1) (length c.args.lefts.now + 1 + 1) (omega (arith, ap length same)) in
-    record { none_lost = c.insert.ensures.visits.none_lost; few = omega (arith, c.insert.ensures.visits.few, digits) }
+    record { none_lost = c.insert.ensures.visits.none_lost; few = omega (arith, c.insert.ensures.visits.few) }
 
 pub returns-in-Err-clause-err : goal.returns-in-Err-clause-err
 returns-in-Err-clause-err g c =
@@ -21,11 +20,14 @@ returns-in-Err-clause-err g c =
 pub returns-in-Err-clause-visits : goal.returns-in-Err-clause-visits
 returns-in-Err-clause-visits g c =
     let lefts = c.args.lefts.now in
-    let whole = length lefts + 1 in
-    let placed : c.insert.new.self ≡ insert lefts c.args.place (left_growth c.args.op, false) = search rules in
-    let longer : length c.insert.new.self ≡ whole = ap length placed ∙ length-insert lefts c.args.place (left_growth c.args.op, false) c.requires.within in
+    let put : c.insert.new.self ≡ insert lefts c.args.place (left_growth c.args.op, false) = search rules in
+    let longer : length c.insert.new.self ≡ length lefts + 1 = ap length put ∙ length-insert lefts c.args.place (left_growth c.args.op, false) c.requires.within in
     let same : c.insert-2.new.self ≡ c.args.rights.now = search rules in
-    let first = visits-longer 12 (length c.insert.new.self) whole c.args.steps.now c.insert.new.steps (omega (arith, longer)) c.insert.ensures.visits in
-    let second = visits-longer 12 (length c.insert-2.new.self) whole c.insert.new.steps c.insert-2.new.steps (omega (arith, ap length same, c.requires.even)) c.insert-2.ensures.visits in
-    let third = visits-longer 12 (length c.insert.new.self) whole c.insert-2.new.steps c.remove.new.steps (omega (arith, longer)) c.remove.ensures.visits in
-    visits-add 24 12 whole c.args.steps.now c.insert-2.new.steps c.remove.new.steps (visits-add 12 12 whole c.args.steps.now c.insert.new.steps c.insert-2.new.steps first second) third
+    let even : length c.insert-2.new.self ≡ length lefts = ap length same ∙ c.requires.even in
+    let back : c.remove.new.self ≡ lefts = c.remove.ensures.items ∙ ap (λ xs. remove xs c.args.place) put ∙ remove-insert lefts c.args.place (left_growth c.args.op, false) c.requires.within in
+    subst (λ xs. VisitsWithin 48 (length xs) c.args.steps.now c.remove.new.steps) (sym back)
+    (visits-taken_back (length lefts) c.args.steps.now c.insert.new.steps c.insert-2.new.steps c.remove.new.steps
+    (subst (λ n. VisitsWithin 12 n c.args.steps.now c.insert.new.steps) longer c.insert.ensures.visits)
+    (subst (λ n. VisitsWithin 12 n c.insert.new.steps c.insert-2.new.steps) even c.insert-2.ensures.visits)
+    (λ (empty : length lefts ≡ 0). c.in-Err.ensures.none (c.requires.even ∙ empty))
+    (subst (λ n. VisitsWithin 12 n c.insert-2.new.steps c.remove.new.steps) longer c.remove.ensures.visits))

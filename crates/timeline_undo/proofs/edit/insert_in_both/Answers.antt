@@ -1,7 +1,8 @@
 use Rattle.std.proofs.Common.{◌≡◌, sym, ◌∙◌}
 use Rattle.retro_base.specs.Kind.{kind_of}
 use Rattle.retro_base.specs.MadeEdits.{all_inserted, inserted_is_fresh}
-use Rattle.timeline_undo.proofs.Edits.{did_fit, taken_out_again}
+use Rattle.retro_base.specs.EditedLists.{remove-insert}
+use Rattle.timeline_undo.proofs.Edits.{did_fit}
 use Rattle.timeline_undo.proofs.edit.insert_in_both.Goals as goal
 
 pub insert-requires-clause-fresh : goal.insert-requires-clause-fresh
@@ -19,8 +20,8 @@ insert-requires-2-clause-of_kind g c = all_inserted (λ r. kind_of r.op ≡ _) _
 pub returns-in-Err-clause-same : goal.returns-in-Err-clause-same
 returns-in-Err-clause-same g c =
     c.in-Err.ensures.err ∙ c.requires.same
-    ∙ sym (c.remove.ensures.rows ∙ rw c.in_ok-insert.ensures.ok (taken_out_again c.args.timeline.now c.args.place c.args.row c.requires.within))
+    ∙ sym (c.remove.ensures.rows ∙ rw c.in_ok-insert.ensures.ok (remove-insert c.args.timeline.now c.args.place c.args.row c.requires.within))
 
 pub returns-in-Err-clause-err : goal.returns-in-Err-clause-err
 returns-in-Err-clause-err g c =
-    c.remove.ensures.rows ∙ rw c.in_ok-insert.ensures.ok (taken_out_again c.args.timeline.now c.args.place c.args.row c.requires.within)
+    c.remove.ensures.rows ∙ rw c.in_ok-insert.ensures.ok (remove-insert c.args.timeline.now c.args.place c.args.row c.requires.within)

@@ -1,6 +1,6 @@
 use Rattle.std.proofs.Common.{[], ◌∷◌, ap, refl}
 use Rattle.retro_base.specs.Edits.{edited}
-use Rattle.timeline_undo.proofs.Edits.{there_and_back}
+use Rattle.retro_base.specs.EditedLists.{there_and_back}
 use Rattle.timeline_undo.proofs.Rings.{newest-recorded}
 use Rattle.timeline_undo.proofs.laws.an_undo_leads_back.Goals as goal
 

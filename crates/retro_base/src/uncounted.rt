@@ -1,0 +1,160 @@
+//! The calls of a structure that answers of the present alone, each with a counter of its own: for a caller
+//! that counts nothing. Costs, conditions and answers are those of `Partial`.
+ghost use Rattle.std.specs.Prelude.{◌≡◌, ◌+◌, ◌<◌, ◌≤◌, length, slice_get, true, Some, IfSome, IfOk, OnOk, OnErr};
+ghost use Rattle.std.specs.List.{insert, remove};
+ghost use Rattle.retro_base.specs.declared.row.Row.{Row};
+ghost use Rattle.retro_base.specs.Limits.{most_rows};
+ghost use Rattle.retro_base.specs.Kind.{kind_of};
+ghost use Rattle.retro_base.specs.Replay.{failure, IsValid, present};
+ghost use Rattle.retro_base.specs.Answers.{answer_of};
+ghost use Rattle.retro_base.specs.Questions.{suits};
+ghost use Rattle.retro_base.specs.Edits.{add, cut};
+ghost use Rattle.retro_base.specs.Changes.{IsChange};
+ghost use Rattle.retro_base.specs.Timeline.{IsFresh, IsReplayable};
+
+use crate::{Answer, Change, NoMemory, Op, Partial, Question, Row, Steps};
+use std::marker::Brand;
+use std::sync::ledger::{Blank, Ledger};
+
+/// `failure_after_insert` of the structure.
+pub fn failure_after_insert<P: Partial>(structure: &P, place: u32, op: Op) -> Option<u32>
+    requires within { place ≤ length (P.rows structure.now) }
+    requires of_kind { kind_of op ≡ P.kind structure.now }
+    ensures first { (row : Row)
+        → row.op ≡ op → result ≡ failure (P.kind structure.now) (insert (P.rows structure.now) place row) }
+    ensures index { IfSome result (λ index. index ≤ length (P.rows structure.now)) }
+{
+    find_failure_with::<P, Brand>(structure, place, op, Blank::new(1))
+}
+
+fn find_failure_with<P: Partial, L: Ledger>(
+    structure: &P,
+    place: u32,
+    op: Op,
+    blank: Blank,
+) -> Option<u32>
+    requires within { place ≤ length (P.rows structure.now) }
+    requires of_kind { kind_of op ≡ P.kind structure.now }
+    requires name { blank.name ≡ L.name }
+    requires parts { blank.parts ≡ L.parts }
+    requires shared { 0 < blank.parts }
+    ensures first { (row : Row)
+        → row.op ≡ op → result ≡ failure (P.kind structure.now) (insert (P.rows structure.now) place row) }
+    ensures index { IfSome result (λ index. index ≤ length (P.rows structure.now)) }
+{
+    let mut steps = Steps::<L>::new(blank);
+    structure.failure_after_insert(place, op, &mut steps)
+}
+
+/// `failure_after_remove` of the structure.
+pub fn failure_after_remove<P: Partial>(structure: &P, place: u32) -> Option<u32>
+    requires { place < length (P.rows structure.now) }
+    ensures first { result ≡ failure (P.kind structure.now) (remove (P.rows structure.now) place) }
+    ensures index { IfSome result (λ index. index + 1 < length (P.rows structure.now)) }
+{
+    find_failure_without::<P, Brand>(structure, place, Blank::new(1))
+}
+
+fn find_failure_without<P: Partial, L: Ledger>(
+    structure: &P,
+    place: u32,
+    blank: Blank,
+) -> Option<u32>
+    requires within { place < length (P.rows structure.now) }
+    requires name { blank.name ≡ L.name }
+    requires parts { blank.parts ≡ L.parts }
+    requires shared { 0 < blank.parts }
+    ensures first { result ≡ failure (P.kind structure.now) (remove (P.rows structure.now) place) }
+    ensures index { IfSome result (λ index. index + 1 < length (P.rows structure.now)) }
+{
+    let mut steps = Steps::<L>::new(blank);
+    structure.failure_after_remove(place, &mut steps)
+}
+
+/// `insert` of the structure.
+pub fn insert<P: Partial>(structure: &mut P, place: u32, row: Row) -> Result<Change, NoMemory>
+    requires within { place ≤ length (P.rows structure.old) }
+    requires room { length (P.rows structure.old) < most_rows }
+    requires fresh { IsFresh row.number (P.rows structure.old) }
+    requires of_kind { kind_of row.op ≡ P.kind structure.old }
+    requires replays { IsValid (P.kind structure.old) (insert (P.rows structure.old) place row) }
+    ensures kind { P.kind structure.new ≡ P.kind structure.old }
+    ensures rows { OnOk result (P.rows structure.new ≡ insert (P.rows structure.old) place row) }
+    ensures replayable { OnOk result (IsReplayable (P.kind structure.new) (P.rows structure.new)) }
+    ensures change { IfOk result (IsChange (P.kind structure.old) (P.rows structure.old) (add place row)) }
+    ensures err { OnErr result (P.rows structure.new ≡ P.rows structure.old) }
+{
+    put_in::<P, Brand>(structure, place, row, Blank::new(1))
+}
+
+fn put_in<P: Partial, L: Ledger>(
+    structure: &mut P,
+    place: u32,
+    row: Row,
+    blank: Blank,
+) -> Result<Change, NoMemory>
+    requires within { place ≤ length (P.rows structure.old) }
+    requires room { length (P.rows structure.old) < most_rows }
+    requires fresh { IsFresh row.number (P.rows structure.old) }
+    requires of_kind { kind_of row.op ≡ P.kind structure.old }
+    requires replays { IsValid (P.kind structure.old) (insert (P.rows structure.old) place row) }
+    requires name { blank.name ≡ L.name }
+    requires parts { blank.parts ≡ L.parts }
+    requires shared { 0 < blank.parts }
+    ensures kind { P.kind structure.new ≡ P.kind structure.old }
+    ensures rows { OnOk result (P.rows structure.new ≡ insert (P.rows structure.old) place row) }
+    ensures replayable { OnOk result (IsReplayable (P.kind structure.new) (P.rows structure.new)) }
+    ensures change { IfOk result (IsChange (P.kind structure.old) (P.rows structure.old) (add place row)) }
+    ensures err { OnErr result (P.rows structure.new ≡ P.rows structure.old) }
+{
+    let mut steps = Steps::<L>::new(blank);
+    structure.insert(place, row, &mut steps)
+}
+
+/// `remove` of the structure.
+pub fn remove<P: Partial>(structure: &mut P, place: u32) -> (Row, Change)
+    requires within { place < length (P.rows structure.old) }
+    requires replays { IsValid (P.kind structure.old) (remove (P.rows structure.old) place) }
+    ensures kind { P.kind structure.new ≡ P.kind structure.old }
+    ensures row { slice_get (P.rows structure.old) place ≡ Some result.0 }
+    ensures rows { P.rows structure.new ≡ remove (P.rows structure.old) place }
+    ensures replayable { IsReplayable (P.kind structure.new) (P.rows structure.new) }
+    ensures change { IsChange (P.kind structure.old) (P.rows structure.old) (cut place result.0) result.1 }
+{
+    take_out::<P, Brand>(structure, place, Blank::new(1))
+}
+
+fn take_out<P: Partial, L: Ledger>(structure: &mut P, place: u32, blank: Blank) -> (Row, Change)
+    requires within { place < length (P.rows structure.old) }
+    requires replays { IsValid (P.kind structure.old) (remove (P.rows structure.old) place) }
+    requires name { blank.name ≡ L.name }
+    requires parts { blank.parts ≡ L.parts }
+    requires shared { 0 < blank.parts }
+    ensures kind { P.kind structure.new ≡ P.kind structure.old }
+    ensures row { slice_get (P.rows structure.old) place ≡ Some result.0 }
+    ensures rows { P.rows structure.new ≡ remove (P.rows structure.old) place }
+    ensures replayable { IsReplayable (P.kind structure.new) (P.rows structure.new) }
+    ensures change { IsChange (P.kind structure.old) (P.rows structure.old) (cut place result.0) result.1 }
+{
+    let mut steps = Steps::<L>::new(blank);
+    structure.remove(place, &mut steps)
+}
+
+/// `ask_now` of the structure.
+pub fn ask_now<P: Partial>(structure: &P, question: Question) -> Answer
+    requires { suits question (P.kind structure.now) ≡ true }
+    ensures { result ≡ answer_of (present (P.kind structure.now) (P.rows structure.now)) question }
+{
+    answer_now::<P, Brand>(structure, question, Blank::new(1))
+}
+
+fn answer_now<P: Partial, L: Ledger>(structure: &P, question: Question, blank: Blank) -> Answer
+    requires suited { suits question (P.kind structure.now) ≡ true }
+    requires name { blank.name ≡ L.name }
+    requires parts { blank.parts ≡ L.parts }
+    requires shared { 0 < blank.parts }
+    ensures { result ≡ answer_of (present (P.kind structure.now) (P.rows structure.now)) question }
+{
+    let mut steps = Steps::<L>::new(blank);
+    structure.ask_now(question, &mut steps)
+}
