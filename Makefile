@@ -1,6 +1,7 @@
 # Every command that a person has to know.
 #
 #   make run      builds the program and answers a first script in front of you; SCRIPT=FILE for another one
+#   make try      answers the same script by a trial build within a minute or two, and proves nothing
 #   make build    leaves the program at build/retro, so that `build/retro run < FILE` works on any script
 #   make install  puts it into bin below PREFIX, which is /usr/local where none is named
 #   make test     the gate: every proof, every edit that must fail, every test, every example, and of the built program
@@ -11,7 +12,9 @@
 SCRIPT ?= examples/late_job.script
 PREFIX ?= /usr/local
 
-.PHONY: run build install test bench
+SOURCES := $(shell find crates -name out -prune -o -type f \( -name '*.rt' -o -name '*.antt' \) -print) crates.txt
+
+.PHONY: run try build install test bench
 
 run: build
 	@echo
@@ -20,13 +23,15 @@ run: build
 	@echo "and its answers:"
 	@build/retro run < $(SCRIPT) | sed 's/^/    /'
 
-# A program is built only once it is proved; what was proved before is kept in out/ of each crate.
-build:
-	@mkdir -p build
-	@echo "Proving and building the program; the first time takes a few minutes (log: build/log) ..."
-	@cd crates/retro && rt run -- run < /dev/null > ../../build/log 2>&1 || { tail -n 20 ../../build/log; exit 1; }
-	@cp crates/retro/out/retro build/retro
-	@echo "The program is build/retro"
+try:
+	@echo "A trial build of the program: it proves nothing, and takes a minute or two ..."
+	@cd crates/retro && rt try -- run < "$(abspath $(SCRIPT))"
+
+build: build/retro
+
+# A program is built only once it is proved.
+build/retro: $(SOURCES)
+	@sh .ci/build
 
 install: build
 	@mkdir -p "$(DESTDIR)$(PREFIX)/bin"
