@@ -57,4 +57,4 @@ root_of sound same = record { items_are = sym same; balanced = sound.balanced; f
 -- the node that a link leads to
 abbrev pub node_of : {A M : Type 0} → Node A M → Link A M → Node A M
 node_of none Empty = none
-node_of none (Full size node measure) = node.value
+node_of none (Full size closed measure) = closed.node.value

@@ -1,13 +1,14 @@
 -- A balanced tree has at most three levels for each digit of its weight.
-use Rattle.std.proofs.Common.{◌≡◌, ℕ, zero, suc, ◌+◌, ◌*◌, ◌^◌, ◌<◌, ◌≤◌, List, ◌∷◌, length, length-append, ap, ◌∙◌, subst, arith}
+use Rattle.std.proofs.Common.{◌≡◌, ℕ, zero, suc, ◌+◌, ◌*◌, ◌^◌, ◌<◌, ◌≤◌, List, ◌∷◌, ◌++◌, length, length-append, ap, ◌∙◌, subst, arith}
 use Rattle.std.proofs.lemmas.Nat.{pow-add}
+use Rattle.std.proofs.Math.Nat.{one-le-pow}
 use Rattle.weighted_tree.specs.Balance.{weight}
 use Rattle.weighted_tree.specs.Nodes.{IsRoot}
 use Rattle.weighted_tree.specs.declared.subtree.Node.{Node}
 use Rattle.retro_base.specs.Digits.{digits}
 use Rattle.retro_base.specs.Visits.{VisitsWithin}
 use Rattle.retro_base.specs.VisitsLaws.{below-digits, digits-monotone}
-use Rattle.weighted_tree.specs.Levels.{IsWithinLevels, OneALevel, FourALevel}
+use Rattle.weighted_tree.specs.Levels.{IsWithinLevels, OneALevel, FourALevel, TwoALevel}
 use Rattle.weighted_tree.specs.SearchSteps.{VisitsOfSearch}
 use Rattle.weighted_tree.specs.declared.node.Side.{Side}
 use Rattle.weighted_tree.specs.declared.search.Search.{Search}
@@ -39,8 +40,8 @@ few-by_levels whole length before after light none_lost visits = record {
   few = omega (arith, visits (3 * digits whole) (levels-of_digits whole), digits-monotone whole (length + 1) light);
 }
 
--- a level more: the node is visited on the way down, and rebalancing visits two more on the way up
-pub level_more : (whole side start visited middle end : ℕ) → visited ≡ start + 1 → 2 ≤ whole → 4 * side ≤ 3 * whole → FourALevel side visited middle → end ≤ middle + 2 → FourALevel whole start end
+-- a level more: the node is visited on the way down and on the way back, where a rotation visits two more
+pub level_more : (whole side start visited middle end : ℕ) → visited ≡ start + 1 → 2 ≤ whole → 4 * side ≤ 3 * whole → FourALevel side visited middle → end ≤ middle + 3 → FourALevel whole start end
 level_more whole side start visited middle end visit some light below up zero within = absurd (omega arith)
 level_more whole side start visited middle end visit some light below up (suc levels) within = omega (arith, below levels (within side light))
 
@@ -48,21 +49,54 @@ level_here : (whole start end : ℕ) → 2 ≤ whole → end ≤ start + 4 → F
 level_here whole start end some up zero within = absurd (omega arith)
 level_here whole start end some up (suc levels) within = omega arith
 
+-- a level more of those that each path has, on whose way down and back two more are visited
+two_a_level_more : (whole side start visited middle end : ℕ) → 1 ≤ side → whole ≤ 4 * side → TwoALevel side visited middle → start + 2 + middle ≤ visited + end → TwoALevel whole start end
+two_a_level_more whole side start visited middle end some heavy below up zero within = omega (arith, below zero (omega arith))
+two_a_level_more whole side start visited middle end some heavy below up (suc levels) within = omega (arith, below levels (omega (arith, pow-add 4 levels 1)))
+
+-- no node, and a node with one side at the most
+pub counted_none : (whole before after : ℕ) → whole ≤ 1 → before ≤ after → TwoALevel whole before after
+counted_none whole before after none none_lost zero within = omega arith
+counted_none whole before after none none_lost (suc levels) within = absurd (omega (arith, pow-add 4 levels 1, one-le-pow levels 4 (omega arith)))
+
+pub counted_one : (whole before after : ℕ) → whole ≤ 4 → before + 2 ≤ after → TwoALevel whole before after
+counted_one whole before after few both zero within = omega arith
+counted_one whole before after few both (suc zero) within = omega arith
+counted_one whole before after few both (suc (suc levels)) within = absurd (omega (arith, pow-add 4 levels 2, one-le-pow levels 4 (omega arith)))
+
 -- the left side is a level down, and the right one
 module _ {A M : Type 0} (items : List A) (node : Node A M) (start visited middle end : ℕ) (root : IsRoot items node) where
-  pub level_left : visited ≡ start + 1 → FourALevel (weight node.left) visited middle → end ≤ middle + 2 → FourALevel (weight items) start end
+  pub level_left : visited ≡ start + 1 → FourALevel (weight node.left) visited middle → end ≤ middle + 3 → FourALevel (weight items) start end
   level_left visit below up =
       let whole = ap length root.items_are ∙ length-append node.left (node.item ∷ node.right) in
       level_more (weight items) (weight node.left) start visited middle end visit (omega arith) (omega arith) below up
 
-  pub level_right : visited ≡ start + 1 → FourALevel (weight node.right) visited middle → end ≤ middle + 2 → FourALevel (weight items) start end
+  pub level_right : visited ≡ start + 1 → FourALevel (weight node.right) visited middle → end ≤ middle + 3 → FourALevel (weight items) start end
   level_right visit below up =
       let whole = ap length root.items_are ∙ length-append node.left (node.item ∷ node.right) in
       level_more (weight items) (weight node.right) start visited middle end visit (omega arith) (omega arith) below up
 
+  pub counted_left : TwoALevel (weight node.left) visited middle → start + 2 + middle ≤ visited + end → TwoALevel (weight items) start end
+  counted_left below up =
+      let whole = ap length root.items_are ∙ length-append node.left (node.item ∷ node.right) in
+      two_a_level_more (weight items) (weight node.left) start visited middle end (omega arith) (omega (arith, root.balanced)) below up
+
+  pub counted_right : TwoALevel (weight node.right) visited middle → start + 2 + middle ≤ visited + end → TwoALevel (weight items) start end
+  counted_right below up =
+      let whole = ap length root.items_are ∙ length-append node.left (node.item ∷ node.right) in
+      two_a_level_more (weight items) (weight node.right) start visited middle end (omega arith) (omega (arith, root.balanced)) below up
+
   -- the node alone
   pub level_end : visited ≡ start + 1 → end ≤ visited + 3 → FourALevel (weight items) start end
   level_end visit up = level_here (weight items) start end (let whole = ap length root.items_are ∙ length-append node.left (node.item ∷ node.right) in omega arith) (omega arith)
+
+-- there is an item below each node
+pub some_items : {A : Type 0} (left right : List A) (item : A) → 0 < length (left ++ item ∷ right)
+some_items left right item = omega (arith, length-append left (item ∷ right))
+
+-- where one side has no items, the whole weighs no more than this
+pub few_items : {A M : Type 0} {items : List A} {node : Node A M} → IsRoot items node → length node.left ≡ 0 → weight items ≤ 4
+few_items {node} root none = omega (arith, ap length root.items_are, length-append node.left (node.item ∷ node.right), root.balanced)
 
 -- one visit a level
 pub one_more : (whole side start visited end : ℕ) → visited ≡ start + 1 → 2 ≤ whole → 4 * side ≤ 3 * whole → OneALevel side visited end → OneALevel whole start end

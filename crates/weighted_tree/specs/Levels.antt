@@ -1,5 +1,5 @@
--- How many nodes a call may visit on the levels of a balanced tree.
-use Rattle.std.specs.Prelude.{ℕ, zero, suc, ◌+◌, ◌*◌, ◌≤◌}
+-- How many nodes a call visits on the levels of a balanced tree.
+use Rattle.std.specs.Prelude.{ℕ, zero, suc, ◌+◌, ◌*◌, ◌^◌, ◌<◌, ◌≤◌}
 
 -- a balanced tree of this weight has no path of more levels: a side weighs at most 3 quarters of the whole
 abbrev pub IsWithinLevels : ℕ → ℕ → Type 0
@@ -13,3 +13,7 @@ FourALevel whole before after = (levels : ℕ) → IsWithinLevels whole levels �
 -- at most one visit a level
 abbrev pub OneALevel : ℕ → ℕ → ℕ → Type 0
 OneALevel whole before after = (levels : ℕ) → IsWithinLevels whole levels → after ≤ before + levels
+
+-- at least two visits a level, on the way down and on the way back: a side weighs at least a quarter of the whole
+abbrev pub TwoALevel : ℕ → ℕ → ℕ → Type 0
+TwoALevel whole before after = (levels : ℕ) → 4 ^ levels < 4 * whole → before + 2 * levels ≤ after

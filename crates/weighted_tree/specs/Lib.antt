@@ -3,6 +3,7 @@ pub mod Levels
 pub mod Measures
 pub mod Nodes
 pub mod NodesFall
+pub mod Opened
 pub mod Search
 pub mod SearchSteps
 pub mod Sides

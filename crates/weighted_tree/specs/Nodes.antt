@@ -13,7 +13,7 @@ node_items node = node.left ++ node.item ∷ node.right
 -- the items that a link leads to, in order
 abbrev pub items_of : {A M : Type 0} → Link A M → List A
 items_of Empty = []
-items_of (Full size node measure) = node_items node.value
+items_of (Full size closed measure) = node_items closed.node.value
 
 -- the sides are in balance
 abbrev pub HasBalance : {A M : Type 0} → Node A M → Type 0
@@ -29,12 +29,12 @@ pub record IsNode {A M : Type 0} (unit : M) (join : M → M → M) (measured : A
 -- a link tells the size and the measure of what it leads to
 abbrev pub IsSound : {A M : Type 0} → M → (M → M → M) → (A → M) → Link A M → Type 0
 IsSound unit join measured Empty = Unit {0}
-IsSound unit join measured (Full size node measure) = IsNode unit join measured size measure node.value
+IsSound unit join measured (Full size closed measure) = IsNode unit join measured size measure closed.node.value
 
 -- one side of the node gained or lost an item, whatever the link tells of it
 abbrev pub IsUnsettled : {A M : Type 0} → Link A M → Type 0
 IsUnsettled Empty = Unit {0}
-IsUnsettled (Full size node measure) = IsNearlyBalanced (weight node.value.left) (weight node.value.right) × (length (node_items node.value) < 2 ^ 32)
+IsUnsettled (Full size closed measure) = IsNearlyBalanced (weight closed.node.value.left) (weight closed.node.value.right) × (length (node_items closed.node.value) < 2 ^ 32)
 
 -- the node is the root of a tree of these items, whose number has 32 bits
 pub record IsRoot {A M : Type 0} (items : List A) (node : Node A M) : Type 0 where

@@ -11,4 +11,4 @@ use Rattle.weighted_tree.specs.Nodes.{items_of}
 -- no side is deeper than the link has items
 pub depth_le-length-items : {A M : Type 0} (measured : Measured.Ghosts A M) (monoid : Monoid.Ghosts M) (link : Link A M) → max (deep-Link A M measured monoid link) 0 ≤ length (items_of link)
 depth_le-length-items measured monoid Empty = omega arith
-depth_le-length-items measured monoid (Full size node measure) = omega (arith, length-append node.value.left (node.value.item ∷ node.value.right))
+depth_le-length-items measured monoid (Full size closed measure) = omega (arith, length-append closed.node.value.left (closed.node.value.item ∷ closed.node.value.right))

@@ -1,8 +1,9 @@
 ghost use Rattle.std.specs.Prelude.{◌≡◌, ℕ, ◌+◌, ◌*◌, ◌^◌, ◌<◌, ◌≤◌, [], ◌∷◌, ◌++◌, length, slice_get, slice_set, Some};
 ghost use Rattle.std.specs.List.{insert, remove};
 ghost use Rattle.weighted_tree.specs.Balance.{weight, IsBalanced};
-ghost use Rattle.weighted_tree.specs.Levels.{IsWithinLevels, FourALevel};
+ghost use Rattle.weighted_tree.specs.Levels.{IsWithinLevels, TwoALevel, FourALevel};
 
+use crate::balance::balance;
 use crate::node::Side;
 use crate::subtree::{Link, Node, Subtree};
 use monoid_laws::Measured;
@@ -24,15 +25,15 @@ impl<T: Measured> Subtree<T> {
         requires after { fresh.value.right ≡ [] }
         ensures items { self.new ≡ insert self.old place fresh.value.item }
         ensures none_lost { steps.old ≤ steps.new }
-        ensures some { 0 < length self.old → steps.old + 1 ≤ steps.new }
+        ensures some { 0 < length self.old → steps.old + 2 ≤ steps.new }
+        ensures counted { TwoALevel (weight self.old) steps.old steps.new }
         ensures visits { FourALevel (weight self.old) steps.old steps.new }
     {
         let Link::Full { node, .. } = &mut self.link else {
             *self = Subtree::of_root(fresh);
             return;
         };
-        steps.tick();
-        let node = &mut **node;
+        let node = &mut **node.open_mut(steps);
         let before = node.left.len();
         if place <= before {
             node.left.insert_below(place, fresh, steps);
@@ -47,23 +48,24 @@ impl<T: Measured> Subtree<T> {
         requires within { place < length self.old }
         ensures item { slice_get self.old place ≡ Some result }
         ensures items { self.new ≡ remove self.old place }
-        ensures some { steps.old + 1 ≤ steps.new }
+        ensures some { steps.old + 2 ≤ steps.new }
+        ensures counted { TwoALevel (weight self.old) steps.old steps.new }
         ensures visits { FourALevel (weight self.old) steps.old steps.new }
     {
         let Link::Full { node, .. } = &mut self.link else {
             unreachable!()
         };
-        steps.tick();
-        let node = &mut **node;
+        let node = &mut **node.open_mut(steps);
         let before = node.left.len();
         let item = if place < before {
             node.left.remove_below(place, steps)
         } else if place > before {
             node.right.remove_below(place - before - 1, steps)
         } else {
-            let Link::Full { mut node, .. } = mem::replace(&mut self.link, Link::Empty) else {
+            let Link::Full { node, .. } = mem::replace(&mut self.link, Link::Empty) else {
                 unreachable!()
             };
+            let mut node = node.into_open(steps);
             *self = merged(node.take(Side::Left), node.take(Side::Right), steps);
             return node.item;
         };
@@ -76,21 +78,22 @@ impl<T: Measured> Subtree<T> {
         requires some { 0 < length self.old }
         ensures items { self.old ≡ result.value.item ∷ self.new }
         ensures none_lost { steps.old ≤ steps.new }
+        ensures counted { TwoALevel (weight self.old) steps.old steps.new }
         ensures visits { FourALevel (weight self.old) steps.old steps.new }
     {
         let Link::Full { node, .. } = &mut self.link else {
             unreachable!()
         };
-        steps.tick();
-        let node = &mut **node;
+        let node = &mut **node.open_mut(steps);
         if node.left.len() > 0 {
             let first = node.left.take_first(steps);
             self.link.settle(steps);
             return first;
         }
-        let Link::Full { mut node, .. } = mem::replace(&mut self.link, Link::Empty) else {
+        let Link::Full { node, .. } = mem::replace(&mut self.link, Link::Empty) else {
             unreachable!()
         };
+        let mut node = node.into_open(steps);
         *self = node.take(Side::Right);
         node
     }
@@ -105,14 +108,18 @@ impl<T: Measured> Subtree<T> {
         requires within { place < length self.old }
         ensures item { slice_get self.old place ≡ Some result }
         ensures items { self.new ≡ slice_set self.old place item }
-        ensures some { steps.old + 1 ≤ steps.new }
+        ensures some { steps.old + 2 ≤ steps.new }
         ensures visits { FourALevel (weight self.old) steps.old steps.new }
     {
-        let Link::Full { node, measure, .. } = &mut self.link else {
+        let Link::Full {
+            node: closed,
+            measure,
+            ..
+        } = &mut self.link
+        else {
             unreachable!()
         };
-        steps.tick();
-        let node = &mut **node;
+        let node = &mut **closed.open_mut(steps);
         let before = node.left.len();
         let old = if place < before {
             node.left.replace_below(place, item, steps)
@@ -121,6 +128,7 @@ impl<T: Measured> Subtree<T> {
         } else {
             mem::replace(&mut node.item, item)
         };
+        let node = &mut **closed.open_mut(steps);
         *measure = node.measure();
         old
     }
@@ -136,6 +144,7 @@ fn merged<T: Measured, L: Ledger>(
     requires fits { length left + length right + 1 < 2 ^ 32 }
     ensures items { result ≡ left ++ right }
     ensures none_lost { steps.old ≤ steps.new }
+    ensures counted { TwoALevel (weight right) steps.old steps.new }
     ensures visits { (levels : ℕ) → IsWithinLevels (weight right) levels → steps.new ≤ steps.old + 4 * levels + 2 }
 {
     if right.len() == 0 {
@@ -144,5 +153,6 @@ fn merged<T: Measured, L: Ledger>(
     let mut node = right.take_first(steps);
     node.put(Side::Left, left);
     node.put(Side::Right, right);
-    Subtree::balanced(node, steps)
+    balance(&mut node, steps);
+    Subtree::of_root(node)
 }

@@ -20,9 +20,11 @@
 //! | `get`, `insert`, `remove`, `replace`, `measure`, `first_place`, `last_place` | at most 12 d |
 //! | `copy` | each once |
 //!
-//! Each visit is a step on the counter that the caller hands in, which contracts alone see. `insert` and
-//! `copy` take memory from the allocator that the tree was made with, and leave the tree as it was where
-//! there is none; no other call takes any.
+//! A link holds its node closed: each way to open it, be it to read it, to change it or to take it apart,
+//! is a visit, and a step on the counter that the caller hands in, which contracts alone see. So an edit
+//! visits a node on the way down and again on the way back. The size and the measure of a subtree belong
+//! to the node above it, which the link is in. `insert` and `copy` take memory from the allocator that
+//! the tree was made with, and leave the tree as it was where there is none; no other call takes any.
 //!
 //! The proofs rest on the laws of the monoid alone. What the layer above may rely on: the clauses of
 //! `Tree`, in the words of lists; `measure_in` of specs/Measures.antt and std's `slice_range` for what a
@@ -31,6 +33,7 @@
 #![tactic(auto)]
 
 mod balance;
+mod closed;
 mod copy;
 mod edit;
 mod node;

@@ -1,4 +1,4 @@
-ghost use Rattle.std.specs.Prelude.{◌≡◌, ◌+◌, ◌^◌, ◌<◌, [], List, length, IsTrue};
+ghost use Rattle.std.specs.Prelude.{◌≡◌, ◌+◌, ◌^◌, ◌<◌, [], List, length, ◌↔◌, IsTrue};
 ghost use Rattle.weighted_tree.specs.Measures.{measure_in};
 ghost use Rattle.weighted_tree.specs.Balance.{weight};
 ghost use Rattle.weighted_tree.specs.Nodes.{node_items, HasBalance, IsRoot};
@@ -110,7 +110,7 @@ impl<T: Measured> Node<T> {
     /// Whether neither side is too heavy.
     pub(crate) fn is_balanced(&self) -> bool
         requires fits { length (node_items self.now) < 2 ^ 32 }
-        ensures { IsTrue result → HasBalance self.now }
+        ensures { IsTrue result ↔ HasBalance self.now }
     {
         let (left, right) = (self.left.weight(), self.right.weight());
         left <= 3 * right && right <= 3 * left

@@ -4,6 +4,7 @@ ghost use Rattle.weighted_tree.specs.Measures.{measure_in, measure_seen};
 ghost use Rattle.weighted_tree.specs.Nodes.{node_items, HasBalance, IsRoot};
 ghost use Rattle.weighted_tree.specs.Sides.{join_from, seen_from};
 
+use crate::closed::Closed;
 use crate::node::Side;
 use monoid_laws::{Measured, Monoid};
 use retro_base::Steps;
@@ -25,7 +26,7 @@ pub(crate) enum Link<T: Measured> {
     Empty,
     Full {
         size: u32,
-        node: Box<Node<T>>,
+        node: Closed<T>,
         measure: T::Measure,
     },
 }
@@ -110,10 +111,7 @@ impl<T: Measured> Subtree<T> {
     {
         match &self.link {
             Link::Empty => None,
-            Link::Full { node, .. } => {
-                steps.tick();
-                Some(node)
-            }
+            Link::Full { node, .. } => Some(node.open(steps)),
         }
     }
 
@@ -123,14 +121,11 @@ impl<T: Measured> Subtree<T> {
     {
         match self.link {
             Link::Empty => None,
-            Link::Full { node, .. } => {
-                steps.tick();
-                Some(node)
-            }
+            Link::Full { node, .. } => Some(node.into_open(steps)),
         }
     }
 
-    /// The subtree of a node that is in balance. The node was visited when it was changed.
+    /// The subtree of a node that is in balance, and closed from now on.
     pub(crate) fn of_root(node: Box<Node<T>>) -> Subtree<T>
         requires balanced { HasBalance node.value }
         requires fits { length (node_items node.value) < 2 ^ 32 }
@@ -140,7 +135,7 @@ impl<T: Measured> Subtree<T> {
             link: Link::Full {
                 size: node.size(),
                 measure: node.measure(),
-                node,
+                node: Closed::new(node),
             },
         }
     }

@@ -9,24 +9,25 @@ use Rattle.weighted_tree.proofs.subtree.Subtree.+replace_below.Goals.{then-place
 
 pub invariant_of-self : goal.invariant_of-self
 invariant_of-self g = λ t c.
-    let node = c.in-Full.node.value in
-    let opened = c.deref_mut-node.ensures.value in
+    let node = c.in-Full.closed.node.value in
+    let opened = c.deref_mut-node.ensures.value ∙ ap (λ b. b.value) c.open_mut.ensures.node in
     let before = ap (λ n. length n.left) opened in
     let sound = subst (IsSound g.T.Measure.Monoid.unit_value g.T.Measure.Monoid.joined g.T.Measured.measured) c.in-Full.is c.self.invariant in
-    let set : IsSetAt node c.if-place-before.node c.args.place c.args.item =
+    let again = c.deref_mut-node-2.ensures.value ∙ ap (λ b. b.value) c.open_mut-2.ensures.node in
+    let set : IsSetAt node c.if-place-before.closed.node.value c.args.place c.args.item =
     elim c.if-place-before.branch [
-      | then-place-before w ↦ rw (w.node-is, w.replace_below-old.ensures.items, opened) (set_left node c.args.place c.args.item (omega arith))
+      | then-place-before w ↦ rw (w.closed-is, w.replace_below-old.ensures.items, opened) (set_left node c.args.place c.args.item (omega arith))
       | else-place-before+then-place-before-2 w ↦
           let place : c.args.place - c.len-before.result - 1 ≡ c.args.place - length node.left - 1 = omega arith in
-          rw (w.node-is, w.replace_below.ensures.items, opened, place) (set_right node c.args.place c.args.item (omega arith))
-      | else-place-before+else-place-before-2 w ↦ rw (w.node-is, w.replace.ensures.after, opened) (set_here node c.args.place c.args.item (omega arith))
+          rw (w.closed-is, w.replace_below.ensures.items, opened, place) (set_right node c.args.place c.args.item (omega arith))
+      | else-place-before+else-place-before-2 w ↦ rw (w.closed-is, w.replace.ensures.after, opened) (set_here node c.args.place c.args.item (omega arith))
     ] in
-    sound_with sound set c.measure.ensures
+    sound_with sound (subst (λ n. IsSetAt node n c.args.place c.args.item) (sym again) set) c.measure.ensures
 
 pub returns-clause-item : goal.returns-clause-item
 returns-clause-item g t c =
-    let node = c.in-Full.node.value in
-    let opened = c.deref_mut-node.ensures.value in
+    let node = c.in-Full.closed.node.value in
+    let opened = c.deref_mut-node.ensures.value ∙ ap (λ b. b.value) c.open_mut.ensures.node in
     let before = ap (λ n. length n.left) opened in
     let there = ap (λ xs. slice_get xs c.args.place) (sym c.self.view_is ∙ ap items_of c.in-Full.is) in
     elim c.if-place-before.branch [
@@ -41,28 +42,29 @@ returns-clause-item g t c =
 
 pub returns-clause-items : goal.returns-clause-items
 returns-clause-items g t c =
-    let node = c.in-Full.node.value in
-    let opened = c.deref_mut-node.ensures.value in
+    let node = c.in-Full.closed.node.value in
+    let opened = c.deref_mut-node.ensures.value ∙ ap (λ b. b.value) c.open_mut.ensures.node in
     let before = ap (λ n. length n.left) opened in
     let whole : node_items node ≡ c.args.self.now = sym (ap items_of c.in-Full.is) ∙ c.self.view_is in
-    let set : IsSetAt node c.if-place-before.node c.args.place c.args.item =
+    let again = c.deref_mut-node-2.ensures.value ∙ ap (λ b. b.value) c.open_mut-2.ensures.node in
+    let set : IsSetAt node c.if-place-before.closed.node.value c.args.place c.args.item =
     elim c.if-place-before.branch [
-      | then-place-before w ↦ rw (w.node-is, w.replace_below-old.ensures.items, opened) (set_left node c.args.place c.args.item (omega arith))
+      | then-place-before w ↦ rw (w.closed-is, w.replace_below-old.ensures.items, opened) (set_left node c.args.place c.args.item (omega arith))
       | else-place-before+then-place-before-2 w ↦
           let place : c.args.place - c.len-before.result - 1 ≡ c.args.place - length node.left - 1 = omega arith in
-          rw (w.node-is, w.replace_below.ensures.items, opened, place) (set_right node c.args.place c.args.item (omega arith))
-      | else-place-before+else-place-before-2 w ↦ rw (w.node-is, w.replace.ensures.after, opened) (set_here node c.args.place c.args.item (omega arith))
+          rw (w.closed-is, w.replace_below.ensures.items, opened, place) (set_right node c.args.place c.args.item (omega arith))
+      | else-place-before+else-place-before-2 w ↦ rw (w.closed-is, w.replace.ensures.after, opened) (set_here node c.args.place c.args.item (omega arith))
     ] in
-    set.items_are ∙ ap (λ xs. slice_set xs c.args.place c.args.item) whole
+    ap node_items again ∙ set.items_are ∙ ap (λ xs. slice_set xs c.args.place c.args.item) whole
 
 pub returns-clause-visits : goal.returns-clause-visits
 returns-clause-visits g t c =
-    let node = c.in-Full.node.value in
-    let opened = c.deref_mut-node.ensures.value in
+    let node = c.in-Full.closed.node.value in
+    let opened = c.deref_mut-node.ensures.value ∙ ap (λ b. b.value) c.open_mut.ensures.node in
     let sound = subst (IsSound g.T.Measure.Monoid.unit_value g.T.Measure.Monoid.joined g.T.Measured.measured) c.in-Full.is c.self.invariant in
     let root = root_of sound (sym (ap items_of c.in-Full.is) ∙ c.self.view_is) in
     elim c.if-place-before.branch [
-      | then-place-before w ↦ level_left _ node _ _ _ _ root c.tick.ensures (rw opened at w.replace_below-old.ensures.visits) (omega arith)
-      | else-place-before+then-place-before-2 w ↦ level_right _ node _ _ _ _ root c.tick.ensures (rw opened at w.replace_below.ensures.visits) (omega arith)
-      | else-place-before+else-place-before-2 w ↦ level_end _ node _ _ 0 _ root c.tick.ensures (omega arith)
+      | then-place-before w ↦ level_left _ node _ _ _ _ root c.open_mut.ensures.visit (rw opened at w.replace_below-old.ensures.visits) (omega arith)
+      | else-place-before+then-place-before-2 w ↦ level_right _ node _ _ _ _ root c.open_mut.ensures.visit (rw opened at w.replace_below.ensures.visits) (omega arith)
+      | else-place-before+else-place-before-2 w ↦ level_end _ node _ _ 0 _ root c.open_mut.ensures.visit (omega arith)
     ]

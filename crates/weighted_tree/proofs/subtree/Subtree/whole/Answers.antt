@@ -8,5 +8,5 @@ returns-in-Full-clause-items g c =
     let sound = subst (IsSound g.T.Measure.Monoid.unit_value g.T.Measure.Monoid.joined g.T.Measured.measured) c.in-Full.is c.self.invariant in
     let items = sym (ap items_of c.in-Full.is) ∙ c.self.view_is in
     ap g.T.Measure.Monoid.items_of sound.measure_is
-    ∙ items-measure_of g.met.T.Measure.Monoid.laws g.T.Measured.measured g.met.T.Measured.single (node_items c.in-Full.node.value)
+    ∙ items-measure_of g.met.T.Measure.Monoid.laws g.T.Measured.measured g.met.T.Measured.single (node_items c.in-Full.node.node.value)
     ∙ ap length items

@@ -1,0 +1,58 @@
+ghost use Rattle.std.specs.Prelude.{◌≡◌, ◌+◌};
+ghost use Rattle.std.specs.Borrow.{sem};
+
+use crate::subtree::Node;
+use monoid_laws::Measured;
+use retro_base::Steps;
+use std::sync::ledger::Ledger;
+
+/// A node as its link holds it. No other module sees it: each way to open it is a visit, and steps the
+/// counter.
+#[cycle(subtree)]
+#[derive(Drop)]
+pub(crate) struct Closed<T: Measured> {
+    node: Box<Node<T>>,
+}
+
+impl<T: Measured> Closed<T> {
+    ghost use Rattle.weighted_tree.specs.Opened.{lends_node};
+
+    /// Closes a node.
+    #[inline(always)]
+    pub(crate) fn new(node: Box<Node<T>>) -> Closed<T>
+        ensures { result.node ≡ node }
+    {
+        Closed { node }
+    }
+
+    /// Visits the node, to read it.
+    #[inline(always)]
+    pub(crate) fn open<L: Ledger>(&self, steps: &mut Steps<L>) -> &Node<T>
+        ensures node { result.now ≡ self.now.node.value }
+        ensures visit { steps.new ≡ steps.old + 1 }
+    {
+        steps.tick();
+        &self.node
+    }
+
+    /// Visits the node, to change it.
+    #[inline(always)]
+    pub(crate) fn open_mut<L: Ledger>(&mut self, steps: &mut Steps<L>) -> &mut Box<Node<T>>
+        ensures* writes_back { sem 𝓛 (lends_node T.row T.Measure.row T.Measured T.Measure.Monoid self.entry result) }
+        ensures node { result.now ≡ self.old.node }
+        ensures visit { steps.new ≡ steps.old + 1 }
+    {
+        steps.tick();
+        &mut self.node
+    }
+
+    /// Visits the node, and takes it out of its link.
+    #[inline(always)]
+    pub(crate) fn into_open<L: Ledger>(self, steps: &mut Steps<L>) -> Box<Node<T>>
+        ensures node { result ≡ self.node }
+        ensures visit { steps.new ≡ steps.old + 1 }
+    {
+        steps.tick();
+        self.node
+    }
+}
