@@ -19,9 +19,9 @@ use Rattle.retro_base.specs.Replay.{IsValid}
 use Rattle.retro_base.specs.ReplayableLaws.{replayable_with, replayable_without}
 use Rattle.retro_base.specs.Timeline.{IsFresh, IsReplayable}
 use Rattle.retro_base.specs.Weights.{added_by}
-use Rattle.retro_base.proofs.bridges.Entries.{In, contains_in, in_contains}
-use Rattle.retro_base.proofs.bridges.Histories.{added_number}
-use Rattle.retro_base.proofs.bridges.NamedChange.{cut_survivor_changes}
+use Rattle.retro_base.specs.lemmas.bridges.Entries.{In, contains_in, in_contains}
+use Rattle.retro_base.specs.lemmas.bridges.Histories.{added_number}
+use Rattle.retro_base.specs.lemmas.bridges.NamedChange.{cut_survivor_changes}
 use Rattle.bridge_pq.specs.declared.marked_row.MarkedRow.{MarkedRow}
 use Rattle.bridge_pq.specs.declared.marked_entry.MarkedEntry.{MarkedEntry}
 use Rattle.bridge_pq.specs.Bridged.{AddsAt, IsTurned, Holds, IsBridged}

@@ -8,8 +8,8 @@ use Rattle.retro_base.specs.declared.row.Row.{Row}
 use Rattle.retro_base.specs.declared.row.Entry.{Entry}
 use Rattle.retro_base.specs.Bridges.{same_entry}
 use Rattle.retro_base.specs.State.{comes_before}
-use Rattle.retro_base.proofs.bridges.EntryOrder.{before_irreflexive, before_one_way, before_or_after, same_entry-refl, not_same}
-use Rattle.retro_base.proofs.bridges.Entries.{In, above_in}
+use Rattle.retro_base.specs.lemmas.bridges.EntryOrder.{before_irreflexive, before_one_way, before_or_after, same_entry-refl, not_same}
+use Rattle.retro_base.specs.lemmas.bridges.Entries.{In, above_in}
 use Rattle.bridge_pq.specs.declared.marked_entry.MarkedEntry.{MarkedEntry}
 use Rattle.bridge_pq.specs.declared.marked_row.MarkedRow.{MarkedRow}
 use Rattle.bridge_pq.specs.MarkedRows.{rows_of}

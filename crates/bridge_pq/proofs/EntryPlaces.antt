@@ -12,8 +12,8 @@ use Rattle.retro_base.specs.declared.row.Entry.{Entry}
 use Rattle.retro_base.specs.EntriesInOrder.{AreInOrder}
 use Rattle.retro_base.specs.OrderLaws.{all_weaker}
 use Rattle.retro_base.specs.State.{comes_before}
-use Rattle.retro_base.proofs.EntrySteps.{partitioned}
-use Rattle.retro_base.proofs.bridges.EntryOrder.{before_one_way}
+use Rattle.retro_base.specs.lemmas.EntrySteps.{partitioned}
+use Rattle.retro_base.specs.lemmas.bridges.EntryOrder.{before_one_way}
 use Rattle.weighted_tree.specs.Search.{HoldsNowhere, IsFirstPlace, IsRising}
 use Rattle.bridge_pq.specs.declared.marked_entry.MarkedEntry.{MarkedEntry}
 use Rattle.bridge_pq.specs.MarkedEntries.{entries_in, present_in, Rise, no_entries, joined_entries, entry_measure, reaches}

@@ -18,11 +18,11 @@ use Rattle.retro_base.specs.Kind.{kind_of}
 use Rattle.retro_base.specs.Replay.{failure, fold_rows, one_later}
 use Rattle.retro_base.specs.Timeline.{IsFresh}
 use Rattle.retro_base.specs.Weights.{added_as, added_by}
-use Rattle.retro_base.proofs.Counted.{failure_with}
-use Rattle.retro_base.proofs.Folds.{fold_rows-cons}
-use Rattle.retro_base.proofs.bridges.Entries.{In, contains_in, in_contains}
-use Rattle.retro_base.proofs.bridges.EditsCarry.{giving_accepted}
-use Rattle.retro_base.proofs.bridges.LossTable.{added_take_loses, cut_dead_loses, cut_survivor_loses}
+use Rattle.retro_base.specs.lemmas.Counted.{failure_with}
+use Rattle.retro_base.specs.lemmas.Folds.{fold_rows-cons}
+use Rattle.retro_base.specs.lemmas.bridges.Entries.{In, contains_in, in_contains}
+use Rattle.retro_base.specs.lemmas.bridges.EditsCarry.{giving_accepted}
+use Rattle.retro_base.specs.lemmas.bridges.LossTable.{added_take_loses, cut_dead_loses, cut_survivor_loses}
 
 -- a number above those of all rows
 abbrev pub number_above : List Row → ℕ

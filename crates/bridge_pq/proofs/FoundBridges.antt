@@ -13,8 +13,8 @@ use Rattle.retro_base.specs.declared.row.Entry.{Entry}
 use Rattle.retro_base.specs.Bridges.{survivors, IsBridge, IsLastBridge, IsFirstBridge}
 use Rattle.retro_base.specs.Carried.{IsPqHistory}
 use Rattle.retro_base.specs.Weights.{sum_of_weights}
-use Rattle.retro_base.proofs.bridges.Weighing.{bridge_is_zero, sum_not_negative}
-use Rattle.retro_base.proofs.bridges.StatedBridges.{start_is_bridge, end_is_bridge}
+use Rattle.retro_base.specs.lemmas.bridges.Weighing.{bridge_is_zero, sum_not_negative}
+use Rattle.retro_base.specs.lemmas.bridges.StatedBridges.{start_is_bridge, end_is_bridge}
 use Rattle.weighted_tree.specs.Search.{HoldsNowhere, IsLastPlace}
 use Rattle.bridge_pq.specs.declared.marked_row.MarkedRow.{MarkedRow}
 use Rattle.bridge_pq.specs.Dips.{Dip, falls_in, place_in, dip_of, lowest_from, is_lowest_up_to}

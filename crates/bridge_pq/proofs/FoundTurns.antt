@@ -13,10 +13,10 @@ use Rattle.retro_base.specs.BridgeTable.{IsDeadFrom, IsSurvivorBefore, IsGreates
 use Rattle.retro_base.specs.Carried.{IsPqEdit}
 use Rattle.retro_base.specs.Edits.{add, cut, IsAccepted}
 use Rattle.retro_base.specs.Weights.{added_by}
-use Rattle.retro_base.proofs.bridges.EntryOrder.{before_irreflexive}
-use Rattle.retro_base.proofs.bridges.Chain.{at_most_trans}
-use Rattle.retro_base.proofs.bridges.LossTable.{added_take_loses, cut_dead_loses}
-use Rattle.retro_base.proofs.bridges.NamedChange.{added_entry_changes, added_take_changes, cut_take_changes, cut_dead_changes, cut_take_leaves_dead}
+use Rattle.retro_base.specs.lemmas.bridges.EntryOrder.{before_irreflexive}
+use Rattle.retro_base.specs.lemmas.bridges.Chain.{at_most_trans}
+use Rattle.retro_base.specs.lemmas.bridges.LossTable.{added_take_loses, cut_dead_loses}
+use Rattle.retro_base.specs.lemmas.bridges.NamedChange.{added_entry_changes, added_take_changes, cut_take_changes, cut_dead_changes, cut_take_leaves_dead}
 use Rattle.bridge_pq.specs.Bridged.{AddsAt}
 use Rattle.bridge_pq.specs.Turns.{Turns}
 use Rattle.bridge_pq.proofs.LowestPlaces.{lt_true, lt_false}

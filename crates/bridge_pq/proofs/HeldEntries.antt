@@ -14,12 +14,12 @@ use Rattle.retro_base.specs.BridgeTable.{added}
 use Rattle.retro_base.specs.Carried.{IsPqHistory}
 use Rattle.retro_base.specs.Timeline.{IsFresh, HaveOwnNumbers}
 use Rattle.retro_base.specs.Weights.{added_by}
-use Rattle.retro_base.proofs.bridges.Added.{added_adds, adds_added}
-use Rattle.retro_base.proofs.bridges.EntryOrder.{before_irreflexive, before_one_way, same_entry-refl, same_entry-same, not_same}
-use Rattle.retro_base.proofs.bridges.Entries.{In, Rising, above_in, contains_in, in_contains, rising_with, with_in, in_with}
-use Rattle.retro_base.proofs.bridges.Tests.{in_is_among, is_among_in, not_among}
-use Rattle.retro_base.proofs.bridges.Moves.{came_from}
-use Rattle.retro_base.proofs.bridges.Histories.{moves_of, history_at, fresh_adds, valid_leads, leads_run, some_same, none_some, added_number}
+use Rattle.retro_base.specs.lemmas.bridges.Added.{added_adds, adds_added}
+use Rattle.retro_base.specs.lemmas.bridges.EntryOrder.{before_irreflexive, before_one_way, same_entry-refl, same_entry-same, not_same}
+use Rattle.retro_base.specs.lemmas.bridges.Entries.{In, Rising, above_in, contains_in, in_contains, rising_with, with_in, in_with}
+use Rattle.retro_base.specs.lemmas.bridges.Tests.{in_is_among, is_among_in, not_among}
+use Rattle.retro_base.specs.lemmas.bridges.Moves.{came_from}
+use Rattle.retro_base.specs.lemmas.bridges.Histories.{moves_of, history_at, fresh_adds, valid_leads, leads_run, some_same, none_some, added_number}
 use Rattle.bridge_pq.specs.declared.marked_entry.MarkedEntry.{MarkedEntry}
 use Rattle.bridge_pq.specs.MarkedEntries.{entries_in, present_in, Rise, TellPresent, put_marked, without_entry, marked_so}
 use Rattle.bridge_pq.specs.Bridged.{Holds, IsTurned}

@@ -20,10 +20,10 @@ use Rattle.retro_base.specs.Limits.{most_rows}
 use Rattle.retro_base.specs.Replay.{run, failure, present}
 use Rattle.retro_base.specs.State.{step, empty, entries}
 use Rattle.retro_base.specs.Weights.{added_by}
-use Rattle.retro_base.proofs.Folds.{err_within}
-use Rattle.retro_base.proofs.Replayable.{empty_replayable}
-use Rattle.retro_base.proofs.bridges.Entries.{contains_in, in_contains}
-use Rattle.retro_base.proofs.bridges.Tests.{in_is_among, is_among_in}
+use Rattle.retro_base.specs.lemmas.Folds.{err_within}
+use Rattle.retro_base.specs.lemmas.Replayable.{empty_replayable}
+use Rattle.retro_base.specs.lemmas.bridges.Entries.{contains_in, in_contains}
+use Rattle.retro_base.specs.lemmas.bridges.Tests.{in_is_among, is_among_in}
 use Rattle.bridge_pq.specs.declared.marked_row.MarkedRow.{MarkedRow}
 use Rattle.bridge_pq.specs.declared.marked_entry.MarkedEntry.{MarkedEntry}
 use Rattle.bridge_pq.specs.Bridged.{IsBridged}

@@ -14,8 +14,8 @@ use Rattle.retro_base.specs.State.{comes_before}
 use Rattle.retro_base.specs.Bridges.{survivors, is_among}
 use Rattle.retro_base.specs.BridgeTable.{added, IsDeadFrom, IsSurvivorBefore, IsGreatest, IsLeast}
 use Rattle.retro_base.specs.Weights.{added_by}
-use Rattle.retro_base.proofs.bridges.Entries.{In, contains_in, in_contains}
-use Rattle.retro_base.proofs.bridges.Tests.{in_is_among, is_among_in}
+use Rattle.retro_base.specs.lemmas.bridges.Entries.{In, contains_in, in_contains}
+use Rattle.retro_base.specs.lemmas.bridges.Tests.{in_is_among, is_among_in}
 use Rattle.bridge_pq.specs.declared.marked_row.MarkedRow.{MarkedRow}
 use Rattle.bridge_pq.specs.Bridged.{AddsAt}
 use Rattle.bridge_pq.specs.MarkedRows.{rows_of, is_one_of, AreMarked, dead_in, alive_in}

@@ -10,9 +10,9 @@ use Rattle.retro_base.specs.Bridges.{is_among}
 use Rattle.retro_base.specs.Changes.{Joins}
 use Rattle.retro_base.specs.Timeline.{IsFresh, HaveOwnNumbers}
 use Rattle.retro_base.specs.Weights.{added_by}
-use Rattle.retro_base.proofs.bridges.Entries.{In, in_or_not, in_contains, with_in, in_with}
-use Rattle.retro_base.proofs.bridges.Tests.{in_is_among, not_among}
-use Rattle.retro_base.proofs.bridges.Histories.{added_number}
+use Rattle.retro_base.specs.lemmas.bridges.Entries.{In, in_or_not, in_contains, with_in, in_with}
+use Rattle.retro_base.specs.lemmas.bridges.Tests.{in_is_among, not_among}
+use Rattle.retro_base.specs.lemmas.bridges.Histories.{added_number}
 use Rattle.bridge_pq.specs.declared.marked_row.MarkedRow.{MarkedRow}
 use Rattle.bridge_pq.specs.Bridged.{IsTurned}
 use Rattle.bridge_pq.specs.MarkedRows.{rows_of, is_one_of, AreMarked}

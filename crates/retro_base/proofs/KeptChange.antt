@@ -18,8 +18,8 @@ use Rattle.retro_base.specs.Edits.{Edit, add, cut}
 use Rattle.retro_base.specs.Bridges.{survivors, entries_of}
 use Rattle.retro_base.specs.Carried.{IsPqHistory, IsPqEdit}
 use Rattle.retro_base.specs.Changes.{IsChange, IsPqChange}
-use Rattle.retro_base.proofs.Counted.{pq_holds_entries, entries_are_of_pq}
-use Rattle.retro_base.proofs.Replayable.{plain_change}
+use Rattle.retro_base.specs.lemmas.Counted.{pq_holds_entries, entries_are_of_pq}
+use Rattle.retro_base.specs.lemmas.Replayable.{plain_change}
 
 -- entries are kept of a priority queue alone
 pub kind_is : (kind : Kind) (rows : List Row) (state : State) (es : List Entry) → IsKept kind rows state → state ≡ entries es → kind ≡ Pq

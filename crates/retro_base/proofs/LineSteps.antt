@@ -7,7 +7,7 @@ use Rattle.retro_base.specs.declared.question.Question.{Question}
 use Rattle.retro_base.specs.declared.question.Question.TheVariants.{Front, Back, Top, Left, Right}
 use Rattle.retro_base.specs.State.{items, perform}
 use Rattle.retro_base.specs.Answers.{answer_of, number_of, last_of}
-use Rattle.retro_base.proofs.CountedLines.{first_out}
+use Rattle.retro_base.specs.lemmas.CountedLines.{first_out}
 
 module _ (op : Op) (number : ℕ) (xs : List ℤ) where
   -- the operations that take the first item

@@ -10,7 +10,7 @@ use Rattle.retro_base.specs.Kind.{kind_of}
 use Rattle.retro_base.specs.Limits.{most_rows}
 use Rattle.retro_base.specs.State.{State, empty, step}
 use Rattle.retro_base.specs.Timeline.{Structure, IsFresh}
-use Rattle.retro_base.proofs.Folds.{fold_rows-last}
+use Rattle.retro_base.specs.lemmas.Folds.{fold_rows-last}
 use Rattle.retro_base.specs.ReplayableLaws.{replayable_with}
 
 kept_with : (kind : Kind) (rows : List Row) (row : Row) (s t : State) → IsKept kind rows s → length rows < most_rows → IsFresh row.number rows

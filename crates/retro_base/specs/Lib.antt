@@ -36,3 +36,4 @@ pub mod LineLength
 pub mod Digits
 pub mod Visits
 pub mod VisitsLaws
+pub mod lemmas

@@ -10,11 +10,11 @@ use Rattle.retro_base.specs.State.{comes_before}
 use Rattle.retro_base.specs.Weights.{added_by}
 use Rattle.retro_base.specs.Bridges.{survivors, is_among}
 use Rattle.retro_base.specs.BridgeTable.{added, IsDeadFrom, IsSurvivorBefore, IsGreatest, IsLeast}
-use Rattle.retro_base.proofs.bridges.EntryOrder.{before_irreflexive, before_one_way}
-use Rattle.retro_base.proofs.bridges.Entries.{In, contains_in, in_contains}
-use Rattle.retro_base.proofs.bridges.Tests.{in_is_among, is_among_in}
-use Rattle.retro_base.proofs.bridges.Histories.{some_same, none_some}
-use Rattle.retro_base.proofs.bridges.Chain.{at_most_trans}
+use Rattle.retro_base.specs.lemmas.bridges.EntryOrder.{before_irreflexive, before_one_way}
+use Rattle.retro_base.specs.lemmas.bridges.Entries.{In, contains_in, in_contains}
+use Rattle.retro_base.specs.lemmas.bridges.Tests.{in_is_among, is_among_in}
+use Rattle.retro_base.specs.lemmas.bridges.Histories.{some_same, none_some}
+use Rattle.retro_base.specs.lemmas.bridges.Chain.{at_most_trans}
 
 -- a strict order
 pub record IsOrder (worse : Entry → Entry → Bool) : Type 0 where

@@ -18,11 +18,11 @@ use Rattle.retro_base.specs.Changes.{IsPqChange}
 use Rattle.retro_base.specs.Weights.{added_by}
 use Rattle.retro_base.specs.Carried.{IsPqEdit}
 use Rattle.retro_base.specs.BridgeTable.{added, IsDeadFrom, IsSurvivorBefore, IsGreatest, IsLeast}
-use Rattle.retro_base.proofs.bridges.Entries.{In, contains_in, in_contains}
-use Rattle.retro_base.proofs.bridges.Tests.{in_is_among, is_among_in}
-use Rattle.retro_base.proofs.bridges.StatedBridges.{end_is_bridge}
-use Rattle.retro_base.proofs.bridges.LossTable.{first_is_least, added_take_loses, cut_dead_loses}
-use Rattle.retro_base.proofs.bridges.NamedChange.{added_entry_changes, added_take_changes, cut_take_changes, cut_dead_changes, cut_survivor_changes}
+use Rattle.retro_base.specs.lemmas.bridges.Entries.{In, contains_in, in_contains}
+use Rattle.retro_base.specs.lemmas.bridges.Tests.{in_is_among, is_among_in}
+use Rattle.retro_base.specs.lemmas.bridges.StatedBridges.{end_is_bridge}
+use Rattle.retro_base.specs.lemmas.bridges.LossTable.{first_is_least, added_take_loses, cut_dead_loses}
+use Rattle.retro_base.specs.lemmas.bridges.NamedChange.{added_entry_changes, added_take_changes, cut_take_changes, cut_dead_changes, cut_survivor_changes}
 use Rattle.retro_base.proofs.bridges.BestSoFar.{Best, before_is_order, best_with}
 
 -- the greater of a new entry and the greatest dead one

@@ -12,8 +12,8 @@ use Rattle.retro_base.specs.declared.row.Row.{Row}
 use Rattle.retro_base.specs.Bridges.{survivors, IsBridge, IsLastBridge, IsFirstBridge}
 use Rattle.retro_base.specs.Weights.{added_by, weight, weight_as, sum_of_weights}
 use Rattle.retro_base.specs.Carried.{IsPqHistory}
-use Rattle.retro_base.proofs.bridges.Weighing.{bridge_is_zero}
-use Rattle.retro_base.proofs.bridges.StatedBridges.{start_is_bridge, end_is_bridge, same_or_less}
+use Rattle.retro_base.specs.lemmas.bridges.Weighing.{bridge_is_zero}
+use Rattle.retro_base.specs.lemmas.bridges.StatedBridges.{start_is_bridge, end_is_bridge, same_or_less}
 
 -- the sum of the weights up to a place
 pub record Weighed (rows : List Row) (place : ℕ) (sum : ℤ) : Type 0 where

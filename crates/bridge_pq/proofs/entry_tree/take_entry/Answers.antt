@@ -1,5 +1,5 @@
 use Rattle.std.proofs.Common.{◌∙◌}
-use Rattle.retro_base.proofs.bridges.Entries.{contains_in}
+use Rattle.retro_base.specs.lemmas.bridges.Entries.{contains_in}
 use Rattle.bridge_pq.proofs.EntryEdits.{without-at}
 use Rattle.bridge_pq.proofs.entry_tree.take_entry.Goals as goal
 

@@ -1,7 +1,7 @@
 use Rattle.std.proofs.Common.{◌≤◌, ◌<◌, length, sym, ◌∙◌, refl, arith}
 use Rattle.std.proofs.lemmas.Option.{slice_get_within}
 use Rattle.retro_base.proofs.bridges.FoundChange.{some_lost_of_dead, found_loss_of_dead, found_gain_of_cut, found_survivor}
-use Rattle.retro_base.proofs.bridges.NamedChange.{cut_take_leaves_dead}
+use Rattle.retro_base.specs.lemmas.bridges.NamedChange.{cut_take_leaves_dead}
 use Rattle.retro_base.proofs.bridge_search.change_without.Goals as goal
 
 pub lost_before-requires-clause-some : goal.lost_before-requires-clause-some

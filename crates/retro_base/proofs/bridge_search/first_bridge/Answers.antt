@@ -1,5 +1,5 @@
 use Rattle.std.proofs.Common.{◌≡◌, ◌+◌, length, subst, sym, arith, refl, rules, w32, SFits, inl, inr}
-use Rattle.retro_base.proofs.Folds.{no_row}
+use Rattle.retro_base.specs.lemmas.Folds.{no_row}
 use Rattle.retro_base.proofs.bridges.Search.{Weighed, NoneSoFar, weighed_next, stored, sum_fits, stored_zero, stored_other, on_here, on_end, on_early, on_further}
 use Rattle.retro_base.proofs.bridge_search.first_bridge.Goals as goal
 

@@ -1,6 +1,6 @@
 use Rattle.std.proofs.Common.{refl, arith}
 use Rattle.retro_base.specs.State.{comes_before}
-use Rattle.retro_base.proofs.Folds.{no_row}
+use Rattle.retro_base.specs.lemmas.Folds.{no_row}
 use Rattle.retro_base.proofs.bridges.BestSoFar.{Dead, best_start, dead_next, greatest_of_dead}
 use Rattle.retro_base.proofs.bridge_search.greatest_dead_from.Goals as goal
 

@@ -1,5 +1,5 @@
 use Rattle.std.proofs.Common.{◌≡◌, ◌<◌, ◌+◌, length, get_or, get_or-take, subst, sym, arith, refl, rules, w32, SFits}
-use Rattle.retro_base.proofs.Folds.{no_row}
+use Rattle.retro_base.specs.lemmas.Folds.{no_row}
 use Rattle.retro_base.proofs.bridges.Search.{Weighed, stored, stored_zero, stored_other, stored_fits, sum_fits, weighed_start, weighed_next, back_start, back_here, back_before}
 use Rattle.retro_base.proofs.bridge_search.last_bridge.Goals as goal
 use Rattle.retro_base.proofs.bridge_search.last_bridge.Goals.{then-sum-eq0, else-sum-eq0}

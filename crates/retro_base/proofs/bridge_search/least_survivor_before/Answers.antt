@@ -1,6 +1,6 @@
 use Rattle.std.proofs.Common.{refl, arith}
 use Rattle.retro_base.specs.Better.{comes_behind}
-use Rattle.retro_base.proofs.Folds.{no_row}
+use Rattle.retro_base.specs.lemmas.Folds.{no_row}
 use Rattle.retro_base.proofs.bridges.BestSoFar.{Alive, best_start, alive_next, least_of_survivors}
 use Rattle.retro_base.proofs.bridge_search.least_survivor_before.Goals as goal
 

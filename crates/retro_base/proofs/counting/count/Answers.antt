@@ -1,6 +1,6 @@
 use Rattle.std.proofs.Common.{sym, ◌∙◌, ◌≤◌, ◌+◌, arith}
-use Rattle.retro_base.proofs.Folds.{no_row, comes_to_start, comes_to_next, comes_to_failure, comes_to_end}
-use Rattle.retro_base.proofs.CountedSizes.{quantity_after-le}
+use Rattle.retro_base.specs.lemmas.Folds.{no_row, comes_to_start, comes_to_next, comes_to_failure, comes_to_end}
+use Rattle.retro_base.specs.lemmas.CountedSizes.{quantity_after-le}
 use Rattle.retro_base.proofs.counting.count.Goals as goal
 
 pub returns-in-None : goal.returns-in-None

@@ -1,6 +1,6 @@
 use Rattle.std.proofs.Common.{◌+◌, ◌≤◌}
 use Rattle.retro_base.specs.Counting.{quantity_after, counted}
-use Rattle.retro_base.proofs.Folds.{ComesTo}
+use Rattle.retro_base.specs.lemmas.Folds.{ComesTo}
 use Rattle.retro_base.proofs.counting.count.Given as goal
 
 abbrev pub invariant-loop-index : goal.invariant-loop-index

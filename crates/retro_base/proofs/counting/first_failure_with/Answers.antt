@@ -1,8 +1,8 @@
 use Rattle.std.proofs.Common.{◌≡◌, ◌+◌, ◌≤◌, sym, ◌∙◌, ap, arith, length, take, drop, length-take, Some, None, Ok, Err}
 use Rattle.std.specs.Result.{result_err}
 use Rattle.retro_base.specs.Counting.{quantity_of, quantity_after, counted}
-use Rattle.retro_base.proofs.Folds.{later, between_err, between_stops, between_goes, err_within}
-use Rattle.retro_base.proofs.CountedSizes.{counted-le, quantity_after-le}
+use Rattle.retro_base.specs.lemmas.Folds.{later, between_err, between_stops, between_goes, err_within}
+use Rattle.retro_base.specs.lemmas.CountedSizes.{counted-le, quantity_after-le}
 use Rattle.retro_base.proofs.counting.first_failure_with.Goals as goal
 
 pub returns-in-Err-clause-first : goal.returns-in-Err-clause-first

@@ -5,8 +5,8 @@ use Rattle.std.proofs.lemmas.Option.{get_or_from_slice_get}
 use Rattle.retro_base.specs.declared.counting.Quantity.{Quantity}
 use Rattle.retro_base.specs.declared.row.Row.{Row}
 use Rattle.retro_base.specs.Counting.{quantity_of, counted}
-use Rattle.retro_base.proofs.Folds.{no_row, later, fold_rows-append, fold_rows-append_err, err_within}
-use Rattle.retro_base.proofs.CountedSizes.{counted-le}
+use Rattle.retro_base.specs.lemmas.Folds.{no_row, later, fold_rows-append, fold_rows-append_err, err_within}
+use Rattle.retro_base.specs.lemmas.CountedSizes.{counted-le}
 use Rattle.retro_base.proofs.counting.first_failure_without.Goals as goal
 
 same_quantity : (rows : List Row) (place : ℕ) (row d : Row) (quantity : Quantity) → quantity ≡ quantity_of (get_or rows place d).op → slice_get rows place ≡ Some row

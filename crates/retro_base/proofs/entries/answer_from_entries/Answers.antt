@@ -2,7 +2,7 @@ use Rattle.std.proofs.Common.{ap, arith, sym}
 use Rattle.std.proofs.lemmas.Int.{ints}
 use Rattle.retro_base.specs.declared.question.Answer.TheVariants.{Number}
 use Rattle.retro_base.specs.Answers.{answer_of}
-use Rattle.retro_base.proofs.EntrySteps.{no_other_question}
+use Rattle.retro_base.specs.lemmas.EntrySteps.{no_other_question}
 use Rattle.retro_base.proofs.entries.answer_from_entries.Goals as goal
 
 pub returns-in-Size : goal.returns-in-Size

@@ -1,7 +1,7 @@
 use Rattle.std.proofs.Common.{rules}
 use Rattle.std.proofs.lemmas.Int.{to_z-of_z}
 use Rattle.retro_base.specs.State.{perform}
-use Rattle.retro_base.proofs.EntrySteps.{no_operation_of_entries, least_out}
+use Rattle.retro_base.specs.lemmas.EntrySteps.{no_operation_of_entries, least_out}
 use Rattle.retro_base.proofs.entries.perform_on_entries.Goals as goal
 
 pub unreachable-requires : goal.unreachable-requires

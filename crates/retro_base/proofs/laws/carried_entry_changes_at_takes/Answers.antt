@@ -1,4 +1,4 @@
-use Rattle.retro_base.proofs.bridges.EditsCarry.{adding_carries_on, missing_stays}
+use Rattle.retro_base.specs.lemmas.bridges.EditsCarry.{adding_carries_on, missing_stays}
 use Rattle.retro_base.proofs.laws.carried_entry_changes_at_takes.Goals as goal
 
 pub returns-clause-adding : goal.returns-clause-adding

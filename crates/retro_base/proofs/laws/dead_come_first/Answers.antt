@@ -1,8 +1,8 @@
 use Rattle.std.proofs.Common.{drop}
 use Rattle.retro_base.specs.Bridges.{entries_at, survivors}
-use Rattle.retro_base.proofs.bridges.Entries.{contains_in, in_contains}
-use Rattle.retro_base.proofs.bridges.Histories.{moves_of, history_at}
-use Rattle.retro_base.proofs.bridges.DeadFirst.{dead_first}
+use Rattle.retro_base.specs.lemmas.bridges.Entries.{contains_in, in_contains}
+use Rattle.retro_base.specs.lemmas.bridges.Histories.{moves_of, history_at}
+use Rattle.retro_base.specs.lemmas.bridges.DeadFirst.{dead_first}
 use Rattle.retro_base.proofs.laws.dead_come_first.Goals as goal
 
 pub returns : goal.returns

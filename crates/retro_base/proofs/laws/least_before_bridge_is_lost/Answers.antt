@@ -1,4 +1,4 @@
-use Rattle.retro_base.proofs.bridges.LossTable.{added_take_loses, cut_dead_loses, cut_survivor_loses}
+use Rattle.retro_base.specs.lemmas.bridges.LossTable.{added_take_loses, cut_dead_loses, cut_survivor_loses}
 use Rattle.retro_base.proofs.laws.least_before_bridge_is_lost.Goals as goal
 
 pub returns-clause-added_take : goal.returns-clause-added_take

@@ -1,5 +1,5 @@
-use Rattle.retro_base.proofs.bridges.StatedBridges.{one_bridge_stated}
-use Rattle.retro_base.proofs.bridges.OneChange.{one_change_of_pq, one_change_of_others}
+use Rattle.retro_base.specs.lemmas.bridges.StatedBridges.{one_bridge_stated}
+use Rattle.retro_base.specs.lemmas.bridges.OneChange.{one_change_of_pq, one_change_of_others}
 use Rattle.retro_base.proofs.laws.one_change_is_named.Goals as goal
 
 pub returns-clause-bridge : goal.returns-clause-bridge

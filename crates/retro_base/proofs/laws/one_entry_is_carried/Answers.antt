@@ -1,4 +1,4 @@
-use Rattle.retro_base.proofs.bridges.EditsCarry.{giving_accepted, one_carried, presents_differ}
+use Rattle.retro_base.specs.lemmas.bridges.EditsCarry.{giving_accepted, one_carried, presents_differ}
 use Rattle.retro_base.proofs.laws.one_entry_is_carried.Goals as goal
 
 pub returns-clause-giving : goal.returns-clause-giving

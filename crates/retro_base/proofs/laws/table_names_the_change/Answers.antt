@@ -1,4 +1,4 @@
-use Rattle.retro_base.proofs.bridges.NamedChange.{added_entry_changes, cut_take_changes, added_take_changes, cut_dead_changes, cut_survivor_changes, cut_take_leaves_dead}
+use Rattle.retro_base.specs.lemmas.bridges.NamedChange.{added_entry_changes, cut_take_changes, added_take_changes, cut_dead_changes, cut_survivor_changes, cut_take_leaves_dead}
 use Rattle.retro_base.proofs.laws.table_names_the_change.Goals as goal
 
 pub returns-clause-added_entry : goal.returns-clause-added_entry

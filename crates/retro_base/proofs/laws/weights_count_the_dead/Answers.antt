@@ -1,4 +1,4 @@
-use Rattle.retro_base.proofs.bridges.Weighing.{weights_count, bridge_is_zero, sum_not_negative}
+use Rattle.retro_base.specs.lemmas.bridges.Weighing.{weights_count, bridge_is_zero, sum_not_negative}
 use Rattle.retro_base.proofs.laws.weights_count_the_dead.Goals as goal
 
 pub returns-clause-count : goal.returns-clause-count

@@ -1,7 +1,7 @@
 use Rattle.std.proofs.Common.{rules}
 use Rattle.std.proofs.lemmas.Int.{to_z-of_z}
 use Rattle.retro_base.specs.State.{perform}
-use Rattle.retro_base.proofs.CountedLines.{last_out}
+use Rattle.retro_base.specs.lemmas.CountedLines.{last_out}
 use Rattle.retro_base.proofs.LineSteps.{first_taken_by, no_operation_of_a_line}
 use Rattle.retro_base.proofs.line.perform_on_line.Goals as goal
 

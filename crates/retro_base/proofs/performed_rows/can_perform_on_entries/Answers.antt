@@ -1,7 +1,7 @@
 use Rattle.std.proofs.Common.{rules, ap}
 use Rattle.std.specs.Prelude.{not, ◌==◌}
 use Rattle.retro_base.specs.State.{perform}
-use Rattle.retro_base.proofs.EntrySteps.{delmin_possible, others_impossible_on_entries}
+use Rattle.retro_base.specs.lemmas.EntrySteps.{delmin_possible, others_impossible_on_entries}
 use Rattle.retro_base.proofs.performed_rows.can_perform_on_entries.Goals as goal
 
 pub returns-in-Ins : goal.returns-in-Ins

@@ -1,5 +1,5 @@
 use Rattle.retro_base.specs.State.{step}
-use Rattle.retro_base.proofs.Folds.{last_possible, fold_rows-last}
+use Rattle.retro_base.specs.lemmas.Folds.{last_possible, fold_rows-last}
 use Rattle.retro_base.proofs.plain_list.append.Goals as goal
 
 pub perform-requires : goal.perform-requires

@@ -3,7 +3,7 @@ use Rattle.std.proofs.lemmas.Option.{slice_get-get_or, get_or_from_slice_get}
 use Rattle.retro_base.specs.Content.{state_of}
 use Rattle.retro_base.specs.Edits.{cut}
 use Rattle.retro_base.specs.Changes.{IsChange}
-use Rattle.retro_base.proofs.Folds.{no_row}
+use Rattle.retro_base.specs.lemmas.Folds.{no_row}
 use Rattle.retro_base.proofs.KeptChange.{kept_cuts, kept_accepts, kept_survivors, kept_changes, plain_of_items, plain_of_pairs}
 use Rattle.retro_base.proofs.plain_list.change_of_remove.Goals as goal
 

@@ -2,7 +2,7 @@ use Rattle.std.proofs.Common.{◌≡◌, suc, take, drop, add-one, Ok}
 use Rattle.retro_base.specs.Content.{state_of}
 use Rattle.retro_base.specs.State.{step, empty}
 use Rattle.retro_base.specs.Replay.{run}
-use Rattle.retro_base.proofs.Folds.{front_possible, after_possible, both_parts}
+use Rattle.retro_base.specs.lemmas.Folds.{front_possible, after_possible, both_parts}
 use Rattle.retro_base.proofs.plain_list.replayed_without.Goals as goal
 
 pub perform_all-requires : goal.perform_all-requires

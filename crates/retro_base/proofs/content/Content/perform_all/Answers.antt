@@ -1,5 +1,5 @@
 use Rattle.std.proofs.Common.{arith}
-use Rattle.retro_base.proofs.Folds.{no_row, comes_to_start, comes_to_next, comes_to_possible, comes_to_end}
+use Rattle.retro_base.specs.lemmas.Folds.{no_row, comes_to_start, comes_to_next, comes_to_possible, comes_to_end}
 use Rattle.retro_base.proofs.content.Content.perform_all.Goals as goal
 
 pub perform-requires : goal.perform-requires

@@ -1,7 +1,7 @@
 use Rattle.retro_base.specs.State.{step}
 use Rattle.retro_base.specs.Content.{state_of}
 use Rattle.retro_base.specs.Replay.{run}
-use Rattle.retro_base.proofs.Folds.{ComesTo}
+use Rattle.retro_base.specs.lemmas.Folds.{ComesTo}
 use Rattle.retro_base.proofs.content.Content.perform_all.Given as goal
 
 abbrev pub invariant-loop-row : goal.invariant-loop-row

@@ -1,5 +1,5 @@
 use Rattle.std.proofs.Common.{sym, ◌∙◌}
-use Rattle.retro_base.proofs.EntrySteps.{found_at}
+use Rattle.retro_base.specs.lemmas.EntrySteps.{found_at}
 use Rattle.retro_base.proofs.entries.Entries.contains.Goals as goal
 
 pub returns-in-Some : goal.returns-in-Some

@@ -1,6 +1,6 @@
 use Rattle.std.proofs.Common.{◌≡◌, ◌∙◌}
 use Rattle.retro_base.specs.State.{with_entry}
-use Rattle.retro_base.proofs.EntrySteps.{put_at, in_order_with}
+use Rattle.retro_base.specs.lemmas.EntrySteps.{put_at, in_order_with}
 use Rattle.retro_base.proofs.entries.Entries.insert.Goals as goal
 
 pub invariant_of-self-2 : goal.invariant_of-self-2

@@ -1,7 +1,7 @@
 use Rattle.std.proofs.Common.{rules}
 use Rattle.std.proofs.lemmas.List.Sorted.{IsPartitionPoint-from_clause}
 use Rattle.retro_base.specs.State.{comes_before}
-use Rattle.retro_base.proofs.EntrySteps.{partitioned}
+use Rattle.retro_base.specs.lemmas.EntrySteps.{partitioned}
 use Rattle.retro_base.proofs.entries.Entries.place_of.Goals as goal
 
 pub returns-clause-before : goal.returns-clause-before

@@ -1,6 +1,6 @@
 use Rattle.retro_base.specs.State.{step}
-use Rattle.retro_base.proofs.Folds.{fold_rows-nil}
-use Rattle.retro_base.proofs.Replayable.{empty_replayable}
+use Rattle.retro_base.specs.lemmas.Folds.{fold_rows-nil}
+use Rattle.retro_base.specs.lemmas.Replayable.{empty_replayable}
 use Rattle.retro_base.proofs.plain_list.PlainList.new.Goals as goal
 
 pub invariant_of-result : goal.invariant_of-result

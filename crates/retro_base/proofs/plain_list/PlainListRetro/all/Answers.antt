@@ -5,8 +5,8 @@ use Rattle.retro_base.specs.Replay.{run}
 use Rattle.retro_base.specs.Answers.{content}
 use Rattle.retro_base.specs.Kind.{kind_of}
 use Rattle.retro_base.specs.PrefixLaws.{valid_take}
-use Rattle.retro_base.proofs.Replayable.{all_before}
-use Rattle.retro_base.proofs.Counted.{content_few}
+use Rattle.retro_base.specs.lemmas.Replayable.{all_before}
+use Rattle.retro_base.specs.lemmas.Counted.{content_few}
 use Rattle.retro_base.proofs.plain_list.PlainListRetro.all.Goals as goal
 
 pub replayed-requires : goal.replayed-requires

@@ -1,7 +1,7 @@
 use Rattle.std.proofs.Common.{◌≡◌, sym, ◌∙◌, ap}
 use Rattle.retro_base.specs.Kind.{kind_of}
 use Rattle.retro_base.specs.Timeline.{Structure}
-use Rattle.retro_base.proofs.Counted.{failure_with}
+use Rattle.retro_base.specs.lemmas.Counted.{failure_with}
 use Rattle.retro_base.proofs.plain_list.PlainListRetro.failure_after_insert.Goals as goal
 
 pub returns-clause-first : goal.returns-clause-first

@@ -1,8 +1,8 @@
 use Rattle.std.proofs.Common.{◌≡◌, ◌<◌, length, get_or, sym, ◌∙◌, Some}
 use Rattle.std.specs.List.{slice_get}
 use Rattle.std.proofs.lemmas.Option.{slice_get-get_or}
-use Rattle.retro_base.proofs.Folds.{no_row}
-use Rattle.retro_base.proofs.Counted.{failure_without}
+use Rattle.retro_base.specs.lemmas.Folds.{no_row}
+use Rattle.retro_base.specs.lemmas.Counted.{failure_without}
 use Rattle.retro_base.proofs.plain_list.PlainListRetro.failure_after_remove.Goals as goal
 
 pub returns-clause-first : goal.returns-clause-first

@@ -1,4 +1,4 @@
-use Rattle.retro_base.proofs.Replayable.{replayable_seen_with}
+use Rattle.retro_base.specs.lemmas.Replayable.{replayable_seen_with}
 use Rattle.retro_base.proofs.plain_list.PlainListRetro.insert.Goals as goal
 
 pub invariant_of-self-2 : goal.invariant_of-self-2

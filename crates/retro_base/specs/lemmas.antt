@@ -1,0 +1,15 @@
+-- Lemmas that the layers above cite beside the laws. No definition that a contract names stands here.
+
+-- a fold over rows, and counting along it
+pub mod Folds
+pub mod CountedSizes
+pub mod CountedLines
+pub mod SortedPairs
+pub mod CountedEntries
+pub mod CountedKeys
+pub mod Counted
+-- rows that replay
+pub mod Replayable
+-- entries of a priority queue, and its bridges
+pub mod bridges
+pub mod EntrySteps

@@ -1,0 +1,172 @@
+-- Entries in their order: where one more has its place, and what the operations and questions come to.
+use Rattle.std.proofs.Common.{◌≡◌, ◌≢◌, ℕ, ℤ, zero, suc, ◌<◌, ◌≤◌, Bool, true, false, cond, List, [], ◌∷◌, length, drop, IsSome, inl, inr, refl, sym, ◌∙◌, ap, arith, Option, Some, None}
+use Rattle.std.specs.Prelude.{slice_index_or, ◌||◌, ◌==◌, not, is_some}
+use Rattle.std.proofs.lemmas.Bool.{ne_eqb}
+use Rattle.std.specs.List.{AllByRecursion, AllWithin, insert, slice_get}
+use Rattle.std.specs.List.Sorted.{IsPartitionedBy}
+use Rattle.std.specs.Option.{option_map}
+use Rattle.retro_base.specs.declared.op.Op.{Op}
+use Rattle.retro_base.specs.declared.op.Op.TheVariants.{Enq, Deq, Push, Pop, PushL, PushR, PopL, PopR, Put, Del, Ins, DelMin}
+use Rattle.retro_base.specs.declared.question.Question.{Question}
+use Rattle.retro_base.specs.declared.question.Question.TheVariants.{Size, Front, Back, Top, Left, Right, Min, Nth, Get, Succ, Pred, Count, Sum}
+use Rattle.retro_base.specs.declared.question.Answer.TheVariants.{Nothing}
+use Rattle.retro_base.specs.declared.row.Entry.{Entry}
+use Rattle.retro_base.specs.Answers.{answer_of}
+use Rattle.retro_base.specs.Bridges.{is_among, same_entry}
+use Rattle.retro_base.specs.EntriesInOrder.{AreInOrder}
+use Rattle.retro_base.specs.State.{entries, perform, comes_before, with_entry, without_first}
+use Rattle.retro_base.specs.OrderLaws.{all_weaker}
+use Rattle.retro_base.specs.lemmas.bridges.EntryOrder.{before_irreflexive, before_transitive, before_one_way, before_or_after, same_or_other, same_entry-refl, not_same}
+use Rattle.retro_base.specs.lemmas.bridges.Entries.{with_first, with_later}
+
+-- what does not come before an entry does not come before a lesser one
+behind_lesser : (y x e : Entry) → comes_before y x ≡ false → comes_before e x ≡ true → comes_before y e ≡ false
+behind_lesser y x e behind lesser = elim (comes_before y e) as (λ b. comes_before y e ≡ b → b ≡ false) [
+  | true ↦ λ before. sym (before_transitive y e x before lesser) ∙ behind
+  | false ↦ λ no. refl
+] refl
+
+-- what stands in front of an entry that comes before another one comes before it too
+front_before : (y x e : Entry) → comes_before y x ≡ false → comes_before y e ≡ true → comes_before x e ≡ true
+front_before y x e behind before = elim (same_or_other x e) [
+  | inl same ↦ let wrong : true ≡ false = sym before ∙ rw same at behind in absurd (cc)
+  | inr other ↦ elim (comes_before x e) as (λ b. comes_before x e ≡ b → b ≡ true) [
+    | true ↦ λ yes. refl
+    | false ↦ λ no. sym behind ∙ before_transitive y e x before (before_or_after x e other no)
+  ] refl
+]
+
+all_get : (P : Entry → Type 0) (xs : List Entry) (i : ℕ) (d : Entry) → AllByRecursion P xs → i < length xs → P (slice_index_or xs i d)
+all_get P [] i d all within = absurd (omega arith)
+all_get P (x ∷ xs) zero d all within = all.0
+all_get P (x ∷ xs) (suc i) d all within = all_get P xs i d all.1 (omega arith)
+
+-- those that come before an entry stand in front
+pub partitioned : (e : Entry) (xs : List Entry) → AreInOrder xs → IsPartitionedBy (λ y. comes_before y e) xs
+partitioned e [] order i j d up within before = absurd (omega arith)
+partitioned e (x ∷ xs) order zero zero d up within before = before
+partitioned e (x ∷ xs) order zero (suc j) d up within before =
+    front_before (slice_index_or xs j d) x e (all_get (λ y. comes_before y x ≡ false) xs j d order.0 (omega arith)) before
+partitioned e (x ∷ xs) order (suc i) zero d up within before = absurd (omega arith)
+partitioned e (x ∷ xs) order (suc i) (suc j) d up within before = partitioned e xs order.1 i j d (omega arith) (omega arith) before
+
+-- it is among them where the first that does not come before it is this entry
+abbrev pub is_it : Entry → Option Entry → Bool
+is_it e None = false
+is_it e (Some x) = same_entry e x
+
+none_of : (e x : Entry) (xs : List Entry) → AllByRecursion (λ y. comes_before y x ≡ false) xs → comes_before e x ≡ true → is_among xs e ≡ false
+none_of e x [] order lesser = refl
+none_of e x (y ∷ ys) order lesser =
+    let other : e ≢ y = λ same. let wrong : true ≡ false = sym lesser ∙ rw (← same) at order.0 in absurd (cc) in
+    rw (not_same e y other) (none_of e x ys order.1 lesser)
+
+not_later : (e x : Entry) (xs : List Entry) → AllByRecursion (λ y. comes_before y x ≡ false) xs → comes_before x e ≡ false → is_among (x ∷ xs) e ≡ same_entry e x
+not_later e x xs order behind = elim (same_entry e x) as (λ b. same_entry e x ≡ b → (b || is_among xs e) ≡ b) [
+  | true ↦ λ same. refl
+  | false ↦ λ differ.
+      none_of e x xs order (before_or_after x e (λ same. let wrong : true ≡ false = sym (same_entry-refl e) ∙ (rw same at differ) in absurd (cc)) behind)
+] refl
+
+pub found_at : (e : Entry) (xs : List Entry) (i : ℕ) → AreInOrder xs → AllWithin (λ y. comes_before y e ≡ true) xs 0 i
+    → AllWithin (λ y. comes_before y e ≡ false) xs i (length xs) → is_it e (slice_get xs i) ≡ is_among xs e
+found_at e [] i order before behind = refl
+found_at e (x ∷ xs) zero order before behind = sym (not_later e x xs order.0 (behind 0 e (omega arith) (omega arith)))
+found_at e (x ∷ xs) (suc i) order before behind =
+    let lesser : comes_before x e ≡ true = before 0 e (omega arith) (omega arith) in
+    let other : e ≢ x = λ same. let wrong : true ≡ false = sym lesser ∙ (rw same (before_irreflexive x)) in absurd (cc) in
+    rw (not_same e x other)
+    (found_at e xs i order.1 (λ k d low high. before (suc k) d (omega arith) (omega arith)) (λ k d low high. behind (suc k) d (omega arith) (omega arith)))
+
+-- an entry before which none comes is the first
+none_before : (e : Entry) (xs : List Entry) → AllWithin (λ y. comes_before y e ≡ false) xs 0 (length xs) → with_entry e xs ≡ e ∷ xs
+none_before e [] behind = refl
+none_before e (x ∷ xs) behind = elim (same_or_other x e) [
+  | inl same ↦
+      let rest : with_entry e xs ≡ e ∷ xs = none_before e xs (λ k d low high. behind (suc k) d (omega arith) (omega arith)) in
+      let later : with_entry e (x ∷ xs) ≡ x ∷ with_entry e xs = with_later e x xs (rw same (before_irreflexive e)) in
+      later ∙ ap (λ l. x ∷ l) rest ∙ rw same refl
+  | inr other ↦ with_first e x xs (before_or_after x e other (behind 0 e (omega arith) (omega arith)))
+]
+
+-- so it is put in there
+pub put_at : (e : Entry) (xs : List Entry) (i : ℕ) → i ≤ length xs → AllWithin (λ y. comes_before y e ≡ true) xs 0 i
+    → AllWithin (λ y. comes_before y e ≡ false) xs i (length xs) → insert xs i e ≡ with_entry e xs
+put_at e xs zero within before behind = sym (none_before e xs behind)
+put_at e [] (suc i) within before behind = absurd (omega arith)
+put_at e (x ∷ xs) (suc i) within before behind =
+    let first : comes_before x e ≡ true = before 0 e (omega arith) (omega arith) in
+    let rest : insert xs i e ≡ with_entry e xs = put_at e xs i (omega arith) (λ k d low high. before (suc k) d (omega arith) (omega arith)) (λ k d low high. behind (suc k) d (omega arith) (omega arith)) in
+    ap (λ l. x ∷ l) rest ∙ sym (with_later e x xs (before_one_way x e first))
+
+all_with_entry : (P : Entry → Type 0) (e : Entry) (xs : List Entry) → P e → AllByRecursion P xs → AllByRecursion P (with_entry e xs)
+all_with_entry P e [] here all = (here, tt)
+all_with_entry P e (x ∷ xs) here all = elim (comes_before e x) as (λ b. AllByRecursion P (cond b (e ∷ x ∷ xs) (x ∷ with_entry e xs))) [
+  | true ↦ (here, all)
+  | false ↦ (all.0, all_with_entry P e xs here all.1)
+]
+
+-- and they stay in their order
+pub in_order_with : (e : Entry) (xs : List Entry) → AreInOrder xs → AreInOrder (with_entry e xs)
+in_order_with e [] order = (tt, tt)
+in_order_with e (x ∷ xs) order = elim (comes_before e x) as (λ b. comes_before e x ≡ b → AreInOrder (cond b (e ∷ x ∷ xs) (x ∷ with_entry e xs))) [
+  | true ↦ λ first. ((before_one_way e x first, all_weaker (λ y. comes_before y x ≡ false) (λ y. comes_before y e ≡ false) xs (λ y behind. behind_lesser y x e behind first) order.0), order)
+  | false ↦ λ later. (all_with_entry (λ y. comes_before y x ≡ false) e xs later order.0, in_order_with e xs order.1)
+] refl
+
+pub in_order_without : (xs ys : List Entry) → ys ≡ drop 1 xs → AreInOrder xs → AreInOrder ys
+in_order_without [] ys e order = rw e tt
+in_order_without (x ∷ xs) ys e order = rw e order.1
+
+-- taking the least entry leaves the others
+pub least_out : (xs ys : List Entry) → IsSome (option_map entries (without_first xs)) → ys ≡ drop 1 xs → option_map entries (without_first xs) ≡ Some (entries ys)
+least_out [] ys some e = absurd (cc)
+least_out (x ∷ xs) ys some e = ap (λ zs. Some (entries zs)) (sym e)
+
+-- nothing else can be performed
+pub no_operation_of_entries : (op : Op) (number : ℕ) (es : List Entry) → IsSome (perform op number (entries es)) → ((k : ℤ) → op ≡ Ins k → ⊥) → (op ≡ DelMin → ⊥) → ⊥
+unfolding perform
+no_operation_of_entries (Enq v) n es some ins del = absurd (cc)
+no_operation_of_entries Deq n es some ins del = absurd (cc)
+no_operation_of_entries (Push v) n es some ins del = absurd (cc)
+no_operation_of_entries Pop n es some ins del = absurd (cc)
+no_operation_of_entries (PushL v) n es some ins del = absurd (cc)
+no_operation_of_entries (PushR v) n es some ins del = absurd (cc)
+no_operation_of_entries PopL n es some ins del = absurd (cc)
+no_operation_of_entries PopR n es some ins del = absurd (cc)
+no_operation_of_entries (Put k v) n es some ins del = absurd (cc)
+no_operation_of_entries (Del k) n es some ins del = absurd (cc)
+no_operation_of_entries (Ins k) n es some ins del = ins k refl
+no_operation_of_entries DelMin n es some ins del = del refl
+
+-- no other question is answered
+pub no_other_question : (question : Question) (es : List Entry) → (question ≡ Size → ⊥) → (question ≡ Min → ⊥) → ((n : ℕ) → question ≡ Nth n → ⊥)
+    → answer_of (entries es) question ≡ Nothing
+unfolding answer_of
+no_other_question Size es size min nth = absurd (size refl)
+no_other_question Front es size min nth = refl
+no_other_question Back es size min nth = refl
+no_other_question Top es size min nth = refl
+no_other_question Left es size min nth = refl
+no_other_question Right es size min nth = refl
+no_other_question Min es size min nth = absurd (min refl)
+no_other_question (Nth n) es size min nth = absurd (nth n refl)
+no_other_question (Get k) es size min nth = refl
+no_other_question (Succ k) es size min nth = refl
+no_other_question (Pred k) es size min nth = refl
+no_other_question (Count l h) es size min nth = refl
+no_other_question (Sum l h) es size min nth = refl
+
+-- whether a row can be performed on entries
+pub delmin_possible : (op : Op) (number : ℕ) (es : List Entry) → op ≡ DelMin → is_some (perform op number (entries es)) ≡ not (length es == 0)
+unfolding perform
+delmin_possible op number [] same = rw same refl
+delmin_possible op number (x ∷ es) same = rw (same, ne_eqb (length (x ∷ es)) 0 (omega arith)) refl
+
+pub others_impossible_on_entries : (op : Op) (number : ℕ) (es : List Entry) → ((k : ℤ) → op ≡ Ins k → ⊥) → (op ≡ DelMin → ⊥)
+    → false ≡ is_some (perform op number (entries es))
+others_impossible_on_entries op number es ins del =
+    elim (is_some (perform op number (entries es))) as (λ b. is_some (perform op number (entries es)) ≡ b → false ≡ b) [
+      | true ↦ λ some. absurd (no_operation_of_entries op number es some ins del)
+      | false ↦ λ none. refl
+    ] refl

@@ -1,0 +1,115 @@
+-- What an edit carries: behind an edit that gives the new states have one entry more, and behind any other accepted edit
+-- the old states have one more.
+use Rattle.std.proofs.Common.{◌≡◌, ℕ, suc, ◌+◌, ◌≤◌, Bool, true, false, List, [], length, length-append, drop, arith, inl, inr, refl, ap, sym, subst, Some}
+use Rattle.std.specs.Prelude.{slice_get}
+use Rattle.retro_base.specs.Weights.{added_by}
+use Rattle.retro_base.specs.declared.kind.Kind.TheVariants.{Pq}
+use Rattle.retro_base.specs.declared.row.Entry.{Entry}
+use Rattle.retro_base.specs.declared.row.Row.{Row}
+use Rattle.retro_base.specs.Edits.{Edit, edited, IsAccepted}
+use Rattle.retro_base.specs.Bridges.{entries_at, survivors, IsBridge}
+use Rattle.retro_base.specs.Changes.{Joins}
+use Rattle.retro_base.specs.Carried.{IsPqEdit, gives, Differ, Carries, ChangesBy, old_start, new_start}
+use Rattle.retro_base.specs.lemmas.bridges.Bridging.{all_in, bridge_all}
+use Rattle.retro_base.specs.lemmas.bridges.Histories.{valid_leads, never_both, moves_of}
+use Rattle.retro_base.specs.lemmas.bridges.Behind.{carried_behind, one_more_behind, carried_to_end, one_more_survives, rich_valid}
+use Rattle.retro_base.specs.lemmas.bridges.Entries.{In, with_in}
+use Rattle.retro_base.specs.lemmas.bridges.Kept.{kept_behind}
+use Rattle.retro_base.specs.lemmas.bridges.Later.{adding_later, row_behind, one_joins, junction_later}
+use Rattle.retro_base.specs.lemmas.bridges.EditJunctions.{Taking, giving, taking}
+
+pub giving_accepted : (rows : List Row) (edit : Edit) → IsPqEdit rows edit → gives edit ≡ true → IsAccepted Pq rows edit
+giving_accepted rows edit possible gain =
+    let g = giving rows edit possible gain in
+    rich_valid g.entry g.held g.after rows (edited rows edit) (old_start edit) (new_start edit) g.junction possible.history.valid
+
+-- an accepted edit finds what it takes
+pub accepted_taking : (rows : List Row) (edit : Edit) → IsPqEdit rows edit → IsAccepted Pq rows edit → gives edit ≡ false → Taking rows edit
+accepted_taking rows edit possible accepted loss = elim (taking rows edit possible loss) [
+  | inl t ↦ t
+  | inr nothing ↦ absurd (never_both (moves_of (edited rows edit)) [] _ _ (valid_leads (edited rows edit) nothing.of_kind accepted) nothing.fails)
+]
+
+one_carried_by : (rows : List Row) (edit : Edit) (more : ℕ) → IsPqEdit rows edit → IsAccepted Pq rows edit → (b : Bool) → gives edit ≡ b
+    → (entry : Entry) × Differ b entry (entries_at rows (old_start edit + more)) (entries_at (edited rows edit) (new_start edit + more))
+one_carried_by rows edit more possible accepted true gain =
+    let g = giving rows edit possible gain in (
+      (carried_behind g.entry g.held g.after rows (edited rows edit) (old_start edit) (new_start edit) g.junction possible.history.valid more).last,
+      one_more_behind g.entry g.held g.after rows (edited rows edit) (old_start edit) (new_start edit) g.junction possible.history.valid more,
+    )
+one_carried_by rows edit more possible accepted false loss =
+    let t = accepted_taking rows edit possible accepted loss in (
+      (carried_behind t.entry t.held t.after (edited rows edit) rows (new_start edit) (old_start edit) t.junction accepted more).last,
+      one_more_behind t.entry t.held t.after (edited rows edit) rows (new_start edit) (old_start edit) t.junction accepted more,
+    )
+
+pub one_carried : (rows : List Row) (edit : Edit) (more : ℕ) → IsPqEdit rows edit → IsAccepted Pq rows edit → (entry : Entry) × Carries rows edit more entry
+one_carried rows edit more possible accepted = one_carried_by rows edit more possible accepted (gives edit) refl
+
+presents_by : (rows : List Row) (edit : Edit) → IsPqEdit rows edit → IsAccepted Pq rows edit → (b : Bool) → gives edit ≡ b
+    → (entry : Entry) × Differ b entry (survivors rows) (survivors (edited rows edit))
+presents_by rows edit possible accepted true gain =
+    let g = giving rows edit possible gain in (
+      (carried_to_end g.entry g.held g.after rows (edited rows edit) (old_start edit) (new_start edit) g.junction possible.history.valid).last,
+      one_more_survives g.entry g.held g.after rows (edited rows edit) (old_start edit) (new_start edit) g.junction possible.history.valid,
+    )
+presents_by rows edit possible accepted false loss =
+    let t = accepted_taking rows edit possible accepted loss in (
+      (carried_to_end t.entry t.held t.after (edited rows edit) rows (new_start edit) (old_start edit) t.junction accepted).last,
+      one_more_survives t.entry t.held t.after (edited rows edit) rows (new_start edit) (old_start edit) t.junction accepted,
+    )
+
+pub presents_differ : (rows : List Row) (edit : Edit) → IsPqEdit rows edit → IsAccepted Pq rows edit → (entry : Entry) × ChangesBy rows edit entry
+presents_differ rows edit possible accepted = presents_by rows edit possible accepted (gives edit) refl
+
+-- a row that adds leaves the carried entry as it is
+adding_by : (rows : List Row) (edit : Edit) (more : ℕ) (row : Row) (added entry : Entry) → IsPqEdit rows edit → IsAccepted Pq rows edit
+    → slice_get rows (old_start edit + more) ≡ Some row → added_by row ≡ Some added → (b : Bool) → gives edit ≡ b
+    → Differ b entry (entries_at rows (old_start edit + more)) (entries_at (edited rows edit) (new_start edit + more))
+    → Differ b entry (entries_at rows (old_start edit + suc more)) (entries_at (edited rows edit) (new_start edit + suc more))
+adding_by rows edit more row added entry possible accepted at adds true gain join =
+    let g = giving rows edit possible gain in
+    let j = g.junction in
+    adding_later g.entry g.held g.after rows (edited rows edit) (old_start edit) (new_start edit) j possible.history.valid more row added entry
+    (row_behind rows j.poor_front g.after (old_start edit) more row j.poor_is j.poor_length at) adds join
+adding_by rows edit more row added entry possible accepted at adds false loss join =
+    let t = accepted_taking rows edit possible accepted loss in
+    let j = t.junction in
+    adding_later t.entry t.held t.after (edited rows edit) rows (new_start edit) (old_start edit) j accepted more row added entry
+    (row_behind rows j.rich_front t.after (old_start edit) more row j.rich_is j.rich_length at) adds join
+
+pub adding_carries_on : (rows : List Row) (edit : Edit) (more : ℕ) (row : Row) (added entry : Entry) → IsPqEdit rows edit → IsAccepted Pq rows edit
+    → slice_get rows (old_start edit + more) ≡ Some row → added_by row ≡ Some added
+    → Carries rows edit more entry → Carries rows edit (suc more) entry
+adding_carries_on rows edit more row added entry possible accepted at adds join =
+    adding_by rows edit more row added entry possible accepted at adds (gives edit) refl join
+
+-- from a bridge on the missing entry stays the same
+missing_by : (rows : List Row) (edit : Edit) (more further : ℕ) (entry : Entry) → IsPqEdit rows edit → IsAccepted Pq rows edit → gives edit ≡ false
+    → old_start edit + more ≤ length rows → IsBridge rows (old_start edit + more)
+    → Joins entry (entries_at (edited rows edit) (new_start edit + more)) (entries_at rows (old_start edit + more))
+    → Joins entry (entries_at (edited rows edit) (new_start edit + (more + further))) (entries_at rows (old_start edit + (more + further)))
+missing_by rows edit more further entry possible accepted loss within bridge join =
+    let t = accepted_taking rows edit possible accepted loss in
+    let j = t.junction in
+    let inside : more ≤ length t.after = omega (arith, within, ap length j.rich_is, length-append j.rich_front t.after, j.rich_length) in
+    let there = carried_behind t.entry t.held t.after (edited rows edit) rows (new_start edit) (old_start edit) j accepted more in
+    let joined = one_more_behind t.entry t.held t.after (edited rows edit) rows (new_start edit) (old_start edit) j accepted more in
+    let same : there.last ≡ entry = sym (one_joins entry there.last _ _ join joined.joined) in
+    let lives : In there.last (survivors rows) = all_in (survivors rows) (entries_at rows (old_start edit + more)) there.last (bridge_all (survivors rows) (entries_at rows (old_start edit + more)) bridge)
+    (subst (In there.last) (sym joined.joined) (with_in there.last there.last (entries_at (edited rows edit) (new_start edit + more)) (inl refl))) in
+    let kept = kept_behind there.last _ (drop more t.after) (edited rows edit) rows (new_start edit + more) (old_start edit + more)
+    (junction_later t.entry t.held t.after (edited rows edit) rows (new_start edit) (old_start edit) j accepted more inside) possible.history.valid lives further in
+    let new_at : new_start edit + more + further ≡ new_start edit + (more + further) = omega arith in
+    let old_at : old_start edit + more + further ≡ old_start edit + (more + further) = omega arith in
+    subst (λ x. Joins x (entries_at (edited rows edit) (new_start edit + (more + further))) (entries_at rows (old_start edit + (more + further)))) same
+    (subst (λ n. Joins there.last (entries_at (edited rows edit) (new_start edit + (more + further))) (entries_at rows n)) old_at
+    (subst (λ n. Joins there.last (entries_at (edited rows edit) n) (entries_at rows (old_start edit + more + further))) new_at kept))
+
+pub missing_stays : (rows : List Row) (edit : Edit) (more further : ℕ) (entry : Entry) → IsPqEdit rows edit → IsAccepted Pq rows edit
+    → gives edit ≡ false → old_start edit + more ≤ length rows → IsBridge rows (old_start edit + more)
+    → Carries rows edit more entry → Carries rows edit (more + further) entry
+missing_stays rows edit more further entry possible accepted loss within bridge join =
+    subst (λ b. Differ b entry (entries_at rows (old_start edit + (more + further))) (entries_at (edited rows edit) (new_start edit + (more + further)))) (sym loss)
+    (missing_by rows edit more further entry possible accepted loss within bridge
+    (subst (λ b. Differ b entry (entries_at rows (old_start edit + more)) (entries_at (edited rows edit) (new_start edit + more))) loss join))

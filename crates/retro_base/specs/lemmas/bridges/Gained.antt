@@ -1,0 +1,165 @@
+-- What is gained: of the entries that are taken behind the edit, and of the one that comes in, the greatest is left over. No
+-- dead entry is held at the last bridge before it, and those that were taken between are outlived by a greater dead one.
+--
+--     bridge ... place | taken entries ...      gained: the greatest dead entry from the bridge on
+use Rattle.std.proofs.Common.{◌≡◌, ℕ, zero, suc, ◌+◌, ◌-◌, ◌<◌, ◌≤◌, List, [], ◌∷◌, ◌++◌, length, take, drop, zero-add, length-take, ◌⊎◌, inl, inr, refl, ap, sym, ◌∙◌, arith, subst, Some, None}
+use Rattle.std.specs.Prelude.{◌↔◌}
+use Rattle.std.proofs.lemmas.List.{take-append-drop, take-map}
+use Rattle.std.proofs.lemmas.Option.{slice_get_within}
+use Rattle.retro_base.specs.declared.row.Entry.{Entry}
+use Rattle.retro_base.specs.declared.row.Row.{Row}
+use Rattle.retro_base.specs.Edits.{add, cut, edited}
+use Rattle.retro_base.specs.Bridges.{entries_at, survivors, IsBridge, IsLastBridge}
+use Rattle.retro_base.specs.Changes.{Joins, Gains}
+use Rattle.retro_base.specs.Weights.{added_by}
+use Rattle.retro_base.specs.Carried.{IsPqHistory, IsPqEdit}
+use Rattle.retro_base.specs.BridgeTable.{added, IsDeadFrom, IsGreatest}
+use Rattle.retro_base.specs.lemmas.bridges.Bridging.{AllIn, all_in, bridge_all, all_bridge}
+use Rattle.retro_base.specs.lemmas.bridges.Added.{added_adds, adds_added}
+use Rattle.retro_base.specs.lemmas.bridges.Entries.{In, contains_in, in_contains}
+use Rattle.retro_base.specs.lemmas.bridges.Moves.{Leads, Adds, came_from, adds_first, adds_second, adds_both}
+use Rattle.retro_base.specs.lemmas.bridges.Histories.{moves_of, history_at}
+use Rattle.retro_base.specs.lemmas.bridges.Behind.{behind, entries_behind, moves_split, carried_to_end, one_more_survives}
+use Rattle.retro_base.specs.lemmas.bridges.Carried.{AtMost}
+use Rattle.retro_base.specs.lemmas.bridges.Chain.{NoneBehind, outlived, at_most_trans, at_most_both}
+use Rattle.retro_base.specs.lemmas.bridges.Later.{one_joins, row_at}
+use Rattle.retro_base.specs.lemmas.bridges.EditJunctions.{join_added_entry, join_cut_take, cut_take_holds}
+
+-- between a bridge and a place behind it
+pub record Between (rows : List Row) (bridge place : ℕ) : Type 0 where
+  pub up_to : Leads (moves_of (take (place - bridge) (drop bridge rows))) (entries_at rows bridge) (entries_at rows place)
+  pub split : moves_of (drop bridge rows) ≡ moves_of (take (place - bridge) (drop bridge rows)) ++ moves_of (drop place rows)
+
+drop_further : (n m index : ℕ) (rows : List Row) → index ≡ n + m → drop m (drop n rows) ≡ drop index rows
+drop_further zero m index rows at = ap (λ i. drop i rows) (sym (at ∙ zero-add m))
+drop_further (suc n) m zero rows at = absurd (omega arith)
+drop_further (suc n) zero (suc index) [] at = refl
+drop_further (suc n) (suc m) (suc index) [] at = refl
+drop_further (suc n) m (suc index) (r ∷ rows) at = drop_further n m index rows (omega arith)
+
+front_of : (rows : List Row) (place : ℕ) → place ≤ length rows → length (take place rows) ≡ place
+front_of rows place within = omega (arith, length-take place rows)
+
+pub between : (rows : List Row) (bridge place : ℕ) → IsPqHistory rows → bridge ≤ place → place ≤ length rows → Between rows bridge place
+between rows bridge place history before within =
+    let parts = behind rows (take bridge rows) (drop bridge rows) bridge (place - bridge) (entries_at rows bridge) (sym (take-append-drop bridge rows))
+    (front_of rows bridge (omega arith)) history.of_kind history.valid (history_at rows bridge history).first in
+    let there : bridge + (place - bridge) ≡ place = omega arith in
+    record {
+      up_to = subst (λ n. Leads (moves_of (take (place - bridge) (drop bridge rows))) (entries_at rows bridge) (entries_at rows n)) there parts.up_to;
+      split = moves_split (place - bridge) (drop bridge rows)
+          ∙ ap (λ l. moves_of (take (place - bridge) (drop bridge rows)) ++ moves_of l) (drop_further bridge (place - bridge) place rows (sym there));
+    }
+
+-- no place between is a bridge
+none_between : (rows : List Row) (bridge place : ℕ) → IsPqHistory rows → place ≤ length rows → IsLastBridge rows place bridge
+    → NoneBehind (place - bridge) (moves_of (drop bridge rows)) (entries_at rows bridge) (survivors rows)
+none_between rows bridge place history within last = λ k next less way all.
+    let before : bridge ≤ place = last.within in
+    let there : entries_at rows (bridge + suc k) ≡ next =
+    entries_behind rows (take bridge rows) (drop bridge rows) bridge (suc k) (entries_at rows bridge) next (sym (take-append-drop bridge rows))
+    (front_of rows bridge (omega arith)) history.of_kind (history_at rows bridge history).first
+    (subst (λ l. Leads l (entries_at rows bridge) next) (take-map added_by (suc k) (drop bridge rows)) way) in
+    last.last (bridge + suc k) (omega arith) (omega arith)
+    (all_bridge (survivors rows) (entries_at rows (bridge + suc k)) (subst (AllIn (survivors rows)) (sym there) all))
+
+-- what is dead and held at the place, or added behind it, was added from the bridge on
+pub dead_from : (rows : List Row) (bridge place : ℕ) (x : Entry) → IsPqHistory rows → bridge ≤ place → place ≤ length rows → IsBridge rows bridge
+    → In x (entries_at rows place) ⊎ Adds x (moves_of (drop place rows)) → ¬ In x (survivors rows) → IsDeadFrom rows bridge x
+dead_from rows bridge place x history before within is_bridge origin died =
+    let b = between rows bridge place history before within in
+    let front = moves_of (take (place - bridge) (drop bridge rows)) in
+    let adds : Adds x (front ++ moves_of (drop place rows)) = elim origin [
+      | inl there ↦ elim (came_from x front (entries_at rows bridge) (entries_at rows place) b.up_to there) [
+        | inl early ↦ absurd (died (all_in (survivors rows) (entries_at rows bridge) x (bridge_all (survivors rows) (entries_at rows bridge) is_bridge) early))
+        | inr added ↦ adds_first x front (moves_of (drop place rows)) added
+      ]
+      | inr later ↦ adds_second x front (moves_of (drop place rows)) later
+    ] in
+    (in_contains _ x (adds_added (drop bridge rows) x (subst (Adds x) (sym b.split) adds)), λ inside. died (contains_in _ x inside))
+
+-- what is no less than all the dead that are held at the place or added behind it is no less than the dead from the bridge on
+pub bound_from : (rows : List Row) (bridge place : ℕ) (last x : Entry) → IsPqHistory rows → place ≤ length rows → IsLastBridge rows place bridge
+    → ((y : Entry) → In y (entries_at rows place) ⊎ Adds y (moves_of (drop place rows)) → ¬ In y (survivors rows) → AtMost y last)
+    → IsDeadFrom rows bridge x → AtMost x last
+bound_from rows bridge place last x history within last_bridge bound dead =
+    let before : bridge ≤ place = last_bridge.within in
+    let b = between rows bridge place history before within in
+    let front = moves_of (take (place - bridge) (drop bridge rows)) in
+    let died : ¬ In x (survivors rows) = λ inside. dead.1 (in_contains _ x inside) in
+    let adds : Adds x (front ++ moves_of (drop place rows)) = subst (Adds x) b.split (added_adds (drop bridge rows) x (contains_in _ x dead.0)) in
+    elim (adds_both x front (moves_of (drop place rows)) adds) [
+      | inl early ↦
+          let moved = take-map added_by (place - bridge) (drop bridge rows) in
+          let outlives = outlived (place - bridge) (moves_of (drop bridge rows)) (entries_at rows bridge) (entries_at rows place) (survivors rows) x
+          (history_at rows bridge history).ready (subst (λ l. Leads l (entries_at rows bridge) (entries_at rows place)) (sym moved) b.up_to)
+          (none_between rows bridge place history within last_bridge) (inr (subst (Adds x) (sym moved) early)) died in
+          at_most_trans x outlives.later last outlives.no_less (bound outlives.later (inl outlives.held_there) outlives.dead)
+      | inr later ↦ bound x (inr later) died
+    ]
+
+-- the greatest is one alone, and is the one that is gained
+greatest_is : (P : Entry → Type 0) (a b : Entry) → IsGreatest P a → IsGreatest P b → a ≡ b
+greatest_is P a b first second = at_most_both a b (second.greatest a first.one) (first.greatest b second.one)
+
+pub gained_iff : (P : Entry → Type 0) (last entry : Entry) (before after : List Entry) → Joins last before after → IsGreatest P last
+    → Joins entry before after ↔ IsGreatest P entry
+gained_iff P last entry before after joined greatest = (
+  λ join. subst (IsGreatest P) (sym (one_joins entry last before after join joined.joined)) greatest,
+  λ great. subst (λ x. Joins x before after) (greatest_is P last entry greatest great) joined,
+)
+
+pub added_entry_gains : (rows : List Row) (place : ℕ) (row : Row) (new : Entry) (bridge : ℕ) (entry : Entry) → IsPqEdit rows (add place row)
+    → added_by row ≡ Some new → IsLastBridge rows place bridge
+    → Gains rows (add place row) entry ↔ IsGreatest (λ e. (e ≡ new) ⊎ IsDeadFrom rows bridge e) entry
+added_entry_gains rows place row new bridge entry possible adds last_bridge =
+    let j = join_added_entry rows place row new possible adds in
+    let history = possible.history in
+    let c = carried_to_end new (entries_at rows place) (drop place rows) rows (edited rows (add place row)) place (suc place) j history.valid in
+    gained_iff _ c.last entry (survivors rows) (survivors (edited rows (add place row)))
+    (one_more_survives new (entries_at rows place) (drop place rows) rows (edited rows (add place row)) place (suc place) j history.valid)
+    (record {
+      one = elim c.among [
+        | inl same ↦ inl same
+        | inr origin ↦ inr (dead_from rows bridge place c.last history last_bridge.within possible.within last_bridge.bridges origin c.absent)
+      ];
+      greatest = λ other is_one. elim is_one [
+        | inl same ↦ subst (λ x. AtMost x c.last) (sym same) c.least
+        | inr dead ↦ bound_from rows bridge place c.last other history possible.within last_bridge c.greatest dead
+      ];
+    })
+
+pub cut_take_gains : (rows : List Row) (place : ℕ) (row : Row) (bridge : ℕ) (entry : Entry) → IsPqEdit rows (cut place row)
+    → added_by row ≡ None → IsLastBridge rows place bridge
+    → Gains rows (cut place row) entry ↔ IsGreatest (IsDeadFrom rows bridge) entry
+cut_take_gains rows place row bridge entry possible takes last_bridge =
+    let found = cut_take_holds rows place row possible takes in
+    let x = found.0 in
+    let held = found.1 in
+    let j = join_cut_take rows place row x held possible takes found.2 in
+    let history = possible.history in
+    let after = drop (suc place) rows in
+    let c = carried_to_end x held after rows (edited rows (cut place row)) (suc place) place j history.valid in
+    let inside : place < length rows = slice_get_within rows place row possible.within in
+    let within : place ≤ length rows = omega arith in
+    let next : moves_of (drop place rows) ≡ None ∷ moves_of after = ap moves_of (row_at rows place row possible.within) ∙ ap (λ m. m ∷ moves_of after) takes in
+    gained_iff _ c.last entry (survivors rows) (survivors (edited rows (cut place row)))
+    (one_more_survives x held after rows (edited rows (cut place row)) (suc place) place j history.valid)
+    (record {
+      one = dead_from rows bridge place c.last history last_bridge.within within last_bridge.bridges
+          (elim c.among [
+            | inl same ↦ inl (subst (In c.last) (sym found.2) (inl same))
+            | inr origin ↦ elim origin [
+              | inl there ↦ inl (subst (In c.last) (sym found.2) (inr there))
+              | inr added ↦ inr (subst (Adds c.last) (sym next) added)
+            ]
+          ]) c.absent;
+      greatest = λ other dead. bound_from rows bridge place c.last other history within last_bridge
+          (λ y origin died. elim origin [
+            | inl there ↦ elim (subst (In y) found.2 there) [
+              | inl first ↦ subst (λ z. AtMost z c.last) (sym first) c.least
+              | inr later ↦ c.greatest y (inl later) died
+            ]
+            | inr added ↦ c.greatest y (inr (subst (Adds y) next added)) died
+          ]) dead;
+    })
