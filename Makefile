@@ -3,6 +3,9 @@
 #   make run      builds the program and answers a first script in front of you; SCRIPT=FILE for another one
 #   make try      answers the same script by a trial build within a minute or two, and proves nothing
 #   make build    leaves the program at build/retro, so that `build/retro run < FILE` works on any script
+#   make check    proves one crate over what was proved before: make check CRATE=retro_queue
+#   make unit     runs the tests of the crates by a trial build, within a few minutes, and proves nothing
+#   make fmt      lays all sources out
 #   make install  puts it into bin below PREFIX, which is /usr/local where none is named
 #   make test     the gate: every proof, every edit that must fail, every test, every example, and of the built program
 #                 its streams and half a million questions about the past; needs Python 3
@@ -14,7 +17,7 @@ PREFIX ?= /usr/local
 
 SOURCES := $(shell find crates -name out -prune -o -type f \( -name '*.rt' -o -name '*.antt' \) -print) crates.txt
 
-.PHONY: run try build install test bench
+.PHONY: run try build check unit fmt install test bench
 
 run: build
 	@echo
@@ -32,6 +35,16 @@ build: build/retro
 # A program is built only once it is proved.
 build/retro: $(SOURCES)
 	@sh .ci/build
+
+check:
+	@cd crates/$(CRATE) && rt check
+
+unit:
+	@for crate in retro_base retro_io script_gen tree_tests structure_tests script_tests; do \
+	    echo "== $$crate"; (cd crates/$$crate && rt try --test) || exit 1; done
+
+fmt:
+	@for crate in crates/*/; do (cd "$$crate" && rt fmt) || exit 1; done
 
 install: build
 	@mkdir -p "$(DESTDIR)$(PREFIX)/bin"
