@@ -1,0 +1,45 @@
+use Rattle.std.proofs.Common.{◌∙◌, ap, position, sym, arith}
+use Rattle.std.specs.List.{remove}
+use Rattle.checkpoint_full.specs.Checkpoints.{width}
+use Rattle.checkpoint_full.proofs.Between.{between_kept, nearest_below, room_left, stands_between}
+use Rattle.checkpoint_full.proofs.FirstRows.{taken_back}
+use Rattle.checkpoint_full.proofs.Places.{is_up_to, none_were_made}
+use Rattle.checkpoint_full.proofs.checkpoints.make_room.Goals as goal
+
+pub returns-in_default-clause-room : goal.returns-in_default-clause-room
+returns-in_default-clause-room g c =
+    let none = none_were_made _ _ c.args.place c.args.checkpoints.now.items (λ made. (c.requires.keeps made).close)
+    (ap (λ cs. position (is_up_to c.args.place) cs) (sym c.as_slice.ensures.value) ∙ sym c.nearest.ensures ∙ c.in_default.is) in
+    rw none tt
+
+pub returns-then-place-earlier-clause-room : goal.returns-then-place-earlier-clause-room
+returns-then-place-earlier-clause-room g c =
+    room_left _ c.args.present.now c.args.checkpoints.now.items c.args.place c.in-Some.index _ _
+    (stands_between c.args.present.now c.args.checkpoints.now.items _ _ _ c.args.place c.in-Some.index _ _ c.nearest.ensures c.as_slice.ensures.value c.in-Some.is
+    c.index.ensures c.neighbour_after-later.ensures c.as_slice-2.ensures.value)
+    (omega (arith, c.if-place-earlier.true, c.place.ensures.place, c.place-earlier.ensures.place))
+
+pub returns-clause-keeps : goal.returns-clause-keeps
+returns-clause-keeps g c = λ _. (between_kept width c.args.present.now c.args.checkpoints.now.items c.insert.new.self.items c.args.place c.in-Some.index c.place_between.result
+    c.index.result.now c.neighbour_after-later.result.now c.in_ok-between.between
+    (stands_between c.args.present.now c.args.checkpoints.now.items _ _ _ c.args.place c.in-Some.index _ _ c.nearest.ensures c.as_slice.ensures.value c.in-Some.is
+    c.index.ensures c.neighbour_after-later.ensures c.as_slice-2.ensures.value)
+    c.requires.keeps (omega (arith, c.place_between.ensures.between, c.place-earlier.ensures.place))
+    (omega (arith, c.place_between.ensures.between, c.place-2.ensures.place))
+    (λ same. c.place_between.ensures.end (same ∙ sym c.place-2.ensures.place) ∙ c.place-2.ensures.place)
+    c.in_ok-between.ensures c.in_ok-insert.ensures.items).0
+
+pub returns-clause-room : goal.returns-clause-room
+returns-clause-room g c = (between_kept width c.args.present.now c.args.checkpoints.now.items c.insert.new.self.items c.args.place c.in-Some.index c.place_between.result
+    c.index.result.now c.neighbour_after-later.result.now c.in_ok-between.between
+    (stands_between c.args.present.now c.args.checkpoints.now.items _ _ _ c.args.place c.in-Some.index _ _ c.nearest.ensures c.as_slice.ensures.value c.in-Some.is
+    c.index.ensures c.neighbour_after-later.ensures c.as_slice-2.ensures.value)
+    c.requires.keeps (omega (arith, c.place_between.ensures.between, c.place-earlier.ensures.place))
+    (omega (arith, c.place_between.ensures.between, c.place-2.ensures.place))
+    (λ same. c.place_between.ensures.end (same ∙ sym c.place-2.ensures.place) ∙ c.place-2.ensures.place)
+    c.in_ok-between.ensures c.in_ok-insert.ensures.items).1
+
+pub returns-clause-back : goal.returns-clause-back
+returns-clause-back g c =
+    ap (λ cs. remove cs c.in-Some.index) c.in_ok-insert.ensures.items ∙ taken_back c.args.checkpoints.now.items c.in-Some.index c.in_ok-between.between
+    (omega (arith, nearest_below c.args.checkpoints.now.items _ _ c.args.place c.in-Some.index c.index.result.now c.nearest.ensures c.as_slice.ensures.value c.in-Some.is))

@@ -1,0 +1,101 @@
+-- The checkpoints of a timeline: structures that perform its first rows, so close to one another that few rows lie between.
+use Rattle.std.specs.Prelude.{◌≡◌, ℕ, ◌+◌, ◌<◌, ◌≤◌, nat_lt, if◌then◌else◌, Bool, true, false, List, [], ◌∷◌, length, take, drop, map, reverse}
+use Rattle.std.specs.Prelude.{Option, Some, None}
+use Rattle.std.specs.List.{insert, remove, AllByRecursion}
+use Rattle.retro_base.specs.declared.kind.Kind.{Kind}
+use Rattle.retro_base.specs.declared.row.Row.{Row}
+use Rattle.retro_base.specs.Edits.{Edit, add, edited}
+use Rattle.retro_base.specs.Kind.{kind_of}
+use Rattle.retro_base.specs.Limits.{most_rows}
+use Rattle.retro_base.specs.Replay.{IsValid}
+use Rattle.retro_base.specs.Timeline.{IsFresh, Structure}
+
+-- the most rows between neighbours
+abbrev pub width : ℕ
+width = 1024
+
+-- what is seen of a structure with checkpoints: beside its rows whether the checkpoints were made, and the places
+-- of those after the start, rising
+pub record Checkpointed : Type 0 where
+  pub kind : Kind
+  pub rows : List Row
+  pub made : Bool
+  pub places : List ℕ
+
+-- the structure after an edit
+abbrev pub after : Structure → Edit → Structure
+after now edit = record { kind = now.kind; rows = edited now.rows edit }
+
+-- the structure with the first rows alone
+abbrev pub first_of : ℕ → Structure → Structure
+first_of count now = record { kind = now.kind; rows = take count now.rows }
+
+-- a row can be put in at the place
+pub record CanTake (now : Structure) (place : ℕ) (row : Row) : Type 0 where
+  pub room : length now.rows < most_rows
+  pub fresh : IsFresh row.number now.rows
+  pub of_kind : kind_of row.op ≡ now.kind
+  pub replays : IsValid now.kind (insert now.rows place row)
+
+-- the place of a checkpoint: it stands after so many rows
+abbrev pub place_of : Structure → ℕ
+place_of checkpoint = length checkpoint.rows
+
+-- it performs the first rows of the timeline, as many as it stands for
+abbrev pub HoldsFirstRows : Structure → Structure → Type 0
+HoldsFirstRows now checkpoint = checkpoint ≡ first_of (place_of checkpoint) now
+
+-- places from one down to the last, each at most so many rows before the one after it
+abbrev pub AreClose : ℕ → ℕ → List ℕ → ℕ → Type 0
+AreClose most later [] last = later ≡ last
+AreClose most later (place ∷ places) last = (place ≤ later) × (later ≤ place + most) × AreClose most place places last
+
+-- the checkpoints of a timeline once they were made, the latest first: neighbours are close, the present and the start
+-- among them, and the start is the last of them
+pub record AreCheckpoints (most : ℕ) (now : Structure) (checkpoints : List Structure) : Type 0 where
+  pub first_rows : AllByRecursion (HoldsFirstRows now) checkpoints
+  pub close : AreClose most (place_of now) (map place_of checkpoints) 0
+
+-- whether they were made
+abbrev pub were_made : List Structure → Bool
+were_made [] = false
+were_made (checkpoint ∷ checkpoints) = true
+
+-- the places of those after the start, rising
+abbrev pub places_of : List Structure → List ℕ
+places_of checkpoints = drop 1 (reverse (map place_of checkpoints))
+
+-- they are kept where they were made
+abbrev pub KeepsCheckpoints : ℕ → Structure → List Structure → Type 0
+KeepsCheckpoints most now checkpoints = were_made checkpoints ≡ true → AreCheckpoints most now checkpoints
+
+-- what is seen of a present and its checkpoints
+abbrev pub seen : Structure → List Structure → Checkpointed
+seen now checkpoints = record { kind = now.kind; rows = now.rows; made = were_made checkpoints; places = places_of checkpoints }
+
+-- a checkpoint after a row was put into the timeline at a place: it has the row where it stands after the place
+abbrev pub with_row : ℕ → Row → Structure → Structure
+with_row place row checkpoint = if nat_lt place (place_of checkpoint) then after checkpoint (add place row) else checkpoint
+
+-- a checkpoint after the row at a place was taken out of the timeline
+abbrev pub without_row : ℕ → Structure → Structure
+without_row place checkpoint =
+    if nat_lt place (place_of checkpoint) then record { kind = checkpoint.kind; rows = remove checkpoint.rows place } else checkpoint
+
+-- one more row fits between the neighbours of the place
+abbrev pub HasRoom : ℕ → ℕ → ℕ → List ℕ → Type 0
+HasRoom most place later [] = Unit {0}
+HasRoom most place later (earlier ∷ places) = (place < earlier → HasRoom most place earlier places) × (earlier ≤ place → later < earlier + most)
+
+-- a checkpoint can follow an insertion, and be taken back from it
+abbrev pub CanFollow : ℕ → Row → Structure → Type 0
+CanFollow place row checkpoint = place < place_of checkpoint → CanTake checkpoint place row × IsValid checkpoint.kind checkpoint.rows
+
+-- a checkpoint can follow a removal
+abbrev pub CanLose : ℕ → Structure → Type 0
+CanLose place checkpoint = place < place_of checkpoint → IsValid checkpoint.kind (remove checkpoint.rows place)
+
+-- the checkpoints without the one that was made at this index, where one was
+abbrev pub without_made : Option ℕ → List Structure → List Structure
+without_made None checkpoints = checkpoints
+without_made (Some index) checkpoints = remove checkpoints index

@@ -1,0 +1,117 @@
+//! The checkpoints of a timeline, the latest first: how they are made, and which is nearest to a place.
+ghost use Rattle.std.specs.Prelude.{◌≡◌, ◌+◌, ◌-◌, ◌<◌, ◌≤◌, ◌∷◌, nat_le, length, get_or, map, position, true, IfOk, IfSome, OnOk, OnErr};
+ghost use Rattle.checkpoint_full.specs.Checkpoints.{place_of, were_made, width, without_made, AreCheckpoints, HasRoom, KeepsCheckpoints};
+
+use crate::snapshot::Snapshot;
+use retro_base::{NoMemory, Partial, Steps};
+use std::alloc::Global;
+use std::sync::ledger::Ledger;
+
+/// The most rows between neighbouring checkpoints; the start and the present count as neighbours.
+pub const WIDTH: u32 = 1024;
+
+/// The index of the latest checkpoint that is not after the place; none where none were made.
+pub(crate) fn nearest<P: Partial + Drop>(checkpoints: &[Snapshot<P>], place: u32) -> Option<usize>
+    ensures { result ≡ position (λ checkpoint. nat_le (place_of checkpoint) place) checkpoints.now }
+{
+    checkpoints
+        .iter()
+        .position(|checkpoint| checkpoint.place() <= place)
+}
+
+/// The place of the first checkpoint that is made: the last multiple of the width before so many rows.
+fn first_made(rows: u32) -> u32
+    ensures { (result ≤ rows) × (rows ≤ result + width) }
+{
+    rows.saturating_sub(1) / WIDTH * WIDTH
+}
+
+/// Makes the checkpoints of a timeline, each of them a copy of the next one without its last rows.
+pub(crate) fn make<P: Partial + Drop, L: Ledger>(
+    alloc: Global,
+    present: &Snapshot<P>,
+    steps: &mut Steps<L>,
+) -> Result<Vec<Snapshot<P>>, NoMemory>
+    ensures made { IfOk result (λ checkpoints. were_made checkpoints.items ≡ true) }
+    ensures checkpoints { IfOk result (λ checkpoints. AreCheckpoints width present.now checkpoints.items) }
+{
+    let mut checkpoints = Vec::new(alloc);
+    let mut latest = present.copy_at(first_made(present.place()), steps)?;
+    while latest.place() > 0 {
+        let earlier = latest.copy_at(latest.place().saturating_sub(WIDTH), steps)?;
+        checkpoints.push(latest)?;
+        latest = earlier;
+    }
+    checkpoints.push(latest)?;
+    Ok(checkpoints)
+}
+
+/// The neighbour after the checkpoint at the index: a checkpoint, or the present.
+fn neighbour_after<'a, P: Partial + Drop>(
+    present: &'a Snapshot<P>,
+    checkpoints: &'a [Snapshot<P>],
+    index: usize,
+) -> &'a Snapshot<P>
+    requires { index ≤ length checkpoints.now }
+    ensures { result.now ≡ get_or (present.now ∷ checkpoints.now) index present.now }
+{
+    if index == 0 {
+        present
+    } else {
+        &checkpoints[index - 1]
+    }
+}
+
+/// Where a checkpoint is made between two neighbours, for a row that is put in at a place: before a row that comes
+/// after all others, and in the middle otherwise.
+fn place_between(earlier: u32, later: u32, place: u32) -> u32
+    requires apart { earlier + 2 ≤ later }
+    ensures between { (earlier < result) × (result ≤ later) }
+    ensures end { result ≡ later → place ≡ later }
+{
+    if place == later {
+        later
+    } else {
+        earlier + (later - earlier) / 2
+    }
+}
+
+/// Makes a checkpoint between the neighbours of the place where one more row would not fit between them, and answers its
+/// index where it made one. After `NoMemory` all are as before.
+pub(crate) fn make_room<P: Partial + Drop, L: Ledger>(
+    present: &Snapshot<P>,
+    checkpoints: &mut Vec<Snapshot<P>>,
+    place: u32,
+    steps: &mut Steps<L>,
+) -> Result<Option<usize>, NoMemory>
+    requires within { place ≤ place_of present.now }
+    requires keeps { KeepsCheckpoints width present.now checkpoints.old.items }
+    ensures keeps { OnOk result (KeepsCheckpoints width present.now checkpoints.new.items) }
+    ensures room { OnOk result (HasRoom width place (place_of present.now) (map place_of checkpoints.new.items)) }
+    ensures made { OnOk result (were_made checkpoints.new.items ≡ were_made checkpoints.old.items) }
+    ensures back { IfOk result (λ split. without_made split checkpoints.new.items ≡ checkpoints.old.items) }
+    ensures index { IfOk result (λ split. IfSome split (λ index. index < length checkpoints.new.items)) }
+    ensures err { OnErr result (checkpoints.new.items ≡ checkpoints.old.items) }
+{
+    let Some(index) = nearest(checkpoints.as_slice(), place) else {
+        return Ok(None);
+    };
+    let earlier = checkpoints[index].place();
+    let later = neighbour_after(present, checkpoints.as_slice(), index);
+    if later.place() < earlier + WIDTH {
+        return Ok(None);
+    }
+    let between = later.copy_at(place_between(earlier, later.place(), place), steps)?;
+    checkpoints.insert(index, between)?;
+    Ok(Some(index))
+}
+
+/// Drops the checkpoint at the index where one was made. It takes no memory.
+pub(crate) fn drop_made<P: Partial + Drop>(checkpoints: &mut Vec<Snapshot<P>>, split: Option<usize>)
+    requires { IfSome split (λ index. index < length checkpoints.old.items) }
+    ensures { checkpoints.new.items ≡ without_made split checkpoints.old.items }
+{
+    if let Some(index) = split {
+        checkpoints.remove(index);
+    }
+}

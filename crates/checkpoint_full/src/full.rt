@@ -1,0 +1,222 @@
+ghost use Rattle.std.specs.Prelude.{◌≡◌, ◌+◌, ◌*◌, ◌<◌, ◌≤◌, [], length, slice_get, true, false, Some, IfSome, IfOk, OnOk, OnErr};
+ghost use Rattle.std.specs.List.{insert, remove};
+ghost use Rattle.retro_base.specs.declared.row.Row.{Row};
+ghost use Rattle.retro_base.specs.Answers.{answer_of, content};
+ghost use Rattle.retro_base.specs.Changes.{IsChange};
+ghost use Rattle.retro_base.specs.Edits.{add, cut};
+ghost use Rattle.retro_base.specs.Kind.{kind_of};
+ghost use Rattle.retro_base.specs.Limits.{most_rows};
+ghost use Rattle.retro_base.specs.Questions.{suits};
+ghost use Rattle.retro_base.specs.Replay.{failure, IsValid, present, state_at};
+ghost use Rattle.retro_base.specs.Timeline.{IsFresh, IsReplayable};
+ghost use Rattle.retro_base.specs.Visits.{VisitsWithin};
+
+use crate::kept::{ask_kept, insert_kept, list_kept, remove_kept};
+use crate::snapshot::Snapshot;
+use crate::uncounted;
+use retro_base::{
+    Answer, Change, Kind, Listing, NoMemory, Op, Partial, Question, Retro, Row, Steps,
+};
+use std::alloc::Global;
+use std::marker::{Brand, Model};
+use std::sync::ledger::{Blank, Ledger};
+
+/// A structure whose whole past can be asked, over one that answers of the present alone.
+///
+/// Contracts see its kind and rows, whether its checkpoints were made, and the places of those after the start. The
+/// checkpoints are made at the first question about the past; from then on neighbours are at most `WIDTH` rows apart,
+/// and each performs the first rows of the timeline, as many as it stands for.
+#[derive(Drop)]
+pub struct Full<P: Partial + Drop> {
+    alloc: Global,
+    present: Snapshot<P>,
+    checkpoints: Vec<Snapshot<P>>,
+}
+
+impl<P: Partial + Drop> Model for Full<P> {
+    ghost use Rattle.checkpoint_full.specs.Checkpoints.{Checkpointed, KeepsCheckpoints, seen, width};
+
+    ghost Value = { Checkpointed };
+
+    ghost view = { λ f. seen f.present f.checkpoints.items };
+
+    ghost invariant = { λ f. KeepsCheckpoints width f.present f.checkpoints.items };
+}
+
+impl<P: Partial + Drop> Full<P> {
+    /// A structure over an empty one. It takes no memory; that of the checkpoints will be that of `alloc`.
+    pub fn new(alloc: Global, present: P) -> Full<P>
+        requires { P.rows present ≡ [] }
+        ensures { result ≡ record { kind = P.kind present; rows = []; made = false; places = [] } }
+    {
+        Full {
+            alloc,
+            present: Snapshot::new(present),
+            checkpoints: Vec::new(alloc),
+        }
+    }
+
+    /// The answer to a question about the state at a place, after so many rows. The rows stay, whatever the answer, and
+    /// so do the checkpoints where they had been made; then it visits at most 432 nodes for each of 1,025 rows and each
+    /// binary digit of one more than the number of rows. After `NoMemory` all is as before.
+    pub fn ask_past<L: Ledger>(
+        &mut self,
+        place: u32,
+        question: Question,
+        steps: &mut Steps<L>,
+    ) -> Result<Answer, NoMemory>
+        requires within { place ≤ length self.old.rows }
+        requires suited { suits question self.old.kind ≡ true }
+        ensures kind { self.new.kind ≡ self.old.kind }
+        ensures rows { self.new.rows ≡ self.old.rows }
+        ensures answer { IfOk result (λ answer. answer ≡ answer_of (state_at self.old.kind self.old.rows place) question) }
+        ensures made { OnOk result (self.new.made ≡ true) }
+        ensures places { self.old.made ≡ true → self.new ≡ self.old }
+        ensures err { OnErr result (self.new ≡ self.old) }
+        ensures visits { self.old.made ≡ true → VisitsWithin (432 * 1025) (length self.old.rows) steps.old steps.new }
+    {
+        ask_kept(
+            self.alloc,
+            &self.present,
+            &mut self.checkpoints,
+            place,
+            question,
+            steps,
+        )
+    }
+
+    /// The whole content at a place, after so many rows. The rows stay, whatever the answer, and so do the checkpoints
+    /// where they had been made. After `NoMemory` all is as before.
+    pub fn all_past(&mut self, place: u32) -> Result<Listing, NoMemory>
+        requires { place ≤ length self.old.rows }
+        ensures kind { self.new.kind ≡ self.old.kind }
+        ensures rows { self.new.rows ≡ self.old.rows }
+        ensures content { IfOk result (λ listing. listing ≡ content (state_at self.old.kind self.old.rows place)) }
+        ensures made { OnOk result (self.new.made ≡ true) }
+        ensures places { self.old.made ≡ true → self.new ≡ self.old }
+        ensures err { OnErr result (self.new ≡ self.old) }
+    {
+        list_kept::<P, Brand>(
+            self.alloc,
+            &self.present,
+            &mut self.checkpoints,
+            place,
+            Blank::new(1),
+        )
+    }
+
+    /// `ask_past` with a counter of its own.
+    fn ask_counted<L: Ledger>(
+        &mut self,
+        place: u32,
+        question: Question,
+        blank: Blank,
+    ) -> Result<Answer, NoMemory>
+        requires within { place ≤ length self.old.rows }
+        requires suited { suits question self.old.kind ≡ true }
+        requires name { blank.name ≡ L.name }
+        requires parts { blank.parts ≡ L.parts }
+        requires shared { 0 < blank.parts }
+        ensures kind { self.new.kind ≡ self.old.kind }
+        ensures rows { self.new.rows ≡ self.old.rows }
+        ensures answer { IfOk result (λ answer. answer ≡ answer_of (state_at self.old.kind self.old.rows place) question) }
+        ensures made { OnOk result (self.new.made ≡ true) }
+        ensures places { self.old.made ≡ true → self.new ≡ self.old }
+        ensures err { OnErr result (self.new ≡ self.old) }
+    {
+        let mut steps = Steps::<L>::new(blank);
+        self.ask_past(place, question, &mut steps)
+    }
+}
+
+impl<P: Partial + Drop> Retro for Full<P> {
+    ghost kind = { λ f. f.kind };
+
+    ghost rows = { λ f. f.rows };
+
+    fn kind(&self) -> Kind {
+        self.present.kind()
+    }
+
+    fn len(&self) -> u32 {
+        self.present.place()
+    }
+
+    fn failure_after_insert(&self, place: u32, op: Op) -> Option<u32> {
+        uncounted::failure_after_insert(self.present.structure(), place, op)
+    }
+
+    fn failure_after_remove(&self, place: u32) -> Option<u32> {
+        uncounted::failure_after_remove(self.present.structure(), place)
+    }
+
+    fn insert(&mut self, place: u32, row: Row) -> Result<Change, NoMemory>
+        requires within { place ≤ length self.old.rows }
+        requires room { length self.old.rows < most_rows }
+        requires fresh { IsFresh row.number self.old.rows }
+        requires of_kind { kind_of row.op ≡ self.old.kind }
+        requires replays { IsValid self.old.kind (insert self.old.rows place row) }
+        ensures kind { self.new.kind ≡ self.old.kind }
+        ensures rows { OnOk result (self.new.rows ≡ insert self.old.rows place row) }
+        ensures replayable { OnOk result (IsReplayable self.new.kind self.new.rows) }
+        ensures change { IfOk result (IsChange self.old.kind self.old.rows (add place row)) }
+        ensures made { OnOk result (self.new.made ≡ self.old.made) }
+        ensures err { OnErr result (self.new ≡ self.old) }
+    {
+        insert_kept::<P, Brand>(
+            &mut self.present,
+            &mut self.checkpoints,
+            place,
+            row,
+            Blank::new(1),
+        )
+    }
+
+    fn remove(&mut self, place: u32) -> Result<(Row, Change), NoMemory>
+        requires within { place < length self.old.rows }
+        requires replays { IsValid self.old.kind (remove self.old.rows place) }
+        ensures kind { self.new.kind ≡ self.old.kind }
+        ensures row { IfOk result (λ taken. slice_get self.old.rows place ≡ Some taken.0) }
+        ensures rows { OnOk result (self.new.rows ≡ remove self.old.rows place) }
+        ensures replayable { OnOk result (IsReplayable self.new.kind self.new.rows) }
+        ensures change { IfOk result (λ taken. IsChange self.old.kind self.old.rows (cut place taken.0) taken.1) }
+        ensures made { OnOk result (self.new.made ≡ self.old.made) }
+        ensures err { OnErr result (self.new ≡ self.old) }
+    {
+        Ok(remove_kept::<P, Brand>(
+            &mut self.present,
+            &mut self.checkpoints,
+            place,
+            Blank::new(1),
+        ))
+    }
+
+    fn ask_now(&self, question: Question) -> Answer {
+        uncounted::ask_now(self.present.structure(), question)
+    }
+
+    fn ask(&mut self, place: u32, question: Question) -> Result<Answer, NoMemory>
+        requires within { place ≤ length self.old.rows }
+        requires suited { suits question self.old.kind ≡ true }
+        ensures kind { self.new.kind ≡ self.old.kind }
+        ensures rows { self.new.rows ≡ self.old.rows }
+        ensures answer { IfOk result (λ answer. answer ≡ answer_of (state_at self.old.kind self.old.rows place) question) }
+        ensures made { OnOk result (self.new.made ≡ true) }
+        ensures places { self.old.made ≡ true → self.new ≡ self.old }
+        ensures err { OnErr result (self.new ≡ self.old) }
+    {
+        self.ask_counted::<Brand>(place, question, Blank::new(1))
+    }
+
+    fn all(&mut self, place: u32) -> Result<Listing, NoMemory>
+        requires { place ≤ length self.old.rows }
+        ensures kind { self.new.kind ≡ self.old.kind }
+        ensures rows { self.new.rows ≡ self.old.rows }
+        ensures content { IfOk result (λ listing. listing ≡ content (state_at self.old.kind self.old.rows place)) }
+        ensures made { OnOk result (self.new.made ≡ true) }
+        ensures places { self.old.made ≡ true → self.new ≡ self.old }
+        ensures err { OnErr result (self.new ≡ self.old) }
+    {
+        self.all_past(place)
+    }
+}

@@ -1,0 +1,133 @@
+//! The present of a timeline and its checkpoints, edited and asked together.
+ghost use Rattle.std.specs.Prelude.{◌≡◌, ◌+◌, ◌*◌, ◌<◌, ◌≤◌, slice_get, true, Some, IfOk, OnOk, OnErr};
+ghost use Rattle.std.specs.List.{remove};
+ghost use Rattle.retro_base.specs.Answers.{answer_of, content};
+ghost use Rattle.retro_base.specs.Changes.{IsChange};
+ghost use Rattle.retro_base.specs.Edits.{add, cut};
+ghost use Rattle.retro_base.specs.Questions.{suits};
+ghost use Rattle.retro_base.specs.Replay.{IsValid, state_at};
+ghost use Rattle.retro_base.specs.Timeline.{IsReplayable};
+ghost use Rattle.retro_base.specs.Visits.{VisitsWithin};
+ghost use Rattle.checkpoint_full.specs.Checkpoints.{after, place_of, were_made, width, CanTake, KeepsCheckpoints};
+
+use crate::checkpoints::{drop_made, make, make_room};
+use crate::follow::{insert_everywhere, remove_everywhere};
+use crate::past::{ask_at, list_at};
+use crate::snapshot::Snapshot;
+use retro_base::{Answer, Change, Listing, NoMemory, Partial, Question, Row, Steps};
+use std::alloc::Global;
+use std::sync::ledger::{Blank, Ledger};
+
+/// Puts the row in, with a counter of its own. After `NoMemory` all is as before.
+pub(crate) fn insert_kept<P: Partial + Drop, L: Ledger>(
+    present: &mut Snapshot<P>,
+    checkpoints: &mut Vec<Snapshot<P>>,
+    place: u32,
+    row: Row,
+    blank: Blank,
+) -> Result<Change, NoMemory>
+    requires within { place ≤ place_of present.old }
+    requires can { CanTake present.old place row }
+    requires keeps { KeepsCheckpoints width present.old checkpoints.old.items }
+    requires name { blank.name ≡ L.name }
+    requires parts { blank.parts ≡ L.parts }
+    requires shared { 0 < blank.parts }
+    ensures present { OnOk result (present.new ≡ after present.old (add place row)) }
+    ensures replayable { OnOk result (IsReplayable present.new.kind present.new.rows) }
+    ensures keeps { OnOk result (KeepsCheckpoints width present.new checkpoints.new.items) }
+    ensures made { OnOk result (were_made checkpoints.new.items ≡ were_made checkpoints.old.items) }
+    ensures change { IfOk result (IsChange present.old.kind present.old.rows (add place row)) }
+    ensures err { OnErr result ((present.new ≡ present.old) × (checkpoints.new.items ≡ checkpoints.old.items)) }
+{
+    let mut steps = Steps::<L>::new(blank);
+    let split = make_room(present, checkpoints, place, &mut steps)?;
+    match insert_everywhere(present, checkpoints.as_mut_slice(), place, row, &mut steps) {
+        Ok(change) => Ok(change),
+        Err(error) => {
+            drop_made(checkpoints, split);
+            Err(error)
+        }
+    }
+}
+
+/// Takes the row at the place out, with a counter of its own. It takes no memory.
+pub(crate) fn remove_kept<P: Partial + Drop, L: Ledger>(
+    present: &mut Snapshot<P>,
+    checkpoints: &mut Vec<Snapshot<P>>,
+    place: u32,
+    blank: Blank,
+) -> (Row, Change)
+    requires within { place < place_of present.old }
+    requires replays { IsValid present.old.kind (remove present.old.rows place) }
+    requires keeps { KeepsCheckpoints width present.old checkpoints.old.items }
+    requires name { blank.name ≡ L.name }
+    requires parts { blank.parts ≡ L.parts }
+    requires shared { 0 < blank.parts }
+    ensures row { slice_get present.old.rows place ≡ Some result.0 }
+    ensures present { present.new ≡ after present.old (cut place result.0) }
+    ensures replayable { IsReplayable present.new.kind present.new.rows }
+    ensures keeps { KeepsCheckpoints width present.new checkpoints.new.items }
+    ensures made { were_made checkpoints.new.items ≡ were_made checkpoints.old.items }
+    ensures change { IsChange present.old.kind present.old.rows (cut place result.0) result.1 }
+{
+    let mut steps = Steps::<L>::new(blank);
+    remove_everywhere(present, checkpoints.as_mut_slice(), place, &mut steps)
+}
+
+/// Asks at a place; the checkpoints are made where they were not. After `NoMemory` all is as before.
+pub(crate) fn ask_kept<P: Partial + Drop, L: Ledger>(
+    alloc: Global,
+    present: &Snapshot<P>,
+    checkpoints: &mut Vec<Snapshot<P>>,
+    place: u32,
+    question: Question,
+    steps: &mut Steps<L>,
+) -> Result<Answer, NoMemory>
+    requires within { place ≤ place_of present.now }
+    requires suited { suits question present.now.kind ≡ true }
+    requires keeps { KeepsCheckpoints width present.now checkpoints.old.items }
+    ensures answer { IfOk result (λ answer. answer ≡ answer_of (state_at present.now.kind present.now.rows place) question) }
+    ensures keeps { KeepsCheckpoints width present.now checkpoints.new.items }
+    ensures made { OnOk result (were_made checkpoints.new.items ≡ true) }
+    ensures same { were_made checkpoints.old.items ≡ true → checkpoints.new.items ≡ checkpoints.old.items }
+    ensures err { OnErr result (checkpoints.new.items ≡ checkpoints.old.items) }
+    ensures visits { were_made checkpoints.old.items ≡ true → VisitsWithin (432 * (width + 1)) (place_of present.now) steps.old steps.new }
+{
+    if checkpoints.is_empty() {
+        let mut made = make(alloc, present, steps)?;
+        let answer = ask_at(made.as_mut_slice(), present, place, question, steps)?;
+        *checkpoints = made;
+        return Ok(answer);
+    }
+    ask_at(checkpoints.as_mut_slice(), present, place, question, steps)
+}
+
+/// Lists the content at a place, with a counter of its own; the checkpoints are made where they were not. After
+/// `NoMemory` all is as before.
+pub(crate) fn list_kept<P: Partial + Drop, L: Ledger>(
+    alloc: Global,
+    present: &Snapshot<P>,
+    checkpoints: &mut Vec<Snapshot<P>>,
+    place: u32,
+    blank: Blank,
+) -> Result<Listing, NoMemory>
+    requires within { place ≤ place_of present.now }
+    requires keeps { KeepsCheckpoints width present.now checkpoints.old.items }
+    requires name { blank.name ≡ L.name }
+    requires parts { blank.parts ≡ L.parts }
+    requires shared { 0 < blank.parts }
+    ensures content { IfOk result (λ listing. listing ≡ content (state_at present.now.kind present.now.rows place)) }
+    ensures keeps { KeepsCheckpoints width present.now checkpoints.new.items }
+    ensures made { OnOk result (were_made checkpoints.new.items ≡ true) }
+    ensures same { were_made checkpoints.old.items ≡ true → checkpoints.new.items ≡ checkpoints.old.items }
+    ensures err { OnErr result (checkpoints.new.items ≡ checkpoints.old.items) }
+{
+    let mut steps = Steps::<L>::new(blank);
+    if checkpoints.is_empty() {
+        let mut made = make(alloc, present, &mut steps)?;
+        let listing = list_at(made.as_mut_slice(), present, place, &mut steps)?;
+        *checkpoints = made;
+        return Ok(listing);
+    }
+    list_at(checkpoints.as_mut_slice(), present, place, &mut steps)
+}

@@ -1,0 +1,198 @@
+//! A structure with some first rows of a timeline: the present with all of them, a checkpoint with fewer.
+ghost use Rattle.std.specs.Prelude.{◌≡◌, ◌+◌, ◌-◌, ◌*◌, ◌<◌, ◌≤◌, List, length, slice_get, take, true, Some, IfOk, OnOk, OnErr};
+ghost use Rattle.std.specs.List.{insert, remove};
+ghost use Rattle.retro_base.specs.declared.row.Row.{Row};
+ghost use Rattle.retro_base.specs.Answers.{answer_of, content};
+ghost use Rattle.retro_base.specs.Changes.{IsChange};
+ghost use Rattle.retro_base.specs.Edits.{add, cut};
+ghost use Rattle.retro_base.specs.Limits.{most_rows};
+ghost use Rattle.retro_base.specs.Questions.{suits};
+ghost use Rattle.retro_base.specs.Replay.{IsValid, present};
+ghost use Rattle.retro_base.specs.Timeline.{IsReplayable};
+ghost use Rattle.retro_base.specs.Visits.{VisitsWithin};
+ghost use Rattle.checkpoint_full.specs.Checkpoints.{after, first_of, place_of, CanTake, HoldsFirstRows};
+
+use retro_base::{Answer, Change, Kind, Listing, NoMemory, Partial, Question, Row, Steps};
+use std::marker::Model;
+use std::sync::ledger::Ledger;
+
+/// A structure that contracts see as its kind and its rows.
+#[derive(Drop)]
+pub(crate) struct Snapshot<P: Partial + Drop> {
+    structure: P,
+}
+
+impl<P: Partial + Drop> Model for Snapshot<P> {
+    ghost use Rattle.retro_base.specs.Timeline.{IsReplayable, Structure};
+
+    ghost Value = { Structure };
+
+    ghost view = { λ s. record { kind = P.kind s.structure; rows = P.rows s.structure } };
+
+    ghost invariant = { λ s. IsReplayable (P.kind s.structure) (P.rows s.structure) };
+}
+
+impl<P: Partial + Drop> Snapshot<P> {
+    /// A snapshot of the structure's own rows.
+    pub(crate) fn new(structure: P) -> Snapshot<P>
+        ensures { result ≡ record { kind = P.kind structure; rows = P.rows structure } }
+    {
+        let _kind = structure.kind();
+        Snapshot { structure }
+    }
+
+    /// The structure.
+    pub(crate) fn structure(&self) -> &P
+        ensures kind { P.kind result.now ≡ self.now.kind }
+        ensures rows { P.rows result.now ≡ self.now.rows }
+    {
+        &self.structure
+    }
+
+    /// The kind.
+    pub(crate) fn kind(&self) -> Kind
+        ensures kind { result ≡ self.now.kind }
+        ensures replayable { IsReplayable self.now.kind self.now.rows }
+    {
+        self.structure.kind()
+    }
+
+    /// The place at which it stands: after so many rows.
+    pub(crate) fn place(&self) -> u32
+        ensures place { result ≡ place_of self.now }
+        ensures replayable { IsReplayable self.now.kind self.now.rows }
+    {
+        self.structure.len()
+    }
+
+    /// The row at a place.
+    pub(crate) fn row_at<L: Ledger>(&self, place: u32, steps: &mut Steps<L>) -> Row
+        requires { place < place_of self.now }
+        ensures row { slice_get self.now.rows place ≡ Some result }
+        ensures replayable { IsReplayable self.now.kind self.now.rows }
+        ensures visits { VisitsWithin 144 (place_of self.now) steps.old steps.new }
+    {
+        self.structure.row_at(place, steps)
+    }
+
+    /// Puts a row in at a place, and answers the change of its present. After `NoMemory` all is as before.
+    pub(crate) fn insert<L: Ledger>(
+        &mut self,
+        place: u32,
+        row: Row,
+        steps: &mut Steps<L>,
+    ) -> Result<Change, NoMemory>
+        requires within { place ≤ place_of self.old }
+        requires can { CanTake self.old place row }
+        ensures ok { OnOk result (self.new ≡ after self.old (add place row)) }
+        ensures before { IsReplayable self.old.kind self.old.rows }
+        ensures replayable { IsReplayable self.new.kind self.new.rows }
+        ensures change { IfOk result (IsChange self.old.kind self.old.rows (add place row)) }
+        ensures err { OnErr result (self.new ≡ self.old) }
+        ensures visits { VisitsWithin 144 (place_of self.old + 1) steps.old steps.new }
+    {
+        self.structure.insert(place, row, steps)
+    }
+
+    /// Takes the row at a place out, gives it back, and answers the change of its present. It takes no memory.
+    pub(crate) fn remove<L: Ledger>(&mut self, place: u32, steps: &mut Steps<L>) -> (Row, Change)
+        requires within { place < place_of self.old }
+        requires replays { IsValid self.old.kind (remove self.old.rows place) }
+        ensures row { slice_get self.old.rows place ≡ Some result.0 }
+        ensures rows { self.new ≡ after self.old (cut place result.0) }
+        ensures replayable { IsReplayable self.new.kind self.new.rows }
+        ensures change { IsChange self.old.kind self.old.rows (cut place result.0) result.1 }
+        ensures visits { VisitsWithin 144 (place_of self.old) steps.old steps.new }
+    {
+        self.structure.remove(place, steps)
+    }
+
+    /// The answer to a question about its present.
+    pub(crate) fn ask_now<L: Ledger>(&self, question: Question, steps: &mut Steps<L>) -> Answer
+        requires { suits question self.now.kind ≡ true }
+        ensures answer { result ≡ answer_of (present self.now.kind self.now.rows) question }
+        ensures visits { VisitsWithin 144 (place_of self.now) steps.old steps.new }
+    {
+        self.structure.ask_now(question, steps)
+    }
+
+    /// The whole content of its present.
+    pub(crate) fn all_now(&self) -> Result<Listing, NoMemory>
+        ensures { IfOk result (λ listing. listing ≡ content (present self.now.kind self.now.rows)) }
+    {
+        self.structure.all_now()
+    }
+
+    /// Takes the last row off.
+    fn take_last_off<L: Ledger>(&mut self, steps: &mut Steps<L>)
+        requires { 0 < place_of self.old }
+        ensures rows { self.new ≡ first_of (place_of self.old - 1) self.old }
+        ensures visits { VisitsWithin 144 (place_of self.old) steps.old steps.new }
+    {
+        self.remove(self.place() - 1, steps);
+    }
+
+    /// Takes rows off the end, back to a place. It takes no memory.
+    pub(crate) fn roll_back<L: Ledger>(&mut self, place: u32, steps: &mut Steps<L>)
+        requires { place ≤ place_of self.old }
+        ensures rows { self.new ≡ first_of place self.old }
+        ensures visits { VisitsWithin (144 * (place_of self.old - place)) (place_of self.old) steps.old steps.new }
+    {
+        for _ in place..self.place() {
+            self.take_last_off(steps);
+        }
+    }
+
+    /// Appends the next row of the timeline. After `NoMemory` all is as before.
+    fn append_next<L: Ledger>(
+        &mut self,
+        timeline: &Snapshot<P>,
+        steps: &mut Steps<L>,
+    ) -> Result<(), NoMemory>
+        requires first { HoldsFirstRows timeline.now self.old }
+        requires earlier { place_of self.old < place_of timeline.now }
+        ensures ok { OnOk result (self.new ≡ first_of (place_of self.old + 1) timeline.now) }
+        ensures err { OnErr result (self.new ≡ self.old) }
+        ensures visits { VisitsWithin 288 (place_of timeline.now) steps.old steps.new }
+    {
+        let place = self.place();
+        let row = timeline.row_at(place, steps);
+        self.insert(place, row, steps)?;
+        Ok(())
+    }
+
+    /// Appends the rows of the timeline up to a place, or some of them before `NoMemory`.
+    pub(crate) fn roll_forward<L: Ledger>(
+        &mut self,
+        timeline: &Snapshot<P>,
+        place: u32,
+        steps: &mut Steps<L>,
+    ) -> Result<(), NoMemory>
+        requires first { HoldsFirstRows timeline.now self.old }
+        requires earlier { place_of self.old ≤ place }
+        requires within { place ≤ place_of timeline.now }
+        ensures ok { OnOk result (self.new ≡ first_of place timeline.now) }
+        ensures first { HoldsFirstRows timeline.now self.new }
+        ensures between { (place_of self.old ≤ place_of self.new) × (place_of self.new ≤ place) }
+        ensures visits { VisitsWithin (288 * (place - place_of self.old)) (place_of timeline.now) steps.old steps.new }
+    {
+        for _ in self.place()..place {
+            self.append_next(timeline, steps)?;
+        }
+        Ok(())
+    }
+
+    /// A snapshot of the first rows, up to a place.
+    pub(crate) fn copy_at<L: Ledger>(
+        &self,
+        place: u32,
+        steps: &mut Steps<L>,
+    ) -> Result<Snapshot<P>, NoMemory>
+        requires { place ≤ place_of self.now }
+        ensures { IfOk result (λ copy. copy ≡ first_of place self.now) }
+    {
+        let mut copy = Snapshot::new(self.structure.copy()?);
+        copy.roll_back(place, steps);
+        Ok(copy)
+    }
+}
