@@ -1,23 +1,56 @@
--- What an engine is seen as: the kind that its variant names, and the rows of the structure inside.
-use Rattle.std.specs.Prelude.{List}
+-- What an engine is seen as: the kind of the structure inside, which its variant names, its rows, and the checkpoints of a priority
+-- queue.
+use Rattle.std.specs.Prelude.{ℕ, Bool, true, false, List, []}
 use Rattle.retro_base.specs.declared.kind.Kind.{Kind}
 use Rattle.retro_base.specs.declared.kind.Kind.TheVariants as kinds
 use Rattle.retro_base.specs.declared.row.Row.{Row}
 use Rattle.engine.specs.declared.engine.Engine.{Engine}
 use Rattle.engine.specs.declared.engine.Engine.TheVariants.{Queue, Stack, Deque, Dict, Pq}
 
--- the kind that the variant names
+-- the kind of the structure inside
 abbrev pub kind_inside : Engine → Kind
 kind_inside (Queue inner) = kinds.Queue
 kind_inside (Stack inner) = kinds.Stack
 kind_inside (Deque inner) = kinds.Deque
 kind_inside (Dict inner) = kinds.Dict
-kind_inside (Pq inner) = kinds.Pq
+kind_inside (Pq inner) = inner.kind
 
--- the rows of the structure inside
+-- its rows
 abbrev pub rows_inside : Engine → List Row
 rows_inside (Queue inner) = inner
 rows_inside (Stack inner) = inner
 rows_inside (Deque inner) = inner
 rows_inside (Dict inner) = inner
-rows_inside (Pq inner) = inner
+rows_inside (Pq inner) = inner.rows
+
+-- a queue, a stack or a deque, whose past is asked in a few visits and without memory
+abbrev pub is_line : Engine → Bool
+is_line (Queue inner) = true
+is_line (Stack inner) = true
+is_line (Deque inner) = true
+is_line (Dict inner) = false
+is_line (Pq inner) = false
+
+-- a priority queue, whose past is asked by checkpoints
+abbrev pub is_pq : Engine → Bool
+is_pq (Queue inner) = false
+is_pq (Stack inner) = false
+is_pq (Deque inner) = false
+is_pq (Dict inner) = false
+is_pq (Pq inner) = true
+
+-- its checkpoints were made
+abbrev pub made_inside : Engine → Bool
+made_inside (Queue inner) = false
+made_inside (Stack inner) = false
+made_inside (Deque inner) = false
+made_inside (Dict inner) = false
+made_inside (Pq inner) = inner.made
+
+-- their places
+abbrev pub places_inside : Engine → List ℕ
+places_inside (Queue inner) = []
+places_inside (Stack inner) = []
+places_inside (Deque inner) = []
+places_inside (Dict inner) = []
+places_inside (Pq inner) = inner.places

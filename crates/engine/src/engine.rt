@@ -1,13 +1,26 @@
-ghost use Rattle.std.specs.Prelude.{◌≡◌, []};
-ghost use Rattle.engine.specs.Engine.{kind_inside, rows_inside};
+ghost use Rattle.std.specs.Prelude.{◌≡◌, ◌+◌, ◌*◌, ◌<◌, ◌≤◌, [], length, slice_get, true, false, Some, IsOk, IfOk, OnOk, OnErr};
+ghost use Rattle.std.specs.List.{insert, remove};
+ghost use Rattle.retro_base.specs.Answers.{answer_of, content};
+ghost use Rattle.retro_base.specs.Changes.{IsChange};
+ghost use Rattle.retro_base.specs.Edits.{add, cut};
+ghost use Rattle.retro_base.specs.Kind.{kind_of};
+ghost use Rattle.retro_base.specs.Limits.{most_rows};
+ghost use Rattle.retro_base.specs.Questions.{suits};
+ghost use Rattle.retro_base.specs.Replay.{IsValid, state_at};
+ghost use Rattle.retro_base.specs.Timeline.{IsFresh, IsReplayable};
+ghost use Rattle.retro_base.specs.Visits.{VisitsWithin};
+ghost use Rattle.engine.specs.Engine.{kind_inside, rows_inside, is_line, is_pq, made_inside, places_inside};
 
-use crate::PqList;
-use retro_base::{Answer, Change, Kind, Listing, NoMemory, Op, PlainList, Question, Retro, Row};
+use bridge_pq::BridgeQueue;
+use checkpoint_full::Full;
+use retro_base::{Answer, Change, Kind, Listing, NoMemory, Op, Question, Retro, Row, Steps};
 use retro_deque::RetroDeque;
 use retro_dictionary::RetroDictionary;
 use retro_queue::RetroQueue;
 use retro_stack::RetroStack;
 use std::alloc::Global;
+use std::marker::Brand;
+use std::sync::ledger::{Blank, Ledger};
 
 /// The structure of a kind. No call changes the variant.
 #[derive(Drop)]
@@ -16,7 +29,7 @@ pub enum Engine {
     Stack { inner: RetroStack },
     Deque { inner: RetroDeque },
     Dict { inner: RetroDictionary },
-    Pq { inner: PqList },
+    Pq { inner: Full<BridgeQueue> },
 }
 
 impl Engine {
@@ -39,11 +52,61 @@ impl Engine {
                 inner: RetroDictionary::new(alloc),
             },
             Kind::Pq => Engine::Pq {
-                inner: PqList {
-                    list: PlainList::new(alloc, kind),
-                },
+                inner: Full::new(alloc, BridgeQueue::new(alloc)),
             },
         }
+    }
+
+    /// The answer to a question about the state at a place, after so many rows. The rows stay, whatever the answer.
+    ///
+    /// A queue, a stack and a deque visit at most 144 nodes for each binary digit of one more than the number of rows, and
+    /// always answer. A priority queue whose checkpoints were made visits at most 432 for each of 1,025 rows and each
+    /// digit; the first question about its past makes them, and no question moves them. Of a dictionary no bound is stated.
+    pub fn ask_past<L: Ledger>(
+        &mut self,
+        place: u32,
+        question: Question,
+        steps: &mut Steps<L>,
+    ) -> Result<Answer, NoMemory>
+        requires within { place ≤ length (rows_inside self.old) }
+        requires suited { suits question (kind_inside self.old) ≡ true }
+        ensures kind { kind_inside self.new ≡ kind_inside self.old }
+        ensures rows { rows_inside self.new ≡ rows_inside self.old }
+        ensures answer { IfOk result (λ answer. answer ≡ answer_of (state_at (kind_inside self.old) (rows_inside self.old) place) question) }
+        ensures line { is_line self.old ≡ true → IsOk result }
+        ensures line_visits { is_line self.old ≡ true → VisitsWithin 144 (length (rows_inside self.old)) steps.old steps.new }
+        ensures made { is_pq self.old ≡ true → OnOk result (made_inside self.new ≡ true) }
+        ensures places { made_inside self.old ≡ true → (made_inside self.new ≡ true) × (places_inside self.new ≡ places_inside self.old) }
+        ensures visits { made_inside self.old ≡ true → VisitsWithin (432 * 1025) (length (rows_inside self.old)) steps.old steps.new }
+    {
+        match self {
+            Engine::Queue { inner } => Ok(inner.ask_past(place, question, steps)),
+            Engine::Stack { inner } => Ok(inner.ask_past(place, question, steps)),
+            Engine::Deque { inner } => Ok(inner.ask_past(place, question, steps)),
+            Engine::Dict { inner } => inner.ask(place, question),
+            Engine::Pq { inner } => inner.ask_past(place, question, steps),
+        }
+    }
+
+    /// `ask_past` with a counter of its own.
+    fn ask_counted<L: Ledger>(
+        &mut self,
+        place: u32,
+        question: Question,
+        blank: Blank,
+    ) -> Result<Answer, NoMemory>
+        requires within { place ≤ length (rows_inside self.old) }
+        requires suited { suits question (kind_inside self.old) ≡ true }
+        requires name { blank.name ≡ L.name }
+        requires parts { blank.parts ≡ L.parts }
+        requires shared { 0 < blank.parts }
+        ensures kind { kind_inside self.new ≡ kind_inside self.old }
+        ensures rows { rows_inside self.new ≡ rows_inside self.old }
+        ensures answer { IfOk result (λ answer. answer ≡ answer_of (state_at (kind_inside self.old) (rows_inside self.old) place) question) }
+        ensures made { made_inside self.old ≡ true → made_inside self.new ≡ true }
+    {
+        let mut steps = Steps::<L>::new(blank);
+        self.ask_past(place, question, &mut steps)
     }
 }
 
@@ -58,7 +121,7 @@ impl Retro for Engine {
             Engine::Stack { inner } => inner.kind(),
             Engine::Deque { inner } => inner.kind(),
             Engine::Dict { inner } => inner.kind(),
-            Engine::Pq { inner } => inner.list.kind(),
+            Engine::Pq { inner } => inner.kind(),
         }
     }
 
@@ -68,7 +131,7 @@ impl Retro for Engine {
             Engine::Stack { inner } => inner.len(),
             Engine::Deque { inner } => inner.len(),
             Engine::Dict { inner } => inner.len(),
-            Engine::Pq { inner } => inner.list.len(),
+            Engine::Pq { inner } => inner.len(),
         }
     }
 
@@ -78,7 +141,7 @@ impl Retro for Engine {
             Engine::Stack { inner } => inner.failure_after_insert(place, op),
             Engine::Deque { inner } => inner.failure_after_insert(place, op),
             Engine::Dict { inner } => inner.failure_after_insert(place, op),
-            Engine::Pq { inner } => inner.list.failure_after_insert(place, op),
+            Engine::Pq { inner } => inner.failure_after_insert(place, op),
         }
     }
 
@@ -88,27 +151,49 @@ impl Retro for Engine {
             Engine::Stack { inner } => inner.failure_after_remove(place),
             Engine::Deque { inner } => inner.failure_after_remove(place),
             Engine::Dict { inner } => inner.failure_after_remove(place),
-            Engine::Pq { inner } => inner.list.failure_after_remove(place),
+            Engine::Pq { inner } => inner.failure_after_remove(place),
         }
     }
 
-    fn insert(&mut self, place: u32, row: Row) -> Result<Change, NoMemory> {
+    fn insert(&mut self, place: u32, row: Row) -> Result<Change, NoMemory>
+        requires within { place ≤ length (rows_inside self.old) }
+        requires room { length (rows_inside self.old) < most_rows }
+        requires fresh { IsFresh row.number (rows_inside self.old) }
+        requires of_kind { kind_of row.op ≡ kind_inside self.old }
+        requires replays { IsValid (kind_inside self.old) (insert (rows_inside self.old) place row) }
+        ensures kind { kind_inside self.new ≡ kind_inside self.old }
+        ensures rows { OnOk result (rows_inside self.new ≡ insert (rows_inside self.old) place row) }
+        ensures replayable { OnOk result (IsReplayable (kind_inside self.new) (rows_inside self.new)) }
+        ensures change { IfOk result (IsChange (kind_inside self.old) (rows_inside self.old) (add place row)) }
+        ensures made { OnOk result (made_inside self.new ≡ made_inside self.old) }
+        ensures err { OnErr result (rows_inside self.new ≡ rows_inside self.old) }
+    {
         match self {
             Engine::Queue { inner } => inner.insert(place, row),
             Engine::Stack { inner } => inner.insert(place, row),
             Engine::Deque { inner } => inner.insert(place, row),
             Engine::Dict { inner } => inner.insert(place, row),
-            Engine::Pq { inner } => inner.list.insert(place, row),
+            Engine::Pq { inner } => inner.insert(place, row),
         }
     }
 
-    fn remove(&mut self, place: u32) -> Result<(Row, Change), NoMemory> {
+    fn remove(&mut self, place: u32) -> Result<(Row, Change), NoMemory>
+        requires within { place < length (rows_inside self.old) }
+        requires replays { IsValid (kind_inside self.old) (remove (rows_inside self.old) place) }
+        ensures kind { kind_inside self.new ≡ kind_inside self.old }
+        ensures row { IfOk result (λ taken. slice_get (rows_inside self.old) place ≡ Some taken.0) }
+        ensures rows { OnOk result (rows_inside self.new ≡ remove (rows_inside self.old) place) }
+        ensures replayable { OnOk result (IsReplayable (kind_inside self.new) (rows_inside self.new)) }
+        ensures change { IfOk result (λ taken. IsChange (kind_inside self.old) (rows_inside self.old) (cut place taken.0) taken.1) }
+        ensures made { OnOk result (made_inside self.new ≡ made_inside self.old) }
+        ensures err { OnErr result (rows_inside self.new ≡ rows_inside self.old) }
+    {
         match self {
             Engine::Queue { inner } => inner.remove(place),
             Engine::Stack { inner } => inner.remove(place),
             Engine::Deque { inner } => inner.remove(place),
             Engine::Dict { inner } => inner.remove(place),
-            Engine::Pq { inner } => inner.list.remove(place),
+            Engine::Pq { inner } => inner.remove(place),
         }
     }
 
@@ -118,27 +203,34 @@ impl Retro for Engine {
             Engine::Stack { inner } => inner.ask_now(question),
             Engine::Deque { inner } => inner.ask_now(question),
             Engine::Dict { inner } => inner.ask_now(question),
-            Engine::Pq { inner } => inner.list.ask_now(question),
+            Engine::Pq { inner } => inner.ask_now(question),
         }
     }
 
-    fn ask(&mut self, place: u32, question: Question) -> Result<Answer, NoMemory> {
-        match self {
-            Engine::Queue { inner } => inner.ask(place, question),
-            Engine::Stack { inner } => inner.ask(place, question),
-            Engine::Deque { inner } => inner.ask(place, question),
-            Engine::Dict { inner } => inner.ask(place, question),
-            Engine::Pq { inner } => inner.list.ask(place, question),
-        }
+    fn ask(&mut self, place: u32, question: Question) -> Result<Answer, NoMemory>
+        requires within { place ≤ length (rows_inside self.old) }
+        requires suited { suits question (kind_inside self.old) ≡ true }
+        ensures kind { kind_inside self.new ≡ kind_inside self.old }
+        ensures rows { rows_inside self.new ≡ rows_inside self.old }
+        ensures answer { IfOk result (λ answer. answer ≡ answer_of (state_at (kind_inside self.old) (rows_inside self.old) place) question) }
+        ensures made { made_inside self.old ≡ true → made_inside self.new ≡ true }
+    {
+        self.ask_counted::<Brand>(place, question, Blank::new(1))
     }
 
-    fn all(&mut self, place: u32) -> Result<Listing, NoMemory> {
+    fn all(&mut self, place: u32) -> Result<Listing, NoMemory>
+        requires { place ≤ length (rows_inside self.old) }
+        ensures kind { kind_inside self.new ≡ kind_inside self.old }
+        ensures rows { rows_inside self.new ≡ rows_inside self.old }
+        ensures content { IfOk result (λ listing. listing ≡ content (state_at (kind_inside self.old) (rows_inside self.old) place)) }
+        ensures made { made_inside self.old ≡ true → made_inside self.new ≡ true }
+    {
         match self {
             Engine::Queue { inner } => inner.all(place),
             Engine::Stack { inner } => inner.all(place),
             Engine::Deque { inner } => inner.all(place),
             Engine::Dict { inner } => inner.all(place),
-            Engine::Pq { inner } => inner.list.all(place),
+            Engine::Pq { inner } => inner.all(place),
         }
     }
 }

@@ -4,14 +4,12 @@
 //! of the structure inside, which its variant names, and each answer is the replay of these rows.
 //!
 //! Queue, stack, deque and dictionary are kept in trees of their own, in which an edit and a question about any place
-//! visit a few nodes. A priority queue is kept in a plain list, which is as slow as it is plain: an edit of the past, and
-//! a question about it, perform the rows again. Its variant is where its own structure takes the place of the list.
+//! visit a few nodes. A priority queue by bridges answers of the present alone; it gets its past by checkpoints, which the
+//! first question about the past makes.
 //!
-//! - `Engine`. The list inside: `PqList`.
+//! - `Engine`, with `ask_past` for a caller who counts what a question about the past visits.
 #![tactic(auto)]
 
 mod engine;
-mod lists;
 
 pub use engine::Engine;
-pub use lists::PqList;
