@@ -77,6 +77,8 @@ labels_kept labels next behind (Ok x) are will ok err = subst AreLabels (sym ok)
 labels_kept labels next behind (Err e) are will ok err = subst AreLabels (sym err) are
 
 -- all rows are spread once one more is there
+pub length-with : (labels more : List ℕ) (place label : ℕ) → place ≤ length labels → more ≡ insert labels place label → length more ≡ length labels + 1
+length-with labels more place label within put = omega (arith, ap length put, length-insert labels place label within)
+
 pub length-spread_with : (labels more behind : List ℕ) (place label : ℕ) → place ≤ length labels → more ≡ insert labels place label → behind ≡ spread (length more) → length behind ≡ length labels + 1
-length-spread_with labels more behind place label within put all =
-    omega (arith, ap length all, length-multiples (gap_of (length more)) (length more), ap length put, length-insert labels place label within)
+length-spread_with labels more behind place label within put all = omega (arith, ap length all, length-multiples (gap_of (length more)) (length more), length-with labels more place label within put)

@@ -1,5 +1,5 @@
 -- Numbers that lie apart stay so where one comes between two of them, and where one goes.
-use Rattle.std.proofs.Common.{ℕ, zero, suc, ◌+◌, ◌*◌, ◌/◌, ◌<◌, ◌≤◌, List, [], ◌∷◌, ◌++◌, length, arith}
+use Rattle.std.proofs.Common.{◌≡◌, ℕ, zero, suc, ◌+◌, ◌-◌, ◌*◌, ◌/◌, ◌<◌, ◌≤◌, List, [], ◌∷◌, ◌++◌, length, refl, arith}
 use Rattle.std.specs.List.{insert, remove}
 use Rattle.order_labels.specs.Labels.{AreApart, label_before, label_behind}
 
@@ -44,6 +44,33 @@ apart_without distance first last (label ∷ labels) (suc place) within apart = 
 pub less_apart : (distance lesser first last : ℕ) (labels : List ℕ) → lesser ≤ distance → AreApart distance first last labels → AreApart lesser first last labels
 less_apart distance lesser first last [] order apart = omega arith
 less_apart distance lesser first last (label ∷ labels) order apart = (omega (arith, apart.0), less_apart distance lesser label last labels order apart.1)
+
+-- they lie as far apart below a greater number
+pub below_more : (distance first last more : ℕ) (labels : List ℕ) → last ≤ more → AreApart distance first last labels → AreApart distance first more labels
+below_more distance first last more [] order apart = omega arith
+below_more distance first last more (label ∷ labels) order apart = (apart.0, below_more distance label last more labels order apart.1)
+
+-- and half as far with as much left at the end
+pub halves_apart : (distance first last : ℕ) (labels : List ℕ) → AreApart (2 * distance) first last labels → AreApart distance first (last - distance) labels
+halves_apart distance first last [] apart = omega arith
+halves_apart distance first last (label ∷ labels) apart = (omega (arith, apart.0), halves_apart distance label last labels apart.1)
+
+-- the label at a place, and the last number after them all
+pub next_inside : (last other : ℕ) (labels : List ℕ) (place : ℕ) → place < length labels → label_behind last labels place ≡ label_behind other labels place
+next_inside last other [] place within = absurd (omega arith)
+next_inside last other (label ∷ labels) zero within = refl
+next_inside last other (label ∷ labels) (suc place) within = next_inside last other labels place (omega arith)
+
+pub next_at_end : (last : ℕ) (labels : List ℕ) (place : ℕ) → place ≡ length labels → label_behind last labels place ≡ last
+next_at_end last [] place same = refl
+next_at_end last (label ∷ labels) zero same = absurd (omega arith)
+next_at_end last (label ∷ labels) (suc place) same = next_at_end last labels place (omega arith)
+
+-- the label at a place stands before the next place
+pub next_before : (first last : ℕ) (labels : List ℕ) (place : ℕ) → place < length labels → label_behind last labels place ≡ label_before first labels (suc place)
+next_before first last [] place within = absurd (omega arith)
+next_before first last (label ∷ labels) zero within = refl
+next_before first last (label ∷ labels) (suc place) within = next_before label last labels place (omega arith)
 
 -- one label more at the end
 pub apart_more : (distance first last : ℕ) (labels : List ℕ) (label : ℕ) → AreApart distance first label labels → label + distance ≤ last → AreApart distance first last (labels ++ label ∷ [])

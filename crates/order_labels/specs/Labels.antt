@@ -1,6 +1,7 @@
--- Labels that keep the places of a list, and the rule by which an insertion gets one.
-use Rattle.std.specs.Prelude.{ℕ, zero, suc, ◌+◌, ◌-◌, ◌*◌, ◌/◌, ◌^◌, ◌≤◌, Bool, nat_le, List, [], ◌∷◌, ◌++◌, length, get_or, if◌then◌else◌}
+-- Labels that keep the places of a list, and the rules by which an insertion gets one.
+use Rattle.std.specs.Prelude.{ℕ, zero, suc, ◌+◌, ◌-◌, ◌*◌, ◌/◌, ◌^◌, ◌≤◌, Bool, nat_le, Option, Some, None, List, [], ◌∷◌, ◌++◌, length, get_or, if◌then◌else◌}
 use Rattle.std.specs.List.{insert}
+use Rattle.std.specs.Option.{option_map_or}
 use Rattle.retro_base.specs.Digits.{digits}
 use Rattle.retro_base.specs.Limits.{most_rows}
 
@@ -48,6 +49,10 @@ exponent n = digits n - 1
 unfoldable pub gap_of : ℕ → ℕ
 gap_of count = 2 ^ exponent (label_limit / (count + 1))
 
+-- how far apart they lie at the least: as far as those of as many rows as there may be
+abbrev pub least_gap : ℕ
+least_gap = gap_of most_rows
+
 -- the first multiples of a number: (i + 1) * gap at index i
 abbrev pub multiples : ℕ → ℕ → List ℕ
 multiples gap zero = []
@@ -57,6 +62,18 @@ multiples gap (suc count) = multiples gap count ++ (count + 1) * gap ∷ []
 abbrev pub spread : ℕ → List ℕ
 spread count = multiples (gap_of count) count
 
--- the labels once a place has got one: it takes the middle, or all are spread where no number lies between
+-- a rule says which label a row gets that is put in at a place, or that none is left
+abbrev pub LabelRule : Type 0
+LabelRule = List ℕ → ℕ → Option ℕ
+
+-- the simplest rule: the middle of the labels beside the place, where a number lies between them
+abbrev pub middle_rule : LabelRule
+middle_rule labels place = if has_room labels place then Some (middle labels place) else None
+
+-- the labels once a place has got one by a rule: the others stay, or all are spread where none is left
+abbrev pub inserted_by : LabelRule → List ℕ → ℕ → List ℕ
+inserted_by rule labels place = option_map_or (λ label. insert labels place label) (rule labels place) (spread (length labels + 1))
+
+-- by the simplest rule
 abbrev pub inserted : List ℕ → ℕ → List ℕ
-inserted labels place = if has_room labels place then insert labels place (middle labels place) else spread (length labels + 1)
+inserted labels place = inserted_by middle_rule labels place

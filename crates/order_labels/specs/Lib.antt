@@ -7,3 +7,4 @@ pub mod Order
 pub mod ApartLaws
 pub mod PowerLaws
 pub mod SpreadLaws
+pub mod RareLaws

@@ -21,7 +21,7 @@ some_digit (suc fuel) n = elim (cases_lt n 2) [
   | inr large ↦ rw (one_more fuel n large) (omega arith)
 ]
 
-twice : (k : ℕ) → 1 ≤ k → 2 ^ k ≡ 2 * 2 ^ (k - 1)
+pub twice : (k : ℕ) → 1 ≤ k → 2 ^ k ≡ 2 * 2 ^ (k - 1)
 twice zero some = absurd (omega arith)
 twice (suc k) some = omega (arith, pow-add 2 1 k, (let same : suc k ≡ 1 + k = omega arith in ap (λ n. 2 ^ n) same), (let less : suc k - 1 ≡ k = omega arith in ap (λ n. 2 ^ n) less))
 
@@ -50,6 +50,13 @@ power-greatest n = omega (arith, below-digits n, twice (digits n) (some_digits n
 below_double : (j k : ℕ) → j < k → 2 * 2 ^ j ≤ 2 ^ k
 below_double j k order = omega (arith, pow-add 2 1 j, (let more : 2 ^ (1 + j) ≤ 2 ^ k = pow-le-pow_right (omega arith) (omega arith) in more))
 
+-- a power that is at most the number is at most the greatest one
+pub power-least : (n k : ℕ) → 2 ^ k ≤ n → 2 ^ k ≤ 2 ^ exponent n
+power-least n k within = elim (cases_lt (exponent n) k) [
+  | inl less ↦ absurd (omega (arith, below_double (exponent n) k less, power-greatest n))
+  | inr more ↦ pow-le-pow_right (omega arith) (omega arith)
+]
+
 -- no other power is
 pub exponent-is : (n k : ℕ) → 0 < n → 2 ^ k ≤ n → n < 2 * 2 ^ k → exponent n ≡ k
 exponent-is n k some within greatest = elim (cases_lt k (exponent n)) [
@@ -65,3 +72,6 @@ power-is n k power some is within greatest = is ∙ ap (λ j. 2 ^ j) (sym (expon
 
 pub power-doubled : (k power : ℕ) → power ≡ 2 ^ k → power * 2 ≡ 2 ^ (k + 1)
 power-doubled k power is = omega (arith, pow-add 2 k 1)
+
+pub power-next : (k : ℕ) → 2 ^ suc k ≡ 2 * 2 ^ k
+power-next k = omega (arith, pow-add 2 1 k, (let same : suc k ≡ 1 + k = omega arith in ap (λ n. 2 ^ n) same))

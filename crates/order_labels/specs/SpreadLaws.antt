@@ -1,11 +1,13 @@
 -- Labels that are spread lie as far apart as their gap.
 use Rattle.std.proofs.Common.{◌≡◌, ℕ, zero, suc, ◌+◌, ◌*◌, ◌/◌, ◌<◌, ◌≤◌, List, [], ◌∷◌, ◌++◌, length, Some, slice_get, inl, inr, refl, sym, ap, ◌∙◌, arith}
-use Rattle.std.proofs.Math.Nat.{add-mul, mul-le-mul_left}
+use Rattle.std.proofs.Math.Nat.{add-mul, div-mul-le_self, mul-le-mul_left, pow-le-pow_right}
 use Rattle.std.proofs.lemmas.List.{length_push}
 use Rattle.std.proofs.lemmas.Nat.{le-div, pow_pos, div-add-mod'}
 use Rattle.std.proofs.lemmas.Bool.{cases_lt}
+use Rattle.retro_base.specs.Limits.{most_rows}
+use Rattle.retro_base.specs.VisitsLaws.{digits-monotone}
 use Rattle.order_labels.specs.LabelLaws.{IsSpreadEvenly}
-use Rattle.order_labels.specs.Labels.{AreApart, label_limit, exponent, gap_of, multiples, spread}
+use Rattle.order_labels.specs.Labels.{AreApart, label_limit, exponent, gap_of, least_gap, multiples, spread}
 use Rattle.order_labels.specs.ApartLaws.{apart_more, less_apart}
 use Rattle.order_labels.specs.PowerLaws.{power-within, power-greatest}
 
@@ -30,6 +32,15 @@ multiples-apart gap (suc count) last fits =
     apart_more gap 0 last (multiples gap count) ((count + 1) * gap) (multiples-apart gap count ((count + 1) * gap) (omega arith))
     (omega (arith, add-mul (count + 1) 1 gap, (let same : suc count + 1 ≡ count + 1 + 1 = omega arith in ap (λ n. n * gap) same)))
 
+quotient-falls : (count more : ℕ) → count ≤ more → label_limit / (more + 1) ≤ label_limit / (count + 1)
+quotient-falls count more order =
+    let n = label_limit / (more + 1) in
+    let less : n * (count + 1) ≤ n * (more + 1) = mul-le-mul_left n (omega arith) in
+    le-div n label_limit (count + 1) (omega arith) (omega (arith, less, div-mul-le_self label_limit (more + 1)))
+
+pub exponent-falls : (count more : ℕ) → count ≤ more → exponent (label_limit / (more + 1)) ≤ exponent (label_limit / (count + 1))
+exponent-falls count more order = omega (arith, digits-monotone (label_limit / (more + 1)) (label_limit / (count + 1)) (quotient-falls count more order))
+
 -- one more than so many gaps fit below the limit
 pub gap-fits : (count : ℕ) → count + 1 ≤ label_limit → (count + 1) * gap_of count ≤ label_limit
 unfolding gap_of
@@ -39,6 +50,11 @@ gap-fits count few =
 pub spread-apart : (count : ℕ) → count + 1 ≤ label_limit → AreApart (gap_of count) 0 label_limit (spread count)
 spread-apart count few = multiples-apart (gap_of count) count label_limit (gap-fits count few)
 
+-- more rows lie no further apart
+pub gap-falls : (count more : ℕ) → count ≤ more → gap_of more ≤ gap_of count
+unfolding gap_of
+gap-falls count more order = pow-le-pow_right (omega arith) (exponent-falls count more order)
+
 pub some_gap : (count : ℕ) → 1 ≤ gap_of count
 unfolding gap_of
 some_gap count = pow_pos (exponent (label_limit / (count + 1)))
@@ -46,6 +62,10 @@ some_gap count = pow_pos (exponent (label_limit / (count + 1)))
 -- so they rise
 pub spread-rises : (count : ℕ) → count + 1 ≤ label_limit → AreApart 1 0 label_limit (spread count)
 spread-rises count few = less_apart (gap_of count) 1 0 label_limit (spread count) (some_gap count) (spread-apart count few)
+
+-- and no timeline has more rows than those whose labels lie apart by the least gap
+pub spread-wide : (count : ℕ) → count ≤ most_rows → AreApart least_gap 0 label_limit (spread count)
+spread-wide count few = less_apart (gap_of count) least_gap 0 label_limit (spread count) (gap-falls count most_rows few) (spread-apart count (omega arith))
 
 -- at each index stands that multiple
 pub multiple-at : (gap count index : ℕ) → index < count → slice_get (multiples gap count) index ≡ Some ((index + 1) * gap)

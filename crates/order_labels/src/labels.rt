@@ -1,6 +1,6 @@
-ghost use Rattle.std.specs.Prelude.{◌≡◌, ◌+◌, false, ◌<◌, ◌≤◌, ◌==◌, [], length, slice_get, position, Some, IfSome, IfOk, OnOk, OnErr, not};
+ghost use Rattle.std.specs.Prelude.{◌≡◌, ◌+◌, false, true, ◌<◌, ◌≤◌, ◌==◌, [], length, slice_get, position, Some, IfSome, IfOk, OnOk, OnErr, not};
 ghost use Rattle.std.specs.List.{insert, remove};
-ghost use Rattle.order_labels.specs.Labels.{AreLabels, has_room, inserted, label_before, label_behind, label_limit};
+ghost use Rattle.order_labels.specs.Labels.{AreApart, AreLabels, has_room, inserted, label_before, label_behind, label_limit, least_gap};
 ghost use Rattle.retro_base.specs.Limits.{most_rows};
 
 use crate::label::Label;
@@ -63,6 +63,7 @@ impl Labels {
         ensures label { IfOk result (λ fresh. slice_get self.new place ≡ Some fresh.label) }
         ensures relabelled { IfOk result (λ fresh. fresh.relabelled ≡ not (has_room self.old place)) }
         ensures others { IfOk result (λ fresh. fresh.relabelled ≡ false → self.new ≡ insert self.old place fresh.label) }
+        ensures apart { IfOk result (λ fresh. fresh.relabelled ≡ true → AreApart least_gap 0 label_limit self.new) }
         ensures length { OnOk result (length self.new ≡ length self.old + 1) }
         ensures err { OnErr result (self.new ≡ self.old) }
     {
@@ -118,6 +119,7 @@ fn put_in<L: Ledger>(rows: &mut Tree<Label>, place: u32, blank: Blank) -> Result
     ensures label { IfOk result (λ fresh. slice_get rows.new place ≡ Some fresh.label) }
     ensures relabelled { IfOk result (λ fresh. fresh.relabelled ≡ not (has_room rows.old place)) }
     ensures others { IfOk result (λ fresh. fresh.relabelled ≡ false → rows.new ≡ insert rows.old place fresh.label) }
+    ensures apart { IfOk result (λ fresh. fresh.relabelled ≡ true → AreApart least_gap 0 label_limit rows.new) }
     ensures length { OnOk result (length rows.new ≡ length rows.old + 1) }
     ensures err { OnErr result (rows.new ≡ rows.old) }
 {

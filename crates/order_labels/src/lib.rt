@@ -14,11 +14,12 @@
 //!
 //! Where something is kept by label, `insert` says whether the other labels have changed, and `gap_of` what they will be
 //! if they do: so all else can be made ready before. A caller with a rule of its own for where rows will come in gives a
-//! label itself by `insert_labelled`; the law on how rare relabellings are does not speak of these. Each of the two takes
-//! memory for one row, `insert` also where it relabels, and leaves all as it was where there is none; no other call takes any.
+//! label itself by `insert_labelled`; `greatest_power` makes it a round number. Each of the two insertions takes memory for
+//! one row, `insert` also where it relabels, and leaves all as it was where there is none; no other call takes any.
 //!
-//! What the layer above may rely on: the rule of specs/Labels.antt, which says what the labels are behind every insertion;
-//! the law of specs/LabelLaws.antt on the insertions between two relabellings. `Highest` and `count_up_to` serve any tree
+//! What the layer above may rely on: the rule of specs/Labels.antt, which says what the labels are after every insertion;
+//! specs/LabelLaws.antt, which says of a rule that many insertions lie between two relabellings; the law that it is so of
+//! the middle, and specs/RareLaws.antt for whoever proves it of another rule. `Highest` and `count_up_to` serve any tree
 //! whose items never fall in some number, as rows do in their time.
 //!
 //! - `labels`: the type and its calls. `spread`: how all rows are relabelled. `laws`: how far, and how often.
@@ -36,4 +37,4 @@ pub use highest::Highest;
 pub use labels::{Fresh, Labels};
 pub use laws::{labels_are_spread_evenly, relabelling_is_rare};
 pub use search::count_up_to;
-pub use spread::gap_of;
+pub use spread::{gap_of, greatest_power};

@@ -1,5 +1,5 @@
 ghost use Rattle.std.specs.Prelude.{◌≡◌, ◌+◌, ◌*◌, ◌^◌, ◌<◌, ◌≤◌, length};
-ghost use Rattle.order_labels.specs.Labels.{exponent, gap_of, spread, label_limit};
+ghost use Rattle.order_labels.specs.Labels.{exponent, gap_of, least_gap, spread, label_limit};
 ghost use Rattle.retro_base.specs.Limits.{most_rows};
 
 use crate::label::Label;
@@ -30,12 +30,13 @@ pub fn gap_of(count: u32) -> u64
     requires { count ≤ most_rows }
     ensures value { result ≡ gap_of count }
     ensures fits { (count + 1) * result ≤ label_limit }
+    ensures wide { least_gap ≤ result }
 {
     greatest_power(LIMIT / (u64::from(count) + 1))
 }
 
 /// The greatest power of two that is at most n.
-fn greatest_power(n: u64) -> u64
+pub fn greatest_power(n: u64) -> u64
     requires { 0 < n }
     ensures { result ≡ 2 ^ exponent n }
 {

@@ -24,6 +24,9 @@ remove-insert xs zero x within = refl
 remove-insert [] (suc place) x within = absurd (omega arith)
 remove-insert (y ∷ ys) (suc place) x within = ap (λ rest. y ∷ rest) (remove-insert ys place x (omega arith))
 
+pub labels-back : (rows : List Row) (labels : List ℕ) (index : List KeyRow) (lifetimes : List (Lifetime (ℤ × ℤ))) → AreKept rows labels index lifetimes → (place label : ℕ) → place ≤ length rows → remove (insert labels place label) place ≡ labels
+labels-back rows labels index lifetimes kept place label within = remove-insert labels place label (omega (arith, within, kept.as_many))
+
 -- the same is kept
 pub kept-as : (rows more : List Row) (labels marks : List ℕ) (index listed : List KeyRow) (lifetimes lives : List (Lifetime (ℤ × ℤ))) → AreKept rows labels index lifetimes → more ≡ rows → marks ≡ labels → listed ≡ index → lives ≡ lifetimes → AreKept more marks listed lives
 kept-as rows more labels marks index listed lifetimes lives kept p q r s =

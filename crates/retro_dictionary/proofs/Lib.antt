@@ -17,4 +17,5 @@ pub mod EditSteps
 pub mod FailingRow
 pub mod ListedPairs
 pub mod Relabelling
+pub mod RareRows
 pub mod MadeLifetimes

@@ -1,6 +1,7 @@
 -- Rows that are given other labels and their own again, and the labels that all have once one more is there.
-use Rattle.std.proofs.Common.{◌≡◌, ℕ, zero, suc, ◌+◌, ◌*◌, ◌<◌, ◌≤◌, ℤ, ◌==◌, false, cond, Some, List, [], ◌∷◌, ◌++◌, length, take, drop, slice_get, refl, sym, ap, ◌∙◌, arith, subst, inl, inr, add-one}
+use Rattle.std.proofs.Common.{◌≡◌, ℕ, zero, suc, ◌+◌, ◌*◌, ◌<◌, ◌≤◌, ℤ, ◌==◌, false, cond, Some, None, List, [], ◌∷◌, ◌++◌, length, take, drop, slice_get, refl, sym, ap, ◌∙◌, arith, subst, inl, inr, add-one}
 use Rattle.std.specs.List.{AllByRecursion, insert, remove}
+use Rattle.std.specs.Option.{option_map_or}
 use Rattle.std.proofs.Math.Seq.{take-length}
 use Rattle.std.proofs.lemmas.Bool.{cases_lt, eq-eqb, ne_eqb, or_left, or_right}
 use Rattle.std.proofs.lemmas.List.{append_assoc, append-nil, length-append, length-drop, take-append-le, drop-append-le, drop_all}
@@ -215,5 +216,8 @@ pub taken-out : (former fresh : List ℕ) (label : ℕ) (op : Op) (index more le
 taken-out former fresh label op index more less can put taken = taken ∙ ap (without label) put ∙ can.undone op
 
 -- where no label is left
+pub all-spread : (labels : List ℕ) (place : ℕ) → has_room labels place ≡ false → inserted labels place ≡ spread (length labels + 1)
+all-spread labels place full = ap (λ b. option_map_or (λ label. insert labels place label) (cond b (Some (middle labels place)) None) (spread (length labels + 1))) full
+
 pub inserted-full : (labels : List ℕ) (rows : List Row) (place : ℕ) → length labels ≡ length rows → has_room labels place ≡ false → inserted labels place ≡ spread (length rows + 1)
-inserted-full labels rows place same full = ap (λ b. cond b (insert labels place (middle labels place)) (spread (length labels + 1))) full ∙ ap (λ n. spread (n + 1)) same
+inserted-full labels rows place same full = all-spread labels place full ∙ ap (λ n. spread (n + 1)) same

@@ -8,6 +8,7 @@ pub mod PairSearchLaws
 pub mod Asked
 pub mod Listed
 pub mod Labelled
+pub mod RowLabels
 pub mod Kept
 pub mod Spots
 pub mod DictionaryLaws

@@ -1,9 +1,10 @@
 ghost use Rattle.std.specs.Prelude.{◌≡◌, ◌+◌, ◌<◌, ◌≤◌, false, length, IfSome, IfNone};
 ghost use Rattle.order_labels.specs.Labels.{AreLabels, label_before, label_behind, label_limit, has_room};
 ghost use Rattle.retro_dictionary.specs.Edited.{IsBetween};
+ghost use Rattle.retro_dictionary.specs.RowLabels.{label_after, row_rule, unit_after};
 
 use crate::lifetimes::END;
-use order_labels::Labels;
+use order_labels::{Labels, greatest_power};
 use retro_base::MAX_ROWS;
 
 /// The label of the row before a place, or 0.
@@ -28,48 +29,42 @@ fn label_behind(labels: &Labels, place: u32) -> u64
     labels.label_at(place)
 }
 
-/// A label for a row that is put in at a place, where one is left.
+/// The label that a row gets at a place, where one is left: that of the rule in specs/RowLabels.antt.
 ///
-/// It is the middle of those beside it. But most rows come in at the end: there a row takes so little of what is left that
-/// a full dictionary can be put in row by row, and none is relabelled.
+/// It is the middle of those beside it. But most rows come in at the end: there a row leaves so much that a full dictionary
+/// can be put in row by row, and none is relabelled.
 pub(crate) fn free_label(labels: &Labels, place: u32) -> Option<u64>
     requires within { place ≤ length labels.now }
     requires labels { AreLabels labels.now }
+    ensures rule { result ≡ row_rule labels.now place }
     ensures between { IfSome result (λ label. IsBetween labels.now place label) }
     ensures full { IfNone result (has_room labels.now place ≡ false) }
 {
     let before = label_before(labels, place);
-    let room = label_behind(labels, place) - before;
-    if room < 2 {
+    let after = label_behind(labels, place);
+    if after - before < 2 {
         return None;
     }
-    Some(if 0 < place && place == labels.len() {
-        label_at_end(before, room)
-    } else {
-        before + room / 2
-    })
-}
-
-/// A label little behind another one. It is a round number, since lifetimes between round labels are made up of few spans.
-fn label_at_end(before: u64, room: u64) -> u64
-    requires room { 2 ≤ room }
-    requires within { before + room ≤ label_limit }
-    ensures above { before < result }
-    ensures below { result < before + room }
-{
-    let unit = power_within((room / u64::from(MAX_ROWS)).max(1));
-    (before / unit + 1) * unit
-}
-
-/// The greatest power of two that is at most n.
-fn power_within(n: u64) -> u64
-    requires { 0 < n }
-    ensures some { 0 < result }
-    ensures within { result ≤ n }
-{
-    let mut power = 1;
-    while power <= n / 2 {
-        power *= 2;
+    if place != labels.len() || place == 0 {
+        return Some((before + after) / 2);
     }
-    power
+    Some(label_after(label_before(labels, place - 1), before))
+}
+
+/// The label of a row after all others, by the last two labels.
+fn label_after(former: u64, last: u64) -> u64
+    requires order { former ≤ last }
+    requires room { last + 2 ≤ label_limit }
+    ensures { result ≡ label_after former last }
+{
+    let unit = unit_after(last - former, END - last);
+    last.next_multiple_of(unit) + unit
+}
+
+/// How far a row after all others comes from the last one, with this gap before that one and this room after it.
+fn unit_after(gap: u64, room: u64) -> u64
+    ensures { result ≡ unit_after gap room }
+{
+    let distance = (room / u64::from(MAX_ROWS)).max((gap / 2).min(room / 4));
+    greatest_power(distance.max(1))
 }

@@ -1,11 +1,13 @@
 ghost use Rattle.std.specs.Prelude.{◌≡◌, ◌<◌, ◌≤◌, length, slice_get, Some, None, OnOk, OnErr, IfOk};
 ghost use Rattle.std.specs.List.{insert, remove};
 ghost use Rattle.key_index.specs.KeyRows.{op_at, with_row, without};
+ghost use Rattle.order_labels.specs.Labels.{inserted_by};
 ghost use Rattle.retro_base.specs.declared.kind.Kind.TheVariants.{Dict};
 ghost use Rattle.retro_base.specs.Kind.{kind_of};
 ghost use Rattle.retro_base.specs.Limits.{most_rows};
 ghost use Rattle.retro_dictionary.specs.Edited.{CanPut, CanCut, CanInsert, CanRemove, IsBetween, left_of, next_of, cut_by, joined_by};
 ghost use Rattle.retro_dictionary.specs.Kept.{AreKept};
+ghost use Rattle.retro_dictionary.specs.RowLabels.{row_rule};
 
 use crate::beside::free_label;
 use crate::kept_row::KeptRow;
@@ -91,6 +93,8 @@ fn put_between<L: Ledger>(
     requires between { IsBetween labels.old place label }
     ensures ok { OnOk result (rows.new ≡ insert rows.old place row) }
     ensures err { OnErr result (rows.new ≡ rows.old) }
+    ensures labels_ok { OnOk result (labels.new ≡ insert labels.old place label) }
+    ensures labels_err { OnErr result (labels.new ≡ labels.old) }
     ensures kept { AreKept rows.new labels.new index.new segments.new }
 {
     let mut steps = Steps::<L>::new(blank);
@@ -107,7 +111,7 @@ fn put_between<L: Ledger>(
     Ok(())
 }
 
-/// Puts a row in at a place. After `NoMemory` all is as before.
+/// Puts a row in at a place, where it gets its label by the rule. After `NoMemory` all is as before.
 pub(crate) fn put<L: Ledger>(
     rows: &mut Tree<KeptRow>,
     labels: &mut Labels,
@@ -126,6 +130,8 @@ pub(crate) fn put<L: Ledger>(
     requires few { length rows.old < most_rows }
     ensures ok { OnOk result (rows.new ≡ insert rows.old place row) }
     ensures err { OnErr result (rows.new ≡ rows.old) }
+    ensures labels_ok { OnOk result (labels.new ≡ inserted_by row_rule labels.old place) }
+    ensures labels_err { OnErr result (labels.new ≡ labels.old) }
     ensures kept { AreKept rows.new labels.new index.new segments.new }
 {
     match free_label(labels, place) {
@@ -151,6 +157,8 @@ pub(crate) fn take_out<L: Ledger>(
     ensures row { IfOk result (λ row. slice_get rows.old place ≡ Some row) }
     ensures ok { OnOk result (rows.new ≡ remove rows.old place) }
     ensures err { OnErr result (rows.new ≡ rows.old) }
+    ensures labels_ok { OnOk result (labels.new ≡ remove labels.old place) }
+    ensures labels_err { OnErr result (labels.new ≡ labels.old) }
     ensures kept { AreKept rows.new labels.new index.new segments.new }
 {
     let mut steps = Steps::<L>::new(blank);

@@ -15,21 +15,21 @@
 //! |---|---|
 //! | `failure_after_insert`, `failure_after_remove` | log n |
 //! | `insert`, `remove` | log² n in each of at most 80 spans, for each of at most three lifetimes |
-//! | `insert`, where no label is left | as much for each row; rows that come in one behind the other leave labels enough |
+//! | `insert`, where no label is left | as much for each row; at least 23 insertions lie between two of these |
 //! | `ask`, `ask_now` | log n in each of at most 41 spans |
 //! | `all` | as much for each pair |
 //!
 //! `insert`, `remove` and `all` take memory; where there is none, all is as before.
 //!
 //! What the layer above may rely on is `Retro`. Why it holds is told by specs/Lifetimes.antt, which lifetimes rows have;
-//! specs/Asked.antt, which range of keys answers a question; specs/Kept.antt, what is kept of rows; and the laws over them
-//! in specs/DictionaryLaws.antt.
+//! specs/Asked.antt, which range of keys answers a question; specs/Kept.antt, what is kept of rows; the laws over them
+//! in specs/DictionaryLaws.antt; and specs/RowLabels.antt, which label a row gets.
 //!
 //! - `dictionary`: the type and its calls. `edit`: rows put in and taken out; `beside`, the label of a new row, and `relabel`,
 //!   where none is left; `lifetimes`, what becomes of two lifetimes. `failing`: the place of the row that fails first.
 //! - `asked`: questions, by what is found of a range of keys. `listed`: the whole content.
 //! - `pairs`: `KeyPair`, `KeyRange`, `Found`. `search`: `PairSearch`. `kept_row`: a row as its tree keeps it.
-//! - `laws`: what lifetimes tell of a dictionary, and how an edit changes them.
+//! - `laws`: what lifetimes tell of a dictionary, how an edit changes them, and how rarely rows are relabelled.
 #![tactic(auto)]
 
 mod asked;
@@ -47,8 +47,8 @@ mod search;
 
 pub use dictionary::RetroDictionary;
 pub use laws::{
-    an_edit_ends_one_lifetime, insertions_are_kept, lifetimes_hold_the_content, removals_are_kept,
-    search_answers,
+    an_edit_ends_one_lifetime, insertions_are_kept, lifetimes_hold_the_content,
+    relabelling_is_rare, removals_are_kept, search_answers,
 };
 pub use pairs::{Found, KeyPair, KeyRange};
 pub use search::PairSearch;

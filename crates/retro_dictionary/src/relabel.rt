@@ -208,6 +208,8 @@ pub(crate) fn put_relabelled<L: Ledger>(
     requires full { has_room labels.old place ≡ false }
     ensures ok { OnOk result (rows.new ≡ insert rows.old place row) }
     ensures err { OnErr result (rows.new ≡ rows.old) }
+    ensures labels_ok { OnOk result (labels.new ≡ spread (length labels.old + 1)) }
+    ensures labels_err { OnErr result (labels.new ≡ labels.old) }
     ensures kept { AreKept rows.new labels.new index.new segments.new }
 {
     let mut steps = Steps::<L>::new(blank);

@@ -1,7 +1,8 @@
-use Rattle.std.proofs.Common.{Some, slice_get, ap, ◌∙◌, arith}
-use Rattle.order_labels.specs.Labels.{label_limit}
+use Rattle.std.proofs.Common.{Some, length, slice_get, ap, sym, subst, ◌∙◌, arith}
+use Rattle.order_labels.specs.Labels.{AreApart, label_limit, least_gap}
 use Rattle.order_labels.specs.ApartLaws.{gap_at, behind_within}
-use Rattle.order_labels.proofs.Rule.{read_back, length-spread_with}
+use Rattle.order_labels.specs.SpreadLaws.{spread-wide}
+use Rattle.order_labels.proofs.Rule.{read_back, length-spread_with, length-with}
 use Rattle.order_labels.proofs.labels.put_in.Goals as goal
 
 pub overflow_sub-behind : goal.overflow_sub-behind
@@ -28,3 +29,8 @@ get-requires g c = record {
 
 pub returns-clause-length : goal.returns-clause-length
 returns-clause-length g c = length-spread_with c.args.rows.now c.insert-2.new.self c.spread.new.rows c.args.place c.new-2.result c.requires.within c.in_ok-insert-2.ensures.ok c.spread.ensures
+
+pub returns-clause-apart : goal.returns-clause-apart
+returns-clause-apart g c relabelled =
+    subst (AreApart least_gap 0 label_limit) (sym c.spread.ensures)
+    (spread-wide (length c.insert-2.new.self) (omega (arith, length-with c.args.rows.now c.insert-2.new.self c.args.place c.new-2.result c.requires.within c.in_ok-insert-2.ensures.ok)))
