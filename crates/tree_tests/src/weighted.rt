@@ -1,4 +1,6 @@
-ghost use Rattle.std.specs.Prelude.{◌≡◌, ◌+◌, ◌^◌, ◌<◌, ◌≤◌, pos, [], map, take, length};
+ghost use Rattle.std.specs.Prelude.{◌≡◌, ◌+◌, ◌^◌, ◌<◌, ◌≤◌, pos, [], map, take, length, true, false, nat_lt};
+ghost use Rattle.std.specs.List.{AllWithin};
+ghost use Rattle.std.specs.List.Sorted.{IsNonDecreasingBy};
 ghost use Rattle.std.specs.Int.Signed.{le_z};
 ghost use Rattle.monoid_laws.specs.Summed.{sum_of};
 ghost use Rattle.retro_base.specs.Visits.{VisitsWithin};
@@ -133,6 +135,15 @@ fn first_reaching<L: Ledger>(tree: &Tree<Piece>, goal: i128, steps: &mut Steps<L
     tree.first_place(0, |sum: &Sum| goal <= sum.sum(), steps)
 }
 
+/// How many pieces are smaller than a limit, where their sizes never fall.
+fn count_below<L: Ledger>(tree: &Tree<Piece>, limit: u32, steps: &mut Steps<L>) -> u32
+    requires { IsNonDecreasingBy (λ piece. piece.size) tree.now }
+    ensures below { AllWithin (λ piece. nat_lt piece.size limit ≡ true) tree.now 0 result }
+    ensures above { AllWithin (λ piece. nat_lt piece.size limit ≡ false) tree.now result (length tree.now) }
+{
+    tree.partition_point(|piece: &Piece| piece.size < limit, steps)
+}
+
 // The prefixes of 3, 0, 4 have the sums 0, 3, 3, 7.
 fn reaching<L: Ledger>(rt: &impl Abort, alloc: Global, blank: Blank)
     requires name { blank.name ≡ L.name }
@@ -141,6 +152,7 @@ fn reaching<L: Ledger>(rt: &impl Abort, alloc: Global, blank: Blank)
 {
     let mut steps = Steps::<L>::new(blank);
     let mut tree = Tree::new(alloc);
+    assert_eq!(rt; count_below(&tree, 9, &mut steps), 0);
     for size in [4, 0, 3] {
         if tree.len() < 3 {
             tree.insert(0, Piece { size }, &mut steps)
@@ -193,6 +205,8 @@ fn two_thousand<L: Ledger>(rt: &impl Abort, alloc: Global, blank: Blank)
     let mut tree = Tree::new(alloc);
     fill(rt, &mut tree, &mut steps);
     let copy = tree.copy(&mut steps).expect(rt, "memory");
+    let many = |amount: &Amount| amount.value >= 1500;
+    assert_eq!(rt; copy.partition_point(many, &mut steps), 500);
     insert_first(rt, &mut tree, 7, &mut steps);
     assert_eq!(rt; (copy.len(), tree.len()), (2000, 2001));
     assert_eq!(rt; tree.measure(0, 3, &mut steps).sum(), 4004);

@@ -4,6 +4,7 @@ pub mod InPlace
 pub mod Joins
 pub mod Levels
 pub mod Middles
+pub mod Partitions
 pub mod Ranges
 pub mod SeenFrom
 pub mod Turns

@@ -1,5 +1,6 @@
--- The first and the last place at which a test holds.
-use Rattle.std.specs.Prelude.{◌≡◌, ℕ, ◌<◌, ◌≤◌, Bool, true, false, Option, MatchOption}
+-- The first and the last place at which a test holds of a measure, and the one at which it turns false of the items.
+use Rattle.std.specs.Prelude.{◌≡◌, ℕ, ◌<◌, ◌≤◌, Bool, true, false, List, Option, MatchOption}
+use Rattle.std.specs.List.Sorted.{IsPartitionedBy, IsPartitionPoint}
 use Rattle.std.specs.Fn.{Shared, FnReturnsAt}
 use Rattle.std.specs.Borrow.{Bor}
 
@@ -46,3 +47,11 @@ FindsFirst calls test measures from to answer = (holds : ℕ → Bool) → Tells
 -- the last place at which it holds, where it falls
 abbrev pub FindsLast : {F M : Type 0} → Shared F (Bor M × Unit {0}) Bool → F → (ℕ → M) → ℕ → Option ℕ → Type 0
 FindsLast calls test measures to answer = (holds : ℕ → Bool) → Tells calls test measures holds 0 to → IsFalling holds to → IsLastOrNone holds to answer
+
+-- whatever the test answers of an item is what `holds` says of it
+abbrev pub TellsItems : {F A : Type 0} → Shared F (Bor A × Unit {0}) Bool → F → (A → Bool) → Type 0
+TellsItems {F} {A} calls test holds = (item : A) (answer : Bool) → FnReturnsAt calls test item answer → answer ≡ holds item
+
+-- the number of the items for which the test holds, where it holds of none after one for which it does not
+abbrev pub FindsPartition : {F A : Type 0} → Shared F (Bor A × Unit {0}) Bool → F → List A → ℕ → Type 0
+FindsPartition {F} {A} calls test items count = (holds : A → Bool) → TellsItems calls test holds → IsPartitionedBy holds items → IsPartitionPoint (λ item. holds item ≡ true) (λ item. holds item ≡ false) items count

@@ -2,8 +2,8 @@
 //!
 //! `Tree<T>` is a list of items, and contracts see nothing else of it. Beside what a list does it tells
 //! what a range of its items measures, for any monoid that the items are measured by, and finds the
-//! first or the last place at which a test of that measure turns. Where every step is at the end and no
-//! range is asked for, a `Vec` serves better.
+//! first or the last place at which a test of that measure turns, and the place at which a test of the
+//! items does. Where every step is at the end and no range is asked for, a `Vec` serves better.
 //!
 //! A node holds an item between two subtrees. An empty subtree is no box, so an item takes one
 //! allocation; the link to a subtree keeps its size and its measure, so that a node knows both without a
@@ -17,7 +17,7 @@
 //! | Call | Nodes visited, d being the digits of one more than the length |
 //! |---|---|
 //! | `new`, `len` | none |
-//! | `get`, `insert`, `remove`, `replace`, `measure`, `first_place`, `last_place` | at most 12 d |
+//! | `get`, `insert`, `remove`, `replace`, `measure`, `first_place`, `last_place`, `partition_point` | at most 12 d |
 //! | `copy` | each once |
 //!
 //! A link holds its node closed: each way to open it, be it to read it, to change it or to take it apart,
@@ -28,8 +28,8 @@
 //!
 //! The proofs rest on the laws of the monoid alone. What the layer above may rely on: the clauses of
 //! `Tree`, in the words of lists; `measure_in` of specs/Measures.antt and std's `slice_range` for what a
-//! range measures; `FindsFirst` and `FindsLast` of specs/Search.antt for the searches; `VisitsWithin` of
-//! `retro_base` for the cost.
+//! range measures; `FindsFirst`, `FindsLast` and `FindsPartition` of specs/Search.antt for the searches;
+//! `VisitsWithin` of `retro_base` for the cost.
 #![tactic(auto)]
 
 mod balance;

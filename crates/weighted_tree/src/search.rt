@@ -3,6 +3,7 @@ ghost use Rattle.std.specs.Fn.{FnReturnsAt};
 ghost use Rattle.weighted_tree.specs.Balance.{weight};
 ghost use Rattle.weighted_tree.specs.Levels.{OneALevel};
 ghost use Rattle.weighted_tree.specs.Measures.{passing};
+ghost use Rattle.weighted_tree.specs.Search.{FindsPartition};
 ghost use Rattle.weighted_tree.specs.SearchSteps.{IsSought, IsTurnWithin, VisitsOfSearch};
 ghost use Rattle.weighted_tree.specs.Sides.{seen_from};
 
@@ -110,9 +111,35 @@ impl<T: Measured> Subtree<T> {
         }
         count
     }
+
+    /// How many items a test holds of, where it holds of none after one of which it does not.
+    #[inline(always)]
+    pub(crate) fn partition_point<F: Fn(&T) -> bool, L: Ledger>(
+        &self,
+        test: &F,
+        steps: &mut Steps<L>,
+    ) -> u32
+        requires callable { F.IsAlwaysCallable test.now }
+        ensures partition { FindsPartition F.Fn test.now self.now result }
+        ensures within { result ≤ length self.now }
+        ensures none_lost { steps.old ≤ steps.new }
+        ensures some { 0 < length self.now → steps.old + 1 ≤ steps.new }
+        ensures visits { OneALevel (weight self.now) steps.old steps.new }
+    {
+        let (mut subtree, mut end) = (self, self.len());
+        'down: while let Some(node) = subtree.root(steps) {
+            if passes(test, &node.item) {
+                subtree = &node.right;
+            } else {
+                end = end - node.right.len() - 1;
+                subtree = &node.left;
+            }
+        }
+        end
+    }
 }
 
-/// What the test says of a measure.
+/// What the test says of a measure or of an item.
 #[inline(always)]
 fn passes<M, F: Fn(&M) -> bool>(test: &F, measure: &M) -> bool
     requires { F.IsAlwaysCallable test.now }

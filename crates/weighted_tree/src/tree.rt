@@ -2,7 +2,7 @@ ghost use Rattle.std.specs.Prelude.{◌≡◌, ◌+◌, ◌^◌, ◌<◌, ◌≤
 ghost use Rattle.std.specs.List.{insert, remove, slice_range};
 ghost use Rattle.weighted_tree.specs.Measures.{measure_in, from_place, up_to_place};
 ghost use Rattle.retro_base.specs.Visits.{VisitsWithin};
-ghost use Rattle.weighted_tree.specs.Search.{FindsFirst, FindsLast};
+ghost use Rattle.weighted_tree.specs.Search.{FindsFirst, FindsLast, FindsPartition};
 
 use crate::node::Side;
 use crate::search::Search;
@@ -156,6 +156,21 @@ impl<T: Measured> Tree<T> {
             Search::Found(count) => Some(to - count),
             Search::Open(_) => None,
         }
+    }
+
+    /// How many items the test holds of, where it holds of none after one of which it does not.
+    pub fn partition_point<F: Fn(&T) -> bool, L: Ledger>(
+        &self,
+        test: F,
+        steps: &mut Steps<L>,
+    ) -> u32
+        requires callable { F.IsAlwaysCallable test }
+        ensures partition { FindsPartition F.Fn test self.now result }
+        ensures within { result ≤ length self.now }
+        ensures some { 0 < length self.now → steps.old + 1 ≤ steps.new }
+        ensures visits { VisitsWithin 12 (length self.now) steps.old steps.new }
+    {
+        self.root.partition_point(&test, steps)
     }
 
     /// A tree of the same items.

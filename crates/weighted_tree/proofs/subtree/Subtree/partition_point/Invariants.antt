@@ -1,0 +1,21 @@
+use Rattle.std.proofs.Common.{ℕ, ◌+◌, ◌-◌, ◌<◌, ◌≤◌, Bool, length}
+use Rattle.std.specs.List.Sorted.{IsPartitionedBy}
+use Rattle.weighted_tree.specs.Balance.{weight}
+use Rattle.weighted_tree.specs.Levels.{OneALevel}
+use Rattle.weighted_tree.specs.Search.{TellsItems}
+use Rattle.weighted_tree.proofs.Partitions.{HasTurn}
+use Rattle.weighted_tree.proofs.subtree.Subtree.partition_point.Given as goal
+
+-- the turn of the subtree is that of the whole
+abbrev pub invariant-down : goal.invariant-down
+invariant-down g l = record {
+  turn : (holds : g.row.T.Denot → Bool) → TellsItems g.F.Fn l.test holds → IsPartitionedBy holds l.self → HasTurn holds l.self (l.end - length l.subtree) l.subtree;
+  some_left : length l.subtree ≤ l.end;
+  within : l.end ≤ length l.self;
+  none_lost : l.initial.steps ≤ l.steps;
+  some : length l.subtree < length l.self → l.initial.steps + 1 ≤ l.steps;
+  levels : (after : ℕ) → OneALevel (weight l.subtree) l.steps after → OneALevel (weight l.self) l.initial.steps after;
+}
+
+abbrev pub decreases-down : goal.decreases-down
+decreases-down g l = length l.subtree
