@@ -22,7 +22,7 @@ fn insert_in<P: Partial + Drop, L: Ledger>(
     ensures ok { OnOk result (checkpoint.new ≡ with_row place row checkpoint.old) }
     ensures err { OnErr result (checkpoint.new ≡ checkpoint.old) }
 {
-    if place < checkpoint.place() {
+    if checkpoint.is_after(place) {
         checkpoint.insert(place, row, steps)?;
     }
     Ok(())
@@ -37,7 +37,7 @@ fn remove_in<P: Partial + Drop, L: Ledger>(
     requires { CanLose place checkpoint.old }
     ensures { checkpoint.new ≡ without_row place checkpoint.old }
 {
-    if place < checkpoint.place() {
+    if checkpoint.is_after(place) {
         checkpoint.remove(place, steps);
     }
 }

@@ -1,4 +1,4 @@
-ghost use Rattle.std.specs.Prelude.{◌≡◌, ◌+◌, ◌*◌, ◌<◌, ◌≤◌, [], length, slice_get, true, false, Some, IfSome, IfOk, OnOk, OnErr};
+ghost use Rattle.std.specs.Prelude.{◌≡◌, ◌+◌, ◌*◌, ◌<◌, ◌≤◌, [], length, slice_get, true, false, Some, IfSome, IsOk, IfOk, OnOk, OnErr};
 ghost use Rattle.std.specs.List.{insert, remove};
 ghost use Rattle.retro_base.specs.declared.row.Row.{Row};
 ghost use Rattle.retro_base.specs.Answers.{answer_of, content};
@@ -172,9 +172,11 @@ impl<P: Partial + Drop> Retro for Full<P> {
         )
     }
 
+    /// It takes no memory, so it never answers `NoMemory`.
     fn remove(&mut self, place: u32) -> Result<(Row, Change), NoMemory>
         requires within { place < length self.old.rows }
         requires replays { IsValid self.old.kind (remove self.old.rows place) }
+        ensures succeeds { IsOk result }
         ensures kind { self.new.kind ≡ self.old.kind }
         ensures row { IfOk result (λ taken. slice_get self.old.rows place ≡ Some taken.0) }
         ensures rows { OnOk result (self.new.rows ≡ remove self.old.rows place) }

@@ -1,5 +1,5 @@
 //! A structure with some first rows of a timeline: the present with all of them, a checkpoint with fewer.
-ghost use Rattle.std.specs.Prelude.{◌≡◌, ◌+◌, ◌-◌, ◌*◌, ◌<◌, ◌≤◌, List, length, slice_get, take, true, Some, IfOk, OnOk, OnErr};
+ghost use Rattle.std.specs.Prelude.{◌≡◌, ◌+◌, ◌-◌, ◌*◌, ◌<◌, ◌≤◌, nat_lt, List, length, slice_get, take, true, Some, IfOk, OnOk, OnErr};
 ghost use Rattle.std.specs.List.{insert, remove};
 ghost use Rattle.retro_base.specs.declared.row.Row.{Row};
 ghost use Rattle.retro_base.specs.Answers.{answer_of, content};
@@ -63,6 +63,13 @@ impl<P: Partial + Drop> Snapshot<P> {
         ensures replayable { IsReplayable self.now.kind self.now.rows }
     {
         self.structure.len()
+    }
+
+    /// Whether it stands after the place, and so has the row there.
+    pub(crate) fn is_after(&self, place: u32) -> bool
+        ensures { result ≡ nat_lt place (place_of self.now) }
+    {
+        place < self.place()
     }
 
     /// The row at a place.
