@@ -90,10 +90,6 @@ marked-at e b (x ∷ items) (suc place) rise inside before behind =
     (λ k d low high. before (suc k) d (omega arith) (omega arith)) (λ k d low high. behind (suc k) d (omega arith) (omega arith)) in
     (omega (arith, rest.0), rw other (ap (λ l. x ∷ l) rest.1))
 
-pub no_longer : {X T E : Type 0} (r : Result T E) (old new : List X) (place : ℕ) (x : X) → place ≤ length old → OnOk r (new ≡ insert old place x) → OnErr r (new ≡ old) → length new ≤ length old + 1
-no_longer (Ok t) old new place x within ok err = omega (arith, ap length ok, length-insert old place x within)
-no_longer (Err e) old new place x within ok err = omega (arith, ap length err)
-
 -- no insertion leaves fewer items
 pub no_shorter : {X T E : Type 0} (r : Result T E) (old new : List X) (place : ℕ) (x : X) → place ≤ length old → OnOk r (new ≡ insert old place x) → OnErr r (new ≡ old) → length old ≤ length new
 no_shorter (Ok t) old new place x within ok err = omega (arith, ap length ok, length-insert old place x within)

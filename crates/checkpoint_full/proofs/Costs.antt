@@ -1,5 +1,8 @@
 -- What rows cost that are appended one after another, and taken off again.
-use Rattle.std.proofs.Common.{◌≡◌, ℕ, ◌+◌, ◌*◌, ◌≤◌, arith}
+use Rattle.std.proofs.Common.{◌≡◌, ℕ, ◌+◌, ◌*◌, ◌≤◌, List, length, Result, Ok, Err, ap, arith}
+use Rattle.std.specs.Prelude.{OnOk, OnErr}
+use Rattle.std.specs.List.{insert}
+use Rattle.std.proofs.lemmas.List.Edits.{length-insert}
 use Rattle.std.proofs.Math.Nat.{mul-add, mul-le-mul_right}
 use Rattle.retro_base.specs.Digits.{digits}
 use Rattle.retro_base.specs.Visits.{VisitsWithin}
@@ -37,3 +40,9 @@ visits_asked count back length shorter between first second third last less one 
     visits_more (288 * count + 144 + 144 * back) (432 * count + 144) length first last (omega (arith, less))
     (visits_then (288 * count + 144) (144 * back) length between first third last two
     (visits_then (288 * count) 144 length shorter first second third one forward asked) taken)
+
+-- an insertion, also one that runs out of memory, leaves one row more at the most
+pub no_longer : {X T E : Type 0} (r : Result T E) (old new : List X) (place : ℕ) (x : X) → place ≤ length old → OnOk r (new ≡ insert old place x) → OnErr r (new ≡ old)
+    → length new ≤ length old + 1
+no_longer (Ok t) old new place x within ok err = omega (arith, ap length ok, length-insert old place x within)
+no_longer (Err e) old new place x within ok err = omega (arith, ap length err)

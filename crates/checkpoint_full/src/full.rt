@@ -13,9 +13,8 @@ ghost use Rattle.retro_base.specs.Visits.{VisitsWithin};
 
 use crate::kept::{ask_kept, insert_kept, list_kept, remove_kept};
 use crate::snapshot::Snapshot;
-use crate::uncounted;
 use retro_base::{
-    Answer, Change, Kind, Listing, NoMemory, Op, Partial, Question, Retro, Row, Steps,
+    Answer, Change, Kind, Listing, NoMemory, Op, Partial, Question, Retro, Row, Steps, uncounted,
 };
 use std::alloc::Global;
 use std::marker::{Brand, Model};

@@ -19,7 +19,6 @@ mod full;
 mod kept;
 mod past;
 mod snapshot;
-mod uncounted;
 
 pub use checkpoints::WIDTH;
 pub use full::Full;
