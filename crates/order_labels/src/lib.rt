@@ -29,12 +29,11 @@
 mod highest;
 mod label;
 mod labels;
-mod laws;
+pub mod laws;
 mod search;
 mod spread;
 
 pub use highest::Highest;
 pub use labels::{Fresh, Labels};
-pub use laws::{labels_are_spread_evenly, relabelling_is_rare};
 pub use search::count_up_to;
 pub use spread::{gap_of, greatest_power};

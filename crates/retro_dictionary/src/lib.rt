@@ -38,7 +38,7 @@ mod dictionary;
 mod edit;
 mod failing;
 mod kept_row;
-mod laws;
+pub mod laws;
 mod lifetimes;
 mod listed;
 mod pairs;
@@ -46,9 +46,5 @@ mod relabel;
 mod search;
 
 pub use dictionary::RetroDictionary;
-pub use laws::{
-    an_edit_ends_one_lifetime, insertions_are_kept, lifetimes_hold_the_content,
-    relabelling_is_rare, removals_are_kept, search_answers,
-};
 pub use pairs::{Found, KeyPair, KeyRange};
 pub use search::PairSearch;

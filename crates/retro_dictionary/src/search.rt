@@ -14,6 +14,7 @@ use std::sync::ledger::{Blank, Ledger};
 use weighted_tree::Tree;
 
 /// The search of a dictionary: how many pairs have keys in a range, their sum, and the least and the greatest of them.
+#[derive(Clone, Copy)]
 pub struct PairSearch;
 
 impl Decomposable for PairSearch {
