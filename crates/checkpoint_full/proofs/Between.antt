@@ -95,19 +95,6 @@ one_made most now checkpoints after latest earlier count all first close made le
       subst (λ places. AreClose most (place_of now) (places ++ place_of earlier ∷ []) (place_of earlier)) (sym (places_more checkpoints latest)) more,
     )
 
--- the last one stands at the start
-pub all_made : (most : ℕ) (now : Structure) (checkpoints after : List Structure) (latest : Structure) → AllByRecursion (HoldsFirstRows now) checkpoints
-    → HoldsFirstRows now latest → AreClose most (place_of now) (map place_of checkpoints ++ place_of latest ∷ []) (place_of latest)
-    → place_of latest ≡ 0 → after ≡ checkpoints ++ latest ∷ [] → AreCheckpoints most now after
-all_made most now checkpoints after latest all first close start pushed = rw pushed (record {
-  first_rows = all_more (HoldsFirstRows now) checkpoints latest all first;
-  close = rw (places_more checkpoints latest) (subst (λ (last : ℕ). AreClose most (place_of now) (map place_of checkpoints ++ place_of latest ∷ []) last) start close);
-})
-
-pub some_made : (checkpoints after : List Structure) (latest : Structure) → after ≡ checkpoints ++ latest ∷ [] → were_made after ≡ true
-some_made [] after latest pushed = rw pushed refl
-some_made (checkpoint ∷ checkpoints) after latest pushed = rw pushed refl
-
 pub nearest_below : (checkpoints found : List Structure) (nearest : Option ℕ) (place index : ℕ) (d : Structure) → nearest ≡ position (is_up_to place) found → found ≡ checkpoints
     → nearest ≡ Some index → index < length checkpoints
 nearest_below checkpoints found nearest place index d search of_all one =

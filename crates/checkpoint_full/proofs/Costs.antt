@@ -41,6 +41,11 @@ visits_asked count back length shorter between first second third last less one 
     (visits_then (288 * count + 144) (144 * back) length between first third last two
     (visits_then (288 * count) 144 length shorter first second third one forward asked) taken)
 
+-- a bound holds with each greater factor and length
+pub visits_at_most : (few more shorter length before after : ℕ) → few ≤ more → shorter ≤ length → VisitsWithin few shorter before after → VisitsWithin more length before after
+visits_at_most few more shorter length before after less within visits =
+    visits_more few more length before after less (visits-longer few shorter length before after within visits)
+
 -- an insertion, also one that runs out of memory, leaves one row more at the most
 pub no_longer : {X T E : Type 0} (r : Result T E) (old new : List X) (place : ℕ) (x : X) → place ≤ length old → OnOk r (new ≡ insert old place x) → OnErr r (new ≡ old)
     → length new ≤ length old + 1

@@ -12,6 +12,7 @@ ghost use Rattle.retro_base.specs.Timeline.{IsFresh, IsReplayable};
 ghost use Rattle.retro_base.specs.Visits.{VisitsWithin};
 
 use crate::kept::{ask_kept, insert_kept, list_kept, remove_kept};
+use crate::reader::Reader;
 use crate::snapshot::Snapshot;
 use retro_base::{
     Answer, Change, Kind, Listing, NoMemory, Op, Partial, Question, Retro, Row, Steps, uncounted,
@@ -30,16 +31,18 @@ pub struct Full<P: Partial + Drop> {
     alloc: Global,
     present: Snapshot<P>,
     checkpoints: Vec<Snapshot<P>>,
+    reader: Reader<P>,
 }
 
 impl<P: Partial + Drop> Model for Full<P> {
-    ghost use Rattle.checkpoint_full.specs.Checkpoints.{Checkpointed, KeepsCheckpoints, seen, width};
+    ghost use Rattle.std.specs.Prelude.{IfSome};
+    ghost use Rattle.checkpoint_full.specs.Checkpoints.{Checkpointed, HoldsFirstRows, KeepsCheckpoints, seen, width};
 
     ghost Value = { Checkpointed };
 
     ghost view = { λ f. seen f.present f.checkpoints.items };
 
-    ghost invariant = { λ f. KeepsCheckpoints width f.present f.checkpoints.items };
+    ghost invariant = { λ f. KeepsCheckpoints width f.present f.checkpoints.items × IfSome f.reader (HoldsFirstRows f.present) };
 }
 
 impl<P: Partial + Drop> Full<P> {
@@ -52,6 +55,7 @@ impl<P: Partial + Drop> Full<P> {
             alloc,
             present: Snapshot::new(present),
             checkpoints: Vec::new(alloc),
+            reader: Reader::new(),
         }
     }
 
@@ -78,6 +82,7 @@ impl<P: Partial + Drop> Full<P> {
             self.alloc,
             &self.present,
             &mut self.checkpoints,
+            &mut self.reader,
             place,
             question,
             steps,
@@ -99,6 +104,7 @@ impl<P: Partial + Drop> Full<P> {
             self.alloc,
             &self.present,
             &mut self.checkpoints,
+            &mut self.reader,
             place,
             Blank::new(1),
         )
@@ -162,13 +168,15 @@ impl<P: Partial + Drop> Retro for Full<P> {
         ensures made { OnOk result (self.new.made ≡ self.old.made) }
         ensures err { OnErr result (self.new ≡ self.old) }
     {
-        insert_kept::<P, Brand>(
+        let change = insert_kept::<P, Brand>(
             &mut self.present,
             &mut self.checkpoints,
             place,
             row,
             Blank::new(1),
-        )
+        )?;
+        self.reader.after_edit(place);
+        Ok(change)
     }
 
     /// It takes no memory, so it never answers `NoMemory`.
@@ -184,12 +192,14 @@ impl<P: Partial + Drop> Retro for Full<P> {
         ensures made { OnOk result (self.new.made ≡ self.old.made) }
         ensures err { OnErr result (self.new ≡ self.old) }
     {
-        Ok(remove_kept::<P, Brand>(
+        let taken = remove_kept::<P, Brand>(
             &mut self.present,
             &mut self.checkpoints,
             place,
             Blank::new(1),
-        ))
+        );
+        self.reader.after_edit(place);
+        Ok(taken)
     }
 
     fn ask_now(&self, question: Question) -> Answer {

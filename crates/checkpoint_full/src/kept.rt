@@ -1,5 +1,5 @@
 //! The present of a timeline and its checkpoints, edited and asked together.
-ghost use Rattle.std.specs.Prelude.{◌≡◌, ◌+◌, ◌*◌, ◌<◌, ◌≤◌, slice_get, true, Some, IfOk, OnOk, OnErr};
+ghost use Rattle.std.specs.Prelude.{◌≡◌, ◌+◌, ◌*◌, ◌<◌, ◌≤◌, slice_get, true, Some, IfSome, IfOk, OnOk, OnErr};
 ghost use Rattle.std.specs.List.{remove};
 ghost use Rattle.retro_base.specs.Answers.{answer_of, content};
 ghost use Rattle.retro_base.specs.Changes.{IsChange};
@@ -8,11 +8,12 @@ ghost use Rattle.retro_base.specs.Questions.{suits};
 ghost use Rattle.retro_base.specs.Replay.{IsValid, state_at};
 ghost use Rattle.retro_base.specs.Timeline.{IsReplayable};
 ghost use Rattle.retro_base.specs.Visits.{VisitsWithin};
-ghost use Rattle.checkpoint_full.specs.Checkpoints.{after, place_of, were_made, width, CanTake, KeepsCheckpoints};
+ghost use Rattle.checkpoint_full.specs.Checkpoints.{after, place_of, were_made, width, CanTake, HoldsFirstRows, KeepsCheckpoints};
 
 use crate::checkpoints::{drop_made, make, make_room};
 use crate::follow::{insert_everywhere, remove_everywhere};
 use crate::past::{ask_at, list_at};
+use crate::reader::Reader;
 use crate::snapshot::Snapshot;
 use retro_base::{Answer, Change, Listing, NoMemory, Partial, Question, Row, Steps};
 use std::alloc::Global;
@@ -79,6 +80,7 @@ pub(crate) fn ask_kept<P: Partial + Drop, L: Ledger>(
     alloc: Global,
     present: &Snapshot<P>,
     checkpoints: &mut Vec<Snapshot<P>>,
+    reader: &mut Reader<P>,
     place: u32,
     question: Question,
     steps: &mut Steps<L>,
@@ -86,8 +88,10 @@ pub(crate) fn ask_kept<P: Partial + Drop, L: Ledger>(
     requires within { place ≤ place_of present.now }
     requires suited { suits question present.now.kind ≡ true }
     requires keeps { KeepsCheckpoints width present.now checkpoints.old.items }
+    requires reads { IfSome reader.old (HoldsFirstRows present.now) }
     ensures answer { IfOk result (λ answer. answer ≡ answer_of (state_at present.now.kind present.now.rows place) question) }
     ensures keeps { KeepsCheckpoints width present.now checkpoints.new.items }
+    ensures reads { IfSome reader.new (HoldsFirstRows present.now) }
     ensures made { OnOk result (were_made checkpoints.new.items ≡ true) }
     ensures same { were_made checkpoints.old.items ≡ true → checkpoints.new.items ≡ checkpoints.old.items }
     ensures err { OnErr result (checkpoints.new.items ≡ checkpoints.old.items) }
@@ -95,11 +99,18 @@ pub(crate) fn ask_kept<P: Partial + Drop, L: Ledger>(
 {
     if checkpoints.is_empty() {
         let mut made = make(alloc, present, steps)?;
-        let answer = ask_at(made.as_mut_slice(), present, place, question, steps)?;
+        let answer = ask_at(reader, made.as_mut_slice(), present, place, question, steps)?;
         *checkpoints = made;
         return Ok(answer);
     }
-    ask_at(checkpoints.as_mut_slice(), present, place, question, steps)
+    ask_at(
+        reader,
+        checkpoints.as_mut_slice(),
+        present,
+        place,
+        question,
+        steps,
+    )
 }
 
 /// Lists the content at a place, with a counter of its own; the checkpoints are made where they were not. After
@@ -108,16 +119,19 @@ pub(crate) fn list_kept<P: Partial + Drop, L: Ledger>(
     alloc: Global,
     present: &Snapshot<P>,
     checkpoints: &mut Vec<Snapshot<P>>,
+    reader: &mut Reader<P>,
     place: u32,
     blank: Blank,
 ) -> Result<Listing, NoMemory>
     requires within { place ≤ place_of present.now }
     requires keeps { KeepsCheckpoints width present.now checkpoints.old.items }
+    requires reads { IfSome reader.old (HoldsFirstRows present.now) }
     requires name { blank.name ≡ L.name }
     requires parts { blank.parts ≡ L.parts }
     requires shared { 0 < blank.parts }
     ensures content { IfOk result (λ listing. listing ≡ content (state_at present.now.kind present.now.rows place)) }
     ensures keeps { KeepsCheckpoints width present.now checkpoints.new.items }
+    ensures reads { IfSome reader.new (HoldsFirstRows present.now) }
     ensures made { OnOk result (were_made checkpoints.new.items ≡ true) }
     ensures same { were_made checkpoints.old.items ≡ true → checkpoints.new.items ≡ checkpoints.old.items }
     ensures err { OnErr result (checkpoints.new.items ≡ checkpoints.old.items) }
@@ -125,9 +139,15 @@ pub(crate) fn list_kept<P: Partial + Drop, L: Ledger>(
     let mut steps = Steps::<L>::new(blank);
     if checkpoints.is_empty() {
         let mut made = make(alloc, present, &mut steps)?;
-        let listing = list_at(made.as_mut_slice(), present, place, &mut steps)?;
+        let listing = list_at(reader, made.as_mut_slice(), present, place, &mut steps)?;
         *checkpoints = made;
         return Ok(listing);
     }
-    list_at(checkpoints.as_mut_slice(), present, place, &mut steps)
+    list_at(
+        reader,
+        checkpoints.as_mut_slice(),
+        present,
+        place,
+        &mut steps,
+    )
 }

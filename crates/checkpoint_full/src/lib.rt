@@ -18,6 +18,7 @@ mod follow;
 mod full;
 mod kept;
 mod past;
+mod reader;
 mod snapshot;
 
 pub use checkpoints::WIDTH;

@@ -1,5 +1,5 @@
 //! Questions about the past: the rows between a checkpoint and the place are appended, and taken off again.
-ghost use Rattle.std.specs.Prelude.{◌≡◌, ◌+◌, ◌-◌, ◌*◌, ◌<◌, ◌≤◌, length, get_or, true, IfOk};
+ghost use Rattle.std.specs.Prelude.{◌≡◌, ◌+◌, ◌-◌, ◌*◌, ◌<◌, ◌≤◌, length, get_or, true, IfSome, IfOk};
 ghost use Rattle.retro_base.specs.Answers.{answer_of, content};
 ghost use Rattle.retro_base.specs.Questions.{suits};
 ghost use Rattle.retro_base.specs.Replay.{present, state_at};
@@ -7,6 +7,7 @@ ghost use Rattle.retro_base.specs.Visits.{VisitsWithin};
 ghost use Rattle.checkpoint_full.specs.Checkpoints.{place_of, were_made, width, AreCheckpoints, HoldsFirstRows};
 
 use crate::checkpoints::nearest;
+use crate::reader::Reader;
 use crate::snapshot::Snapshot;
 use retro_base::{Answer, Listing, NoMemory, Partial, Question, Steps};
 use std::sync::ledger::Ledger;
@@ -77,6 +78,7 @@ fn nearest_earlier<P: Partial + Drop>(
 
 /// Asks at a place. The checkpoints are as before, whatever the answer.
 pub(crate) fn ask_at<P: Partial + Drop, L: Ledger>(
+    reader: &mut Reader<P>,
     checkpoints: &mut [Snapshot<P>],
     timeline: &Snapshot<P>,
     place: u32,
@@ -87,6 +89,8 @@ pub(crate) fn ask_at<P: Partial + Drop, L: Ledger>(
     requires checkpoints { AreCheckpoints width timeline.now checkpoints.old }
     requires within { place ≤ place_of timeline.now }
     requires suited { suits question timeline.now.kind ≡ true }
+    requires reads { IfSome reader.old (HoldsFirstRows timeline.now) }
+    ensures reads { IfSome reader.new (HoldsFirstRows timeline.now) }
     ensures same { checkpoints.new ≡ checkpoints.old }
     ensures answer { IfOk result (λ answer. answer ≡ answer_of (state_at timeline.now.kind timeline.now.rows place) question) }
     ensures visits { VisitsWithin (432 * (width + 1)) (place_of timeline.now) steps.old steps.new }
@@ -95,11 +99,15 @@ pub(crate) fn ask_at<P: Partial + Drop, L: Ledger>(
         return Ok(timeline.ask_now(question, steps));
     }
     let index = nearest_earlier(checkpoints, timeline, place);
-    ask_from(&mut checkpoints[index], timeline, place, question, steps)
+    match reader.choose(&checkpoints[index], place) {
+        Some(copy) => reader.ask(copy, timeline, place, question, steps),
+        None => ask_from(&mut checkpoints[index], timeline, place, question, steps),
+    }
 }
 
 /// Lists the content at a place. The checkpoints are as before, whatever the answer.
 pub(crate) fn list_at<P: Partial + Drop, L: Ledger>(
+    reader: &mut Reader<P>,
     checkpoints: &mut [Snapshot<P>],
     timeline: &Snapshot<P>,
     place: u32,
@@ -108,6 +116,8 @@ pub(crate) fn list_at<P: Partial + Drop, L: Ledger>(
     requires made { were_made checkpoints.old ≡ true }
     requires checkpoints { AreCheckpoints width timeline.now checkpoints.old }
     requires within { place ≤ place_of timeline.now }
+    requires reads { IfSome reader.old (HoldsFirstRows timeline.now) }
+    ensures reads { IfSome reader.new (HoldsFirstRows timeline.now) }
     ensures same { checkpoints.new ≡ checkpoints.old }
     ensures content { IfOk result (λ listing. listing ≡ content (state_at timeline.now.kind timeline.now.rows place)) }
 {
@@ -115,5 +125,8 @@ pub(crate) fn list_at<P: Partial + Drop, L: Ledger>(
         return timeline.all_now();
     }
     let index = nearest_earlier(checkpoints, timeline, place);
-    list_from(&mut checkpoints[index], timeline, place, steps)
+    match reader.choose(&checkpoints[index], place) {
+        Some(copy) => reader.list(copy, timeline, place, steps),
+        None => list_from(&mut checkpoints[index], timeline, place, steps),
+    }
 }

@@ -189,6 +189,32 @@ impl<P: Partial + Drop> Snapshot<P> {
         Ok(())
     }
 
+    /// Moves to a place of the timeline: takes rows off the end, or appends rows of the timeline.
+    pub(crate) fn move_to<L: Ledger>(
+        &mut self,
+        timeline: &Snapshot<P>,
+        place: u32,
+        steps: &mut Steps<L>,
+    ) -> Result<(), NoMemory>
+        requires first { HoldsFirstRows timeline.now self.old }
+        requires within { place ≤ place_of timeline.now }
+        ensures ok { OnOk result (self.new ≡ first_of place timeline.now) }
+        ensures visits { VisitsWithin (288 * (place - place_of self.old + (place_of self.old - place))) (place_of timeline.now) steps.old steps.new }
+    {
+        if self.is_after(place) {
+            self.roll_back(place, steps);
+            return Ok(());
+        }
+        self.roll_forward(timeline, place, steps)
+    }
+
+    /// A snapshot of the same rows.
+    pub(crate) fn copy(&self) -> Result<Snapshot<P>, NoMemory>
+        ensures { IfOk result (λ copy. copy ≡ self.now) }
+    {
+        Ok(Snapshot::new(self.structure.copy()?))
+    }
+
     /// A snapshot of the first rows, up to a place.
     pub(crate) fn copy_at<L: Ledger>(
         &self,
@@ -198,7 +224,7 @@ impl<P: Partial + Drop> Snapshot<P> {
         requires { place ≤ place_of self.now }
         ensures { IfOk result (λ copy. copy ≡ first_of place self.now) }
     {
-        let mut copy = Snapshot::new(self.structure.copy()?);
+        let mut copy = self.copy()?;
         copy.roll_back(place, steps);
         Ok(copy)
     }
