@@ -1,5 +1,5 @@
 -- Lemmas on lines and line feeds.
-use Rattle.std.proofs.Common.{◌≡◌, ◌≢◌, ℕ, zero, suc, ◌+◌, ◌-◌, ◌≤◌, ◌<◌, Bool, true, false, cond, List, [], ◌∷◌, ◌++◌, length, take, drop, map, get_or, sym, ap, ◌∙◌, refl, arith}
+use Rattle.std.proofs.Common.{◌≡◌, ◌≢◌, ℕ, zero, suc, ◌+◌, ◌-◌, ◌≤◌, ◌<◌, Bool, true, false, cond, Option, None, Some, MatchOption, is_some, List, [], ◌∷◌, ◌++◌, length, take, drop, map, get_or, sym, ap, ◌∙◌, refl, arith}
 use Rattle.std.specs.Prelude.{◌==◌}
 use Rattle.std.specs.List.{slice_range}
 use Rattle.std.proofs.lemmas.List.{take-append-drop, drop_more, length-take-le, get_or-take, get_or-drop, length-drop, take-take, drop-take}
@@ -140,3 +140,20 @@ take-without_return zero (b ∷ piece) h = refl
 take-without_return (suc count) (b ∷ []) h = absurd (omega arith)
 take-without_return (suc count) (b ∷ c ∷ piece) h =
     ap (λ bs. b ∷ bs) (take-without_return count (c ∷ piece) (omega arith))
+
+either_true : (test other : Bool) → other ≡ true → cond test true other ≡ true
+either_true true other h = refl
+either_true false other h = h
+
+-- a line feed between two parts is among the bytes
+pub has_feed-between : (xs ys : List ℕ) → has_line_feed (xs ++ line_feed ∷ ys) ≡ true
+has_feed-between [] ys = refl
+has_feed-between (x ∷ xs) ys = either_true (x == line_feed) (has_line_feed (xs ++ line_feed ∷ ys)) (has_feed-between xs ys)
+
+-- a search finds a line feed exactly where there is one
+pub found_feed : (found : Option ℕ) (bytes : List ℕ)
+    → MatchOption found (has_line_feed bytes ≡ false)
+    (λ at. (0 ≤ at) × (at < length bytes) × (has_line_feed (take at bytes) ≡ false) × (bytes ≡ take at bytes ++ line_feed ∷ drop (at + 1) bytes))
+    → is_some found ≡ has_line_feed bytes
+found_feed None bytes none = sym none
+found_feed (Some at) bytes cut = sym (ap has_line_feed cut.3 ∙ has_feed-between (take at bytes) (drop (at + 1) bytes))

@@ -5,12 +5,24 @@ use Rattle.retro_io.specs.declared.source.Failed.{Failed}
 use Rattle.retro_io.specs.Sink.{Appends}
 
 module _ {S : Type 0} (G : Ghosts S) where
-  -- nothing was called but writes that succeeded, each of a piece that is not empty
+  -- nothing was called but sends that succeeded
+  pub data IsSent (before : S) : S → Type 0 where
+    start : IsSent before before
+    send : (answer : Unit {0}) (middle after : S) → IsSent before middle → G.sends middle (Ok answer) after → IsSent before after
+
+  -- nothing was called but writes and sends that succeeded, each write of a piece that is not empty
   pub data IsWritten (before : S) : S → Type 0 where
     start : IsWritten before before
     write : (piece : List ℕ) (count : ℕ) (middle after : S) → IsWritten before middle → 0 < length piece → G.writes middle piece (Ok count) after → IsWritten before after
+    send : (answer : Unit {0}) (middle after : S) → IsWritten before middle → G.sends middle (Ok answer) after → IsWritten before after
 
-  -- some bytes were appended by writes alone, so that no flush was made
+  -- nothing was appended or flushed, and nothing was called but sends
+  pub record IsOnlySent (before after : S) : Type 0 where
+    pub sends : IsSent before after
+    pub written : G.written after ≡ G.written before
+    pub flushed : G.flushed after ≡ G.flushed before
+
+  -- some bytes were appended by writes, with sends among them, so that no flush was made
   pub record AppendsUnflushed (before after : S) : Type 0 where
     pub text : List ℕ
     pub some : 0 < length text
@@ -18,9 +30,9 @@ module _ {S : Type 0} (G : Ghosts S) where
     pub writes : IsWritten before after
     pub unflushed : G.flushed after ≡ false
 
-  -- a sink is as it was, or that was done to it
+  -- one of the two was done to a sink
   abbrev pub StaysUnflushed : S → S → Type 0
-  StaysUnflushed before after = (after ≡ before) ⊎ AppendsUnflushed before after
+  StaysUnflushed before after = IsOnlySent before after ⊎ AppendsUnflushed before after
 
   -- the last call of all was a flush, which succeeded or failed, and none was made before it
   pub record EndsWithFlush (before : S) (succeeds : Bool) (after : S) : Type 0 where
@@ -30,7 +42,7 @@ module _ {S : Type 0} (G : Ghosts S) where
     pub is : is_ok answer ≡ succeeds
     pub flush : G.flushes middle answer after
 
-  -- the last call of all was a write of a piece that is not empty, which failed, and before it there were only writes that succeeded
+  -- the last call of all was a write of a piece that is not empty, which failed, and before it there were only writes and sends that succeeded
   pub record EndsWithFailedWrite (before after : S) : Type 0 where
     pub middle : S
     pub piece : List ℕ
@@ -38,3 +50,10 @@ module _ {S : Type 0} (G : Ghosts S) where
     pub wrote : IsWritten before middle
     pub some : 0 < length piece
     pub failed : G.writes middle piece (Err fault) after
+
+  -- the last call of all was a send that failed, and before it there were only writes and sends that succeeded
+  pub record EndsWithFailedSend (before after : S) : Type 0 where
+    pub middle : S
+    pub fault : Failed
+    pub wrote : StaysUnflushed before middle
+    pub failed : G.sends middle (Err fault) after

@@ -1,6 +1,14 @@
--- What contracts see of an outbox.
-use Rattle.std.specs.Prelude.{ℕ, List, ◌++◌, drop, Option, None, Some}
+-- What contracts see of an outbox, and what its calls do to the sink that it sends to.
+use Rattle.std.specs.Prelude.{◌≡◌, ◌⊎◌, ℕ, Bool, true, false, List, ◌++◌, drop, length, Option, None, Some, Result, is_ok, is_err, OnOk, OnErr}
 use Rattle.retro_io.specs.declared.outbox.Outbox.{Outbox}
+use Rattle.retro_io.specs.declared.sink.Sink.{Ghosts}
+use Rattle.retro_io.specs.declared.source.Failed.{Failed}
+use Rattle.retro_io.specs.Faults.{Counts, faults_after}
+use Rattle.retro_io.specs.Sink.{HandsAll, HandsAllUntilFault}
+
+-- the most bytes that wait at an outbox
+abbrev pub outbox_size : ℕ
+outbox_size = 65536
 
 -- the sink that an outbox sends to
 abbrev pub sink_of : {K : Type 0} → Outbox K → K
@@ -14,3 +22,47 @@ waiting_of outbox = drop outbox.sent outbox.waiting.items
 abbrev pub then_waiting : Option (List ℕ) → List ℕ → Option (List ℕ)
 then_waiting None waiting = None
 then_waiting (Some written) waiting = Some (written ++ waiting)
+
+module _ {K : Type 0} (G : Ghosts K) where
+  -- all that waits was handed to the sink, each write being handed all that was left of it
+  abbrev pub HandsOn : Outbox K → K → Type 0
+  HandsOn before after = HandsAll G.writes (waiting_of before) (sink_of before) (length (waiting_of before)) after
+
+  -- the same, until a write failed
+  abbrev pub HandsOnUntilFault : Outbox K → K → Type 0
+  HandsOnUntilFault before after = HandsAllUntilFault G.writes (waiting_of before) (sink_of before) after
+
+  -- all that waits was handed on, or until a write failed, where none failed before; and else nothing was done
+  pub record HandsOnOnce (before after : Outbox K) : Type 0 where
+    pub for_good : before.failed ≡ true → after ≡ before
+    pub handed : after.failed ≡ false → HandsOn before (sink_of after)
+    pub cut_off : after.failed ≡ true → before.failed ≡ false → HandsOnUntilFault before (sink_of after)
+    pub counts : before.failed ≡ false → Counts after.failed (G.faults (sink_of before)) (G.faults (sink_of after))
+
+  -- an outbox fails exactly where the sink's count of faults rises in the call, or it failed before; from then on it leaves the sink alone
+  pub record FailsWithSink (before : Outbox K) (fails : Bool) (after : Outbox K) : Type 0 where
+    pub failed : after.failed ≡ fails
+    pub at_once : before.failed ≡ false → Counts fails (G.faults (sink_of before)) (G.faults (sink_of after))
+    pub for_good : before.failed ≡ true → (fails ≡ true) × (sink_of after ≡ sink_of before)
+
+  -- all that waits was handed on, and then one such call of the sink was made
+  pub record HandsOnAndCalls (call : K → Result (Unit {0}) Failed → K → Type 0) (before : Outbox K) (succeeds : Bool) (after : K) : Type 0 where
+    pub middle : K
+    pub handed : HandsOn before middle
+    pub answer : Result (Unit {0}) Failed
+    pub is : is_ok answer ≡ succeeds
+    pub called : call middle answer after
+
+  -- what a write does: nothing to the sink where there is room, and else all that waits is handed on first
+  abbrev pub Gathers : Outbox K → Result ℕ Failed → Outbox K → Type 0
+  Gathers before answer after =
+      FailsWithSink before (is_err answer) after × (after.faults ≡ faults_after before.faults answer)
+      × OnOk answer ((sink_of after ≡ sink_of before) ⊎ ((length before.waiting.items ≡ outbox_size) × HandsOn before (sink_of after)))
+      × OnErr answer (before.failed ≡ false → HandsOnUntilFault before (sink_of after))
+
+  -- what a send or a flush does: all that waits is handed on, and then one such call of the sink is made, unless a write of these fails
+  abbrev pub PassesOn : (K → Result (Unit {0}) Failed → K → Type 0) → Outbox K → Result (Unit {0}) Failed → Outbox K → Type 0
+  PassesOn call before answer after =
+      FailsWithSink before (is_err answer) after × (after.faults ≡ faults_after before.faults answer)
+      × OnOk answer (HandsOnAndCalls call before true (sink_of after))
+      × OnErr answer (before.failed ≡ false → HandsOnUntilFault before (sink_of after) ⊎ HandsOnAndCalls call before false (sink_of after))

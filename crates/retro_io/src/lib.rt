@@ -8,14 +8,17 @@
 //! sink's own count of faults rose.
 //!
 //! The reader holds its bytes in one buffer of a fixed size, which is reserved when the reader is made. Each byte is
-//! searched once for a line feed, and of a line that is too long no more is kept than is shown, so that reading takes no
-//! memory.
+//! searched once for a line feed, and once more where the reader is asked whether it holds a line; of a line that is too long no
+//! more is kept than is shown, so that reading takes no memory.
+//!
+//! An [`Outbox`] is a sink before another one: what was written to it is what that one got and what waits. Whoever writes
+//! to it sends it where an answer is waited for, by the sink's third call, which every sink has.
 //!
 //! - `source`, `sink`: the two traits, and `put_all`.
 //! - `line_reader`, `line_buffer`, `mark`: the reader, the buffer that it cuts lines from, and what it answers.
 //! - `memory_source`, `whole_source`, `memory_sink`, `stock`: sources and a sink in memory, which tell their bytes, and
 //!   of which chosen calls fail.
-//! - `outbox`, `sharing`: a sink that gathers what is written, and a source that sends it before each read.
+//! - `outbox`: a sink that gathers what is written, and sends it to another one.
 //! - `std_source`, `std_sink`: those over std's readers and writers. Nothing is known of what such a reader gives or such
 //!   a writer does with what it takes.
 #![tactic(auto)]
@@ -26,7 +29,6 @@ mod mark;
 mod memory_sink;
 mod memory_source;
 mod outbox;
-mod sharing;
 mod sink;
 mod source;
 mod std_sink;
@@ -44,7 +46,6 @@ pub use mark::{Mark, ReadError};
 pub use memory_sink::MemorySink;
 pub use memory_source::MemorySource;
 pub use outbox::Outbox;
-pub use sharing::{SendingSource, SharedSink};
 pub use sink::{Sink, WriteFault, put_all};
 pub use source::{Failed, Source};
 pub use std_sink::StdSink;

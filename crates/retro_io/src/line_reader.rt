@@ -94,6 +94,14 @@ impl<'a, S: Source> LineReader<'a, S> {
         self.buffer.line()
     }
 
+    /// Whether a whole line is held, so that the next one is given without a read. It searches the bytes held up to their first
+    /// line feed.
+    pub fn holds_line(&self) -> bool
+        ensures { result ≡ has_line_feed (held self.now) }
+    {
+        self.buffer.line_feed_from(0).is_some()
+    }
+
     /// Moves to the next line. It takes no memory, and reads from the source only where no whole line is held and no
     /// read of its own has answered the end. A read offers all of its buffer but what is kept of a line, or as much as is left
     /// up to the limit where that is less, or room for the one byte that shows that there are more.

@@ -1,17 +1,18 @@
-ghost use Rattle.std.specs.Prelude.{◌≡◌, ◌≤◌, ◌<◌, [], true, false, length, vec_len, vec_capacity, IfOk, OnOk, OnErr, Ok};
-ghost use Rattle.retro_io.specs.Faults.{Counts, count_after, faults_after, last_count};
+ghost use Rattle.std.specs.Prelude.{◌≡◌, ◌≤◌, ◌<◌, ◌++◌, [], true, false, length, vec_len, vec_capacity, IfOk};
+ghost use Rattle.retro_io.specs.Faults.{Counts, count_after, last_count};
 
 use crate::sink::put_until_fault;
-use crate::{Failed, Sink, WriteFault};
+use crate::{Failed, Sink};
 use retro_base::NoMemory;
 use std::alloc::Global;
 
 /// How many bytes wait at the most.
 const CAPACITY: usize = 65536;
 
-/// A sink before another one. What is written waits in a buffer of a fixed size until the buffer is full, or it is flushed,
-/// or `send` is called; then all of it goes on in one write, where the other sink takes all. Contracts see what was written
-/// to it, whether it waits or went on. Once the other sink has failed, each further write and flush fails.
+/// A sink before another one. What is written waits in a buffer of a fixed size until the buffer is full, or it is flushed
+/// or sent; then all of it goes on in one write, where the other sink takes all. Contracts see what was written to it, whether
+/// it waits or went on, and what each call hands to the other sink. An outbox fails where the other sink does, and once it
+/// has failed, each further call fails and leaves the other sink alone.
 #[derive(Drop)]
 pub struct Outbox<K> {
     sink: K,
@@ -27,7 +28,7 @@ pub struct Outbox<K> {
 }
 
 impl<K: Sink + Drop> Outbox<K> {
-    ghost use Rattle.retro_io.specs.Outbox.{sink_of, then_waiting, waiting_of};
+    ghost use Rattle.retro_io.specs.Outbox.{HandsOnOnce, sink_of, then_waiting, waiting_of};
 
     /// An outbox before this sink. It reserves all the memory that it will need.
     pub fn new(alloc: Global, sink: K) -> Result<Outbox<K>, NoMemory>
@@ -45,14 +46,21 @@ impl<K: Sink + Drop> Outbox<K> {
         })
     }
 
-    /// Sends all that waits, unless the other sink has failed before. Where it fails now, that is noted, and what it did not
+    /// The sink that it sends to.
+    pub fn sink(&self) -> &K
+        ensures { result.now ≡ sink_of self.now }
+    {
+        &self.sink
+    }
+
+    /// Hands on all that waits, unless the other sink has failed before. Where it fails now, that is noted, and what it did not
     /// take goes on waiting.
-    pub fn send(&mut self)
+    fn hand_on(&mut self)
         ensures written { then_waiting (K.written (sink_of self.new)) (waiting_of self.new)
             ≡ then_waiting (K.written (sink_of self.old)) (waiting_of self.old) }
         ensures sent { self.new.failed ≡ false → self.new.waiting.items ≡ [] }
         ensures fails { self.new.failed ≡ true → self.old.failed ≡ false → 0 < length (waiting_of self.old) }
-        ensures once_failed { self.old.failed ≡ true → self.new ≡ self.old }
+        ensures hands_on { HandsOnOnce ⟦<K as Sink>⟧ self.old self.new }
         ensures faults { self.new.faults ≡ self.old.faults }
         ensures flushed { self.new.flushed ≡ self.old.flushed }
     {
@@ -71,49 +79,43 @@ impl<K: Sink + Drop> Outbox<K> {
         }
     }
 
-    /// Sends all that waits, and gives the other sink back where all went on.
-    pub fn into_inner(mut self) -> Result<K, WriteFault>
-        ensures written { IfOk result (λ sink. K.written sink ≡ then_waiting (K.written (sink_of self)) (waiting_of self)) }
-        ensures failed { OnErr result (self.failed ≡ false → 0 < length (waiting_of self)) }
-    {
-        self.send();
-        let Outbox { sink, failed, .. } = self;
-        if failed { Err(WriteFault) } else { Ok(sink) }
-    }
-
     /// Notes a fault.
     fn fail(&mut self) -> Failed
         ensures counts { Counts true self.old.faults self.new.faults }
         ensures count { self.new.faults ≡ count_after self.old.faults 1 }
+        ensures failed { self.new.failed ≡ true }
         ensures sink { sink_of self.new ≡ sink_of self.old }
         ensures waiting { waiting_of self.new ≡ waiting_of self.old }
         ensures flushed { self.new.flushed ≡ self.old.flushed }
     {
+        self.failed = true;
         self.faults = self.faults.saturating_add(1);
         Failed
     }
 }
 
 impl<K: Sink + Drop> Sink for Outbox<K> {
-    ghost use Rattle.retro_io.specs.Outbox.{sink_of, then_waiting, waiting_of};
+    ghost use Rattle.retro_io.specs.Outbox.{Gathers, PassesOn, sink_of, then_waiting, waiting_of};
 
     ghost written = { λ o. then_waiting (K.written (sink_of o)) (waiting_of o) };
+
+    ghost waiting = { λ o. K.waiting (sink_of o) ++ waiting_of o };
 
     ghost flushed = { λ o. o.flushed };
 
     ghost faults = { λ o. o.faults };
 
-    ghost writes = { λ before piece answer after. after.faults ≡ faults_after before.faults answer };
+    ghost writes = { λ before piece answer after. Gathers ⟦<K as Sink>⟧ before answer after };
 
-    ghost flushes = { λ before answer after.
-        OnOk answer ((waiting_of after ≡ []) × (K.flushed (sink_of after) ≡ true))
-        × (after.faults ≡ faults_after before.faults answer) };
+    ghost sends = { PassesOn ⟦<K as Sink>⟧ K.sends };
+
+    ghost flushes = { PassesOn ⟦<K as Sink>⟧ K.flushes };
 
     fn write(&mut self, piece: &[u8]) -> Result<usize, Failed> {
-        self.flushed = false;
         if self.waiting.len() == CAPACITY {
-            self.send();
+            self.hand_on();
         }
+        self.flushed = false;
         if self.failed {
             return Err(self.fail());
         }
@@ -122,11 +124,18 @@ impl<K: Sink + Drop> Sink for Outbox<K> {
         Ok(count)
     }
 
+    fn send(&mut self) -> Result<(), Failed> {
+        self.hand_on();
+        if self.failed || self.sink.send().is_err() {
+            return Err(self.fail());
+        }
+        Ok(())
+    }
+
     fn flush(&mut self) -> Result<(), Failed> {
+        self.hand_on();
         self.flushed = false;
-        self.send();
         if self.failed || self.sink.flush().is_err() {
-            self.failed = true;
             return Err(self.fail());
         }
         self.flushed = true;

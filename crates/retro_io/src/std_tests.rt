@@ -85,3 +85,35 @@ fn a_read_is_one_read_of_all_that_is_asked_for(rt: HostRuntime) -> Result<(), Fa
     }
     Ok(())
 }
+
+/// A stream that gives all that it is asked for, and takes all that it is handed.
+#[derive(Drop)]
+struct Willing;
+
+impl Read for Willing {
+    fn read(&mut self, buffer: &mut [u8]) -> io::Result<usize> {
+        Ok(buffer.len())
+    }
+}
+
+impl Write for Willing {
+    fn write(&mut self, piece: &[u8]) -> io::Result<usize> {
+        Ok(piece.len())
+    }
+
+    fn flush(&mut self) -> io::Result<()> {
+        Ok(())
+    }
+}
+
+#[test]
+fn streams_are_handed_all_of_every_size(rt: HostRuntime) -> Result<(), Fail> {
+    let mut source = StdSource::new(Willing);
+    let mut sink = StdSink::new(Willing);
+    for length in [0, 1, 2, 7, 15, 16, 17, 4096, 4097, 65_535, 65_536] {
+        let mut bytes = vec![in rt.alloc(); 0; length]?;
+        assert_eq!(rt; source.read(&mut bytes), Ok(length));
+        assert_eq!(rt; sink.write(&bytes), Ok(length));
+    }
+    Ok(())
+}

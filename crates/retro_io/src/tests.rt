@@ -84,6 +84,21 @@ fn with_line_of(alloc: Global, length: usize, end: &[u8]) -> Result<Vec<u8>, Fai
 }
 
 #[test]
+fn a_reader_knows_whether_it_holds_a_line(rt: HostRuntime) -> Result<(), Fail> {
+    let mut source = WholeSource::new(rt.alloc(), b"ab\n\ncd")?;
+    let mut reader = LineReader::new(rt.alloc(), &mut source, 1 << 30)?;
+    assert!(rt; !reader.holds_line());
+    assert_eq!(rt; reader.next()?, Mark::Whole);
+    assert!(rt; reader.holds_line());
+    assert_eq!(rt; reader.next()?, Mark::Whole);
+    assert!(rt; !reader.holds_line());
+    assert_eq!(rt; reader.next()?, Mark::Whole);
+    assert_eq!(rt; reader.next()?, Mark::End);
+    assert!(rt; !reader.holds_line());
+    Ok(())
+}
+
+#[test]
 fn long_lines_are_shown_in_part(rt: HostRuntime) -> Result<(), Fail> {
     let table: [(usize, &[u8], u8, usize); 6] = [
         (4096, b"", b'W', 4096),

@@ -1,53 +1,135 @@
-use crate::{
-    Failed, MemorySink, MemorySource, Outbox, SendingSource, SharedSink, Sink, Source, WriteFault,
-    put_all,
-};
-use std::cell::RefCell;
+ghost use Rattle.std.specs.Prelude.{◌≤◌, None};
+ghost use Rattle.retro_io.specs.Faults.{last_count};
+
+use crate::{Failed, MemorySink, Outbox, Sink, put_all};
 use std::test::Fail;
 
 #[test]
 fn answers_go_out_in_one_write(rt: HostRuntime) -> Result<(), Fail> {
-    // Of the sink behind, the second write fails: so there is one.
+    // Of the other sink, the second write fails: so there is one.
     let sink = MemorySink::new(rt.alloc(), 64, 64, &[1])?;
     let mut outbox = Outbox::new(rt.alloc(), sink)?;
     for answer in [b"ok\n".as_slice(), b"ok #1\n", b"= 5\n"] {
         assert_eq!(rt; put_all(&mut outbox, answer), Ok(()));
     }
+    assert_eq!(rt; outbox.sink().written(), b"".as_slice());
     assert_eq!(rt; outbox.flush(), Ok(()));
-    let Ok(sink) = outbox.into_inner() else {
-        return Ok(());
-    };
-    assert_eq!(rt; sink.written(), b"ok\nok #1\n= 5\n".as_slice());
+    assert_eq!(rt; outbox.sink().written(), b"ok\nok #1\n= 5\n".as_slice());
     Ok(())
 }
 
 #[test]
-fn more_than_the_buffer_holds_goes_out(rt: HostRuntime) -> Result<(), Fail> {
-    let sink = MemorySink::new(rt.alloc(), 1 << 20, 1 << 20, &[])?;
-    let mut outbox = Outbox::new(rt.alloc(), sink)?;
+fn all_goes_out_whatever_the_sink_takes(rt: HostRuntime) -> Result<(), Fail> {
+    let mut bytes = Vec::new(rt.alloc());
+    for number in 0..200_000_u32 {
+        bytes.push((number % 251) as u8)?;
+    }
+    for piece in [1, 7, 4096, 1 << 20] {
+        let sink = MemorySink::new(rt.alloc(), 1 << 20, piece, &[])?;
+        let mut outbox = Outbox::new(rt.alloc(), sink)?;
+        assert_eq!(rt; put_all(&mut outbox, &bytes), Ok(()));
+        assert_eq!(rt; outbox.send(), Ok(()));
+        assert_eq!(rt; outbox.sink().written(), bytes.as_slice());
+        assert_eq!(rt; outbox.flush(), Ok(()));
+        assert_eq!(rt; outbox.sink().written(), bytes.as_slice());
+    }
+    Ok(())
+}
+
+/// Each write of the other sink fails in turn: what it took before is all that it ever gets, and each further call fails.
+#[test]
+fn a_write_that_fails_is_the_last(rt: HostRuntime) -> Result<(), Fail> {
     let bytes = vec![in rt.alloc(); b'x'; 200_000]?;
-    assert_eq!(rt; put_all(&mut outbox, &bytes), Ok(()));
-    match outbox.into_inner() {
-        Ok(sink) => assert_eq!(rt; sink.written(), bytes.as_slice()),
-        Err(WriteFault) => assert!(rt; false),
+    for failing in 0..49 {
+        let sink = MemorySink::new(rt.alloc(), 1 << 20, 4096, &[failing])?;
+        let mut outbox = Outbox::new(rt.alloc(), sink)?;
+        let ended = put_all(&mut outbox, &bytes).is_ok() && outbox.send().is_ok();
+        assert!(rt; !ended);
+        for _ in 0..2 {
+            assert_eq!(rt; outbox.write(b"more"), Err(Failed));
+            assert_eq!(rt; outbox.send(), Err(Failed));
+            assert_eq!(rt; outbox.flush(), Err(Failed));
+        }
+        assert_eq!(rt; outbox.sink().written(), &bytes[..failing as usize * 4096]);
     }
     Ok(())
 }
 
 #[test]
-fn a_read_sends_what_waits(rt: HostRuntime) -> Result<(), Fail> {
-    let memory = MemorySink::new(rt.alloc(), 64, 64, &[0])?;
-    let script = MemorySource::new(rt.alloc(), b"abc", 64, &[])?;
-    let outbox = RefCell::new(Outbox::new(rt.alloc(), memory)?);
-    let mut source = SendingSource::new(script, &outbox);
-    let mut sink = SharedSink::new(&outbox);
-    assert_eq!(rt; sink.write(b"ok\n"), Ok(3));
-    // The write that the read makes is the one that fails: the sink answers so, and the source does not.
-    assert_eq!(rt; source.read(&mut [0; 16]), Ok(3));
-    assert_eq!(rt; sink.write(b"ok\n"), Err(Failed));
-    assert_eq!(rt; sink.flush(), Err(Failed));
-    drop(source);
-    drop(sink);
-    assert!(rt; outbox.into_inner().into_inner().is_err());
+fn a_send_passes_on_what_waits(rt: HostRuntime) -> Result<(), Fail> {
+    // Of the other sink, the second write fails: a send makes none where nothing waits.
+    let sink = MemorySink::new(rt.alloc(), 64, 64, &[1])?;
+    let mut outbox = Outbox::new(rt.alloc(), sink)?;
+    assert_eq!(rt; outbox.send(), Ok(()));
+    assert_eq!(rt; outbox.write(b"ok\n"), Ok(3));
+    for _ in 0..3 {
+        assert_eq!(rt; outbox.send(), Ok(()));
+        assert_eq!(rt; outbox.sink().written(), b"ok\n".as_slice());
+    }
+    assert_eq!(rt; outbox.write(b"ok\n"), Ok(3));
+    assert_eq!(rt; outbox.send(), Err(Failed));
+    assert_eq!(rt; outbox.sink().written(), b"ok\n".as_slice());
+    Ok(())
+}
+
+/// A sink that takes all, and of which the first flush fails and no later one.
+#[derive(Drop)]
+struct FirstFlushFails {
+    flushes: u64,
+    flushed: bool,
+    faults: u64,
+    ghost counted: { faults ≤ last_count },
+}
+
+impl Sink for FirstFlushFails {
+    ghost use Rattle.std.specs.Prelude.{[]};
+
+    ghost written = { λ _. None };
+
+    ghost waiting = { λ _. [] };
+
+    ghost flushed = { λ s. s.flushed };
+
+    ghost faults = { λ s. s.faults };
+
+    ghost writes = { λ _ _ _ _. Unit {0} };
+
+    ghost sends = { λ _ _ _. Unit {0} };
+
+    ghost flushes = { λ _ _ _. Unit {0} };
+
+    fn write(&mut self, piece: &[u8]) -> Result<usize, Failed> {
+        self.flushed = false;
+        Ok(piece.len())
+    }
+
+    fn send(&mut self) -> Result<(), Failed> {
+        Ok(())
+    }
+
+    fn flush(&mut self) -> Result<(), Failed> {
+        self.flushes = self.flushes.saturating_add(1);
+        self.flushed = self.flushes > 1;
+        if self.flushed {
+            return Ok(());
+        }
+        self.faults = self.faults.saturating_add(1);
+        Err(Failed)
+    }
+}
+
+#[test]
+fn a_flush_that_fails_is_the_last(rt: HostRuntime) -> Result<(), Fail> {
+    let sink = FirstFlushFails {
+        flushes: 0,
+        flushed: false,
+        faults: 0,
+    };
+    let mut outbox = Outbox::new(rt.alloc(), sink)?;
+    assert_eq!(rt; outbox.write(b"ok\n"), Ok(3));
+    for _ in 0..3 {
+        assert_eq!(rt; outbox.flush(), Err(Failed));
+    }
+    assert_eq!(rt; outbox.sink().flushes, 1);
     Ok(())
 }

@@ -3,7 +3,7 @@ use Rattle.std.proofs.Common.{ap, ◌∙◌}
 use Rattle.std.proofs.lemmas.List.{take_rest}
 use Rattle.std.specs.Prelude.{drop}
 use Rattle.retro_io.proofs.SinkLemmas.{then_waiting-part}
-use Rattle.retro_io.proofs.outbox.Outbox.send.Goals as goal
+use Rattle.retro_io.proofs.outbox.Outbox.hand_on.Goals as goal
 
 pub returns-in-Err-clause-written : goal.returns-in-Err-clause-written
 returns-in-Err-clause-written g c =
