@@ -22,9 +22,9 @@ use Rattle.retro_cli.specs.declared.stop.Stop.TheVariants as stops
 use Rattle.retro_io.specs.declared.mark.ReadError.{ReadError}
 use Rattle.retro_io.specs.declared.mark.ReadError.TheVariants.{ReadFault, TooLong}
 use Rattle.retro_io.specs.declared.sink.Sink.{Ghosts}
-use Rattle.retro_io.specs.FlushLaws.{EndsWithFailedWrite-more}
-use Rattle.retro_io.specs.Flushes.{EndsWithFailedWrite, StaysUnflushed}
-use Rattle.retro_cli.specs.Ends.{Stands}
+use Rattle.retro_io.specs.FlushLaws.{EndsWithFailedSend-more, EndsWithFailedWrite-more, StaysUnflushed-more}
+use Rattle.retro_io.specs.Flushes.{EndsWithFailedSend, EndsWithFailedWrite, StaysUnflushed}
+use Rattle.retro_cli.specs.Ends.{EndsAfterLine, Stands}
 use Rattle.retro_cli.specs.Stop.{StopsAt, stops_at_write}
 use Rattle.retro_cli.specs.Run.{AppendsAnswersOfFirst, AppendsAnswersOfTaken, AppendsFirstAnswers, AppendsOutput, AppendsProperOutputPrefix, AppendsOutputPrefix, MatchesRefusal}
 use Rattle.retro_cli.proofs.GoesOn.{GivenAs, GoesOn, gives, none_is_not_some, some_same}
@@ -248,6 +248,21 @@ module _ {K : Type 0} (G : Ghosts K) where
   stands_at_answer script left limit before middle after stops.NoMemory whole unflushed same reads part last =
       rw (same refl) record { whole = whole; unflushed = unflushed }
 
+  -- where what waits did not go on
+  pub stands_at_send : (script left : Option (List ℕ)) (limit : ℕ) (before middle after : K) → AppendsFirstAnswers script (G.written before) (G.written middle)
+      → StaysUnflushed G before middle → G.written after ≡ G.written middle → EndsWithFailedSend G middle after
+      → Stands G script left before after limit stops.WriteFault
+  stands_at_send script left limit before middle after whole unflushed same last =
+      inr (inr (subst (λ w. AppendsFirstAnswers script (G.written before) w) (sym same) whole, EndsWithFailedSend-more G before middle after unflushed last))
+
+  -- where memory was short, and then all that waits went on
+  pub ends_sent : (script left left' : Option (List ℕ)) (before middle after : K) → EndsAfterLine G script left before middle
+      → G.written after ≡ G.written middle → StaysUnflushed G middle after → EndsAfterLine G script left' before after
+  ends_sent script left left' before middle after ends same sent = record {
+    whole = subst (λ w. AppendsFirstAnswers script (G.written before) w) (sym same) ends.whole;
+    unflushed = StaysUnflushed-more G before middle after ends.unflushed sent;
+  }
+
   -- whatever stands is a prefix of the output
   pub prefix_that_stands : (script left : Option (List ℕ)) (limit : ℕ) (before after : K) (stop : Stop) → Stands G script left before after limit stop
       → AppendsOutputPrefix script (G.written before) (G.written after)
@@ -255,4 +270,6 @@ module _ {K : Type 0} (G : Ghosts K) where
   prefix_that_stands script left limit before after stops.TooLong stands = prefix_of_answers script (G.written before) (G.written after) stands.0.whole
   prefix_that_stands script left limit before after stops.NoMemory stands = prefix_of_answers script (G.written before) (G.written after) stands.whole
   prefix_that_stands script left limit before after stops.WriteFault (inl part) = prefix_of_part script (G.written before) (G.written after) part.0
-  prefix_that_stands script left limit before after stops.WriteFault (inr all) = prefix_of_all script (G.written before) (G.written after) all.0
+  prefix_that_stands script left limit before after stops.WriteFault (inr (inl all)) = prefix_of_all script (G.written before) (G.written after) all.0
+  prefix_that_stands script left limit before after stops.WriteFault (inr (inr sent)) =
+      prefix_of_answers script (G.written before) (G.written after) sent.0

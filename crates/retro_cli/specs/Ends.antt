@@ -1,7 +1,7 @@
 -- What stands in the sink where a run of lines ends.
 use Rattle.std.specs.Prelude.{◌⊎◌, ℕ, Bool, true, false, List, Option}
 use Rattle.retro_io.specs.declared.sink.Sink.{Ghosts}
-use Rattle.retro_io.specs.Flushes.{EndsWithFailedWrite, EndsWithFlush, StaysUnflushed}
+use Rattle.retro_io.specs.Flushes.{EndsWithFailedSend, EndsWithFailedWrite, EndsWithFlush, StaysUnflushed}
 use Rattle.retro_cli.specs.declared.stop.Stop.{Stop}
 use Rattle.retro_cli.specs.declared.stop.Stop.TheVariants as stops
 use Rattle.retro_cli.specs.Run.{AppendsAnswersOfFirst, AppendsAnswersOfTaken, AppendsFirstAnswers, AppendsOutput, AppendsProperOutputPrefix, MatchesRefusal}
@@ -19,10 +19,12 @@ module _ {K : Type 0} (G : Ghosts K) (script left : Option (List ℕ)) (before a
     pub whole : AppendsFirstAnswers script (G.written before) (G.written after)
     pub unflushed : StaysUnflushed G before after
 
-  -- a write failed within the output, or the flush after all of it, and that was the last call
+  -- a write failed within the output, or the flush after all of it, or a send after the whole answers to some first lines, and that was
+  -- the last call
   abbrev pub EndsAtSink : Type 0
   EndsAtSink = (AppendsProperOutputPrefix script (G.written before) (G.written after) × EndsWithFailedWrite G before after)
-      ⊎ (AppendsOutput script (G.written before) (G.written after) × EndsWithFlush G before false after)
+      ⊎ ((AppendsOutput script (G.written before) (G.written after) × EndsWithFlush G before false after)
+      ⊎ (AppendsFirstAnswers script (G.written before) (G.written after) × EndsWithFailedSend G before after))
 
   -- what stands where a run stops so, of a script that may have so many bytes
   abbrev pub Stands : ℕ → Stop → Type 0

@@ -25,8 +25,8 @@ module _ {S K : Type 0} (I : sources.Ghosts S) (O : sinks.Ghosts K) (source sour
     pub answered : HasAnswered status → AppendsOutput (I.left source) (O.written sink) (O.written sink')
     pub flush : HasAnswered status → EndsWithFlush O sink true sink'
     pub refusal : HasAnswered status → IfSome (I.left source) (λ bytes. status ≡ status_of (has_refusal bytes))
-    -- at every status a prefix of the output was appended: all of it at a flush that failed, and less at a write that failed,
-    -- and that call was the last one
+    -- at every status a prefix of the output was appended: all of it at a flush that failed, less at a write that failed, and the whole
+    -- answers to some first lines at a send that failed; and that call was the last one
     pub prefix : AppendsOutputPrefix (I.left source) (O.written sink) (O.written sink')
     pub part : status ≡ statuses.WriteFault → EndsAtSink O (I.left source) (I.left source') sink sink'
     -- where the run ended between two lines, the whole answers to some first lines were appended, and not flushed: at a failed

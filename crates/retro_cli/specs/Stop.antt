@@ -22,6 +22,12 @@ abbrev pub stops_at_write : {V : Type 0} → Result V Stop → Bool
 stops_at_write (Err stops.WriteFault) = true
 stops_at_write result = false
 
+-- the source answered no further line: a read failed, or the input is too long
+abbrev pub StopsReading : Stop → Type 0
+StopsReading stops.ReadFault = Unit {0}
+StopsReading stops.TooLong = Unit {0}
+StopsReading stop = ⊥
+
 -- the status of a run that ended so: with an answer that tells whether a line was refused, or early
 abbrev pub status_after : Result Bool Stop → Status
 status_after (Ok false) = statuses.Done

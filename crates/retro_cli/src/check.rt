@@ -50,6 +50,7 @@ pub(crate) fn run_check<S: Source, K: Sink>(
     ensures sink_faults { Counts (stops_at_write result) (K.faults sink.old) (K.faults sink.new) }
     ensures too_long { S.taken source.new < last_count → (IsErrOf result Stop.TooLong ↔ (most_bytes < S.taken source.new - S.taken source.old)) }
     ensures longer { IsErrOf result Stop.TooLong → MayBeTooLong (S.left source.old) }
+    ensures sent { K.waiting sink.old ≡ [] → stops_at_write result ≡ false → K.waiting sink.new ≡ [] }
 {
     let buffer = LineBuffer::new(alloc)?;
     let mut reader = LineReader::with_buffer(buffer, source, MAX_BYTES);

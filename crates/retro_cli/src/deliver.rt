@@ -1,6 +1,6 @@
-ghost use Rattle.std.specs.Prelude.{◌≡◌, Some, IfErr, OnErr, OnOk, IsErrOf};
+ghost use Rattle.std.specs.Prelude.{◌≡◌, [], Some, IfErr, OnErr, OnOk, IsErrOf};
 ghost use Rattle.retro_io.specs.Faults.{Counts};
-ghost use Rattle.retro_io.specs.Flushes.{EndsWithFailedWrite, StaysUnflushed};
+ghost use Rattle.retro_io.specs.Flushes.{EndsWithFailedSend, EndsWithFailedWrite, StaysUnflushed};
 ghost use Rattle.retro_io.specs.Sink.{Appends, AppendsProperPrefix};
 ghost use Rattle.retro_cli.specs.Delivery.{StandsAt};
 ghost use Rattle.retro_cli.specs.Stop.{stops_at_write};
@@ -9,7 +9,7 @@ use crate::stop::Stop;
 use retro_io::{Failed, Sink, put_all};
 
 /// Writes a text, by calls of `write` alone.
-pub(crate) fn send<K: Sink>(text: &[u8], sink: &mut K) -> Result<(), Stop>
+pub(crate) fn append<K: Sink>(text: &[u8], sink: &mut K) -> Result<(), Stop>
     ensures appended { OnOk result (Appends (K.written sink.old) text.now (K.written sink.new)) }
     ensures unflushed { OnOk result (StaysUnflushed ⟦<K as Sink>⟧ sink.old sink.new) }
     ensures failed { IfErr result (λ stop. stop ≡ Stop.WriteFault) }
@@ -21,13 +21,29 @@ pub(crate) fn send<K: Sink>(text: &[u8], sink: &mut K) -> Result<(), Stop>
     Ok(())
 }
 
+/// Lets go on what waits at the sink.
+pub(crate) fn send<K: Sink>(sink: &mut K) -> Result<(), Stop>
+    ensures written { K.written sink.new ≡ K.written sink.old }
+    ensures sent { OnOk result (K.waiting sink.new ≡ []) }
+    ensures unflushed { OnOk result (StaysUnflushed ⟦<K as Sink>⟧ sink.old sink.new) }
+    ensures failed { IfErr result (λ stop. stop ≡ Stop.WriteFault) }
+    ensures last { OnErr result (EndsWithFailedSend ⟦<K as Sink>⟧ sink.old sink.new) }
+    ensures faults { Counts (stops_at_write result) (K.faults sink.old) (K.faults sink.new) }
+{
+    match sink.send() {
+        Ok(()) => Ok(()),
+        Err(Failed) => Err(Stop::WriteFault),
+    }
+}
+
 /// Writes a text, and sees to it that it arrives.
 pub(crate) fn deliver<K: Sink>(text: &[u8], sink: &mut K) -> Result<(), Stop>
     ensures stands { StandsAt ⟦<K as Sink>⟧ (Some text.now) sink.old sink.new result }
+    ensures sent { OnOk result (K.waiting sink.new ≡ []) }
     ensures failed { IfErr result (λ stop. stop ≡ Stop.WriteFault) }
     ensures faults { Counts (stops_at_write result) (K.faults sink.old) (K.faults sink.new) }
 {
-    send(text, sink)?;
+    append(text, sink)?;
     match sink.flush() {
         Ok(()) => Ok(()),
         Err(Failed) => Err(Stop::WriteFault),

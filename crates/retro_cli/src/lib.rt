@@ -7,6 +7,10 @@
 //! another, by the workbench's definitions; the loop only follows it. Each other status has its cause in a clause, so that
 //! without a fault every input is answered, as long as memory lasts.
 //!
+//! Whoever waits for an answer has it before the program waits for more: nothing waits at the sink where the source is read
+//! (`next_line` in `script` asks for it), or where a run ends, unless the sink failed. So a sink that gathers what is written is no
+//! other case: the theorem is that of the sink that is handed in.
+//!
 //! The lines and the faults are those of `retro_io`, what becomes of a line is the workbench's, and whether evidence is true
 //! is said by `evidence_check`, which shares no code with them: this crate holds nothing but the loops between them.
 //!
@@ -14,7 +18,7 @@
 //! - `script`: a script is answered, line by line.
 //! - `check`, `judging`: evidence is judged, up to the first line that is refused.
 //! - `generated`: a generated script is answered and summed up.
-//! - `deliver`: how a text is written, and arrives.
+//! - `deliver`: how a text is written, what waits is sent, and all arrives.
 //! - `laws`: what a script answers is accepted by the judge.
 #![tactic(auto)]
 

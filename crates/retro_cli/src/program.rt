@@ -1,4 +1,4 @@
-ghost use Rattle.std.specs.Prelude.{◌≡◌, ◌-◌, ◌<◌, ◌↔◌, IsSome, None};
+ghost use Rattle.std.specs.Prelude.{◌≡◌, ◌-◌, ◌<◌, ◌↔◌, [], false, IsSome, None};
 ghost use Rattle.retro_base.specs.Limits.{most_bytes};
 ghost use Rattle.retro_io.specs.Faults.{Counts, Rose, last_count};
 ghost use Rattle.retro_cli.specs.Forms.{form_of};
@@ -16,7 +16,7 @@ use retro_io::{Sink, Source};
 use std::alloc::Global;
 
 /// Runs the program. With the word `run` it reads a script from the source and writes the answer to each line to the
-/// sink, before it reads the next one; with `check` it reads lines of evidence and writes their judgement; with
+/// sink, before it reads the next one; what waits at the sink is sent before each read of the source and where the run ends. With `check` it reads lines of evidence and writes their judgement; with
 /// `gen KIND N START` it reads nothing, answers a generated script and writes what it comes to. With other words it reads
 /// and writes nothing.
 pub fn run<S: Source, K: Sink>(alloc: Global, words: &Words, source: &mut S, sink: &mut K) -> Status
@@ -33,6 +33,8 @@ pub fn run<S: Source, K: Sink>(alloc: Global, words: &Words, source: &mut S, sin
     // The source's count of faults rises at a failed read, the sink's at a failed write or flush, and else both stay.
     ensures source_faults { Counts (is_read_fault result) (S.faults source.old) (S.faults source.new) }
     ensures sink_faults { Counts (is_write_fault result) (K.faults sink.old) (K.faults sink.new) }
+    // Where nothing waits at the sink before, nothing waits where the run ends, unless the sink failed.
+    ensures sent { K.waiting sink.old ≡ [] → is_write_fault result ≡ false → K.waiting sink.new ≡ [] }
 {
     match form_of(words) {
         Some(Form::Run) => status_after(run_script(alloc, source, sink)),

@@ -1,18 +1,20 @@
-ghost use Rattle.std.specs.Prelude.{◌≡◌, ◌+◌, ◌-◌, ◌<◌, ◌↔◌, ◌≤◌, false, true, IsTrue, IfOk, IfErr, OnErr, OnOk, IsErrOf, length};
+ghost use Rattle.std.specs.Prelude.{◌≡◌, [], ◌+◌, ◌-◌, ◌<◌, ◌↔◌, ◌≤◌, false, true, IsTrue, IfOk, IfErr, Ok, OnErr, OnOk, IsErrOf, is_err, length};
 ghost use Rattle.retro_base.specs.Limits.{longest_line, most_bytes};
 ghost use Rattle.retro_io.specs.Faults.{Counts, last_count};
 ghost use Rattle.retro_io.specs.Sink.{Appends, AppendsProperPrefix};
-ghost use Rattle.retro_io.specs.Flushes.{EndsWithFailedWrite, StaysUnflushed};
-ghost use Rattle.retro_io.specs.LineReader.{MovesOn, given, has_failed, limit_of, rest_of, source_of, taken};
+ghost use Rattle.retro_io.specs.Flushes.{EndsWithFailedSend, EndsWithFailedWrite, StaysUnflushed};
+ghost use Rattle.retro_io.specs.LineReader.{GivesLine, MovesOn, StopsAt, given, has_ended, has_failed, held, limit_of, rest_of, source_of, taken};
+ghost use Rattle.retro_io.specs.Lines.{has_line_feed};
+ghost use Rattle.retro_io.specs.Marks.{is_fault};
 ghost use Rattle.retro_cli.specs.Ends.{Answers, Stands};
 ghost use Rattle.retro_cli.specs.Run.{AppendsOutput, MayBeTooLong, MatchesRefusal};
-ghost use Rattle.retro_cli.specs.Stop.{stops_at_read, stops_at_write};
+ghost use Rattle.retro_cli.specs.Stop.{StopsReading, stops_at_read, stops_at_write};
 ghost use Rattle.workbench.specs.Reaction.{closing, reacts_to};
 
 use crate::MAX_BYTES;
-use crate::deliver::send;
+use crate::deliver::{append, send};
 use crate::stop::Stop;
-use retro_io::{Failed, LineBuffer, LineReader, Mark, Sink, Source};
+use retro_io::{Failed, LineBuffer, LineReader, Mark, ReadError, Sink, Source};
 use std::alloc::Global;
 use workbench::Bench;
 
@@ -38,7 +40,7 @@ fn answer_line<K: Sink>(
     ensures reads_nothing { (IsErrOf result Stop.ReadFault → ⊥) × (IsErrOf result Stop.TooLong → ⊥) }
 {
     let reply = bench.line(line, long)?;
-    send(reply.text.as_bytes(), sink)?;
+    append(reply.text.as_bytes(), sink)?;
     Ok(reply.refused)
 }
 
@@ -56,12 +58,50 @@ fn answer_end<K: Sink>(bench: &mut Bench, sink: &mut K) -> Result<bool, Stop>
     ensures reads_nothing { (IsErrOf result Stop.ReadFault → ⊥) × (IsErrOf result Stop.TooLong → ⊥) }
 {
     let reply = bench.end()?;
-    send(reply.text.as_bytes(), sink)?;
+    append(reply.text.as_bytes(), sink)?;
     Ok(reply.refused)
 }
 
-/// Answers the lines that a reader gives, up to the end of the input. The answer to each is written
-/// before the next one is read.
+/// Lets go on what waits at the sink, unless the reader holds a whole line and so makes no read for the next one.
+fn send_before_read<S: Source, K: Sink>(
+    reader: &LineReader<'_, S>,
+    sink: &mut K,
+) -> Result<(), Stop>
+    ensures written { K.written sink.new ≡ K.written sink.old }
+    ensures sent { OnOk result (has_line_feed (held reader.now) ≡ false → K.waiting sink.new ≡ []) }
+    ensures unflushed { OnOk result (StaysUnflushed ⟦<K as Sink>⟧ sink.old sink.new) }
+    ensures failed { IfErr result (λ stop. stop ≡ Stop.WriteFault) }
+    ensures last { OnErr result (EndsWithFailedSend ⟦<K as Sink>⟧ sink.old sink.new) }
+    ensures sink_faults { Counts (stops_at_write result) (K.faults sink.old) (K.faults sink.new) }
+{
+    if reader.holds_line() {
+        Ok(())
+    } else {
+        send(sink)
+    }
+}
+
+/// Moves to the next line, as the reader does. Where the reader holds no whole line, and so may read, nothing may wait at the sink:
+/// whoever waits for an answer has it before more is asked for. The sink is there for this condition alone.
+fn next_line<S: Source, K: Sink>(
+    reader: &mut LineReader<'_, S>,
+    _sink: &K,
+) -> Result<Mark, ReadError>
+    requires open { has_failed reader.old ≡ false }
+    requires sent { has_line_feed (held reader.old) ≡ false → K.waiting _sink.now ≡ [] }
+    ensures moves { MovesOn reader.old reader.new }
+    ensures failed { has_failed reader.new ≡ is_err result }
+    ensures source_faults { Counts (is_fault result) (S.faults (source_of reader.old)) (S.faults (source_of reader.new)) }
+    ensures gives { IfOk result (λ mark. GivesLine mark reader.old reader.new) }
+    ensures stops { IfErr result (λ error. StopsAt error reader.old reader.new) }
+    ensures too_long { IsErrOf result ReadError.TooLong ↔ (taken reader.new ≡ limit_of reader.new + 1) }
+    ensures kept_end { has_ended reader.old ≡ true → (source_of reader.new ≡ source_of reader.old) × (result ≡ Ok Mark.End) }
+{
+    reader.next()
+}
+
+/// Answers the lines that a reader gives, up to the end of the input. The answer to each is written before the next one is read,
+/// and where the source is read for that, it is sent before.
 fn answer_lines<S: Source, K: Sink>(
     alloc: Global,
     reader: &mut LineReader<'_, S>,
@@ -78,11 +118,13 @@ fn answer_lines<S: Source, K: Sink>(
     ensures source_faults { Counts (stops_at_read result) (S.faults (source_of reader.old)) (S.faults (source_of reader.new)) }
     ensures sink_faults { Counts (stops_at_write result) (K.faults sink.old) (K.faults sink.new) }
     ensures too_long { IsErrOf result Stop.TooLong ↔ (taken reader.new ≡ limit_of reader.new + 1) }
+    ensures sent { IfErr result (λ stop. StopsReading stop → K.waiting sink.new ≡ []) }
 {
     let mut bench = Bench::new(alloc);
     let mut refused = false;
     loop {
-        let long = match reader.next()? {
+        send_before_read(reader, sink)?;
+        let long = match next_line(reader, sink)? {
             Mark::Whole => false,
             Mark::Long => true,
             Mark::End => {
@@ -94,7 +136,8 @@ fn answer_lines<S: Source, K: Sink>(
     }
 }
 
-/// Reads a script, answers its lines and sees to it that the answers arrive.
+/// Reads a script, answers its lines and sees to it that the answers arrive. Where it ends early, the whole answers before have
+/// gone on, unless the sink fails.
 pub(crate) fn run_script<S: Source, K: Sink>(
     alloc: Global,
     source: &mut S,
@@ -107,12 +150,20 @@ pub(crate) fn run_script<S: Source, K: Sink>(
     ensures sink_faults { Counts (stops_at_write result) (K.faults sink.old) (K.faults sink.new) }
     ensures too_long { S.taken source.new < last_count → (IsErrOf result Stop.TooLong ↔ (most_bytes < S.taken source.new - S.taken source.old)) }
     ensures longer { IsErrOf result Stop.TooLong → MayBeTooLong (S.left source.old) }
+    ensures sent { K.waiting sink.old ≡ [] → stops_at_write result ≡ false → K.waiting sink.new ≡ [] }
 {
     let buffer = LineBuffer::new(alloc)?;
     let mut reader = LineReader::with_buffer(buffer, source, MAX_BYTES);
     let answered = answer_lines(alloc, &mut reader, sink);
     let _source = reader.into_inner();
-    let refused = answered?;
+    let refused = match answered {
+        Ok(refused) => refused,
+        Err(Stop::NoMemory) => {
+            send(sink)?;
+            return Err(Stop::NoMemory);
+        }
+        Err(stop) => return Err(stop),
+    };
     match sink.flush() {
         Ok(()) => Ok(refused),
         Err(Failed) => Err(Stop::WriteFault),

@@ -1,8 +1,9 @@
-ghost use Rattle.std.specs.Prelude.{◌≤◌, None};
+ghost use Rattle.std.specs.Prelude.{◌≤◌, [], None};
 ghost use Rattle.retro_io.specs.Faults.{last_count};
 
 mod blocks;
 mod evidence_files;
+mod outboxes;
 mod priority_queues;
 
 use retro_base::{NoMemory, Text};
@@ -341,17 +342,25 @@ struct FirstFlushFails {
 impl Sink for FirstFlushFails {
     ghost written = { λ _. None };
 
+    ghost waiting = { λ _. [] };
+
     ghost flushed = { λ s. s.flushed };
 
     ghost faults = { λ s. s.faults };
 
     ghost writes = { λ _ _ _ _. Unit {0} };
 
+    ghost sends = { λ _ _ _. Unit {0} };
+
     ghost flushes = { λ _ _ _. Unit {0} };
 
     fn write(&mut self, piece: &[u8]) -> Result<usize, Failed> {
         self.flushed = false;
         Ok(piece.len())
+    }
+
+    fn send(&mut self) -> Result<(), Failed> {
+        Ok(())
     }
 
     fn flush(&mut self) -> Result<(), Failed> {

@@ -6,8 +6,8 @@ pub returns-in-Ok-clause-stands : goal.returns-in-Ok-clause-stands
 returns-in-Ok-clause-stands g c = record {
   appended = search rules;
   flush = record {
-    middle = c.send.new.sink;
-    wrote = c.in_ok-send.ensures.unflushed;
+    middle = c.append.new.sink;
+    wrote = c.in_ok-append.ensures.unflushed;
     answer = Ok c.in-Ok.field-0;
     is = refl;
     flush = c.in-Ok.ensures.does;
@@ -19,8 +19,8 @@ pub returns-in-Err-clause-stands : goal.returns-in-Err-clause-stands
 returns-in-Err-clause-stands g c = inr (
   search rules,
   record {
-    middle = c.send.new.sink;
-    wrote = c.in_ok-send.ensures.unflushed;
+    middle = c.append.new.sink;
+    wrote = c.in_ok-append.ensures.unflushed;
     answer = Err c.in-Err.field-0;
     is = refl;
     flush = c.in-Err.ensures.does;

@@ -1,34 +1,34 @@
-use Rattle.std.proofs.Common.{◌≡◌, false, refl, ◌∙◌, inl}
+use Rattle.std.proofs.Common.{◌≡◌, false, refl, ◌∙◌, None}
 use Rattle.std.proofs.lemmas.Result.{err_from_is_err_and}
-use Rattle.retro_io.specs.FlushLaws.{StaysUnflushed-more}
+use Rattle.retro_io.specs.FlushLaws.{StaysUnflushed-more, StaysUnflushed-none}
 use Rattle.retro_io.specs.LineReader.{held, line_of, has_ended, taken}
 use Rattle.retro_io.specs.ReaderLaws.{MovesOn-none, MovesOn-then}
-use Rattle.retro_cli.proofs.Ends.{answers_of_first, answers_of_taken, appends_output, first_answers, part_at_end, part_in_line, stands_at_answer, stands_at_error}
-use Rattle.retro_cli.proofs.GoesOn.{GivenAs, before_end, goes_on_first, goes_on_next}
+use Rattle.retro_cli.proofs.Ends.{answers_of_first, answers_of_taken, appends_output, first_answers, part_at_end, part_in_line, stands_at_answer, stands_at_error, stands_at_send}
+use Rattle.retro_cli.proofs.GoesOn.{GivenAs, before_end, goes_on_first, goes_on_next, goes_on_sent}
 use Rattle.retro_cli.proofs.Stops.{open_before_error, open_before_line}
 use Rattle.retro_cli.proofs.script.answer_lines.Goals as goal
 use Rattle.retro_cli.proofs.script.answer_lines.Goals.{in-Whole, in-Long}
 
-pub returns-in_err-next-clause-moves : goal.returns-in_err-next-clause-moves
-returns-in_err-next-clause-moves g c = MovesOn-then c.args.reader.now c.loop-bench.reader c.next.new.self c.loop-bench.invariant.moves c.next.ensures.moves
+pub returns-in_err-next_line-clause-moves : goal.returns-in_err-next_line-clause-moves
+returns-in_err-next_line-clause-moves g c = MovesOn-then c.args.reader.now c.loop-bench.reader c.next_line.new.reader c.loop-bench.invariant.moves c.next_line.ensures.moves
 
 pub returns-in-End-clause-moves : goal.returns-in-End-clause-moves
-returns-in-End-clause-moves g c = MovesOn-then c.args.reader.now c.loop-bench.reader c.next.new.self c.loop-bench.invariant.moves c.in_ok-next.ensures.moves
+returns-in-End-clause-moves g c = MovesOn-then c.args.reader.now c.loop-bench.reader c.next_line.new.reader c.loop-bench.invariant.moves c.in_ok-next_line.ensures.moves
 
 pub returns-in_err-refused-clause-moves : goal.returns-in_err-refused-clause-moves
-returns-in_err-refused-clause-moves g c = MovesOn-then c.args.reader.now c.loop-bench.reader c.next.new.self c.loop-bench.invariant.moves c.in_ok-next.ensures.moves
+returns-in_err-refused-clause-moves g c = MovesOn-then c.args.reader.now c.loop-bench.reader c.next_line.new.reader c.loop-bench.invariant.moves c.in_ok-next_line.ensures.moves
 
-pub returns-in_err-next-clause-stands : goal.returns-in_err-next-clause-stands
-returns-in_err-next-clause-stands g c =
-    let p = err_from_is_err_and c.from_residual.result c.from_residual.ensures.1 in
-    let stops = c.in_err-next.ensures.stops in
+pub returns-in_err-next_line-clause-stands : goal.returns-in_err-next_line-clause-stands
+returns-in_err-next_line-clause-stands g c =
+    let p = err_from_is_err_and c.from_residual-in_err-next_line.result c.from_residual-in_err-next_line.ensures.1 in
+    let stops = c.in_err-next_line.ensures.stops in
     let moves = c.loop-bench.invariant.moves in
-    let not_ended : has_ended c.loop-bench.reader ≡ false = open_before_error _ _ c.in_err-next.ensures.kept_end in
-    let answers = before_end _ _ _ _ _ _ _ not_ended c.loop-bench.invariant.answers in
+    let not_ended : has_ended c.loop-bench.reader ≡ false = open_before_error _ _ c.in_err-next_line.ensures.kept_end in
+    let answers = before_end _ _ _ _ _ _ _ not_ended (goes_on_sent _ _ _ _ _ _ _ _ c.send_before_read.ensures.written c.loop-bench.invariant.answers) in
     rw p.1
-    (stands_at_error g.K.Sink _ _ _ _ _ c.in_err-next.field-0.0 p.0 p.2
-    (first_answers _ _ _ _ _ _ _ c.loop-bench.invariant.answers) c.loop-bench.invariant.unflushed
-    (λ fault. answers_of_taken _ _ _ _ (held c.loop-bench.reader) _ _ _ _ answers stops.unbroken c.in_err-next.ensures.moves.left (stops.unbroken_taken fault))
+    (stands_at_error g.K.Sink _ _ _ _ _ c.in_err-next_line.field-0.0 p.0 p.2
+    (first_answers _ _ _ _ _ _ _ (goes_on_sent _ _ _ _ _ _ _ _ c.send_before_read.ensures.written c.loop-bench.invariant.answers)) (StaysUnflushed-more g.K.Sink _ _ _ c.loop-bench.invariant.unflushed c.in_ok-send_before_read.ensures.unflushed)
+    (λ fault. answers_of_taken _ _ _ _ (held c.loop-bench.reader) _ _ _ _ answers stops.unbroken c.in_err-next_line.ensures.moves.left (stops.unbroken_taken fault))
     (λ too_long. rw (← moves.limit)
     (answers_of_first _ _ _ (held c.args.reader.now) (held c.loop-bench.reader) _ _ (taken c.args.reader.now) (taken c.loop-bench.reader) _ _
     answers stops.unbroken moves.more moves.left
@@ -37,14 +37,14 @@ returns-in_err-next-clause-stands g c =
 pub returns-in_err-refused-clause-stands : goal.returns-in_err-refused-clause-stands
 returns-in_err-refused-clause-stands g c =
     let p = err_from_is_err_and c.from_residual-in_err-refused.result c.from_residual-in_err-refused.ensures.1 in
-    let as_given : GivenAs c.in_ok-next.field-0 c.match-branch-2.long =
-    elim c.match-branch-2.branch [ in-Whole w ↦ rw w.in-Whole.is w.long-is | in-Long w ↦ rw w.in-Long.is w.long-is ] in
-    let not_ended : has_ended c.loop-bench.reader ≡ false = open_before_line _ _ _ as_given c.in_ok-next.ensures.kept_end in
+    let as_given : GivenAs c.in_ok-next_line.field-0 c.match-branch-3.long =
+    elim c.match-branch-3.branch [ in-Whole w ↦ rw w.in-Whole.is w.long-is | in-Long w ↦ rw w.in-Long.is w.long-is ] in
+    let not_ended : has_ended c.loop-bench.reader ≡ false = open_before_line _ _ _ as_given c.in_ok-next_line.ensures.kept_end in
     rw (p.1, p.2)
     (stands_at_answer g.K.Sink _ _ _ _ _ _ c.in_err-refused.field-0.0
-    (first_answers _ _ _ _ _ _ _ c.loop-bench.invariant.answers) c.loop-bench.invariant.unflushed c.in_err-refused.ensures.untouched c.in_err-refused.ensures.reads_nothing
-    (λ is. part_in_line _ _ _ _ c.in_ok-next.field-0 c.match-branch-2.long (line_of c.next.new.self) (has_ended c.next.new.self) _ _ _ _
-    as_given c.in_ok-next.ensures.gives.lines (before_end _ _ _ _ _ _ _ not_ended c.loop-bench.invariant.answers) (rw c.line.ensures at (c.in_err-refused.ensures.part is)))
+    (first_answers _ _ _ _ _ _ _ (goes_on_sent _ _ _ _ _ _ _ _ c.send_before_read.ensures.written c.loop-bench.invariant.answers)) (StaysUnflushed-more g.K.Sink _ _ _ c.loop-bench.invariant.unflushed c.in_ok-send_before_read.ensures.unflushed) c.in_err-refused.ensures.untouched c.in_err-refused.ensures.reads_nothing
+    (λ is. part_in_line _ _ _ _ c.in_ok-next_line.field-0 c.match-branch-3.long (line_of c.next_line.new.reader) (has_ended c.next_line.new.reader) _ _ _ _
+    as_given c.in_ok-next_line.ensures.gives.lines (before_end _ _ _ _ _ _ _ not_ended (goes_on_sent _ _ _ _ _ _ _ _ c.send_before_read.ensures.written c.loop-bench.invariant.answers)) (rw c.line.ensures at (c.in_err-refused.ensures.part is)))
     c.in_err-refused.ensures.last)
 
 pub returns-in_err-refused-in-End-clause-stands : goal.returns-in_err-refused-in-End-clause-stands
@@ -53,24 +53,34 @@ returns-in_err-refused-in-End-clause-stands g c =
     let failed = c.in_err-refused-in-End.ensures in
     rw (p.1, p.2)
     (stands_at_answer g.K.Sink _ _ _ _ _ _ c.in_err-refused-in-End.field-0.0
-    (first_answers _ _ _ _ _ _ _ c.loop-bench.invariant.answers) c.loop-bench.invariant.unflushed failed.untouched failed.reads_nothing
-    (λ is. part_at_end _ _ _ _ _ _ _ _ _ (line_of c.next.new.self) (has_ended c.next.new.self) c.loop-bench.invariant.answers
-    (rw c.in-End.is at c.in_ok-next.ensures.gives.lines) (failed.part is))
+    (first_answers _ _ _ _ _ _ _ (goes_on_sent _ _ _ _ _ _ _ _ c.send_before_read.ensures.written c.loop-bench.invariant.answers)) (StaysUnflushed-more g.K.Sink _ _ _ c.loop-bench.invariant.unflushed c.in_ok-send_before_read.ensures.unflushed) failed.untouched failed.reads_nothing
+    (λ is. part_at_end _ _ _ _ _ _ _ _ _ (line_of c.next_line.new.reader) (has_ended c.next_line.new.reader) (goes_on_sent _ _ _ _ _ _ _ _ c.send_before_read.ensures.written c.loop-bench.invariant.answers)
+    (rw c.in-End.is at c.in_ok-next_line.ensures.gives.lines) (failed.part is))
     failed.last)
 
 pub returns-in-End-clause-output : goal.returns-in-End-clause-output
 returns-in-End-clause-output g c =
-    (appends_output _ _ _ _ _ _ _ _ _ (line_of c.next.new.self) (has_ended c.next.new.self) c.loop-bench.invariant.answers
-    (rw c.in-End.is at c.in_ok-next.ensures.gives.lines) c.in_ok-refused-in-End.ensures.answered.1).0
+    (appends_output _ _ _ _ _ _ _ _ _ (line_of c.next_line.new.reader) (has_ended c.next_line.new.reader) (goes_on_sent _ _ _ _ _ _ _ _ c.send_before_read.ensures.written c.loop-bench.invariant.answers)
+    (rw c.in-End.is at c.in_ok-next_line.ensures.gives.lines) c.in_ok-refused-in-End.ensures.answered.1).0
 
 pub returns-in-End-clause-refusal : goal.returns-in-End-clause-refusal
 returns-in-End-clause-refusal g c =
     rw c.in_ok-refused-in-End.ensures.answered.0
-    (appends_output _ _ _ _ _ _ _ _ _ (line_of c.next.new.self) (has_ended c.next.new.self) c.loop-bench.invariant.answers
-    (rw c.in-End.is at c.in_ok-next.ensures.gives.lines) c.in_ok-refused-in-End.ensures.answered.1).1
+    (appends_output _ _ _ _ _ _ _ _ _ (line_of c.next_line.new.reader) (has_ended c.next_line.new.reader) (goes_on_sent _ _ _ _ _ _ _ _ c.send_before_read.ensures.written c.loop-bench.invariant.answers)
+    (rw c.in-End.is at c.in_ok-next_line.ensures.gives.lines) c.in_ok-refused-in-End.ensures.answered.1).1
 
 pub returns-in-End-clause-unflushed : goal.returns-in-End-clause-unflushed
-returns-in-End-clause-unflushed g c = StaysUnflushed-more g.K.Sink _ _ _ c.loop-bench.invariant.unflushed c.in_ok-refused-in-End.ensures.unflushed
+returns-in-End-clause-unflushed g c = StaysUnflushed-more g.K.Sink _ _ _ (StaysUnflushed-more g.K.Sink _ _ _ c.loop-bench.invariant.unflushed c.in_ok-send_before_read.ensures.unflushed) c.in_ok-refused-in-End.ensures.unflushed
+
+pub returns-in_err-send_before_read-clause-stands : goal.returns-in_err-send_before_read-clause-stands
+returns-in_err-send_before_read-clause-stands g c =
+    let p = err_from_is_err_and c.from_residual.result c.from_residual.ensures.1 in
+    let failed = c.in_err-send_before_read.ensures in
+    rw (p.1, p.2, failed.failed)
+    (stands_at_send g.K.Sink _ None 0 _ _ _ (first_answers _ _ _ _ _ _ _ c.loop-bench.invariant.answers) c.loop-bench.invariant.unflushed failed.written failed.last)
+
+pub next_line-requires-clause-sent : goal.next_line-requires-clause-sent
+next_line-requires-clause-sent g c = c.in_ok-send_before_read.ensures.sent
 
 pub loop-bench-init : goal.loop-bench-init
 loop-bench-init g c = record {
@@ -79,25 +89,25 @@ loop-bench-init g c = record {
   failed = c.requires;
   source_faults = refl;
   sink_faults = refl;
-  unflushed = inl refl;
+  unflushed = StaysUnflushed-none g.K.Sink _;
   answers = λ bytes e. rw c.new-bench.ensures (goes_on_first bytes _ _ _ e);
 }
 
 pub loop-bench-preserved : goal.loop-bench-preserved
 loop-bench-preserved g c =
-    let as_given : GivenAs c.in_ok-next.field-0 c.match-branch-2.long =
-    elim c.match-branch-2.branch [ in-Whole w ↦ rw w.in-Whole.is w.long-is | in-Long w ↦ rw w.in-Long.is w.long-is ] in
-    let not_ended : has_ended c.loop-bench.reader ≡ false = open_before_line _ _ _ as_given c.in_ok-next.ensures.kept_end in
+    let as_given : GivenAs c.in_ok-next_line.field-0 c.match-branch-3.long =
+    elim c.match-branch-3.branch [ in-Whole w ↦ rw w.in-Whole.is w.long-is | in-Long w ↦ rw w.in-Long.is w.long-is ] in
+    let not_ended : has_ended c.loop-bench.reader ≡ false = open_before_line _ _ _ as_given c.in_ok-next_line.ensures.kept_end in
     let answered = rw c.line.ensures at c.in_ok-refused.ensures.answered in
     record {
-      moves = MovesOn-then c.args.reader.now c.loop-bench.reader c.next.new.self c.loop-bench.invariant.moves c.in_ok-next.ensures.moves;
+      moves = MovesOn-then c.args.reader.now c.loop-bench.reader c.next_line.new.reader c.loop-bench.invariant.moves c.in_ok-next_line.ensures.moves;
       unspent = rw answered.0 refl;
-      failed = c.in_ok-next.ensures.failed;
-      source_faults = c.in_ok-next.ensures.source_faults ∙ c.loop-bench.invariant.source_faults;
-      sink_faults = c.in_ok-refused.ensures.sink_faults ∙ c.loop-bench.invariant.sink_faults;
-      unflushed = StaysUnflushed-more g.K.Sink _ _ _ c.loop-bench.invariant.unflushed c.in_ok-refused.ensures.unflushed;
+      failed = c.in_ok-next_line.ensures.failed;
+      source_faults = c.in_ok-next_line.ensures.source_faults ∙ c.loop-bench.invariant.source_faults;
+      sink_faults = c.in_ok-refused.ensures.sink_faults ∙ c.in_ok-send_before_read.ensures.sink_faults ∙ c.loop-bench.invariant.sink_faults;
+      unflushed = StaysUnflushed-more g.K.Sink _ _ _ (StaysUnflushed-more g.K.Sink _ _ _ c.loop-bench.invariant.unflushed c.in_ok-send_before_read.ensures.unflushed) c.in_ok-refused.ensures.unflushed;
       answers = λ bytes e.
           rw (answered.0, answered.1)
-          (goes_on_next c.in_ok-next.field-0 c.match-branch-2.long (line_of c.next.new.self) (has_ended c.next.new.self) bytes _ _ _ _ _ _ _
-          as_given c.in_ok-next.ensures.gives.lines (before_end _ _ _ _ _ _ _ not_ended c.loop-bench.invariant.answers bytes e) answered.2);
+          (goes_on_next c.in_ok-next_line.field-0 c.match-branch-3.long (line_of c.next_line.new.reader) (has_ended c.next_line.new.reader) bytes _ _ _ _ _ _ _
+          as_given c.in_ok-next_line.ensures.gives.lines (before_end _ _ _ _ _ _ _ not_ended (goes_on_sent _ _ _ _ _ _ _ _ c.send_before_read.ensures.written c.loop-bench.invariant.answers) bytes e) answered.2);
     }
