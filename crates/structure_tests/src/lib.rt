@@ -2,11 +2,13 @@
 //! crates anew.
 //!
 //! One file for each crate: `queues`, `stacks`, `deques` and `dictionaries` of the four fully retroactive structures, `bridges`
-//! of `bridge_pq`, which is compared with a plain list, and `engines` of `engine`.
+//! of `bridge_pq`, which is compared with a plain list, `checkpoints` of `checkpoint_full` over it, and `engines` of `engine`.
 #![tactic(auto)]
 
 #[cfg(test)]
 mod bridges;
+#[cfg(test)]
+mod checkpoints;
 #[cfg(test)]
 mod deques;
 #[cfg(test)]

@@ -1,6 +1,6 @@
 use super::Failing;
-use crate::{Status, Words, run};
 use retro_base::NoMemory;
+use retro_cli::{Status, Words, run};
 use retro_io::{MemorySink, MemorySource, Outbox};
 use std::alloc::Global;
 
