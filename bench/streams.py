@@ -9,12 +9,14 @@ with the line that was waited for. The last line is the number of tries; the exi
 
 import os
 import pty
+import random
 import select
 import socket
 import struct
 import subprocess
 import sys
 import tempfile
+import threading
 import tty
 
 LIMIT = 10  # seconds that a try waits for an answer or for the end
@@ -34,6 +36,26 @@ TALK = [
 ]
 SCRIPT = b"".join(line + b"\n" for line, _ in TALK)
 ANSWERS = b"".join(answer for _, answer in TALK)
+
+
+# A script of which one line has an answer of some 250,000 bytes, several times what waits in the program at the most.
+ROWS = 6_000
+FIRST_TIME = 10**15
+FIRST_VALUE = 10**18
+
+
+def long_script():
+    """The script, and its answers."""
+    script = [b"new q queue"]
+    answers = [b"ok"]
+    saved = [b"timeline q queue next %d" % (ROWS + 1)]
+    for i in range(1, ROWS + 1):
+        script.append(b"q at %d enq %d" % (FIRST_TIME + i, FIRST_VALUE + i))
+        answers.append(b"ok #%d" % i)
+        saved.append(b"#%d %d enq %d" % (i, FIRST_TIME + i, FIRST_VALUE + i))
+    script += [b"save q", b"q ask size", b"save q", b"q ask front"]
+    answers += saved + [b"end", b"= %d" % ROWS] + saved + [b"end", b"= %d" % (FIRST_VALUE + 1)]
+    return b"".join(line + b"\n" for line in script), b"".join(line + b"\n" for line in answers)
 
 
 class Wrong(Exception):
@@ -108,6 +130,64 @@ def many_answers(name):
     expect("whether all answers came", True, done.stdout == b"ok\n" + b"= 0\n" * 200_000)
 
 
+def expect_same(what, wanted, met):
+    """The same for texts that are too long to be shown: the first byte that differs is named."""
+    if wanted != met:
+        at = next((i for i, pair in enumerate(zip(wanted, met)) if pair[0] != pair[1]), min(len(wanted), len(met)))
+        raise Wrong("%s: %d bytes in place of %d, and byte %d differs" % (what, len(met), len(wanted), at))
+
+
+def long_answers_from_a_file(name):
+    script, wanted = long_script()
+    with tempfile.TemporaryFile() as given, tempfile.TemporaryFile() as answers:
+        given.write(script)
+        given.seek(0)
+        done = subprocess.run([name, "run"], stdin=given, stdout=answers, timeout=LIMIT)
+        answers.seek(0)
+        expect_same("the answers", wanted, answers.read())
+    expect("the status", 0, done.returncode)
+
+
+def long_answers_through_a_pipe(name):
+    script, wanted = long_script()
+    done = subprocess.run([name, "run"], input=script, stdout=subprocess.PIPE, timeout=LIMIT)
+    expect_same("the answers", wanted, done.stdout)
+    expect("the status", 0, done.returncode)
+
+
+def write_in_pieces(to, script, draws):
+    """Writes a script in pieces of sizes from one byte to some ten thousand."""
+    at = 0
+    while at < len(script):
+        at += os.write(to.fileno(), script[at : at + draws.randrange(1, 2 ** draws.randrange(1, 15))])
+    to.close()
+
+
+def long_answers_in_pieces(name):
+    script, wanted = long_script()
+    for seed in range(5):
+        program = subprocess.Popen([name, "run"], stdin=subprocess.PIPE, stdout=subprocess.PIPE)
+        writer = threading.Thread(target=write_in_pieces, args=(program.stdin, script, random.Random(seed)), daemon=True)
+        writer.start()
+        expect_same("the answers to pieces from seed %d" % seed, wanted, program.stdout.read())
+        writer.join(LIMIT)
+        expect("the status", 0, status_of(program))
+
+
+def a_long_answer_before_a_wait(name):
+    script, wanted = long_script()
+    program = subprocess.Popen([name, "run"], stdin=subprocess.PIPE, stdout=subprocess.PIPE)
+    to, answers = program.stdin, program.stdout.fileno()
+    writer = threading.Thread(target=lambda: os.write(to.fileno(), script), daemon=True)
+    writer.start()
+    read_answer(answers, wanted, b"a script with a long answer")
+    writer.join(LIMIT)
+    os.write(to.fileno(), b"q ask size\n")
+    read_answer(answers, b"= %d\n" % ROWS, b"the next question")
+    to.close()
+    expect("the status", 0, status_of(program))
+
+
 def a_full_disk(name):
     if not os.path.exists("/dev/full"):
         return
@@ -166,6 +246,10 @@ TRIES = [
     lines_in_pieces,
     many_answers,
     a_file,
+    long_answers_from_a_file,
+    long_answers_through_a_pipe,
+    long_answers_in_pieces,
+    a_long_answer_before_a_wait,
     a_full_disk,
     no_standard_output,
     a_reader_that_goes,

@@ -1,11 +1,12 @@
 #!/usr/bin/env python3
-"""Checks the words `gen` and `check` of the built program where no test of a crate goes.
+"""Checks the words of the built program where no test of a crate goes.
 
     python3 bench/words.py [PROGRAM]
 
 PROGRAM is build/retro where none is named. The script that `gen` sums up is generated here once more, for each kind, and
 answered by `run`: the summary has to be that of its answers. And a timeline of 65,536 rows is told to `check`, which has to
-accept it, and to refuse one row more.
+accept it, and to refuse one row more. Words of no form are given to it as the system hands them on: each of them has to end
+with status 2, and with nothing written.
 """
 
 import os
@@ -16,6 +17,27 @@ LINES = 2_000
 ROWS = 65_536
 ROOT = os.path.dirname(os.path.dirname(os.path.abspath(__file__)))
 QUESTIONS = {"queue": "front", "stack": "top", "deque": "left", "dict": "succ 50", "pq": "min"}
+
+
+# Words that are none of the forms, among them one that is no text.
+NO_FORMS = [
+    [],
+    [""],
+    ["Run"],
+    ["runn"],
+    ["run", "run"],
+    ["run", ""],
+    ["run", b"\xff"],
+    [b"run\xff"],
+    [b"\xff", "run"],
+    ["check", "check"],
+    ["gen"],
+    ["gen", "queue", "1"],
+    ["gen", "queue", "1", "7", "8"],
+    ["gen", "queue", "1", "7", b"\xff"],
+    ["gen", "heap", "1", "7"],
+    ["gen", "queue", "-1", "7"],
+]
 
 
 class Draws:
@@ -96,7 +118,13 @@ def main():
         if found != wanted:
             print("check: %r in place of %r" % (found, wanted))
             failed += 1
-    print("the words gen and check: %s" % ("as they should be" if failed == 0 else "%d are wrong" % failed))
+    for words in NO_FORMS:
+        done = subprocess.run([program] + words, input=b"new q queue\n", capture_output=True, timeout=300)
+        found = (done.stdout, done.stderr, done.returncode)
+        if found != (b"", b"", 2):
+            print("%r: %r" % (words, found))
+            failed += 1
+    print("the words of the program: %s" % ("as they should be" if failed == 0 else "%d are wrong" % failed))
     sys.exit(failed != 0)
 
 

@@ -1,62 +1,109 @@
 //! The program `retro`: it reads a script from standard input and writes the answers to standard
 //! output. All that it does is the call of `retro_cli::run` on the words of its command line; this is
-//! the one place where the real streams are handed in. The answers gather in an outbox, and go out
-//! before each read, so that whoever waits for one gets it before the next line is asked for.
+//! the one place where the real streams are handed in. `run` writes to an outbox before standard output, so that answers
+//! go out together, and sends what waits there before each read and where it ends: whoever waits for an answer gets it before
+//! the next line is asked for.
 #![tactic(auto)]
+
+ghost use Rattle.std.specs.Prelude.{◌≡◌, ◌<◌, ◌-◌, ◌^◌, ◌⊎◌, ◌↔◌, length, None, IfOk, IfErr};
+ghost use Rattle.std.specs.IoError.{error_kind};
+ghost use Rattle.std.specs.Process.{exit_status};
+ghost use Rattle.retro.specs.Gathered.{RunsGathered};
+ghost use Rattle.retro.specs.Words.{words_after_name};
+ghost use Rattle.retro_cli.specs.Forms.{form_of};
+ghost use Rattle.retro_cli.specs.Status.{code_of};
 
 use retro_base::NoMemory;
 use retro_cli::{Status, Words, run};
-use retro_io::{Outbox, SendingSource, SharedSink, StdSink, StdSource};
+use retro_io::{Outbox, Sink, Source, StdSink, StdSource};
 use std::alloc::Global;
-use std::cell::RefCell;
-use std::io::ErrorKind;
+use std::env::{self, Args};
+use std::io::{self, ErrorKind};
 use std::process::ExitCode;
-use std::rt::Env;
-use std::{env, io};
 
 /// The exit status where the system refuses the words of the command line. No run gives it.
 const WORDS_REFUSED: u8 = 7;
 
 fn main(rt: HostRuntime) -> ExitCode {
-    let code = match words_of(&rt) {
-        Ok(words) => match answer(&rt, &words) {
-            Ok(status) => status.code(),
-            Err(NoMemory) => Status::NoMemory.code(),
-        },
-        Err(code) => code,
-    };
-    ExitCode::from(code)
+    match env::args(&rt) {
+        Ok(args) => exit_code(status_of(&rt, args)),
+        Err(error) => ExitCode::from(code_of_refusal(&error)),
+    }
+}
+
+/// Runs the program over the streams of the process, with the words after its name.
+fn status_of(rt: &HostRuntime, args: Args) -> Status
+    ensures words { result ≡ Status.Words → form_of (words_after_name args) ≡ None }
+    ensures no_form { form_of (words_after_name args) ≡ None → (result ≡ Status.Words) ⊎ (result ≡ Status.NoMemory) }
+{
+    match words_of(rt.alloc(), args) {
+        Ok(words) => answer(rt, &words),
+        Err(status) => status,
+    }
 }
 
 /// Runs the program over the streams of the process.
-fn answer(rt: &HostRuntime, words: &Words) -> Result<Status, NoMemory> {
-    let outbox = RefCell::new(Outbox::new(rt.alloc(), StdSink::new(rt.stdout()))?);
-    let mut source = SendingSource::new(StdSource::new(rt.stdin()), &outbox);
-    let mut sink = SharedSink::new(&outbox);
-    let status = run(rt.alloc(), words, &mut source, &mut sink);
-    // Where the run ended early, the whole answers before it may still wait.
-    if outbox.into_inner().into_inner().is_err() {
-        return Ok(Status::WriteFault);
+fn answer(rt: &HostRuntime, words: &Words) -> Status
+    ensures words { result ≡ Status.Words → form_of words.now ≡ None }
+    ensures no_form { form_of words.now ≡ None → (result ≡ Status.Words) ⊎ (result ≡ Status.NoMemory) }
+{
+    let mut source = StdSource::new(rt.stdin());
+    let sink = StdSink::new(rt.stdout());
+    match run_gathered(rt.alloc(), words, &mut source, sink) {
+        Ok((status, _outbox)) => status,
+        Err(NoMemory) => Status::NoMemory,
     }
-    Ok(status)
 }
 
-/// The words after the program's name, or the exit status where they cannot be had.
-fn words_of(rt: &(impl Env + AllocGlobal)) -> Result<Words, u8> {
-    let mut words = Words::new(rt.alloc());
-    for word in env::args(rt).map_err(refusal_of)?.skip(1) {
+/// Runs the program over an outbox before this sink, and gives the outbox back. All that `run` promises holds of the outbox, and
+/// where the sink did not fail, all that was written to it has gone on to the sink.
+fn run_gathered<S: Source, K: Sink + Drop>(
+    alloc: Global,
+    words: &Words,
+    source: &mut S,
+    sink: K,
+) -> Result<(Status, Outbox<K>), NoMemory>
+    ensures runs { IfOk result (λ ended. RunsGathered ⟦<S as Source>⟧ ⟦<K as Sink>⟧ ⟦<Outbox<K> as Sink>⟧
+        source.old source.new sink ended.1 ended.0 words.now) }
+    ensures words { IfOk result (λ ended. (ended.0 ≡ Status.Words) ↔ (form_of words.now ≡ None)) }
+{
+    let mut outbox = Outbox::new(alloc, sink)?;
+    let status = run(alloc, words, source, &mut outbox);
+    Ok((status, outbox))
+}
+
+/// The words after the program's name, each of them, or the status where they cannot be had.
+fn words_of(alloc: Global, args: Args) -> Result<Words, Status>
+    ensures words { IfOk result (λ words. words ≡ words_after_name args) }
+    ensures refused { IfErr result (λ status. (status ≡ Status.NoMemory)
+        ⊎ ((status ≡ Status.Words) × (2 ^ 32 - 1 < length (words_after_name args)))) }
+{
+    let mut args = args;
+    let _name = args.next();
+    let mut words = Words::new(alloc);
+    for word in args {
         if words.len() == u32::MAX {
-            return Err(Status::Words.code());
+            return Err(Status::Words);
         }
-        words
-            .push(word.as_bytes())
-            .map_err(|_| Status::NoMemory.code())?;
+        if words.push(word.as_bytes()).is_err() {
+            return Err(Status::NoMemory);
+        }
     }
     Ok(words)
 }
 
+/// The exit status of the process where a run ended with this status.
+fn exit_code(status: Status) -> ExitCode
+    ensures { exit_status result ≡ code_of status }
+{
+    ExitCode::from(status.code())
+}
+
 /// The exit status at an error of reading the words: those that are not text are none of the forms.
-fn refusal_of(error: io::Error) -> u8 {
+fn code_of_refusal(error: &io::Error) -> u8
+    ensures no_text { error_kind error.now ≡ ErrorKind.InvalidData → result ≡ code_of Status.Words }
+    ensures no_memory { error_kind error.now ≡ ErrorKind.OutOfMemory → result ≡ code_of Status.NoMemory }
+{
     match error.kind() {
         ErrorKind::InvalidData => Status::Words.code(),
         ErrorKind::OutOfMemory => Status::NoMemory.code(),
