@@ -192,5 +192,6 @@ fn a_growth_that_fails_changes_nothing(rt: HostRuntime) {
         add_again(&rt, &mut history, place);
         ask_again(&rt, &mut history, 700);
     }
-    look(&rt, &mut history, 2104);
+    assert_eq!(&rt; history.len(), 2104);
+    ask_again(&rt, &mut history, 1052);
 }
