@@ -134,4 +134,3 @@ module _ (label : ℕ) (op : Op) (rows by_key : List KeyRow) where
       let all_by_key : filter up_by_key by_key ++ filter past_by_key by_key ≡ by_key =
       ap (λ l. l ++ filter past_by_key by_key) (sym front_by_key) ∙ ap (λ l. take place_by_key by_key ++ l) (sym back_by_key) ∙ take-append-drop place_by_key by_key in
       rw (front, back, front_by_key, back_by_key) (indexed_around indexed fresh dict all all_by_key)
-

@@ -29,4 +29,3 @@ pub ordered_more : (rows more : List Row) (place : ℕ) (row item : Row) → ite
     → IsFresh row.number rows → Fits rows place row.time → IsOrdered more
 ordered_more rows more place row item same is ordered within room fresh fits =
     subst IsOrdered (sym (is ∙ ap (insert rows place) same)) (ordered_with rows place row ordered within room fresh fits)
-

@@ -9,7 +9,8 @@ use prefix_trees::{
     Line, SignedRows, ask_line, ask_uncounted, failure_with, failure_without, list_line,
 };
 use retro_base::{
-    Answer, Change, Kind, Listing, NoMemory, Op, Partial, Question, Retro, Row, Steps, uncounted};
+    Answer, Change, Kind, Listing, NoMemory, Op, Partial, Question, Retro, Row, Steps, uncounted,
+};
 use std::alloc::Global;
 use std::marker::{Brand, Model};
 use std::sync::ledger::{Blank, Ledger};
