@@ -1,8 +1,8 @@
 -- An edit that leaves a timeline could be made, and the edit that takes it back leads to the rows before it.
-use Rattle.std.proofs.Common.{◌≡◌, ℕ, zero, suc, ◌<◌, ◌≤◌, List, [], ◌∷◌, length, slice_get, Some, refl, sym, ap, arith}
+use Rattle.std.proofs.Common.{◌≡◌, ℕ, zero, suc, ◌<◌, ◌≤◌, List, [], ◌∷◌, slice_get, Some, refl, arith}
 use Rattle.std.specs.List.{insert, remove}
 use Rattle.retro_base.specs.declared.row.Row.{Row}
-use Rattle.retro_base.specs.Edits.{Edit, add, cut, edited, inverse, IsWithin}
+use Rattle.retro_base.specs.Edits.{Edit, add, cut, inverse}
 use Rattle.retro_base.specs.MadeEdits.{all_inserted}
 use Rattle.retro_base.specs.Order.{Fits}
 use Rattle.retro_base.specs.Timeline.{TimesNeverFall}

@@ -1,4 +1,4 @@
-use Rattle.std.proofs.Common.{◌≡◌, ◌≤◌, ◌+◌, length, subst, arith}
+use Rattle.std.proofs.Common.{◌≡◌, ◌≤◌, length, subst}
 use Rattle.std.specs.Prelude.{OnOk, false}
 use Rattle.retro_base.specs.VisitsLaws.{visits-longer, visits-add}
 use Rattle.retro_base.specs.lemmas.bridges.Entries.{in_contains}
