@@ -78,6 +78,7 @@ impl Engine {
         ensures made { is_pq self.old ≡ true → OnOk result (made_inside self.new ≡ true) }
         ensures places { made_inside self.old ≡ true → (made_inside self.new ≡ true) × (places_inside self.new ≡ places_inside self.old) }
         ensures visits { made_inside self.old ≡ true → VisitsWithin (432 * 1025) (length (rows_inside self.old)) steps.old steps.new }
+        ensures err { OnErr result (self.new ≡ self.old) }
     {
         match self {
             Engine::Queue { inner } => Ok(inner.ask_past(place, question, steps)),
@@ -103,7 +104,9 @@ impl Engine {
         ensures kind { kind_inside self.new ≡ kind_inside self.old }
         ensures rows { rows_inside self.new ≡ rows_inside self.old }
         ensures answer { IfOk result (λ answer. answer ≡ answer_of (state_at (kind_inside self.old) (rows_inside self.old) place) question) }
-        ensures made { made_inside self.old ≡ true → made_inside self.new ≡ true }
+        ensures made { is_pq self.old ≡ true → OnOk result (made_inside self.new ≡ true) }
+        ensures places { made_inside self.old ≡ true → (made_inside self.new ≡ true) × (places_inside self.new ≡ places_inside self.old) }
+        ensures err { OnErr result (self.new ≡ self.old) }
     {
         let mut steps = Steps::<L>::new(blank);
         self.ask_past(place, question, &mut steps)
@@ -166,7 +169,7 @@ impl Retro for Engine {
         ensures replayable { OnOk result (IsReplayable (kind_inside self.new) (rows_inside self.new)) }
         ensures change { IfOk result (IsChange (kind_inside self.old) (rows_inside self.old) (add place row)) }
         ensures made { OnOk result (made_inside self.new ≡ made_inside self.old) }
-        ensures err { OnErr result (rows_inside self.new ≡ rows_inside self.old) }
+        ensures err { OnErr result (self.new ≡ self.old) }
     {
         match self {
             Engine::Queue { inner } => inner.insert(place, row),
@@ -186,7 +189,7 @@ impl Retro for Engine {
         ensures replayable { OnOk result (IsReplayable (kind_inside self.new) (rows_inside self.new)) }
         ensures change { IfOk result (λ taken. IsChange (kind_inside self.old) (rows_inside self.old) (cut place taken.0) taken.1) }
         ensures made { OnOk result (made_inside self.new ≡ made_inside self.old) }
-        ensures err { OnErr result (rows_inside self.new ≡ rows_inside self.old) }
+        ensures err { OnErr result (self.new ≡ self.old) }
     {
         match self {
             Engine::Queue { inner } => inner.remove(place),
@@ -213,7 +216,9 @@ impl Retro for Engine {
         ensures kind { kind_inside self.new ≡ kind_inside self.old }
         ensures rows { rows_inside self.new ≡ rows_inside self.old }
         ensures answer { IfOk result (λ answer. answer ≡ answer_of (state_at (kind_inside self.old) (rows_inside self.old) place) question) }
-        ensures made { made_inside self.old ≡ true → made_inside self.new ≡ true }
+        ensures made { is_pq self.old ≡ true → OnOk result (made_inside self.new ≡ true) }
+        ensures places { made_inside self.old ≡ true → (made_inside self.new ≡ true) × (places_inside self.new ≡ places_inside self.old) }
+        ensures err { OnErr result (self.new ≡ self.old) }
     {
         self.ask_counted::<Brand>(place, question, Blank::new(1))
     }
@@ -223,7 +228,9 @@ impl Retro for Engine {
         ensures kind { kind_inside self.new ≡ kind_inside self.old }
         ensures rows { rows_inside self.new ≡ rows_inside self.old }
         ensures content { IfOk result (λ listing. listing ≡ content (state_at (kind_inside self.old) (rows_inside self.old) place)) }
-        ensures made { made_inside self.old ≡ true → made_inside self.new ≡ true }
+        ensures made { is_pq self.old ≡ true → OnOk result (made_inside self.new ≡ true) }
+        ensures places { made_inside self.old ≡ true → (made_inside self.new ≡ true) × (places_inside self.new ≡ places_inside self.old) }
+        ensures err { OnErr result (self.new ≡ self.old) }
     {
         match self {
             Engine::Queue { inner } => inner.all(place),
