@@ -16,8 +16,8 @@
 //! The other has the entries that the rows add, in order, with the same marks; a range measures how many are
 //! in the present, and the last entry.
 //! That weights and marks are those of the definitions is the invariant (`IsBridged` of specs/Bridged.antt),
-//! and the laws of `retro_base` on bridges give the changes and the refusals. Where the past is asked too,
-//! or rows come at the end alone, `PlainList` serves better.
+//! and the laws of `retro_base` on bridges give the changes and the refusals. It answers of the present alone; its
+//! past is asked by checkpoints (`checkpoint_full`).
 //!
 //! | Call | Nodes visited, d being the digits of one more than the length | Memory |
 //! |---|---|---|

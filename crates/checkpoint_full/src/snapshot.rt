@@ -37,6 +37,7 @@ impl<P: Partial + Drop> Snapshot<P> {
     pub(crate) fn new(structure: P) -> Snapshot<P>
         ensures { result ≡ record { kind = P.kind structure; rows = P.rows structure } }
     {
+        // Its clause says that the rows replay.
         let _kind = structure.kind();
         Snapshot { structure }
     }
