@@ -1,5 +1,5 @@
 //! The checkpoints of a timeline, the latest first: how they are made, and which is nearest to a place.
-ghost use Rattle.std.specs.Prelude.{◌≡◌, ◌+◌, ◌-◌, ◌<◌, ◌≤◌, ◌∷◌, nat_le, length, get_or, map, position, true, IfOk, IfSome, OnOk, OnErr};
+ghost use Rattle.std.specs.Prelude.{◌≡◌, ◌+◌, ◌-◌, ◌*◌, ◌/◌, ◌<◌, ◌≤◌, ◌∷◌, nat_le, length, get_or, map, position, true, IfOk, IfSome, OnOk, OnErr};
 ghost use Rattle.checkpoint_full.specs.Checkpoints.{place_of, were_made, width, without_made, AreCheckpoints, HasRoom, KeepsCheckpoints};
 
 use crate::snapshot::Snapshot;
@@ -21,7 +21,8 @@ pub(crate) fn nearest<P: Partial + Drop>(checkpoints: &[Snapshot<P>], place: u32
 
 /// The place of the first checkpoint that is made: the last multiple of the width before so many rows.
 fn first_made(rows: u32) -> u32
-    ensures { (result ≤ rows) × (rows ≤ result + width) }
+    ensures within { (result ≤ rows) × (rows ≤ result + width) }
+    ensures last { result ≡ (rows - 1) / width * width }
 {
     rows.saturating_sub(1) / WIDTH * WIDTH
 }
@@ -68,6 +69,7 @@ fn place_between(earlier: u32, later: u32, place: u32) -> u32
     requires apart { earlier + 2 ≤ later }
     ensures between { (earlier < result) × (result ≤ later) }
     ensures end { result ≡ later → place ≡ later }
+    ensures middle { place < later → result ≡ earlier + (later - earlier) / 2 }
 {
     if place == later {
         later
