@@ -5,3 +5,4 @@ pub mod Followed
 pub mod Places
 pub mod Between
 pub mod Keeping
+pub mod Made

@@ -1,5 +1,5 @@
 -- The checkpoints of a timeline: structures that perform its first rows, so close to one another that few rows lie between.
-use Rattle.std.specs.Prelude.{◌≡◌, ℕ, ◌+◌, ◌<◌, ◌≤◌, nat_lt, if◌then◌else◌, Bool, true, false, List, [], ◌∷◌, length, take, drop, map, reverse}
+use Rattle.std.specs.Prelude.{◌≡◌, ℕ, zero, suc, ◌+◌, ◌-◌, ◌*◌, ◌/◌, ◌<◌, ◌≤◌, nat_lt, if◌then◌else◌, Bool, true, false, List, [], ◌∷◌, ◌++◌, length, take, drop, map, reverse}
 use Rattle.std.specs.Prelude.{Option, Some, None}
 use Rattle.std.specs.List.{insert, remove, AllByRecursion}
 use Rattle.retro_base.specs.declared.kind.Kind.{Kind}
@@ -64,6 +64,16 @@ were_made (checkpoint ∷ checkpoints) = true
 -- the places of those after the start, rising
 abbrev pub places_of : List Structure → List ℕ
 places_of checkpoints = drop 1 (reverse (map place_of checkpoints))
+
+-- so many positive multiples of a width, rising
+abbrev pub multiples : ℕ → ℕ → List ℕ
+multiples most zero = []
+multiples most (suc count) = multiples most count ++ suc count * most ∷ []
+
+-- the places at which checkpoints are made for so many rows, the start apart, rising: the positive multiples of the
+-- width below that number
+abbrev pub made_places : ℕ → List ℕ
+made_places rows = multiples width ((rows - 1) / width)
 
 -- they are kept where they were made
 abbrev pub KeepsCheckpoints : ℕ → Structure → List Structure → Type 0

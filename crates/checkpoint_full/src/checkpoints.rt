@@ -1,6 +1,6 @@
 //! The checkpoints of a timeline, the latest first: how they are made, and which is nearest to a place.
 ghost use Rattle.std.specs.Prelude.{◌≡◌, ◌+◌, ◌-◌, ◌*◌, ◌/◌, ◌<◌, ◌≤◌, ◌∷◌, nat_le, length, get_or, map, position, true, IfOk, IfSome, OnOk, OnErr};
-ghost use Rattle.checkpoint_full.specs.Checkpoints.{place_of, were_made, width, without_made, AreCheckpoints, HasRoom, KeepsCheckpoints};
+ghost use Rattle.checkpoint_full.specs.Checkpoints.{made_places, place_of, places_of, were_made, width, without_made, AreCheckpoints, HasRoom, KeepsCheckpoints};
 
 use crate::snapshot::Snapshot;
 use retro_base::{NoMemory, Partial, Steps};
@@ -27,7 +27,8 @@ fn first_made(rows: u32) -> u32
     rows.saturating_sub(1) / WIDTH * WIDTH
 }
 
-/// Makes the checkpoints of a timeline, each of them a copy of the next one without its last rows.
+/// Makes the checkpoints of a timeline, at the start and at each multiple of the width below the number of rows. Each of
+/// them is a copy of the next one without its last rows.
 pub(crate) fn make<P: Partial + Drop, L: Ledger>(
     alloc: Global,
     present: &Snapshot<P>,
@@ -35,6 +36,7 @@ pub(crate) fn make<P: Partial + Drop, L: Ledger>(
 ) -> Result<Vec<Snapshot<P>>, NoMemory>
     ensures made { IfOk result (λ checkpoints. were_made checkpoints.items ≡ true) }
     ensures checkpoints { IfOk result (λ checkpoints. AreCheckpoints width present.now checkpoints.items) }
+    ensures places { IfOk result (λ checkpoints. places_of checkpoints.items ≡ made_places (place_of present.now)) }
 {
     let mut checkpoints = Vec::new(alloc);
     let mut latest = present.copy_at(first_made(present.place()), steps)?;

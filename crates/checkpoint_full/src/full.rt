@@ -10,6 +10,7 @@ ghost use Rattle.retro_base.specs.Questions.{suits};
 ghost use Rattle.retro_base.specs.Replay.{failure, IsValid, present, state_at};
 ghost use Rattle.retro_base.specs.Timeline.{IsFresh, IsReplayable};
 ghost use Rattle.retro_base.specs.Visits.{VisitsWithin};
+ghost use Rattle.checkpoint_full.specs.Checkpoints.{made_places};
 
 use crate::kept::{ask_kept, insert_kept, list_kept, remove_kept};
 use crate::reader::Reader;
@@ -24,8 +25,9 @@ use std::sync::ledger::{Blank, Ledger};
 /// A structure whose whole past can be asked, over one that answers of the present alone.
 ///
 /// Contracts see its kind and rows, whether its checkpoints were made, and the places of those after the start. The
-/// checkpoints are made at the first question about the past; from then on neighbours are at most `WIDTH` rows apart,
-/// and each performs the first rows of the timeline, as many as it stands for.
+/// checkpoints are made at the first question about the past, at the start and at each multiple of `WIDTH` below the
+/// number of rows; from then on neighbours are at most `WIDTH` rows apart, and each performs the first rows of the
+/// timeline, as many as it stands for.
 #[derive(Drop)]
 pub struct Full<P: Partial + Drop> {
     alloc: Global,
@@ -74,6 +76,7 @@ impl<P: Partial + Drop> Full<P> {
         ensures rows { self.new.rows ≡ self.old.rows }
         ensures answer { IfOk result (λ answer. answer ≡ answer_of (state_at self.old.kind self.old.rows place) question) }
         ensures made { OnOk result (self.new.made ≡ true) }
+        ensures first { self.old.made ≡ false → OnOk result (self.new.places ≡ made_places (length self.old.rows)) }
         ensures places { self.old.made ≡ true → self.new ≡ self.old }
         ensures err { OnErr result (self.new ≡ self.old) }
         ensures visits { self.old.made ≡ true → VisitsWithin (432 * 1025) (length self.old.rows) steps.old steps.new }
@@ -97,6 +100,7 @@ impl<P: Partial + Drop> Full<P> {
         ensures rows { self.new.rows ≡ self.old.rows }
         ensures content { IfOk result (λ listing. listing ≡ content (state_at self.old.kind self.old.rows place)) }
         ensures made { OnOk result (self.new.made ≡ true) }
+        ensures first { self.old.made ≡ false → OnOk result (self.new.places ≡ made_places (length self.old.rows)) }
         ensures places { self.old.made ≡ true → self.new ≡ self.old }
         ensures err { OnErr result (self.new ≡ self.old) }
     {
@@ -126,6 +130,7 @@ impl<P: Partial + Drop> Full<P> {
         ensures rows { self.new.rows ≡ self.old.rows }
         ensures answer { IfOk result (λ answer. answer ≡ answer_of (state_at self.old.kind self.old.rows place) question) }
         ensures made { OnOk result (self.new.made ≡ true) }
+        ensures first { self.old.made ≡ false → OnOk result (self.new.places ≡ made_places (length self.old.rows)) }
         ensures places { self.old.made ≡ true → self.new ≡ self.old }
         ensures err { OnErr result (self.new ≡ self.old) }
     {
@@ -213,6 +218,7 @@ impl<P: Partial + Drop> Retro for Full<P> {
         ensures rows { self.new.rows ≡ self.old.rows }
         ensures answer { IfOk result (λ answer. answer ≡ answer_of (state_at self.old.kind self.old.rows place) question) }
         ensures made { OnOk result (self.new.made ≡ true) }
+        ensures first { self.old.made ≡ false → OnOk result (self.new.places ≡ made_places (length self.old.rows)) }
         ensures places { self.old.made ≡ true → self.new ≡ self.old }
         ensures err { OnErr result (self.new ≡ self.old) }
     {
@@ -225,6 +231,7 @@ impl<P: Partial + Drop> Retro for Full<P> {
         ensures rows { self.new.rows ≡ self.old.rows }
         ensures content { IfOk result (λ listing. listing ≡ content (state_at self.old.kind self.old.rows place)) }
         ensures made { OnOk result (self.new.made ≡ true) }
+        ensures first { self.old.made ≡ false → OnOk result (self.new.places ≡ made_places (length self.old.rows)) }
         ensures places { self.old.made ≡ true → self.new ≡ self.old }
         ensures err { OnErr result (self.new ≡ self.old) }
     {

@@ -1,5 +1,5 @@
 //! The present of a timeline and its checkpoints, edited and asked together.
-ghost use Rattle.std.specs.Prelude.{◌≡◌, ◌+◌, ◌*◌, ◌<◌, ◌≤◌, slice_get, true, Some, IfSome, IfOk, OnOk, OnErr};
+ghost use Rattle.std.specs.Prelude.{◌≡◌, ◌+◌, ◌*◌, ◌<◌, ◌≤◌, slice_get, true, false, Some, IfSome, IfOk, OnOk, OnErr};
 ghost use Rattle.std.specs.List.{remove};
 ghost use Rattle.retro_base.specs.Answers.{answer_of, content};
 ghost use Rattle.retro_base.specs.Changes.{IsChange};
@@ -8,7 +8,7 @@ ghost use Rattle.retro_base.specs.Questions.{suits};
 ghost use Rattle.retro_base.specs.Replay.{IsValid, state_at};
 ghost use Rattle.retro_base.specs.Timeline.{IsReplayable};
 ghost use Rattle.retro_base.specs.Visits.{VisitsWithin};
-ghost use Rattle.checkpoint_full.specs.Checkpoints.{after, place_of, were_made, width, CanTake, HoldsFirstRows, KeepsCheckpoints};
+ghost use Rattle.checkpoint_full.specs.Checkpoints.{after, made_places, place_of, places_of, were_made, width, CanTake, HoldsFirstRows, KeepsCheckpoints};
 
 use crate::checkpoints::{drop_made, make, make_room};
 use crate::follow::{insert_everywhere, remove_everywhere};
@@ -94,6 +94,7 @@ pub(crate) fn ask_kept<P: Partial + Drop, L: Ledger>(
     ensures reads { IfSome reader.new (HoldsFirstRows present.now) }
     ensures made { OnOk result (were_made checkpoints.new.items ≡ true) }
     ensures same { were_made checkpoints.old.items ≡ true → checkpoints.new.items ≡ checkpoints.old.items }
+    ensures first { were_made checkpoints.old.items ≡ false → OnOk result (places_of checkpoints.new.items ≡ made_places (place_of present.now)) }
     ensures err { OnErr result (checkpoints.new.items ≡ checkpoints.old.items) }
     ensures visits { were_made checkpoints.old.items ≡ true → VisitsWithin (432 * (width + 1)) (place_of present.now) steps.old steps.new }
 {
@@ -134,6 +135,7 @@ pub(crate) fn list_kept<P: Partial + Drop, L: Ledger>(
     ensures reads { IfSome reader.new (HoldsFirstRows present.now) }
     ensures made { OnOk result (were_made checkpoints.new.items ≡ true) }
     ensures same { were_made checkpoints.old.items ≡ true → checkpoints.new.items ≡ checkpoints.old.items }
+    ensures first { were_made checkpoints.old.items ≡ false → OnOk result (places_of checkpoints.new.items ≡ made_places (place_of present.now)) }
     ensures err { OnErr result (checkpoints.new.items ≡ checkpoints.old.items) }
 {
     let mut steps = Steps::<L>::new(blank);

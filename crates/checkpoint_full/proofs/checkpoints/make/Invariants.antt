@@ -1,6 +1,7 @@
-use Rattle.std.proofs.Common.{◌∷◌, ◌++◌, [], map}
+use Rattle.std.proofs.Common.{◌∷◌, ◌++◌, ◌-◌, ◌/◌, [], map}
 use Rattle.std.specs.List.{AllByRecursion}
 use Rattle.checkpoint_full.specs.Checkpoints.{place_of, width, AreClose, HoldsFirstRows}
+use Rattle.checkpoint_full.proofs.Made.{AreToCome}
 use Rattle.checkpoint_full.proofs.checkpoints.make.Given as goal
 
 abbrev pub invariant-loop-latest : goal.invariant-loop-latest
@@ -8,6 +9,7 @@ invariant-loop-latest g l = record {
   first : AllByRecursion (HoldsFirstRows l.present) l.checkpoints.items;
   latest : HoldsFirstRows l.present l.latest;
   close : AreClose width (place_of l.present) (map place_of l.checkpoints.items ++ place_of l.latest ∷ []) (place_of l.latest);
+  to_come : AreToCome width ((place_of l.present - 1) / width) l.checkpoints.items l.latest;
 }
 
 abbrev pub decreases-loop-latest : goal.decreases-loop-latest
