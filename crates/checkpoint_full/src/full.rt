@@ -28,6 +28,9 @@ use std::sync::ledger::{Blank, Ledger};
 /// checkpoints are made at the first question about the past, at the start and at each multiple of `WIDTH` below the
 /// number of rows; from then on neighbours are at most `WIDTH` rows apart, and each performs the first rows of the
 /// timeline, as many as it stands for.
+///
+/// Where questions go forward in time, a copy of a checkpoint that was rolled to a place stays there for the next
+/// question. Contracts do not see it, and copying it is not counted among the visits.
 #[derive(Drop)]
 pub struct Full<P: Partial + Drop> {
     alloc: Global,

@@ -2,9 +2,11 @@
 //!
 //! `Full<P>` keeps a structure of the present, and from the first question about the past on some more of the first
 //! rows of the same timeline: its checkpoints. A question about a place is put to the nearest checkpoint that is not
-//! later, after the rows between were appended there; they are taken off again afterwards. An edit goes to the present
-//! and to each checkpoint after its place. It is the general way from a partially to a fully retroactive structure of
-//! Demaine, Iacono and Langerman, "Retroactive Data Structures", with checkpoints a fixed number of rows apart.
+//! later, after the rows between were appended there; they are taken off again afterwards. Where questions go forward
+//! in time, a copy of a checkpoint that was rolled to a place stays there for the next question (`reader.rt`). An edit
+//! goes to the present and to each checkpoint after its place. It is the general way from a partially to a fully
+//! retroactive structure of Demaine, Iacono and Langerman, "Retroactive Data Structures", with checkpoints a fixed
+//! number of rows apart.
 //!
 //! A `Full` is seen as its kind and rows, whether its checkpoints were made, and their places, by
 //! `specs/Checkpoints.antt`. It implements `Retro` of `retro_base`; after `NoMemory` each call leaves all that is
