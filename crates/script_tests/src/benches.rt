@@ -1,45 +1,55 @@
-use retro_base::{NoMemory, Text};
+use retro_base::Text;
 use std::alloc::Global;
 use std::process::Abort;
-use std::test::Fail;
 use workbench::Bench;
 
 /// How many rows the long timeline has.
 const MANY: u32 = 3000;
 
 /// What a bench that memory has sufficed for answers to a line that is not long.
-fn answer(rt: &impl Abort, bench: &mut Bench, line: &[u8]) -> Result<Text, NoMemory> {
+fn answer(rt: &impl Abort, bench: &mut Bench, line: &Text) -> Text {
+    let line = line.as_bytes();
     assert!(rt; line.len() <= 4096);
     assert!(rt; !bench.spent());
-    Ok(bench.line(line, false)?.text)
+    bench.line(line, false).expect(rt, "memory").text
 }
 
-/// A number in decimal, behind a word.
-fn numbered(alloc: Global, word: &[u8], number: u32) -> Result<Text, NoMemory> {
+/// Words.
+fn text(rt: &impl Abort, alloc: Global, words: &[u8]) -> Text {
     let mut text = Text::new(alloc);
-    text.push_all(word)?;
-    text.push_number(number)?;
-    Ok(text)
+    text.push_all(words).expect(rt, "memory");
+    text
+}
+
+/// A number in decimal, after some words and before others.
+fn numbered(rt: &impl Abort, alloc: Global, before: &[u8], number: u32, after: &[u8]) -> Text {
+    let mut text = text(rt, alloc, before);
+    text.push_number(number).expect(rt, "memory");
+    text.push_all(after).expect(rt, "memory");
+    text
+}
+
+fn expect_answer(rt: &impl Abort, bench: &mut Bench, line: &Text, expected: &Text) {
+    let answer = answer(rt, bench, line);
+    assert_eq!(rt; answer.as_bytes(), expected.as_bytes());
 }
 
 /// A bench whose queue `q` has many rows, all of them at time 5: the numbers from 1 on are put in.
-fn long_queue(rt: &impl Abort, alloc: Global) -> Result<Bench, Fail> {
+fn long_queue(rt: &impl Abort, alloc: Global) -> Bench {
     let mut bench = Bench::new(alloc);
-    answer(rt, &mut bench, b"new q queue")?;
+    let _ok = answer(rt, &mut bench, &text(rt, alloc, b"new q queue"));
     for number in 1..=MANY {
-        let line = numbered(alloc, b"q at 5 enq ", number)?;
-        let mut accepted = numbered(alloc, b"ok #", number)?;
-        accepted.push_all(b"\n")?;
-        let text = answer(rt, &mut bench, line.as_bytes())?;
-        assert_eq!(rt; text.as_bytes(), accepted.as_bytes());
+        let line = numbered(rt, alloc, b"q at 5 enq ", number, b"");
+        let accepted = numbered(rt, alloc, b"ok #", number, b"\n");
+        expect_answer(rt, &mut bench, &line, &accepted);
     }
-    Ok(bench)
+    bench
 }
 
 #[test]
-fn a_timeline_has_many_rows(rt: HostRuntime) -> Result<(), Fail> {
+fn a_timeline_has_many_rows(rt: HostRuntime) {
     let alloc = rt.alloc();
-    let mut bench = long_queue(&rt, alloc)?;
+    let mut bench = long_queue(&rt, alloc);
     let answers: [(&[u8], &[u8]); 9] = [
         (b"q ask size", b"= 3000\n"),
         (b"q ask nth 2999", b"= 3000\n"),
@@ -52,52 +62,40 @@ fn a_timeline_has_many_rows(rt: HostRuntime) -> Result<(), Fail> {
         (b"q ask at 4 size", b"= 0\n"),
     ];
     for (line, expected) in answers {
-        let text = answer(&rt, &mut bench, line)?;
-        assert_eq!(rt; text.as_bytes(), expected, "{line:?}");
+        let (line, expected) = (text(&rt, alloc, line), text(&rt, alloc, expected));
+        expect_answer(&rt, &mut bench, &line, &expected);
     }
-    Ok(())
 }
 
 #[test]
-fn a_whole_content_is_long(rt: HostRuntime) -> Result<(), Fail> {
+fn a_whole_content_is_long(rt: HostRuntime) {
     let alloc = rt.alloc();
-    let mut bench = long_queue(&rt, alloc)?;
-    let mut expected = Text::new(alloc);
-    expected.push_all(b"=")?;
+    let mut bench = long_queue(&rt, alloc);
+    let mut expected = text(&rt, alloc, b"=");
     for number in 1..=MANY {
-        expected.push_all(b" ")?;
-        expected.push_number(number)?;
+        expected.push_all(b" ").expect(&rt, "memory");
+        expected.push_number(number).expect(&rt, "memory");
     }
-    expected.push_all(b"\n")?;
-    let text = answer(&rt, &mut bench, b"q ask all")?;
-    assert_eq!(rt; text.as_bytes(), expected.as_bytes());
-    Ok(())
+    expected.push_all(b"\n").expect(&rt, "memory");
+    expect_answer(&rt, &mut bench, &text(&rt, alloc, b"q ask all"), &expected);
 }
 
 #[test]
-fn rows_at_one_place_use_the_labels_up(rt: HostRuntime) -> Result<(), Fail> {
+fn rows_at_one_place_use_the_labels_up(rt: HostRuntime) {
     // A run of rows is divided at the 33rd row and at each 17th after that, and forty divisions in the same gap use up the 40
     // bits of a label: so the runs are given new labels at row 696.
     let alloc = rt.alloc();
     let mut bench = Bench::new(alloc);
-    answer(&rt, &mut bench, b"new q queue")?;
-    answer(&rt, &mut bench, b"q at 5 enq 1")?;
+    let _ok = answer(&rt, &mut bench, &text(&rt, alloc, b"new q queue"));
+    let _first = answer(&rt, &mut bench, &text(&rt, alloc, b"q at 5 enq 1"));
     for number in 1..1000 {
-        let mut line = numbered(alloc, b"q before #", number)?;
-        line.push_all(b" enq ")?;
-        line.push_number(number + 1)?;
-        let mut accepted = numbered(alloc, b"ok #", number + 1)?;
-        accepted.push_all(b"\n")?;
-        let text = answer(&rt, &mut bench, line.as_bytes())?;
-        assert_eq!(rt; text.as_bytes(), accepted.as_bytes());
+        let line = numbered(&rt, alloc, b"q before #", number, b" enq 7");
+        let accepted = numbered(&rt, alloc, b"ok #", number + 1, b"\n");
+        expect_answer(&rt, &mut bench, &line, &accepted);
     }
     for number in 1..=1000 {
-        let mut line = numbered(alloc, b"q ask after #", number)?;
-        line.push_all(b" size")?;
-        let mut size = numbered(alloc, b"= ", 1001 - number)?;
-        size.push_all(b"\n")?;
-        let text = answer(&rt, &mut bench, line.as_bytes())?;
-        assert_eq!(rt; text.as_bytes(), size.as_bytes(), "{number}");
+        let line = numbered(&rt, alloc, b"q ask after #", number, b" size");
+        let size = numbered(&rt, alloc, b"= ", 1001 - number, b"\n");
+        expect_answer(&rt, &mut bench, &line, &size);
     }
-    Ok(())
 }
