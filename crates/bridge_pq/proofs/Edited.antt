@@ -1,4 +1,4 @@
--- An edit of what a queue by bridges keeps: the row comes in or goes, and then the marks of the changed entry are turned.
+-- An edit of what a queue by bridges keeps: the row comes in or goes, and then the marks of the changed entry are flipped.
 use Rattle.std.proofs.Common.{◌≡◌, ℕ, ◌<◌, ◌≤◌, Bool, false, List, length, sym, ap, ◌∙◌, arith, subst, Some, None}
 use Rattle.std.specs.Prelude.{Contains, slice_set, Result, Ok, Err, OnOk, OnErr}
 use Rattle.std.specs.List.{insert, remove, slice_get}
@@ -24,12 +24,12 @@ use Rattle.retro_base.specs.lemmas.bridges.Histories.{added_number}
 use Rattle.retro_base.specs.lemmas.bridges.NamedChange.{cut_survivor_changes}
 use Rattle.bridge_pq.specs.declared.marked_row.MarkedRow.{MarkedRow}
 use Rattle.bridge_pq.specs.declared.marked_entry.MarkedEntry.{MarkedEntry}
-use Rattle.bridge_pq.specs.Bridged.{AddsAt, IsTurned, Holds, IsBridged}
+use Rattle.bridge_pq.specs.Bridged.{AddsAt, IsFlipped, Holds, IsBridged}
 use Rattle.bridge_pq.specs.MarkedEntries.{entries_in, put_marked, without_entry, marked_so}
 use Rattle.bridge_pq.specs.MarkedRows.{rows_of, AreMarked}
 use Rattle.bridge_pq.proofs.Places.{map-insert, map-remove, map-get}
 use Rattle.bridge_pq.proofs.RowExtremes.{adds-in, adds-within}
-use Rattle.bridge_pq.proofs.TurnedRows.{turned-loss, others-marked, set-marked, rows-set, insert-marked, remove-marked, fresh-removed}
+use Rattle.bridge_pq.proofs.FlippedRows.{flip-loss, others-marked, set-marked, rows-set, insert-marked, remove-marked, fresh-removed}
 use Rattle.bridge_pq.proofs.HeldEntries.{added-le, fresh-not-added, holds-put, holds-with-take, holds-taken, holds-without-take, holds-marked, holds-others, survivor-added}
 
 pub rows-length : (items : List MarkedRow) → length (rows_of items) ≡ length items
@@ -52,41 +52,41 @@ pub few-rows : (items : List MarkedRow) (entries : List MarkedEntry) → IsBridg
 few-rows items entries bridged = omega (arith, bridged.replayable.few, rows-length items)
 
 -- rows and entries whose marks are still those of before
-pub record Unturned (rows : List Row) (before : List Entry) (items : List MarkedRow) (entries : List MarkedEntry) : Type 0 where
+pub record Unflipped (rows : List Row) (before : List Entry) (items : List MarkedRow) (entries : List MarkedEntry) : Type 0 where
   pub rows_are : rows_of items ≡ rows
   pub replayable : IsReplayable Pq rows
   pub marked : AreMarked before items
   pub holds : Holds rows before entries
 
-module _ (rows : List Row) (before : List Entry) (items : List MarkedRow) (entries : List MarkedEntry) (unturned : Unturned rows before items entries) (p : ℕ) (e : Entry) (at : AddsAt rows p e) where
+module _ (rows : List Row) (before : List Entry) (items : List MarkedRow) (entries : List MarkedEntry) (unflipped : Unflipped rows before items entries) (p : ℕ) (e : Entry) (at : AddsAt rows p e) where
   same_length : length items ≡ length rows
-  same_length = sym (rows-length items) ∙ ap length unturned.rows_are
+  same_length = sym (rows-length items) ∙ ap length unflipped.rows_are
 
-  pub turn-within : p < length items
-  turn-within = omega (arith, same_length, adds-within rows p e at)
+  pub flip_marks-within : p < length items
+  flip_marks-within = omega (arith, same_length, adds-within rows p e at)
 
-  pub turn-few : length entries ≤ length items
-  turn-few = omega (arith, unturned.holds.as_many, added-le rows, same_length)
+  pub flip_marks-few : length entries ≤ length items
+  flip_marks-few = omega (arith, unflipped.holds.as_many, added-le rows, same_length)
 
-  pub turn-among : Contains (entries_in entries) e
-  turn-among = (unturned.holds.same e).1 (in_contains _ e (adds-in rows p at.0 e at.1 at.2))
+  pub flip_marks-among : Contains (entries_in entries) e
+  flip_marks-among = (unflipped.holds.same e).1 (in_contains _ e (adds-in rows p at.0 e at.1 at.2))
 
-  pub turn-done : (b : Bool) → IsTurned before (survivors rows) e b → (new_items : List MarkedRow) (new_entries : List MarkedEntry)
+  pub flip_marks-done : (b : Bool) → IsFlipped before (survivors rows) e b → (new_items : List MarkedRow) (new_entries : List MarkedEntry)
       → ((item : MarkedRow) → slice_get items p ≡ Some item → new_items ≡ slice_set items p (record { row = item.row; survives = b })) → new_entries ≡ marked_so e b entries
       → IsBridged new_items new_entries × (rows_of new_items ≡ rows)
-  turn-done b turned new_items new_entries set marked =
-      let found = map-get (λ (item : MarkedRow). item.row) items p at.0 (ap (λ l. slice_get l p) unturned.rows_are ∙ at.1) in
+  flip_marks-done b flip new_items new_entries set marked =
+      let found = map-get (λ (item : MarkedRow). item.row) items p at.0 (ap (λ l. slice_get l p) unflipped.rows_are ∙ at.1) in
       let item = found.0 in
       let adds : added_by item.row ≡ Some e = ap added_by found.2 ∙ at.2 in
       let is : new_items ≡ slice_set items p (record { row = item.row; survives = b }) = set item found.1 in
-      let rows_same : rows_of new_items ≡ rows = ap rows_of is ∙ rows-set items p item b found.1 ∙ unturned.rows_are in
-      let own = subst (λ l. IsReplayable Pq l) (sym unturned.rows_are) unturned.replayable in
-      let right : AreMarked (survivors rows) new_items = subst (AreMarked (survivors rows)) (sym is) (set-marked items p item before (survivors rows) e b turned own.own_numbers found.1 adds unturned.marked) in (
+      let rows_same : rows_of new_items ≡ rows = ap rows_of is ∙ rows-set items p item b found.1 ∙ unflipped.rows_are in
+      let own = subst (λ l. IsReplayable Pq l) (sym unflipped.rows_are) unflipped.replayable in
+      let right : AreMarked (survivors rows) new_items = subst (AreMarked (survivors rows)) (sym is) (set-marked items p item before (survivors rows) e b flip own.own_numbers found.1 adds unflipped.marked) in (
         record {
-          replayable = subst (λ l. IsReplayable Pq l) (sym rows_same) unturned.replayable;
+          replayable = subst (λ l. IsReplayable Pq l) (sym rows_same) unflipped.replayable;
           marked = subst (λ l. AreMarked (survivors l) new_items) (sym rows_same) right;
           holds = subst (λ l. Holds l (survivors l) new_entries) (sym rows_same)
-              (subst (Holds rows (survivors rows)) (sym marked) (holds-marked rows before (survivors rows) entries e b turned unturned.holds));
+              (subst (Holds rows (survivors rows)) (sym marked) (holds-marked rows before (survivors rows) entries e b flip unflipped.holds));
         },
         rows_same,
       )
@@ -111,7 +111,7 @@ module _ (items : List MarkedRow) (entries : List MarkedEntry) (bridged : IsBrid
 
   pub put-adding : (new : Entry) → added_by row ≡ Some new → (new_items : List MarkedRow) (new_entries : List MarkedEntry)
       → new_items ≡ insert items place (record { row = row; survives = false }) → new_entries ≡ put_marked (record { entry = new; present = false }) entries
-      → Unturned (insert rows place row) (survivors rows) new_items new_entries
+      → Unflipped (insert rows place row) (survivors rows) new_items new_entries
   put-adding new adds new_items new_entries put_row put_entry = record {
     rows_are = ap rows_of put_row ∙ map-insert (λ (item : MarkedRow). item.row) items place (record { row = row; survives = false });
     replayable = inserted;
@@ -121,7 +121,7 @@ module _ (items : List MarkedRow) (entries : List MarkedEntry) (bridged : IsBrid
   }
 
   pub put-taking : added_by row ≡ None → (new_items : List MarkedRow) → new_items ≡ insert items place (record { row = row; survives = false })
-      → Unturned (insert rows place row) (survivors rows) new_items entries
+      → Unflipped (insert rows place row) (survivors rows) new_items entries
   put-taking takes new_items put_row = record {
     rows_are = ap rows_of put_row ∙ map-insert (λ (item : MarkedRow). item.row) items place (record { row = row; survives = false });
     replayable = inserted;
@@ -148,7 +148,7 @@ module _ (items : List MarkedRow) (entries : List MarkedEntry) (bridged : IsBrid
   own-among own adds = (bridged.holds.same own).1 (in_contains _ own (own_added own adds))
 
   pub cut-adding : (own : Entry) → added_by row ≡ Some own → (new_items : List MarkedRow) (new_entries : List MarkedEntry) → new_items ≡ remove items place → new_entries ≡ without_entry own entries
-      → Unturned (remove rows_before place) (survivors rows_before) new_items new_entries
+      → Unflipped (remove rows_before place) (survivors rows_before) new_items new_entries
   cut-adding own adds new_items new_entries cut_row cut_entry = record {
     rows_are = ap rows_of cut_row ∙ map-remove (λ (item : MarkedRow). item.row) items place;
     replayable = removed;
@@ -157,7 +157,7 @@ module _ (items : List MarkedRow) (entries : List MarkedEntry) (bridged : IsBrid
         (holds-taken rows_before (survivors rows_before) entries place row own bridged.replayable.own_numbers there adds (own_added own adds) bridged.holds);
   }
 
-  pub cut-taking : added_by row ≡ None → (new_items : List MarkedRow) → new_items ≡ remove items place → Unturned (remove rows_before place) (survivors rows_before) new_items entries
+  pub cut-taking : added_by row ≡ None → (new_items : List MarkedRow) → new_items ≡ remove items place → Unflipped (remove rows_before place) (survivors rows_before) new_items entries
   cut-taking takes new_items cut_row = record {
     rows_are = ap rows_of cut_row ∙ map-remove (λ (item : MarkedRow). item.row) items place;
     replayable = removed;
@@ -171,20 +171,20 @@ module _ (items : List MarkedRow) (entries : List MarkedEntry) (bridged : IsBrid
   pub cut-survivor : (own : Entry) → added_by row ≡ Some own → Contains (survivors rows_before) own → (new_items : List MarkedRow) (new_entries : List MarkedEntry)
       → new_items ≡ remove items place → new_entries ≡ without_entry own entries → IsBridged new_items new_entries × (rows_of new_items ≡ remove rows_before place)
   cut-survivor own adds lives new_items new_entries cut_row cut_entry =
-      let unturned = cut-adding own adds new_items new_entries cut_row cut_entry in
-      let turned = turned-loss own (survivors rows_before) (survivors (remove rows_before place)) (survivor-changes own adds lives).1 in
+      let unflipped = cut-adding own adds new_items new_entries cut_row cut_entry in
+      let flip = flip-loss own (survivors rows_before) (survivors (remove rows_before place)) (survivor-changes own adds lives).1 in
       let fresh : IsFresh row.number (remove rows_before place) = fresh-removed rows_before place row bridged.replayable.own_numbers there in
       let has : own.number ≡ row.number = added_number row.op row.number own adds in
       let right : AreMarked (survivors (remove rows_before place)) new_items =
-      others-marked new_items (survivors rows_before) (survivors (remove rows_before place)) own false row.number turned (subst (IsFresh row.number) (sym unturned.rows_are) fresh) has unturned.marked in (
+      others-marked new_items (survivors rows_before) (survivors (remove rows_before place)) own false row.number flip (subst (IsFresh row.number) (sym unflipped.rows_are) fresh) has unflipped.marked in (
         record {
-          replayable = subst (λ l. IsReplayable Pq l) (sym unturned.rows_are) removed;
-          marked = subst (λ l. AreMarked (survivors l) new_items) (sym unturned.rows_are) right;
-          holds = subst (λ l. Holds l (survivors l) new_entries) (sym unturned.rows_are)
-              (holds-others (remove rows_before place) (survivors rows_before) (survivors (remove rows_before place)) new_entries own false turned
-              (fresh-not-added (remove rows_before place) row.number own fresh has) unturned.holds);
+          replayable = subst (λ l. IsReplayable Pq l) (sym unflipped.rows_are) removed;
+          marked = subst (λ l. AreMarked (survivors l) new_items) (sym unflipped.rows_are) right;
+          holds = subst (λ l. Holds l (survivors l) new_entries) (sym unflipped.rows_are)
+              (holds-others (remove rows_before place) (survivors rows_before) (survivors (remove rows_before place)) new_entries own false flip
+              (fresh-not-added (remove rows_before place) row.number own fresh has) unflipped.holds);
         },
-        unturned.rows_are,
+        unflipped.rows_are,
       )
 
 -- a call that may be without memory leaves what it keeps bridged

@@ -21,18 +21,18 @@ before_other a b before same = let wrong : true ≡ false = sym before ∙ ap (�
 pub put-at : (new : MarkedEntry) (items : List MarkedEntry) (place : ℕ) → ¬ In new.entry (entries_in items) → place ≤ length items
     → AllWithin (λ other. comes_before other new.entry ≡ true) (entries_in items) 0 place
     → AllWithin (λ other. comes_before other new.entry ≡ false) (entries_in items) place (length items) → insert items place new ≡ put_marked new items
-put-at new [] zero absent within before behind = refl
-put-at new [] (suc place) absent within before behind = absurd (omega arith)
-put-at new (x ∷ items) zero absent within before behind =
-    let first : comes_before new.entry x.entry ≡ true = before_or_after x.entry new.entry (λ same. absent (inl (sym same))) (behind 0 new.entry (omega arith) (omega arith)) in
+put-at new [] zero absent within before after = refl
+put-at new [] (suc place) absent within before after = absurd (omega arith)
+put-at new (x ∷ items) zero absent within before after =
+    let first : comes_before new.entry x.entry ≡ true = before_or_after x.entry new.entry (λ same. absent (inl (sym same))) (after 0 new.entry (omega arith) (omega arith)) in
     rw first refl
-put-at new (x ∷ items) (suc place) absent within before behind =
+put-at new (x ∷ items) (suc place) absent within before after =
     let later : comes_before new.entry x.entry ≡ false = before_one_way x.entry new.entry (before 0 new.entry (omega arith) (omega arith)) in
     let rest : insert items place new ≡ put_marked new items = put-at new items place (λ inside. absent (inr inside)) (omega arith)
-    (λ k d low high. before (suc k) d (omega arith) (omega arith)) (λ k d low high. behind (suc k) d (omega arith) (omega arith)) in
+    (λ k d low high. before (suc k) d (omega arith) (omega arith)) (λ k d low high. after (suc k) d (omega arith) (omega arith)) in
     rw later (ap (λ l. x ∷ l) rest)
 
--- none of those behind is the entry
+-- none of those after is the entry
 none_taken : (e : Entry) (items : List MarkedEntry) → AllByRecursion (λ y. comes_before e y ≡ true) (entries_in items) → without_entry e items ≡ items
 none_taken e [] above = refl
 none_taken e (y ∷ items) above =
@@ -47,8 +47,8 @@ none_marked e b (y ∷ items) above =
 
 -- the entry stands at the place
 here_is : (e x : Entry) (xs : List Entry) → AllByRecursion (λ y. comes_before x y ≡ true) xs → (e ≡ x) ⊎ In e xs → comes_before x e ≡ false → x ≡ e
-here_is e x xs above (inl same) behind = sym same
-here_is e x xs above (inr later) behind = let wrong : true ≡ false = sym (above_in x e xs above later) ∙ behind in absurd (cc)
+here_is e x xs above (inl same) after = sym same
+here_is e x xs above (inr later) after = let wrong : true ≡ false = sym (above_in x e xs above later) ∙ after in absurd (cc)
 
 further_in : (e x : Entry) (xs : List Entry) → (e ≡ x) ⊎ In e xs → comes_before x e ≡ true → In e xs
 further_in e x xs (inl same) before = absurd (before_other x e before (sym same))
@@ -57,17 +57,17 @@ further_in e x xs (inr later) before = later
 pub without-at : (e : Entry) (items : List MarkedEntry) (place : ℕ) → Rise (entries_in items) → In e (entries_in items)
     → AllWithin (λ other. comes_before other e ≡ true) (entries_in items) 0 place
     → AllWithin (λ other. comes_before other e ≡ false) (entries_in items) place (length items) → (place < length items) × (remove items place ≡ without_entry e items)
-without-at e [] place rise inside before behind = absurd inside
-without-at e (x ∷ items) zero rise inside before behind =
-    let here : x.entry ≡ e = here_is e x.entry (entries_in items) rise.0 inside (behind 0 e (omega arith) (omega arith)) in
+without-at e [] place rise inside before after = absurd inside
+without-at e (x ∷ items) zero rise inside before after =
+    let here : x.entry ≡ e = here_is e x.entry (entries_in items) rise.0 inside (after 0 e (omega arith) (omega arith)) in
     let same : same_entry x.entry e ≡ true = ap (λ y. same_entry y e) here ∙ same_entry-refl e in
     let above : AllByRecursion (λ y. comes_before e y ≡ true) (entries_in items) = subst (λ z. AllByRecursion (λ y. comes_before z y ≡ true) (entries_in items)) here rise.0 in
     (omega arith, rw same (sym (none_taken e items above)))
-without-at e (x ∷ items) (suc place) rise inside before behind =
+without-at e (x ∷ items) (suc place) rise inside before after =
     let first : comes_before x.entry e ≡ true = before 0 e (omega arith) (omega arith) in
     let other : same_entry x.entry e ≡ false = not_same x.entry e (before_other x.entry e first) in
     let rest = without-at e items place rise.1 (further_in e x.entry (entries_in items) inside first)
-    (λ k d low high. before (suc k) d (omega arith) (omega arith)) (λ k d low high. behind (suc k) d (omega arith) (omega arith)) in
+    (λ k d low high. before (suc k) d (omega arith) (omega arith)) (λ k d low high. after (suc k) d (omega arith) (omega arith)) in
     (omega (arith, rest.0), rw other (ap (λ l. x ∷ l) rest.1))
 
 entry_is : (x : MarkedEntry) (e : Entry) (b : Bool) → x.entry ≡ e → ◌≡◌ {A = MarkedEntry} (record { entry = e; present = b }) (record { entry = x.entry; present = b })
@@ -77,17 +77,17 @@ pub marked-at : (e : Entry) (b : Bool) (items : List MarkedEntry) (place : ℕ) 
     → AllWithin (λ other. comes_before other e ≡ true) (entries_in items) 0 place
     → AllWithin (λ other. comes_before other e ≡ false) (entries_in items) place (length items)
     → (place < length items) × (slice_set items place (record { entry = e; present = b }) ≡ marked_so e b items)
-marked-at e b [] place rise inside before behind = absurd inside
-marked-at e b (x ∷ items) zero rise inside before behind =
-    let here : x.entry ≡ e = here_is e x.entry (entries_in items) rise.0 inside (behind 0 e (omega arith) (omega arith)) in
+marked-at e b [] place rise inside before after = absurd inside
+marked-at e b (x ∷ items) zero rise inside before after =
+    let here : x.entry ≡ e = here_is e x.entry (entries_in items) rise.0 inside (after 0 e (omega arith) (omega arith)) in
     let same : same_entry x.entry e ≡ true = ap (λ y. same_entry y e) here ∙ same_entry-refl e in
     let above : AllByRecursion (λ y. comes_before e y ≡ true) (entries_in items) = subst (λ z. AllByRecursion (λ y. comes_before z y ≡ true) (entries_in items)) here rise.0 in
     (omega arith, rw same (ap (λ y. y ∷ items) (entry_is x e b here) ∙ ap (λ l. record { entry = x.entry; present = b } ∷ l) (sym (none_marked e b items above))))
-marked-at e b (x ∷ items) (suc place) rise inside before behind =
+marked-at e b (x ∷ items) (suc place) rise inside before after =
     let first : comes_before x.entry e ≡ true = before 0 e (omega arith) (omega arith) in
     let other : same_entry x.entry e ≡ false = not_same x.entry e (before_other x.entry e first) in
     let rest = marked-at e b items place rise.1 (further_in e x.entry (entries_in items) inside first)
-    (λ k d low high. before (suc k) d (omega arith) (omega arith)) (λ k d low high. behind (suc k) d (omega arith) (omega arith)) in
+    (λ k d low high. before (suc k) d (omega arith) (omega arith)) (λ k d low high. after (suc k) d (omega arith) (omega arith)) in
     (omega (arith, rest.0), rw other (ap (λ l. x ∷ l) rest.1))
 
 -- no insertion leaves fewer items

@@ -83,7 +83,7 @@ module _ (e : Entry) (items : List MarkedEntry) (rise : Rise (entries_in items))
       let here = not_true (comes_before (slice_index_or (entries_in items) n d) e) (sym (reached_at n d (omega arith)) ∙ holds) in
       elim (comes_before (slice_index_or (entries_in items) m d) e) as (λ b. comes_before (slice_index_or (entries_in items) m d) e ≡ b → reached (suc m) ≡ true) [
         | true ↦ λ before. let wrong : true ≡ false = sym (parted n m d up within before) ∙ here in absurd (cc)
-        | false ↦ λ behind. reached_at m d within ∙ ap not behind
+        | false ↦ λ after. reached_at m d within ∙ ap not after
       ] refl
 
   pub reached-rises : IsRising reached 0 (length items)
@@ -94,7 +94,7 @@ module _ (e : Entry) (items : List MarkedEntry) (rise : Rise (entries_in items))
   pub record IsPlace (place : ℕ) : Type 0 where
     pub within : place ≤ length items
     pub before : AllWithin (λ other. comes_before other e ≡ true) (entries_in items) 0 place
-    pub behind : AllWithin (λ other. comes_before other e ≡ false) (entries_in items) place (length items)
+    pub after : AllWithin (λ other. comes_before other e ≡ false) (entries_in items) place (length items)
 
   place_at : (n : ℕ) → IsFirstPlace reached 0 (length items) (suc n) → IsPlace n
   place_at n first = record {
@@ -102,7 +102,7 @@ module _ (e : Entry) (items : List MarkedEntry) (rise : Rise (entries_in items))
     before = λ k d low high.
         let inside : suc n ≤ length items = first.within in
         not_false (comes_before (slice_index_or (entries_in items) k d) e) (sym (reached_at k d (omega arith)) ∙ first.not_before (suc k) (omega arith) (omega arith));
-    behind = λ k d low high.
+    after = λ k d low high.
         not_true (comes_before (slice_index_or (entries_in items) k d) e) (sym (reached_at k d high) ∙ rises_by n k d low high first.holds_there);
   }
 
@@ -118,11 +118,11 @@ module _ (e : Entry) (items : List MarkedEntry) (rise : Rise (entries_in items))
   place-none nowhere = record {
     within = omega arith;
     before = λ k d low high. not_false (comes_before (slice_index_or (entries_in items) k d) e) (sym (reached_at k d high) ∙ nowhere (suc k) (omega arith) (omega arith));
-    behind = λ k d low high. absurd (omega arith);
+    after = λ k d low high. absurd (omega arith);
   }
 
-  pub reached-told : (place : ℕ) → reaches e (measures_in (slice_range items 0 place)).1 ≡ reached place
-  reached-told place = ap (λ l. reaches e (measures_in l).1) (range-is items place)
+  pub reached-reported : (place : ℕ) → reaches e (measures_in (slice_range items 0 place)).1 ≡ reached place
+  reached-reported place = ap (λ l. reaches e (measures_in l).1) (range-is items place)
 
 -- the k-th of the present
 more_is : (k m : ℕ) → lt_z (pos k) (pos m) ≡ true → k < m
@@ -178,8 +178,8 @@ module _ (items : List MarkedEntry) (k : ℕ) where
   abbrev pub has_more : ℕ → Bool
   has_more place = lt_z (pos k) (pos (count_to items place))
 
-  pub more-told : (place : ℕ) → lt_z (pos k) (measures_in (slice_range items 0 place)).0.sum ≡ has_more place
-  more-told place = ap (lt_z (pos k)) (sum-part (slice_range items 0 place) ∙ ap (λ l. pos (length (present_in l))) (range-is items place))
+  pub more-reported : (place : ℕ) → lt_z (pos k) (measures_in (slice_range items 0 place)).0.sum ≡ has_more place
+  more-reported place = ap (lt_z (pos k)) (sum-part (slice_range items 0 place) ∙ ap (λ l. pos (length (present_in l))) (range-is items place))
 
   pub more-rises : IsRising has_more 0 (length items)
   more-rises place later above up within holds = is_more k (count_to items later) (omega (arith, more_is k (count_to items place) holds, count_rises items place later up))
@@ -199,5 +199,5 @@ module _ (items : List MarkedEntry) (k : ℕ) where
       let same : suc n - 1 ≡ n = omega arith in
       kth_is items n k item (sym (ap (slice_get items) same) ∙ at) (no_more k (count_to items n) (first.not_before n (omega arith) (omega arith))) (more_is k (count_to items (suc n)) first.holds_there)
 
-pub size-told : (items : List MarkedEntry) → (measures_in (slice_range items 0 (length items))).0.sum ≡ pos (length (present_in items))
-size-told items = sum-part (slice_range items 0 (length items)) ∙ ap (λ l. pos (length (present_in l))) (range-is items (length items) ∙ take_all (length items) items (omega arith))
+pub size-reported : (items : List MarkedEntry) → (measures_in (slice_range items 0 (length items))).0.sum ≡ pos (length (present_in items))
+size-reported items = sum-part (slice_range items 0 (length items)) ∙ ap (λ l. pos (length (present_in l))) (range-is items (length items) ∙ take_all (length items) items (omega arith))

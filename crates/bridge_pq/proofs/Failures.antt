@@ -104,15 +104,15 @@ not-take-adds PopR number of_kind not_take = absurd (cc)
 not-take-adds (Put key value) number of_kind not_take = absurd (cc)
 not-take-adds (Del key) number of_kind not_take = absurd (cc)
 
--- a survivor from before a place is one from before each place behind it
+-- a survivor from before a place is one from before each place after it
 added_later : (rows : List Row) (place later : ℕ) (e : Entry) → place ≤ later → In e (added (take place rows)) → In e (added (take later rows))
 added_later rows zero later e order inside = absurd inside
 added_later [] (suc place) later e order inside = absurd inside
 added_later (first ∷ rows) (suc place) zero e order inside = absurd (omega arith)
 added_later (first ∷ rows) (suc place) (suc later) e order inside =
     elim (added_by first) as (λ m. In e (cons_option m (added (take place rows))) → In e (cons_option m (added (take later rows)))) [
-      | Some x ↦ λ here. elim here [ inl same ↦ inl same | inr behind ↦ inr (added_later rows place later e (omega arith) behind) ]
-      | None ↦ λ behind. added_later rows place later e (omega arith) behind
+      | Some x ↦ λ here. elim here [ inl same ↦ inl same | inr beyond ↦ inr (added_later rows place later e (omega arith) beyond) ]
+      | None ↦ λ beyond. added_later rows place later e (omega arith) beyond
     ] inside
 
 pub survivor-later : (rows : List Row) (place later : ℕ) (e : Entry) → place ≤ later → IsSurvivorBefore rows place e → IsSurvivorBefore rows later e

@@ -1,5 +1,5 @@
 -- From each place on the sum of the weights is first at its lowest point at the next bridge: the sums are never below 0, and
--- behind all rows the sum is 0.
+-- after all rows the sum is 0.
 use Rattle.std.proofs.Common.{◌≡◌, ℕ, ◌+◌, ◌-◌, ◌<◌, ◌≤◌, ℤ, pos, neg_ℤ, ◌+ℤ◌, ◌≤ℤ◌, ◌<ℤ◌, true, false, List, drop, length, inl, inr, sym, ap, ◌∙◌, arith, subst, length-drop}
 use Rattle.std.proofs.lemmas.Bool.{cases_lt}
 use Rattle.std.proofs.lemmas.Bool.Decides.{nat_tests}
@@ -21,8 +21,8 @@ use Rattle.bridge_pq.specs.Dips.{Dip, falls_in, place_in, dip_of, lowest_from, i
 use Rattle.bridge_pq.specs.MarkedRows.{rows_of, AreMarked, weights_of}
 use Rattle.bridge_pq.proofs.LowestPlaces.{IsFirstLowest, first_lowest}
 use Rattle.bridge_pq.specs.EntryOrder.{entry_order}
-use Rattle.bridge_pq.proofs.RowExtremes.{range-behind}
-use Rattle.bridge_pq.proofs.RowMeasures.{measures_of, dip-behind, sums-are}
+use Rattle.bridge_pq.proofs.RowExtremes.{range-after}
+use Rattle.bridge_pq.proofs.RowMeasures.{measures_of, dip-after, sums-are}
 
 none_left : (z : ℤ) → pos 0 ≤ℤ z → z ≤ℤ pos 0 → z ≡ pos 0
 none_left z low high = omega (arith, ints)
@@ -39,7 +39,7 @@ fails_up_to xs to place fails = grind (arith, nat_tests)
 up_to_holds : (xs : List ℤ) (to place : ℕ) → lowest_from xs place ≤ to → is_lowest_up_to xs to place ≡ true
 up_to_holds xs to place within = grind (arith, nat_tests)
 
--- the sums behind a place
+-- the sums after a place
 module _ (xs : List ℤ) (place : ℕ) where
   abbrev depth : ℕ
   depth = falls_in (dip_of (drop place xs)).low
@@ -47,17 +47,17 @@ module _ (xs : List ℤ) (place : ℕ) where
   lowest : IsFirstLowest (drop place xs) (place_in (dip_of (drop place xs)).low) depth
   lowest = first_lowest (drop place xs)
 
-  behind : (other : ℕ) → place ≤ other → sum_to xs other ≡ sum_to xs place +ℤ sum_to (drop place xs) (other - place)
-  behind other order = ap (sum_to xs) (let same : other ≡ place + (other - place) = omega arith in same) ∙ sum-split xs place (other - place)
+  after : (other : ℕ) → place ≤ other → sum_to xs other ≡ sum_to xs place +ℤ sum_to (drop place xs) (other - place)
+  after other order = ap (sum_to xs) (let same : other ≡ place + (other - place) = omega arith in same) ∙ sum-split xs place (other - place)
 
   sum_there : sum_to xs (lowest_from xs place) ≡ sum_to xs place +ℤ neg_ℤ (pos depth)
   sum_there = sum-split xs place (place_in (dip_of (drop place xs)).low) ∙ ap (λ z. sum_to xs place +ℤ z) lowest.there
 
   pub sum_least : (other : ℕ) → place ≤ other → sum_to xs (lowest_from xs place) ≤ℤ sum_to xs other
-  sum_least other order = omega (arith, ints, sum_there, behind other order, lowest.least (other - place))
+  sum_least other order = omega (arith, ints, sum_there, after other order, lowest.least (other - place))
 
   pub sum_first : (other : ℕ) → place ≤ other → other < lowest_from xs place → sum_to xs (lowest_from xs place) <ℤ sum_to xs other
-  sum_first other order before = omega (arith, ints, sum_there, behind other order, lowest.first (other - place) (omega arith))
+  sum_first other order before = omega (arith, ints, sum_there, after other order, lowest.first (other - place) (omega arith))
 
   pub from_within : place ≤ length xs → lowest_from xs place ≤ length xs
   from_within within = omega (arith, lowest.within, length-drop place xs)
@@ -78,13 +78,13 @@ pub lowest-falls : (xs : List ℤ) (to place earlier : ℕ) → earlier ≤ plac
 lowest-falls xs to place earlier order holds = up_to_holds xs to earlier (let upto : lowest_from xs earlier ≤ to = omega (arith, lowest-rises xs earlier place order, holds_up_to xs to place holds) in upto)
 
 -- what is measured from a place on tells it
-pub lowest-behind : (items : List MarkedRow) (place end low : ℕ) (m : Dip × (Extreme Entry × Extreme Entry)) → place ≤ length items → end ≡ length items
+pub lowest-after : (items : List MarkedRow) (place end low : ℕ) (m : Dip × (Extreme Entry × Extreme Entry)) → place ≤ length items → end ≡ length items
     → m ≡ measures_of entry_order (slice_range items place end) → low ≡ place_in m.0.low → place + low ≡ lowest_from (weights_of items) place
-lowest-behind items place end low m within is_end measured is =
+lowest-after items place end low m within is_end measured is =
     ap (λ n. place + n) (is
     ∙ ap (λ v. place_in v.0.low) measured
-    ∙ ap (λ l. place_in (measures_of entry_order l).0.low) (ap (slice_range items place) is_end ∙ range-behind items place within)
-    ∙ ap (λ d. place_in d.low) (dip-behind entry_order items place))
+    ∙ ap (λ l. place_in (measures_of entry_order l).0.low) (ap (slice_range items place) is_end ∙ range-after items place within)
+    ∙ ap (λ d. place_in d.low) (dip-after entry_order items place))
 
 module _ (items : List MarkedRow) (history : IsPqHistory (rows_of items)) (marked : AreMarked (survivors (rows_of items)) items) where
   abbrev sum : ℕ → ℤ
@@ -146,7 +146,7 @@ module _ (items : List MarkedRow) (history : IsPqHistory (rows_of items)) (marke
       last-found = record {
         within = omega (arith, next_within, found.from);
         bridges = subst (IsBridge (rows_of items)) is_next found.bridges;
-        last = λ other behind upto. no_bridge other upto (last.not_after other behind (omega arith));
+        last = λ other after upto. no_bridge other upto (last.not_after other after (omega arith));
       }
 
     pub last-there : HoldsNowhere (is_lowest_up_to (weights_of items) to) 0 (length items) → ⊥

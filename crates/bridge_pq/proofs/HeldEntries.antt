@@ -1,4 +1,4 @@
--- The entries that rows add, as rows come in and go and marks are turned.
+-- The entries that rows add, as rows come in and go and marks are flipped.
 use Rattle.std.proofs.Common.{◌≡◌, ◌≢◌, ℕ, zero, suc, ◌+◌, ◌≤◌, Bool, true, false, List, [], ◌∷◌, length, cond, ◌⊎◌, inl, inr, refl, sym, ap, ◌∙◌, arith, subst, Option, Some, None}
 use Rattle.std.specs.Prelude.{not, Contains, ◌↔◌}
 use Rattle.std.specs.List.{insert, remove, slice_get, cons_option, AllByRecursion}
@@ -22,8 +22,8 @@ use Rattle.retro_base.specs.lemmas.bridges.Moves.{came_from}
 use Rattle.retro_base.specs.lemmas.bridges.Histories.{moves_of, history_at, fresh_adds, valid_leads, leads_run, some_same, none_some, added_number}
 use Rattle.bridge_pq.specs.declared.marked_entry.MarkedEntry.{MarkedEntry}
 use Rattle.bridge_pq.specs.MarkedEntries.{entries_in, present_in, Rise, TellPresent, put_marked, without_entry, marked_so}
-use Rattle.bridge_pq.specs.Bridged.{Holds, IsTurned}
-use Rattle.bridge_pq.proofs.TurnedRows.{fresh-removed}
+use Rattle.bridge_pq.specs.Bridged.{Holds, IsFlipped}
+use Rattle.bridge_pq.proofs.FlippedRows.{fresh-removed}
 
 rise_rising : (xs : List Entry) → Rise xs → Rising xs
 rise_rising [] rise = tt
@@ -252,7 +252,7 @@ holds-without-take rows alive items place row at takes holds = record {
   tell = holds.tell;
 }
 
--- a mark is turned
+-- a mark is flipped
 marked-entries : (e : Entry) (b : Bool) (items : List MarkedEntry) → entries_in (marked_so e b items) ≡ entries_in items
 marked-entries e b [] = refl
 marked-entries e b (x ∷ items) = elim (same_entry x.entry e) as (λ t. (cond t (record { entry = x.entry; present = b }) x).entry ∷ entries_in (marked_so e b items) ≡ x.entry ∷ entries_in items) [
@@ -264,38 +264,38 @@ marked-length : (e : Entry) (b : Bool) (items : List MarkedEntry) → length (ma
 marked-length e b [] = refl
 marked-length e b (x ∷ items) = ap suc (marked-length e b items)
 
-one-tells : (e : Entry) (b : Bool) (x : MarkedEntry) (before after : List Entry) → IsTurned before after e b → x.present ≡ is_among before x.entry
+one-tells : (e : Entry) (b : Bool) (x : MarkedEntry) (before after : List Entry) → IsFlipped before after e b → x.present ≡ is_among before x.entry
     → (cond (same_entry x.entry e) (record { entry = x.entry; present = b }) x).present ≡ is_among after (cond (same_entry x.entry e) (record { entry = x.entry; present = b }) x).entry
-one-tells e b x before after turned tells = elim (same_entry x.entry e) as (λ t. same_entry x.entry e ≡ t
+one-tells e b x before after flip tells = elim (same_entry x.entry e) as (λ t. same_entry x.entry e ≡ t
     → (cond t (record { entry = x.entry; present = b }) x).present ≡ is_among after (cond t (record { entry = x.entry; present = b }) x).entry) [
-      | true ↦ λ same. sym (ap (is_among after) (same_entry-same x.entry e same) ∙ turned.turned)
-      | false ↦ λ differ. tells ∙ sym (turned.others x.entry (λ is. let wrong : true ≡ false = sym (same_entry-refl e) ∙ ap (λ z. same_entry z e) (sym is) ∙ differ in absurd (cc)))
+      | true ↦ λ same. sym (ap (is_among after) (same_entry-same x.entry e same) ∙ flip.flip)
+      | false ↦ λ differ. tells ∙ sym (flip.others x.entry (λ is. let wrong : true ≡ false = sym (same_entry-refl e) ∙ ap (λ z. same_entry z e) (sym is) ∙ differ in absurd (cc)))
     ] refl
 
-marked-tell : (e : Entry) (b : Bool) (items : List MarkedEntry) (before after : List Entry) → IsTurned before after e b → TellPresent before items → TellPresent after (marked_so e b items)
-marked-tell e b [] before after turned tell = tt
-marked-tell e b (x ∷ items) before after turned tell = (one-tells e b x before after turned tell.0, marked-tell e b items before after turned tell.1)
+marked-tell : (e : Entry) (b : Bool) (items : List MarkedEntry) (before after : List Entry) → IsFlipped before after e b → TellPresent before items → TellPresent after (marked_so e b items)
+marked-tell e b [] before after flip tell = tt
+marked-tell e b (x ∷ items) before after flip tell = (one-tells e b x before after flip tell.0, marked-tell e b items before after flip tell.1)
 
-pub holds-marked : (rows : List Row) (before after : List Entry) (items : List MarkedEntry) (e : Entry) (b : Bool) → IsTurned before after e b → Holds rows before items → Holds rows after (marked_so e b items)
-holds-marked rows before after items e b turned holds = record {
+pub holds-marked : (rows : List Row) (before after : List Entry) (items : List MarkedEntry) (e : Entry) (b : Bool) → IsFlipped before after e b → Holds rows before items → Holds rows after (marked_so e b items)
+holds-marked rows before after items e b flip holds = record {
   rise = subst Rise (sym (marked-entries e b items)) holds.rise;
   as_many = marked-length e b items ∙ holds.as_many;
   same = λ x. subst (λ l. Contains l x ↔ Contains (added rows) x) (sym (marked-entries e b items)) (holds.same x);
-  tell = marked-tell e b items before after turned holds.tell;
+  tell = marked-tell e b items before after flip holds.tell;
 }
 
 -- or stands for an entry that is not held
-others-tell : (e : Entry) (b : Bool) (items : List MarkedEntry) (before after : List Entry) → IsTurned before after e b → ¬ In e (entries_in items) → TellPresent before items → TellPresent after items
-others-tell e b [] before after turned absent tell = tt
-others-tell e b (x ∷ items) before after turned absent tell =
-    (tell.0 ∙ sym (turned.others x.entry (λ is. absent (inl (sym is)))), others-tell e b items before after turned (λ later. absent (inr later)) tell.1)
+others-tell : (e : Entry) (b : Bool) (items : List MarkedEntry) (before after : List Entry) → IsFlipped before after e b → ¬ In e (entries_in items) → TellPresent before items → TellPresent after items
+others-tell e b [] before after flip absent tell = tt
+others-tell e b (x ∷ items) before after flip absent tell =
+    (tell.0 ∙ sym (flip.others x.entry (λ is. absent (inl (sym is)))), others-tell e b items before after flip (λ later. absent (inr later)) tell.1)
 
-pub holds-others : (rows : List Row) (before after : List Entry) (items : List MarkedEntry) (e : Entry) (b : Bool) → IsTurned before after e b → ¬ In e (added rows) → Holds rows before items → Holds rows after items
-holds-others rows before after items e b turned absent holds = record {
+pub holds-others : (rows : List Row) (before after : List Entry) (items : List MarkedEntry) (e : Entry) (b : Bool) → IsFlipped before after e b → ¬ In e (added rows) → Holds rows before items → Holds rows after items
+holds-others rows before after items e b flip absent holds = record {
   rise = holds.rise;
   as_many = holds.as_many;
   same = holds.same;
-  tell = others-tell e b items before after turned (λ inside. absent (contains_in _ e ((holds.same e).0 (in_contains _ e inside)))) holds.tell;
+  tell = others-tell e b items before after flip (λ inside. absent (contains_in _ e ((holds.same e).0 (in_contains _ e inside)))) holds.tell;
 }
 
 -- the marked entries are the survivors

@@ -5,9 +5,9 @@ pub mod EntryCmp
 pub mod EntryPlaces
 pub mod EntryEdits
 pub mod Places
-pub mod TurnedRows
+pub mod FlippedRows
 pub mod RowExtremes
-pub mod FoundTurns
+pub mod FoundFlips
 pub mod HeldEntries
 pub mod Edited
 pub mod FoundBridges

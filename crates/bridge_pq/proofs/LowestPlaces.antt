@@ -39,8 +39,8 @@ module _ (x : ℤ) (xs : List ℤ) (place depth : ℕ) (rest : IsFirstLowest xs 
     rest_first zero before = omega (arith, ints)
     rest_first (suc k) before = omega (arith, ints, rest.first k (omega arith))
 
-    behind : IsFirstLowest (x ∷ xs) (1 + place) (suc below)
-    behind = subst (λ p. IsFirstLowest (x ∷ xs) p (suc below)) (let same : suc place ≡ 1 + place = omega arith in same) (record {
+    after : IsFirstLowest (x ∷ xs) (1 + place) (suc below)
+    after = subst (λ p. IsFirstLowest (x ∷ xs) p (suc below)) (let same : suc place ≡ 1 + place = omega arith in same) (record {
       within = omega (arith, rest.within);
       there = omega (arith, ints, rest.there);
       least = rest_least;
@@ -52,13 +52,13 @@ step_up : (n : ℕ) (xs : List ℤ) (low : Option (ℕ × ℕ)) → IsFirstLowes
 step_up n xs None rest = at_start (pos n) xs 0 0 rest (omega (arith, ints))
 step_up n xs (Some (d, p)) rest = elim (cases_lt d n) [
   | inl shallow ↦ rw (lt_true d n shallow) (at_start (pos n) xs p (suc d) rest (omega (arith, ints)))
-  | inr deep ↦ rw (lt_false d n deep) (behind (pos n) xs p (suc d) rest (0 + (d - n)) (omega (arith, ints)))
+  | inr deep ↦ rw (lt_false d n deep) (after (pos n) xs p (suc d) rest (0 + (d - n)) (omega (arith, ints)))
 ]
 
 step_down : (n : ℕ) (xs : List ℤ) (low : Option (ℕ × ℕ)) → IsFirstLowest xs (place_in low) (falls_in low)
     → IsFirstLowest (negsuc n ∷ xs) (place_in (lower 0 1 (Some (n, 1)) low)) (falls_in (lower 0 1 (Some (n, 1)) low))
-step_down n xs None rest = behind (negsuc n) xs 0 0 rest n (omega (arith, ints))
-step_down n xs (Some (d, p)) rest = rw (lt_false d 0 (omega arith)) (behind (negsuc n) xs p (suc d) rest (suc n + (d - 0)) (omega (arith, ints)))
+step_down n xs None rest = after (negsuc n) xs 0 0 rest n (omega (arith, ints))
+step_down n xs (Some (d, p)) rest = rw (lt_false d 0 (omega arith)) (after (negsuc n) xs p (suc d) rest (suc n + (d - 0)) (omega (arith, ints)))
 
 nothing_least : (k : ℕ) → pos 0 ≤ℤ sum_to [] k
 nothing_least zero = omega (arith, ints)
@@ -77,12 +77,12 @@ dip_items : (xs : List ℤ) → (dip_of xs).items ≡ length xs
 dip_items [] = refl
 dip_items (x ∷ xs) = omega (arith, one_step x, dip_items xs)
 
--- how many steps are behind the lowest point tells how many are before it
+-- how many steps are after the lowest point tells how many are before it
 same_test : (all to place items low : ℕ) → items ≡ all - place → place ≤ all → to ≤ all → low ≤ items → nat_le (all - to) (items - low) ≡ nat_le (place + low) to
 same_test all to place items low is within upto inside = grind (arith, nat_tests)
 
 pub lowest-by-end : (xs : List ℤ) (to place : ℕ) → place ≤ length xs → to ≤ length xs
     → nat_le (length xs - to) ((dip_of (drop place xs)).items - place_in (dip_of (drop place xs)).low) ≡ is_lowest_up_to xs to place
 lowest-by-end xs to place within upto =
-    let behind : (dip_of (drop place xs)).items ≡ length xs - place = dip_items (drop place xs) ∙ length-drop place xs in
-    same_test (length xs) to place (dip_of (drop place xs)).items (place_in (dip_of (drop place xs)).low) behind within upto (omega (arith, (first_lowest (drop place xs)).within, dip_items (drop place xs)))
+    let after : (dip_of (drop place xs)).items ≡ length xs - place = dip_items (drop place xs) ∙ length-drop place xs in
+    same_test (length xs) to place (dip_of (drop place xs)).items (place_in (dip_of (drop place xs)).low) after within upto (omega (arith, (first_lowest (drop place xs)).within, dip_items (drop place xs)))

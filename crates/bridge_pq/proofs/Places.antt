@@ -14,11 +14,11 @@ module _ {A : Type 0} where
   insert-before (y ∷ xs) (suc place) zero x before within = refl
   insert-before (y ∷ xs) (suc place) (suc k) x before within = insert-before xs place k x (omega arith) (omega arith)
 
-  pub insert-behind : (xs : List A) (place k : ℕ) (x : A) → place ≤ k → place ≤ length xs → slice_get (insert xs place x) (suc k) ≡ slice_get xs k
-  insert-behind xs zero k x behind within = refl
-  insert-behind [] (suc place) k x behind within = absurd (omega arith)
-  insert-behind (y ∷ xs) (suc place) zero x behind within = absurd (omega arith)
-  insert-behind (y ∷ xs) (suc place) (suc k) x behind within = insert-behind xs place k x (omega arith) (omega arith)
+  pub insert-after : (xs : List A) (place k : ℕ) (x : A) → place ≤ k → place ≤ length xs → slice_get (insert xs place x) (suc k) ≡ slice_get xs k
+  insert-after xs zero k x after within = refl
+  insert-after [] (suc place) k x after within = absurd (omega arith)
+  insert-after (y ∷ xs) (suc place) zero x after within = absurd (omega arith)
+  insert-after (y ∷ xs) (suc place) (suc k) x after within = insert-after xs place k x (omega arith) (omega arith)
 
   pub remove-before : (xs : List A) (place k : ℕ) → k < place → slice_get (remove xs place) k ≡ slice_get xs k
   remove-before xs zero k before = absurd (omega arith)
@@ -26,12 +26,12 @@ module _ {A : Type 0} where
   remove-before (y ∷ xs) (suc place) zero before = refl
   remove-before (y ∷ xs) (suc place) (suc k) before = remove-before xs place k (omega arith)
 
-  pub remove-behind : (xs : List A) (place k : ℕ) → place ≤ k → slice_get (remove xs place) k ≡ slice_get xs (suc k)
-  remove-behind [] zero k behind = refl
-  remove-behind [] (suc place) k behind = refl
-  remove-behind (y ∷ xs) zero k behind = refl
-  remove-behind (y ∷ xs) (suc place) zero behind = absurd (omega arith)
-  remove-behind (y ∷ xs) (suc place) (suc k) behind = remove-behind xs place k (omega arith)
+  pub remove-after : (xs : List A) (place k : ℕ) → place ≤ k → slice_get (remove xs place) k ≡ slice_get xs (suc k)
+  remove-after [] zero k after = refl
+  remove-after [] (suc place) k after = refl
+  remove-after (y ∷ xs) zero k after = refl
+  remove-after (y ∷ xs) (suc place) zero after = absurd (omega arith)
+  remove-after (y ∷ xs) (suc place) (suc k) after = remove-after xs place k (omega arith)
 
 module _ {A B : Type 0} (f : A → B) where
   pub map-insert : (xs : List A) (place : ℕ) (x : A) → map f (insert xs place x) ≡ insert (map f xs) place (f x)

@@ -55,37 +55,37 @@ all_at P (y ∷ ys) zero x all there = let same : y ≡ x = cc in rw same at all
 all_at P (y ∷ ys) (suc index) x all there = all_at P ys index x all.1 there
 
 module _ (items : List MarkedRow) (kept : List MarkedEntry) (bridged : IsBridged items kept) where
-  -- the present is told by the marks
-  pub present-told : present Pq (rows_of items) ≡ entries (present_in kept)
-  present-told = present-state (rows_of items) (history-of items kept bridged) ∙ ap (λ es. entries es) (sym (present-is (rows_of items) kept (history-of items kept bridged) bridged.holds))
+  -- the present is reported by the marks
+  pub present-reported : present Pq (rows_of items) ≡ entries (present_in kept)
+  present-reported = present-state (rows_of items) (history-of items kept bridged) ∙ ap (λ es. entries es) (sym (present-is (rows_of items) kept (history-of items kept bridged) bridged.holds))
 
   pub size-answer : answer_of (present Pq (rows_of items)) Size ≡ Number (pos (length (present_in kept)))
   unfolding answer_of
-  size-answer = ap (λ state. answer_of state Size) present-told
+  size-answer = ap (λ state. answer_of state Size) present-reported
 
   pub min-answer : answer_of (present Pq (rows_of items)) Min ≡ number_of (option_map key_of (slice_get (present_in kept) 0))
   unfolding answer_of
-  min-answer = ap (λ state. answer_of state Min) present-told
+  min-answer = ap (λ state. answer_of state Min) present-reported
 
   pub nth-answer : (index : ℕ) → answer_of (present Pq (rows_of items)) (Nth index) ≡ number_of (option_map key_of (slice_get (present_in kept) index))
   unfolding answer_of
-  nth-answer index = ap (λ state. answer_of state (Nth index)) present-told
+  nth-answer index = ap (λ state. answer_of state (Nth index)) present-reported
 
-  pub keys-told : content (present Pq (rows_of items)) ≡ map (λ entry. Single entry.key) (present_in kept)
+  pub keys-reported : content (present Pq (rows_of items)) ≡ map (λ entry. Single entry.key) (present_in kept)
   unfolding content
-  keys-told = ap content present-told
+  keys-reported = ap content present-reported
 
   -- a mark tells whether the entry of the row at a place survives
   module _ (place : ℕ) (item : MarkedRow) (own : Entry) (there : slice_get items place ≡ Some item) (adds : added_by item.row ≡ Some own) where
-    told : item.survives ≡ is_among (survivors (rows_of items)) own
-    told = all_at (λ (one : MarkedRow). one.survives ≡ is_one_of (survivors (rows_of items)) (added_by one.row)) items place item bridged.marked there ∙ ap (is_one_of (survivors (rows_of items))) adds
+    reported : item.survives ≡ is_among (survivors (rows_of items)) own
+    reported = all_at (λ (one : MarkedRow). one.survives ≡ is_one_of (survivors (rows_of items)) (added_by one.row)) items place item bridged.marked there ∙ ap (is_one_of (survivors (rows_of items))) adds
 
     pub mark-lives : item.survives ≡ true → Contains (survivors (rows_of items)) own
-    mark-lives set = in_contains _ own (is_among_in own (survivors (rows_of items)) (sym told ∙ set))
+    mark-lives set = in_contains _ own (is_among_in own (survivors (rows_of items)) (sym reported ∙ set))
 
     pub mark-dead : item.survives ≡ false → ¬ Contains (survivors (rows_of items)) own
     mark-dead set lives =
-        let wrong : true ≡ false = sym (in_is_among own (survivors (rows_of items)) (contains_in _ own lives)) ∙ sym told ∙ set in
+        let wrong : true ≡ false = sym (in_is_among own (survivors (rows_of items)) (contains_in _ own lives)) ∙ sym reported ∙ set in
         absurd (cc)
 
   pub entries-few : length kept ≤ length (rows_of items)

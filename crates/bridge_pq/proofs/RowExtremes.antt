@@ -157,28 +157,28 @@ module _ (order : Entry → Entry → Ordering) (agrees : (a b : Entry) → is_g
   ] refl
 
   module _ (from : ℕ) where
-    abbrev behind : List MarkedRow
-    behind = drop from items
+    abbrev after : List MarkedRow
+    after = drop from items
 
-    behind_rows : rows_of behind ≡ drop from rows
-    behind_rows = map-drop (λ item. item.row) items from
+    after_rows : rows_of after ≡ drop from rows
+    after_rows = map-drop (λ item. item.row) items from
 
-    pub none-dead : NoElement (dead_of behind) → (x : Entry) → ¬ IsDeadFrom rows from x
+    pub none-dead : NoElement (dead_of after) → (x : Entry) → ¬ IsDeadFrom rows from x
     none-dead none x dead =
-        let found = there-dead alive behind x (marked-drop alive items from marked) (subst (λ l. In x (added l)) (sym behind_rows) (contains_in _ x dead.0)) (outside_of x dead.1) in
+        let found = there-dead alive after x (marked-drop alive items from marked) (subst (λ l. In x (added l)) (sym after_rows) (contains_in _ x dead.0)) (outside_of x dead.1) in
         none found.0 x found.1
 
-    pub some-dead : (place : ℕ) (e : Entry) → IsFirstGreatest order (dead_of behind) e place → (x : Entry) × AddsAt rows (from + place) x × IsGreatest (IsDeadFrom rows from) x
+    pub some-dead : (place : ℕ) (e : Entry) → IsFirstGreatest order (dead_of after) e place → (x : Entry) × AddsAt rows (from + place) x × IsGreatest (IsDeadFrom rows from) x
     some-dead place e first =
-        let at = dead-there alive behind place e (marked-drop alive items from marked) first.there in
-        let row_there : slice_get rows (from + place) ≡ Some at.row = sym (get_drop rows from place) ∙ ap (λ l. slice_get l place) (sym behind_rows) ∙ at.there in
-        let inside : In e (added (drop from rows)) = subst (λ l. In e (added l)) behind_rows (adds-in (rows_of behind) place at.row e at.there at.adds) in (
+        let at = dead-there alive after place e (marked-drop alive items from marked) first.there in
+        let row_there : slice_get rows (from + place) ≡ Some at.row = sym (get_drop rows from place) ∙ ap (λ l. slice_get l place) (sym after_rows) ∙ at.there in
+        let inside : In e (added (drop from rows)) = subst (λ l. In e (added l)) after_rows (adds-in (rows_of after) place at.row e at.there at.adds) in (
           e,
           (at.row, row_there, at.adds),
           record {
             one = (in_contains _ e inside, not_there e at.lives);
             greatest = λ other dead.
-                let found = there-dead alive behind other (marked-drop alive items from marked) (subst (λ l. In other (added l)) (sym behind_rows) (contains_in _ other dead.0)) (outside_of other dead.1) in
+                let found = there-dead alive after other (marked-drop alive items from marked) (subst (λ l. In other (added l)) (sym after_rows) (contains_in _ other dead.0)) (outside_of other dead.1) in
                 agrees other e (first.greatest found.0 other found.1);
           },
         )
@@ -211,8 +211,8 @@ module _ (order : Entry → Entry → Ordering) (agrees : (a b : Entry) → is_g
         )
 
 -- the ranges that are measured
-pub range-behind : (items : List MarkedRow) (from : ℕ) → from ≤ length items → slice_range items from (length items) ≡ drop from items
-range-behind items from within = take_all (length items - from) (drop from items) (omega (arith, length-drop from items))
+pub range-after : (items : List MarkedRow) (from : ℕ) → from ≤ length items → slice_range items from (length items) ≡ drop from items
+range-after items from within = take_all (length items - from) (drop from items) (omega (arith, length-drop from items))
 
 pub range-before : (items : List MarkedRow) (to : ℕ) → slice_range items 0 to ≡ take to items
 range-before items to = ap (λ n. take n items) (let same : to - 0 ≡ to = omega arith in same)

@@ -51,8 +51,8 @@ module _ {A B : Type 0} (f : A → B) where
   map-drop (x ∷ xs) (suc n) = map-drop xs n
 
 -- the walk of the weights from a place on
-pub dip-behind : (order : Entry → Entry → Ordering) (items : List MarkedRow) (from : ℕ) → (measures_of order (drop from items)).0 ≡ dip_of (drop from (weights_of items))
-dip-behind order items from = dip-part order (drop from items) ∙ ap dip_of (map-drop (λ item. weight_in item.survives (added_by item.row)) items from)
+pub dip-after : (order : Entry → Entry → Ordering) (items : List MarkedRow) (from : ℕ) → (measures_of order (drop from items)).0 ≡ dip_of (drop from (weights_of items))
+dip-after order items from = dip-part order (drop from items) ∙ ap dip_of (map-drop (λ item. weight_in item.survives (added_by item.row)) items from)
 
 -- the marks make the weights those of the definitions
 weighs_by : (alive : List Entry) (m : Option Entry) (survives : Bool) → survives ≡ is_one_of alive m → weight_in survives m ≡ weight_as alive m

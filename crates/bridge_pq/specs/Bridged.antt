@@ -16,9 +16,9 @@ use Rattle.bridge_pq.specs.MarkedEntries.{entries_in, Rise, TellPresent}
 abbrev pub AddsAt : List Row → ℕ → Entry → Type 0
 AddsAt rows place entry = (row : Row) × (slice_get rows place ≡ Some row) × (added_by row ≡ Some entry)
 
--- among the entries of the present this one is turned, and no other
-pub record IsTurned (before after : List Entry) (entry : Entry) (survives : Bool) : Type 0 where
-  pub turned : is_among after entry ≡ survives
+-- among the entries of the present this one is flipped, and no other
+pub record IsFlipped (before after : List Entry) (entry : Entry) (survives : Bool) : Type 0 where
+  pub flip : is_among after entry ≡ survives
   pub others : (other : Entry) → other ≢ entry → is_among after other ≡ is_among before other
 
 -- the entries are those that the rows add, each once and in order, with marks for those of the present

@@ -18,7 +18,7 @@ abbrev pub place_in : Option (ℕ × ℕ) → ℕ
 place_in None = 0
 place_in (Some p) = p.1
 
--- the lowest point of a walk that ends so high above its own, after so many steps, and of another one behind it
+-- the lowest point of a walk that ends so high above its own, after so many steps, and of another one after it
 abbrev pub lower : ℕ → ℕ → Option (ℕ × ℕ) → Option (ℕ × ℕ) → Option (ℕ × ℕ)
 lower rises items low None = low
 lower rises items low (Some q) = if nat_lt q.0 rises then low else Some (falls_in low + (q.0 - rises), items + q.1)

@@ -1,8 +1,8 @@
 pub mod EntryOrder
-pub mod Spots
+pub mod ExtremeEntries
 pub mod Dips
 pub mod DipLaws
 pub mod MarkedRows
 pub mod MarkedEntries
 pub mod Bridged
-pub mod Turns
+pub mod Flips

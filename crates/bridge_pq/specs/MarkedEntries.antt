@@ -19,7 +19,7 @@ abbrev pub present_in : List MarkedEntry → List Entry
 present_in [] = []
 present_in (item ∷ items) = if item.present then item.entry ∷ present_in items else present_in items
 
--- each entry comes before those behind it
+-- each entry comes before those after it
 abbrev pub Rise : List Entry → Type 0
 Rise [] = Unit {0}
 Rise (x ∷ xs) = AllByRecursion (λ y. comes_before x y ≡ true) xs × Rise xs
@@ -28,7 +28,7 @@ Rise (x ∷ xs) = AllByRecursion (λ y. comes_before x y ≡ true) xs × Rise xs
 abbrev pub TellPresent : List Entry → List MarkedEntry → Type 0
 TellPresent alive items = AllByRecursion (λ item. item.present ≡ is_among alive item.entry) items
 
--- what entries measure, none of them and one range behind another: the sum of their marks, and the last of them
+-- what entries measure, none of them and one range after another: the sum of their marks, and the last of them
 abbrev pub no_entries : Summed × Option Entry
 no_entries = (no_sum, None)
 

@@ -48,7 +48,7 @@ alive_in false added = None
 abbrev pub weights_of : List MarkedRow → List ℤ
 weights_of items = map (λ item. weight_in item.survives (added_by item.row)) items
 
--- what rows measure: none of them, and one range behind another
+-- what rows measure: none of them, and one range after another
 abbrev pub no_rows : Dip × (Extreme Entry × Extreme Entry)
 no_rows = (no_dip, (no_extreme, no_extreme))
 

@@ -8,11 +8,11 @@ ghost use Rattle.retro_base.specs.Visits.{VisitsWithin};
 ghost use Rattle.retro_base.specs.Weights.{added_by};
 ghost use Rattle.retro_base.specs.declared.row.Row.{Row};
 ghost use Rattle.bridge_pq.specs.MarkedRows.{rows_of, AreMarked};
-ghost use Rattle.bridge_pq.specs.Turns.{Turns};
+ghost use Rattle.bridge_pq.specs.Flips.{Flips};
 
 use crate::marked_row::MarkedRow;
 use crate::row_search::{entry_at, first_bridge, greatest_dead, last_bridge, least_survivor};
-use crate::turned::Turned;
+use crate::flip::Flip;
 use retro_base::{Change, Entry, Row, Steps};
 use std::sync::ledger::Ledger;
 use weighted_tree::Tree;
@@ -40,19 +40,19 @@ pub(crate) fn gained_with<L: Ledger>(
     row: Row,
     new: Entry,
     steps: &mut Steps<L>,
-) -> Turned
+) -> Flip
     requires possible { IsPqEdit (rows_of rows.now) (add place row) }
     requires adds { added_by row ≡ Some new }
     requires marked { AreMarked (survivors (rows_of rows.now)) rows.now }
     requires few { length rows.now ≤ most_rows }
-    ensures turns { Turns (rows_of rows.now) (add place row) result }
+    ensures flips { Flips (rows_of rows.now) (add place row) result }
     ensures visits { VisitsWithin 48 (length rows.now) steps.old steps.new }
 {
     let bridge = last_bridge(rows, place, steps);
     if let Some(dead) = greatest_dead(rows, bridge, steps) {
         let entry = entry_at(rows, dead, steps);
         if new.comes_before(entry) {
-            return Turned {
+            return Flip {
                 change: Change::Gain { bridge, entry },
                 entry,
                 place: place_with(dead, place),
@@ -60,7 +60,7 @@ pub(crate) fn gained_with<L: Ledger>(
             };
         }
     }
-    Turned {
+    Flip {
         change: Change::Gain { bridge, entry: new },
         entry: new,
         place,
@@ -74,13 +74,13 @@ pub(crate) fn lost_with<L: Ledger>(
     place: u32,
     row: Row,
     steps: &mut Steps<L>,
-) -> Turned
+) -> Flip
     requires possible { IsPqEdit (rows_of rows.now) (add place row) }
     requires accepted { IsAccepted Pq (rows_of rows.now) (add place row) }
     requires takes { added_by row ≡ None }
     requires marked { AreMarked (survivors (rows_of rows.now)) rows.now }
     requires few { length rows.now ≤ most_rows }
-    ensures turns { Turns (rows_of rows.now) (add place row) result }
+    ensures flips { Flips (rows_of rows.now) (add place row) result }
     ensures visits { VisitsWithin 48 (length rows.now) steps.old steps.new }
 {
     let bridge = first_bridge(rows, place, steps);
@@ -88,7 +88,7 @@ pub(crate) fn lost_with<L: Ledger>(
         unreachable!()
     };
     let entry = entry_at(rows, least, steps);
-    Turned {
+    Flip {
         change: Change::Lose {
             bridge: Some(bridge),
             entry,
@@ -105,12 +105,12 @@ pub(crate) fn gained_without<L: Ledger>(
     place: u32,
     row: Row,
     steps: &mut Steps<L>,
-) -> Turned
+) -> Flip
     requires possible { IsPqEdit (rows_of rows.now) (cut place row) }
     requires takes { added_by row ≡ None }
     requires marked { AreMarked (survivors (rows_of rows.now)) rows.now }
     requires few { length rows.now ≤ most_rows }
-    ensures turns { Turns (rows_of rows.now) (cut place row) result }
+    ensures flips { Flips (rows_of rows.now) (cut place row) result }
     ensures visits { VisitsWithin 48 (length rows.now) steps.old steps.new }
 {
     let bridge = last_bridge(rows, place, steps);
@@ -118,7 +118,7 @@ pub(crate) fn gained_without<L: Ledger>(
         unreachable!()
     };
     let entry = entry_at(rows, dead, steps);
-    Turned {
+    Flip {
         change: Change::Gain { bridge, entry },
         entry,
         place: place_without(dead, place),
@@ -133,14 +133,14 @@ pub(crate) fn lost_without<L: Ledger>(
     row: Row,
     own: Entry,
     steps: &mut Steps<L>,
-) -> Turned
+) -> Flip
     requires possible { IsPqEdit (rows_of rows.now) (cut place row) }
     requires accepted { IsAccepted Pq (rows_of rows.now) (cut place row) }
     requires adds { added_by row ≡ Some own }
     requires dead { ¬ Contains (survivors (rows_of rows.now)) own }
     requires marked { AreMarked (survivors (rows_of rows.now)) rows.now }
     requires few { length rows.now ≤ most_rows }
-    ensures turns { Turns (rows_of rows.now) (cut place row) result }
+    ensures flips { Flips (rows_of rows.now) (cut place row) result }
     ensures visits { VisitsWithin 48 (length rows.now) steps.old steps.new }
 {
     let bridge = first_bridge(rows, place + 1, steps);
@@ -148,7 +148,7 @@ pub(crate) fn lost_without<L: Ledger>(
         unreachable!()
     };
     let entry = entry_at(rows, least, steps);
-    Turned {
+    Flip {
         change: Change::Lose {
             bridge: Some(bridge),
             entry,

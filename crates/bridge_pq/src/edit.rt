@@ -20,29 +20,29 @@ use crate::entry_tree::{mark_entry, put_entry, take_entry};
 use crate::marked_entry::MarkedEntry;
 use crate::marked_row::MarkedRow;
 use crate::row_search::mark_row;
-use crate::turned::Turned;
+use crate::flip::Flip;
 use retro_base::{Change, Entry, NoMemory, Row, Steps};
 use std::sync::ledger::Ledger;
 use weighted_tree::Tree;
 
 /// Turns the marks of a changed entry and of its row.
-fn turn<L: Ledger>(
+fn flip_marks<L: Ledger>(
     rows: &mut Tree<MarkedRow>,
     entries: &mut Tree<MarkedEntry>,
-    turned: Turned,
+    flip: Flip,
     steps: &mut Steps<L>,
 )
-    requires within { turned.place < length rows.old }
+    requires within { flip.place < length rows.old }
     requires few { length entries.old ≤ length rows.old }
     requires rise { Rise (entries_in entries.old) }
-    requires among { Contains (entries_in entries.old) turned.entry }
-    ensures rows { (item : MarkedRow) → slice_get rows.old turned.place ≡ Some item
-        → rows.new ≡ slice_set rows.old turned.place (record { row = item.row; survives = turned.survives }) }
-    ensures entries { entries.new ≡ marked_so turned.entry turned.survives entries.old }
+    requires among { Contains (entries_in entries.old) flip.entry }
+    ensures rows { (item : MarkedRow) → slice_get rows.old flip.place ≡ Some item
+        → rows.new ≡ slice_set rows.old flip.place (record { row = item.row; survives = flip.survives }) }
+    ensures entries { entries.new ≡ marked_so flip.entry flip.survives entries.old }
     ensures visits { VisitsWithin 48 (length rows.old) steps.old steps.new }
 {
-    mark_row(rows, turned.place, turned.survives, steps);
-    mark_entry(entries, turned.entry, turned.survives, steps);
+    mark_row(rows, flip.place, flip.survives, steps);
+    mark_entry(entries, flip.entry, flip.survives, steps);
 }
 
 /// Puts a row in whose mark is not set. After `NoMemory` all is as before.
@@ -115,10 +115,10 @@ pub(crate) fn insert_adding<L: Ledger>(
     ensures err { OnErr result ((rows.new ≡ rows.old) × (entries.new ≡ entries.old)) }
     ensures visits { VisitsWithin 144 (length rows.new) steps.old steps.new }
 {
-    let turned = gained_with(rows, place, row, new, steps);
+    let flip = gained_with(rows, place, row, new, steps);
     put_row_with_entry(rows, entries, place, row, new, steps)?;
-    turn(rows, entries, turned, steps);
-    Ok(turned.change)
+    flip_marks(rows, entries, flip, steps);
+    Ok(flip.change)
 }
 
 /// Puts in a row that takes.
@@ -142,10 +142,10 @@ pub(crate) fn insert_taking<L: Ledger>(
     ensures err { OnErr result ((rows.new ≡ rows.old) × (entries.new ≡ entries.old)) }
     ensures visits { VisitsWithin 144 (length rows.new) steps.old steps.new }
 {
-    let turned = lost_with(rows, place, row, steps);
+    let flip = lost_with(rows, place, row, steps);
     put_row(rows, place, row, steps)?;
-    turn(rows, entries, turned, steps);
-    Ok(turned.change)
+    flip_marks(rows, entries, flip, steps);
+    Ok(flip.change)
 }
 
 /// Takes out a row whose entry survives.
@@ -194,11 +194,11 @@ pub(crate) fn remove_dead<L: Ledger>(
     ensures change { IsPqChange (rows_of rows.old) (cut place row) result }
     ensures visits { VisitsWithin 132 (length rows.old) steps.old steps.new }
 {
-    let turned = lost_without(rows, place, row, own, steps);
+    let flip = lost_without(rows, place, row, own, steps);
     rows.remove(place, steps);
     take_entry(entries, own, steps);
-    turn(rows, entries, turned, steps);
-    turned.change
+    flip_marks(rows, entries, flip, steps);
+    flip.change
 }
 
 /// Takes out a row that takes.
@@ -218,8 +218,8 @@ pub(crate) fn remove_taking<L: Ledger>(
     ensures change { IsPqChange (rows_of rows.old) (cut place row) result }
     ensures visits { VisitsWithin 132 (length rows.old) steps.old steps.new }
 {
-    let turned = gained_without(rows, place, row, steps);
+    let flip = gained_without(rows, place, row, steps);
     rows.remove(place, steps);
-    turn(rows, entries, turned, steps);
-    turned.change
+    flip_marks(rows, entries, flip, steps);
+    flip.change
 }

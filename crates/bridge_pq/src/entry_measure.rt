@@ -1,7 +1,7 @@
 ghost use Rattle.std.specs.Prelude.{◌≡◌, pos, Some, if◌then◌else◌};
 ghost use Rattle.monoid_laws.specs.Summed.{one_sum};
 
-use crate::spot::Spot;
+use crate::extreme::ExtremeEntry;
 use monoid_laws::Monoid;
 use retro_base::Entry;
 use std::marker::Model;
@@ -11,7 +11,7 @@ use std::marker::Model;
 pub(crate) struct EntryMeasure {
     entries: u32,
     present: u32,
-    last: Spot,
+    last: ExtremeEntry,
 }
 
 impl Model for EntryMeasure {
@@ -22,13 +22,13 @@ impl Model for EntryMeasure {
 
     ghost Value = { Summed × Option Entry };
 
-    ghost view = { λ m. (record { items = m.entries; sum = pos m.present }, option_map (λ spot. spot.0) m.last) };
+    ghost view = { λ m. (record { items = m.entries; sum = pos m.present }, option_map (λ extreme. extreme.0) m.last) };
 
     ghost inverse = { λ v. record { entries = v.0.items; present = nat_abs v.0.sum; last = option_map (λ entry. (entry, 0)) v.1 } };
 
     ghost inverse_ok = { λ m h i. record { entries = m.entries; present = m.present; last = h.1 i } };
 
-    ghost invariant = { λ m. (m.present ≤ m.entries) × (option_map (λ entry. (entry, 0)) (option_map (λ spot. spot.0) m.last) ≡ m.last) };
+    ghost invariant = { λ m. (m.present ≤ m.entries) × (option_map (λ entry. (entry, 0)) (option_map (λ extreme. extreme.0) m.last) ≡ m.last) };
 }
 
 impl EntryMeasure {
@@ -39,7 +39,7 @@ impl EntryMeasure {
         EntryMeasure {
             entries: 1,
             present: if present { 1 } else { 0 },
-            last: Spot::at_start(entry),
+            last: ExtremeEntry::at_start(entry),
         }
     }
 
@@ -73,7 +73,7 @@ impl Monoid for EntryMeasure {
         EntryMeasure {
             entries: 0,
             present: 0,
-            last: Spot::none(),
+            last: ExtremeEntry::none(),
         }
     }
 

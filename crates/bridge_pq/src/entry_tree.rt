@@ -25,7 +25,7 @@ fn place_of<L: Ledger>(entries: &Tree<MarkedEntry>, entry: Entry, steps: &mut St
     requires { Rise (entries_in entries.now) }
     ensures within { result ≤ length entries.now }
     ensures before { AllWithin (λ other. comes_before other entry ≡ true) (entries_in entries.now) 0 result }
-    ensures behind { AllWithin (λ other. comes_before other entry ≡ false) (entries_in entries.now) result (length entries.now) }
+    ensures after { AllWithin (λ other. comes_before other entry ≡ false) (entries_in entries.now) result (length entries.now) }
     ensures visits { VisitsWithin 12 (length entries.now) steps.old steps.new }
 {
     match entries.first_place(0, |range: &EntryMeasure| reaches(range, entry), steps) {

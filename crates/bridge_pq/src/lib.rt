@@ -4,11 +4,11 @@
 //! alone. The idea is that of Demaine, Iacono and Langerman, "Retroactive Data Structures", section 5.5: a
 //! row weighs 0 where it adds an entry that survives, 1 where it adds one that is dead, and -1 where it
 //! takes. A bridge is a place where the weights before it sum to 0: all that is held there survives. An
-//! edit turns the mark of one entry, which a bridge tells: what is gained is the greatest dead entry from the
+//! edit flips the mark of one entry, which a bridge tells: what is gained is the greatest dead entry from the
 //! last bridge on, and what is lost is the least survivor from before the first bridge. Of entries with
 //! equal keys the one with the lesser number comes first.
 //!
-//! The sum is never below 0, and behind all rows it is 0. So from any place on the weights are first at their
+//! The sum is never below 0, and after all rows it is 0. So from any place on the weights are first at their
 //! lowest sum at the next bridge, and no weight before the place is needed to find it.
 //!
 //! Two trees of `weighted_tree` are all that it keeps. One has the rows with their marks; a range of them
@@ -33,9 +33,9 @@
 //!
 //! What the layer above may rely on: the clauses of `Partial`, of which 144 d is the bound for each call. The lesser
 //! numbers of this table follow from the bodies, and no public clause names them.
-//! Files: `marked_row`, `marked_entry` (what stands in the trees), `row_measure`, `entry_measure`, `spot` (what
+//! Files: `marked_row`, `marked_entry` (what stands in the trees), `row_measure`, `entry_measure`, `extreme` (what
 //! a range of them measures, kept small, since each node has two), `row_search` (bridges and the changed
-//! entries), `entry_tree` (entries by their order), `turned`, `changes`, `failure` (what an edit changes, or
+//! entries), `entry_tree` (entries by their order), `flipped`, `changes`, `failure` (what an edit changes, or
 //! which row it stops), `edit` (the two trees together), `bridge_queue`.
 #![tactic(auto)]
 
@@ -49,7 +49,7 @@ mod marked_entry;
 mod marked_row;
 mod row_measure;
 mod row_search;
-mod spot;
-mod turned;
+mod extreme;
+mod flip;
 
 pub use bridge_queue::BridgeQueue;

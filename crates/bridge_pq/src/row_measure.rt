@@ -6,7 +6,7 @@ ghost use Rattle.retro_base.specs.declared.row.Entry.{Entry};
 ghost use Rattle.bridge_pq.specs.EntryOrder.{entry_order};
 ghost use Rattle.bridge_pq.specs.Dips.{one_dip, place_in, lower};
 
-use crate::spot::Spot;
+use crate::extreme::ExtremeEntry;
 use monoid_laws::Monoid;
 use retro_base::Entry;
 use std::marker::Model;
@@ -19,8 +19,8 @@ pub(crate) struct RowMeasure {
     falls: u32,
     rises: u32,
     lowest: u32,
-    dead: Spot,
-    alive: Spot,
+    dead: ExtremeEntry,
+    alive: ExtremeEntry,
 }
 
 // Clauses see three measures side by side, a walk and two extremes; here they share one number of rows.
@@ -51,8 +51,8 @@ impl RowMeasure {
             falls: 1,
             rises: 0,
             lowest: 1,
-            dead: Spot::none(),
-            alive: Spot::none(),
+            dead: ExtremeEntry::none(),
+            alive: ExtremeEntry::none(),
         }
     }
 
@@ -65,8 +65,8 @@ impl RowMeasure {
             falls: 0,
             rises: 0,
             lowest: 0,
-            dead: Spot::none(),
-            alive: Spot::at_start(entry),
+            dead: ExtremeEntry::none(),
+            alive: ExtremeEntry::at_start(entry),
         }
     }
 
@@ -79,8 +79,8 @@ impl RowMeasure {
             falls: 0,
             rises: 1,
             lowest: 0,
-            dead: Spot::at_start(entry),
-            alive: Spot::none(),
+            dead: ExtremeEntry::at_start(entry),
+            alive: ExtremeEntry::none(),
         }
     }
 
@@ -91,14 +91,14 @@ impl RowMeasure {
         self.lowest
     }
 
-    /// How many rows stand behind it.
-    pub(crate) fn behind_lowest(&self) -> u32
+    /// How many rows stand after it.
+    pub(crate) fn after_lowest(&self) -> u32
         ensures { result ≡ self.now.0.items - place_in self.now.0.low }
     {
         self.rows - self.lowest
     }
 
-    /// How many rows stand before the first lowest sum of this range and one behind it.
+    /// How many rows stand before the first lowest sum of this range and one after it.
     fn lowest_with(&self, other: &RowMeasure) -> u32
         requires { self.now.0.items + other.now.0.items < 2 ^ 32 }
         ensures { result ≡ place_in (lower self.now.0.rises self.now.0.items self.now.0.low other.now.0.low) }
@@ -142,8 +142,8 @@ impl Monoid for RowMeasure {
             falls: 0,
             rises: 0,
             lowest: 0,
-            dead: Spot::none(),
-            alive: Spot::none(),
+            dead: ExtremeEntry::none(),
+            alive: ExtremeEntry::none(),
         }
     }
 

@@ -22,10 +22,10 @@ fn last_lowest<L: Ledger>(rows: &Tree<MarkedRow>, to: u32, steps: &mut Steps<L>)
     ensures last { IsLastOrNone (is_lowest_up_to (weights_of rows.now) to) (length rows.now) result }
     ensures visits { VisitsWithin 12 (length rows.now) steps.old steps.new }
 {
-    let behind = rows.len() - to;
+    let after = rows.len() - to;
     rows.last_place(
         rows.len(),
-        |range: &RowMeasure| behind <= range.behind_lowest(),
+        |range: &RowMeasure| after <= range.after_lowest(),
         steps,
     )
 }

@@ -1,4 +1,4 @@
-//! One structure for each kind, behind one type.
+//! One structure for each kind, after one type.
 //!
 //! An `Engine` is made for a kind and stays of it. It implements `Retro` of `retro_base`: its rows are those
 //! of the structure inside, which its variant names, and each answer is the replay of these rows.

@@ -124,11 +124,11 @@ edit_no_spaces : (added : Bool) → no_spaces (edit_word added) ≡ true
 edit_no_spaces true = refl
 edit_no_spaces false = refl
 
--- the same, from the words behind the number of the row
+-- the same, from the words after the number of the row
 nested_words : (e : Evidence) → IsEvidence e → (from_op : List ℕ) → words from_op ≡ op_words e.op (change_words e.change)
     → spelling e ≡ codes "edit" ++ 32 ∷ (e.name ++ 32 ∷ (edit_word e.added ++ 32 ∷ (decimal e.place ++ 32 ∷ (number_text e.number ++ 32 ∷ from_op))))
     → words (spelling e) ≡ line_words e
-nested_words e is from_op behind nested =
+nested_words e is from_op after nested =
     ap words nested
     ∙ ap (λ rest. codes "edit" ∷ rest) (
     word_then e.name _ (name_no_spaces e.name is.named)
@@ -138,7 +138,7 @@ nested_words e is from_op behind nested =
     word_then (decimal e.place) _ (decimal_no_spaces e.place (omega (arith, is.place)))
     ∙ ap (λ rest. decimal e.place ∷ rest) (
     word_then (number_text e.number) from_op (decimal_no_spaces e.number (omega (arith, is.number.1)))
-    ∙ ap (λ rest. number_text e.number ∷ rest) behind))))
+    ∙ ap (λ rest. number_text e.number ∷ rest) after))))
 
 pub words_of_line : (e : Evidence) → IsEvidence e → words (spelling e) ≡ line_words e
 unfolding spelling
@@ -149,5 +149,5 @@ words_of_line e is =
     let from_place : List ℕ = decimal e.place ++ 32 ∷ from_number in
     let from_edit : List ℕ = edit_word e.added ++ 32 ∷ from_place in
     let nested : spelling e ≡ codes "edit" ++ 32 ∷ (e.name ++ 32 ∷ from_edit) = simp append_assoc in
-    let behind : words from_op ≡ op_words e.op (change_words e.change) = cut_op e.op change is.op ∙ ap (λ rest. op_words e.op rest) (cut_change e.change is.change) in
-    nested_words e is from_op behind nested
+    let after : words from_op ≡ op_words e.op (change_words e.change) = cut_op e.op change is.op ∙ ap (λ rest. op_words e.op rest) (cut_change e.change is.change) in
+    nested_words e is from_op after nested

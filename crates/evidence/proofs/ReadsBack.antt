@@ -127,7 +127,7 @@ abbrev IsChanged : List (List ℕ) → Change → Type 0
 IsChanged all change = (all ≡ change_words change) × IsStatedChange change
 
 abbrev IsOpThen : List (List ℕ) → (Op × Change) → Type 0
-IsOpThen all behind = (all ≡ op_words behind.0 (change_words behind.1)) × IsPqOp behind.0 × IsStatedChange behind.1
+IsOpThen all after = (all ≡ op_words after.0 (change_words after.1)) × IsPqOp after.0 × IsStatedChange after.1
 
 number_is : (word : List ℕ) → IfSome (number_of word) (IsNumber word)
 number_is word = any_of (IsNumber word) (number_of word) (number_found word)
@@ -230,7 +230,7 @@ line_is (edit ∷ name ∷ added ∷ place ∷ number ∷ rest) =
     chained_from P (IsAdded added) _ (added_of added) (added_is added) (λ a adds.
     chained_from P (IsNumber place) _ (number_of place) (number_is place) (λ p at.
     chained_from P (IsNumbered number) _ (row_number_of number) (row_number_is number) (λ m numbered.
-    mapped_from P (IsOpThen rest) _ (op_then rest) (op_is rest) (λ behind is. (
+    mapped_from P (IsOpThen rest) _ (op_then rest) (op_is rest) (λ after is. (
       rw (same_bytes edit (codes "edit") same, named.0, adds, at.0, numbered.0, is.0) refl,
       record { named = named.1; place = at.1; number = numbered.1; op = is.1; change = is.2 },
     ))))))) tt

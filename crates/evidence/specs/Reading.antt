@@ -29,7 +29,7 @@ abbrev pub is_value : ℤ → Bool
 is_value (pos n) = nat_lt n (2 ^ 63)
 is_value (negsuc n) = nat_lt n (2 ^ 63)
 
--- the value that digits write, behind a `-`, byte 45, or without one
+-- the value that digits write, after a `-`, byte 45, or without one
 abbrev pub value_after_sign : List ℕ → ℤ
 value_after_sign [] = pos 0
 value_after_sign (byte ∷ digits) = if byte == 45 then neg_ℤ (pos (digits_value 10 digits)) else pos (digits_value 10 (byte ∷ digits))
@@ -89,12 +89,12 @@ abbrev pub bridged : List (List ℕ) → Option Change
 bridged [] = None
 bridged (word ∷ rest) = option_and_then (λ bridge. changed_at bridge rest) (bridge_of word)
 
--- the same behind the word `bridge`
+-- the same after the word `bridge`
 abbrev pub change_of : List (List ℕ) → Option Change
 change_of [] = None
 change_of (word ∷ rest) = if bytes_eq word (codes "bridge") then bridged rest else None
 
--- an operation and what stands behind it
+-- an operation and what stands after it
 abbrev pub ins_then : List (List ℕ) → Option (Op × Change)
 ins_then [] = None
 ins_then (word ∷ rest) = option_and_then (λ key. option_map (λ change. (Ins key, change)) (change_of rest)) (key_of word)
@@ -106,11 +106,11 @@ op_then (word ∷ rest) =
     else (if bytes_eq word (codes "delmin") then option_map (λ change. (DelMin, change)) (change_of rest)
     else None)
 
--- an edit of a timeline, and what stands behind its place
+-- an edit of a timeline, and what stands after its place
 abbrev pub placed : List ℕ → Bool → ℕ → List (List ℕ) → Option Evidence
 placed name added place [] = None
 placed name added place (word ∷ rest) =
-    option_and_then (λ number. option_map (λ behind. record { name = name; added = added; place = place; number = number; op = behind.0; change = behind.1 }) (op_then rest)) (row_number_of word)
+    option_and_then (λ number. option_map (λ after. record { name = name; added = added; place = place; number = number; op = after.0; change = after.1 }) (op_then rest)) (row_number_of word)
 
 abbrev pub edit_at : List ℕ → Bool → List (List ℕ) → Option Evidence
 edit_at name added [] = None

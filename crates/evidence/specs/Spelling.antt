@@ -8,7 +8,7 @@ use Rattle.retro_base.specs.declared.row.Entry.{Entry}
 use Rattle.retro_base.specs.OpText.{op_text}
 use Rattle.evidence.specs.declared.evidence.Evidence.{Evidence}
 
--- a text behind a space
+-- a text after a space
 abbrev pub spaced : List ℕ → List ℕ
 spaced text = codes " " ++ text
 

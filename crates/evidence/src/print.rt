@@ -19,7 +19,7 @@ pub fn print_evidence(evidence: &Evidence, out: &mut Text) -> Result<(), NoMemor
     print_change(evidence.change, out)
 }
 
-/// Appends the edit and its place, behind a space.
+/// Appends the edit and its place, after a space.
 fn print_edit(added: bool, place: u32, out: &mut Text) -> Result<(), NoMemory>
     ensures ok { OnOk result (out.new ≡ out.old ++ spaced (edit_text added place)) }
     ensures err { OnErr result (AppendsPrefix out.old out.new (spaced (edit_text added place))) }
@@ -28,7 +28,7 @@ fn print_edit(added: bool, place: u32, out: &mut Text) -> Result<(), NoMemory>
     out.push_number(place)
 }
 
-/// Appends the row, behind a space.
+/// Appends the row, after a space.
 fn print_row(number: u32, op: Op, out: &mut Text) -> Result<(), NoMemory>
     ensures ok { OnOk result (out.new ≡ out.old ++ spaced (row_text number op)) }
     ensures err { OnErr result (AppendsPrefix out.old out.new (spaced (row_text number op))) }
@@ -39,7 +39,7 @@ fn print_row(number: u32, op: Op, out: &mut Text) -> Result<(), NoMemory>
     print_op(op, out)
 }
 
-/// Appends the change, behind a space.
+/// Appends the change, after a space.
 fn print_change(change: Change, out: &mut Text) -> Result<(), NoMemory>
     ensures ok { OnOk result (out.new ≡ out.old ++ spaced (change_text change)) }
     ensures err { OnErr result (AppendsPrefix out.old out.new (spaced (change_text change))) }
@@ -67,7 +67,7 @@ fn print_changed(
     print_changed_entry(word, entry, out)
 }
 
-/// Appends the word for the change and the entry, behind a space.
+/// Appends the word for the change and the entry, after a space.
 fn print_changed_entry(word: &[u8], entry: Entry, out: &mut Text) -> Result<(), NoMemory>
     ensures ok { OnOk result (out.new ≡ out.old ++ changed_entry_text word.now entry) }
     ensures err { OnErr result (AppendsPrefix out.old out.new (changed_entry_text word.now entry)) }
@@ -87,7 +87,7 @@ fn print_bridge(bridge: Option<u32>, out: &mut Text) -> Result<(), NoMemory>
     }
 }
 
-/// Appends the entry, behind a space.
+/// Appends the entry, after a space.
 fn print_entry(entry: Entry, out: &mut Text) -> Result<(), NoMemory>
     ensures ok { OnOk result (out.new ≡ out.old ++ spaced (entry_text entry)) }
     ensures err { OnErr result (AppendsPrefix out.old out.new (spaced (entry_text entry))) }

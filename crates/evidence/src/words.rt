@@ -34,8 +34,8 @@ impl<'a> Words<'a> {
         ensures { MatchOption result ((self.old ≡ []) × (self.new ≡ [])) (λ word. self.old ≡ word.now ∷ self.new) }
     {
         let line = self.rest?;
-        let (word, behind) = line.split_at(word_in_front(line));
-        self.rest = match behind {
+        let (word, after) = line.split_at(word_in_front(line));
+        self.rest = match after {
             [_, rest @ ..] => Some(rest),
             [] => None,
         };

@@ -11,7 +11,7 @@ use Rattle.retro_base.specs.Bridges.{same_entry, stated_bridge}
 use Rattle.retro_base.specs.Changes.{change_of}
 use Rattle.retro_base.specs.Replay.{failure}
 use Rattle.evidence.specs.declared.evidence.Evidence.{Evidence}
-use Rattle.evidence_check.specs.Truth.{bridge_of, cause_of, has_wrong_number, has_wrong_op, is_full, is_outside, same_bridge, same_change, told_edit}
+use Rattle.evidence_check.specs.Truth.{bridge_of, cause_of, has_wrong_number, has_wrong_op, is_full, is_outside, same_bridge, same_change, reported_edit}
 use Rattle.evidence_check.proofs.EntryOrder.{both_true, same_is}
 
 passes : {X : Type 0} (test : Bool) (x : X) (o : Option X) → cond test (Some x) o ≡ None → (test ≡ false) × (o ≡ None)
@@ -53,8 +53,8 @@ pub record Accepted (rows : List Row) (e : Evidence) : Type 0 where
   pub inside : is_outside e.added e.place rows ≡ false
   pub number : has_wrong_number e.added e.number e.place rows ≡ false
   pub op : has_wrong_op e.added e.op e.place rows ≡ false
-  pub replays : IsAccepted Pq rows (told_edit e)
-  pub change : e.change ≡ change_of Pq rows (told_edit e)
+  pub replays : IsAccepted Pq rows (reported_edit e)
+  pub change : e.change ≡ change_of Pq rows (reported_edit e)
 
 pub accepted_from : (rows : List Row) (e : Evidence) → cause_of rows e ≡ None → Accepted rows e
 unfolding cause_of
@@ -63,14 +63,14 @@ accepted_from rows e none =
     let outside = passes (is_outside e.added e.place rows) _ _ full.1 in
     let number = passes (has_wrong_number e.added e.number e.place rows) _ _ outside.1 in
     let op = passes (has_wrong_op e.added e.op e.place rows) _ _ number.1 in
-    let replay = passes (is_some (failure Pq (edited rows (told_edit e)))) _ _ op.1 in
-    let bridge = passes (not (same_bridge (bridge_of e.change) (stated_bridge rows (told_edit e)))) _ _ replay.1 in
-    let entry = passes (not (same_change e.change (change_of Pq rows (told_edit e)))) _ _ bridge.1 in
+    let replay = passes (is_some (failure Pq (edited rows (reported_edit e)))) _ _ op.1 in
+    let bridge = passes (not (same_bridge (bridge_of e.change) (stated_bridge rows (reported_edit e)))) _ _ replay.1 in
+    let entry = passes (not (same_change e.change (change_of Pq rows (reported_edit e)))) _ _ bridge.1 in
     record {
       room = full.0;
       inside = outside.0;
       number = number.0;
       op = op.0;
       replays = not_none _ replay.0;
-      change = same_change_is e.change (change_of Pq rows (told_edit e)) (not_not _ entry.0);
+      change = same_change_is e.change (change_of Pq rows (reported_edit e)) (not_not _ entry.0);
     }

@@ -22,7 +22,7 @@ use Rattle.retro_base.specs.Weights.{added_as, added_by}
 use Rattle.evidence.specs.Evidence.{IsPqOp}
 use Rattle.retro_base.specs.Changes.{Gains, Loses, change_of}
 use Rattle.evidence_check.specs.declared.marked_row.MarkedRow.{MarkedRow}
-use Rattle.evidence_check.specs.Marks.{IsKept, IsMarked, alive_entry, cut_change, dead_entry, gained, greatest_dead, is_alive_at, is_greater, is_less, least_alive, lost, marked_change, row_of, rows_of}
+use Rattle.evidence_check.specs.Marks.{MarksSurvivors, IsMarked, alive_entry, cut_change, dead_entry, gained, greatest_dead, is_alive_at, is_greater, is_less, least_alive, lost, marked_change, row_of, rows_of}
 use Rattle.evidence_check.specs.Truth.{bridge_of, edit_with}
 use Rattle.evidence_check.proofs.EntryOrder.{not_itself, one_way, passed_on}
 use Rattle.evidence_check.proofs.Best.{best_is, none_shown}
@@ -54,7 +54,7 @@ turned_on a b c first second = passed_on c b a second first
 turned_way : (a b : Entry) → is_greater a b ≡ true → is_greater b a ≡ false
 turned_way a b first = one_way b a first
 
-module _ (laws : Laws) (marked : List MarkedRow) (kept : IsKept marked) where
+module _ (laws : Laws) (marked : List MarkedRow) (kept : MarksSurvivors marked) where
   abbrev rows : List Row
   rows = rows_of marked
 

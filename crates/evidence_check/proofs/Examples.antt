@@ -37,9 +37,9 @@ other_op : judgement (with_fourth (codes "edit p cut 0 #1 ins 3 bridge 2 lose #1
 unfolding judged_line evidence_of key_of number_of is_name digits cause_of fold_rows perform
 other_op = refl
 
-behind_all_rows : judgement (with_fourth (codes "edit p add 3 #3 ins 2 bridge 0 gain #1 4")) ≡ refused 4 causes.Place
+after_all_rows : judgement (with_fourth (codes "edit p add 3 #3 ins 2 bridge 0 gain #1 4")) ≡ refused 4 causes.Place
 unfolding judged_line evidence_of key_of number_of is_name digits cause_of fold_rows perform
-behind_all_rows = refl
+after_all_rows = refl
 
 said : judgement_text (refused 4 causes.Bridge) ≡ codes "refused line 4 bridge"
 unfolding digits

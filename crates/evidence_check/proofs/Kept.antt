@@ -1,4 +1,4 @@
--- Rows keep their marks behind an edit.
+-- Rows keep their marks after an edit.
 use Rattle.std.proofs.Common.{◌≡◌, ℕ, Bool, true, false, List, [], ◌∷◌, length, map, refl, sym, ap, ◌∙◌, arith, Option, Some, None}
 use Rattle.std.specs.Option.{option_map_or}
 use Rattle.std.specs.List.{AllByRecursion}
@@ -24,8 +24,8 @@ use Rattle.retro_base.specs.Timeline.{AreOfKind, IsFresh, IsReplayable}
 use Rattle.evidence.specs.declared.evidence.Evidence.{Evidence}
 use Rattle.evidence.specs.Evidence.{IsEvidence, IsPqOp}
 use Rattle.evidence_check.specs.declared.marked_row.MarkedRow.{MarkedRow}
-use Rattle.evidence_check.specs.Marks.{IsKept, IsMarked, adds, changed_marks, edited_rows, entry_of, marked_row, row_of, rows_of, with_mark}
-use Rattle.evidence_check.specs.Truth.{cause_of, edit_with, is_full, is_outside, has_wrong_number, rows_after, told_edit}
+use Rattle.evidence_check.specs.Marks.{MarksSurvivors, IsMarked, adds, changed_marks, edited_rows, entry_of, marked_row, row_of, rows_of, with_mark}
+use Rattle.evidence_check.specs.Truth.{cause_of, edit_with, is_full, is_outside, has_wrong_number, rows_after, reported_edit}
 use Rattle.evidence_check.proofs.Accepted.{accepted_from}
 use Rattle.evidence_check.proofs.EntryOrder.{is_itself, same_is}
 use Rattle.evidence_check.proofs.Survivors.{fresh_entry}
@@ -33,7 +33,7 @@ use Rattle.evidence_check.proofs.Marking.{insert_rows, length_rows, remove_rows}
 use Rattle.evidence_check.proofs.Members.{absent_among, among_with}
 use Rattle.evidence_check.proofs.Possible.{is_fresh, of_pq, possible}
 
-pub nothing_kept : IsKept []
+pub nothing_kept : MarksSurvivors []
 unfolding fold_rows
 nothing_kept = record {
   few = omega arith;
@@ -101,8 +101,8 @@ rows_edited : (added : Bool) (marked : List MarkedRow) (place : ℕ) (row : Mark
 rows_edited true marked place row = insert_rows place marked row
 rows_edited false marked place row = remove_rows place marked
 
-pub rows_told : (marked : List MarkedRow) (e : Evidence) → rows_of (changed_marks e.change (edited_rows marked e.added e.place (marked_row e))) ≡ rows_after (rows_of marked) e
-rows_told marked e = rows_changed e.change _ ∙ rows_edited e.added marked e.place (marked_row e)
+pub rows_reported : (marked : List MarkedRow) (e : Evidence) → rows_of (changed_marks e.change (edited_rows marked e.added e.place (marked_row e))) ≡ rows_after (rows_of marked) e
+rows_reported marked e = rows_changed e.change _ ∙ rows_edited e.added marked e.place (marked_row e)
 
 -- the new row, as long as it has no mark
 unmarked : (rows : List Row) (number : ℕ) (op : Op) → IsPqOp op → AreOfKind Pq rows → IsFresh number rows
@@ -111,14 +111,14 @@ unmarked rows number (Ins key) is kind fresh = sym (fresh_entry number rows (rec
 unmarked rows number DelMin is kind fresh = refl
 unmarked rows number op is kind fresh = absurd is
 
-marks_edited : (marked : List MarkedRow) → IsKept marked → (added : Bool) (place number : ℕ) (op : Op) → IsPqOp op → has_wrong_number added number place (rows_of marked) ≡ false
+marks_edited : (marked : List MarkedRow) → MarksSurvivors marked → (added : Bool) (place number : ℕ) (op : Op) → IsPqOp op → has_wrong_number added number place (rows_of marked) ≡ false
     → AllByRecursion (IsMarked (survivors (rows_of marked))) (edited_rows marked added place (record { number = number; op = op; alive = false }))
 marks_edited marked kept true place number op is own =
     all_with (IsMarked (survivors (rows_of marked))) marked place (record { number = number; op = op; alive = false }) kept.marks
     (unmarked (rows_of marked) number op is kept.replayable.of_kind (is_fresh number (rows_of marked) own))
 marks_edited marked kept false place number op is own = all_without (IsMarked (survivors (rows_of marked))) marked place kept.marks
 
-marks_changed : (change : Change) (rows : List Row) (e : Evidence) (marked : List MarkedRow) → IsPqChange rows (told_edit e) change → AllByRecursion (IsMarked (survivors rows)) marked
+marks_changed : (change : Change) (rows : List Row) (e : Evidence) (marked : List MarkedRow) → IsPqChange rows (reported_edit e) change → AllByRecursion (IsMarked (survivors rows)) marked
     → AllByRecursion (IsMarked (survivors (rows_after rows e))) (changed_marks change marked)
 marks_changed Plain rows e marked is marks = absurd is
 marks_changed (Gain bridge entry) rows e marked is marks =
@@ -135,15 +135,15 @@ replayable_after rows replayable true place number op is room inside own valid =
     (is_fresh number rows own) (of_pq op is) valid
 replayable_after rows replayable false place number op is room inside own valid = replayable_without Pq rows place replayable valid
 
--- behind evidence that is accepted
-pub kept_after : OneChangeOfPq → (marked : List MarkedRow) (e : Evidence) → IsKept marked → IsEvidence e → cause_of (rows_of marked) e ≡ None
-    → IsKept (changed_marks e.change (edited_rows marked e.added e.place (marked_row e)))
+-- after evidence that is accepted
+pub kept_after : OneChangeOfPq → (marked : List MarkedRow) (e : Evidence) → MarksSurvivors marked → IsEvidence e → cause_of (rows_of marked) e ≡ None
+    → MarksSurvivors (changed_marks e.change (edited_rows marked e.added e.place (marked_row e)))
 kept_after one marked e kept is none =
     let accepted = accepted_from (rows_of marked) e none in
-    let edit : IsPqEdit (rows_of marked) (told_edit e) = possible marked kept e.added e.place e.number e.op is.op accepted.inside accepted.number accepted.op in
-    let meets : IsPqChange (rows_of marked) (told_edit e) e.change = rw accepted.change ((one (rows_of marked) (told_edit e) edit accepted.replays).meets) in
+    let edit : IsPqEdit (rows_of marked) (reported_edit e) = possible marked kept e.added e.place e.number e.op is.op accepted.inside accepted.number accepted.op in
+    let meets : IsPqChange (rows_of marked) (reported_edit e) e.change = rw accepted.change ((one (rows_of marked) (reported_edit e) edit accepted.replays).meets) in
     let after : List MarkedRow = changed_marks e.change (edited_rows marked e.added e.place (marked_row e)) in
-    let same : rows_of after ≡ rows_after (rows_of marked) e = rows_told marked e in
+    let same : rows_of after ≡ rows_after (rows_of marked) e = rows_reported marked e in
     let replays : IsReplayable Pq (rows_of after) =
     rw same (replayable_after (rows_of marked) kept.replayable e.added e.place e.number e.op is.op accepted.room accepted.inside accepted.number accepted.replays) in
     record {

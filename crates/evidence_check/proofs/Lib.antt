@@ -15,6 +15,6 @@ pub mod ChangeCauses
 pub mod Mapped
 pub mod TrueEvidence
 pub mod Timeless
-pub mod EditsTold
+pub mod EditsReported
 pub mod EditsSpelled
 mod Examples

@@ -70,5 +70,5 @@ among_with x new [] = refl
 among_with x new (first ∷ others) =
     elim (comes_before new first) as (λ b. comes_before new first ≡ b → is_among (with_entry new (first ∷ others)) x ≡ (same_entry x new || is_among (first ∷ others) x)) [
       | true ↦ λ before. rw before refl
-      | false ↦ λ behind. rw (behind, among_with x new others) (swapped (same_entry x first) (same_entry x new) (is_among others x))
+      | false ↦ λ after. rw (after, among_with x new others) (swapped (same_entry x first) (same_entry x new) (is_among others x))
     ] refl

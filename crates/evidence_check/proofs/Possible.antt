@@ -14,7 +14,7 @@ use Rattle.retro_base.specs.Kind.{kind_of}
 use Rattle.retro_base.specs.Timeline.{IsFresh}
 use Rattle.evidence.specs.Evidence.{IsPqOp}
 use Rattle.evidence_check.specs.declared.marked_row.MarkedRow.{MarkedRow}
-use Rattle.evidence_check.specs.Marks.{IsKept, rows_of}
+use Rattle.evidence_check.specs.Marks.{MarksSurvivors, rows_of}
 use Rattle.evidence_check.specs.Truth.{edit_with, fails_at, has_number, has_wrong_number, has_wrong_op, is_outside, same_op}
 use Rattle.evidence_check.proofs.Weighing.{all_at, history}
 
@@ -69,13 +69,13 @@ cut_row rows place number op timeless is right_number right_op =
 pub possible_in : (rows : List Row) → IsPqHistory rows → AllByRecursion (λ row. row.time ≡ 0) rows → (added : Bool) (place number : ℕ) (op : Op) → IsPqOp op
     → is_outside added place rows ≡ false → has_wrong_number added number place rows ≡ false → has_wrong_op added op place rows ≡ false
     → IsPqEdit rows (edit_with added place (record { number = number; time = 0; op = op }))
-possible_in rows told timeless true place number op is inside right_number right_op = record {
-  history = told;
+possible_in rows reported timeless true place number op is inside right_number right_op = record {
+  history = reported;
   within = ltb-false (length rows) place inside;
   own_row = (of_pq op is, is_fresh number rows right_number);
 }
-possible_in rows told timeless false place number op is inside right_number right_op = record {
-  history = told;
+possible_in rows reported timeless false place number op is inside right_number right_op = record {
+  history = reported;
   within = cut_row rows place number op timeless is right_number right_op;
   own_row = tt;
 }
@@ -84,7 +84,7 @@ marked_timeless : (marked : List MarkedRow) → AllByRecursion (λ row. row.time
 marked_timeless [] = tt
 marked_timeless (first ∷ others) = (refl, marked_timeless others)
 
-pub possible : (marked : List MarkedRow) → IsKept marked → (added : Bool) (place number : ℕ) (op : Op) → IsPqOp op
+pub possible : (marked : List MarkedRow) → MarksSurvivors marked → (added : Bool) (place number : ℕ) (op : Op) → IsPqOp op
     → is_outside added place (rows_of marked) ≡ false → has_wrong_number added number place (rows_of marked) ≡ false → has_wrong_op added op place (rows_of marked) ≡ false
     → IsPqEdit (rows_of marked) (edit_with added place (record { number = number; time = 0; op = op }))
 possible marked kept added place number op is inside right_number right_op =

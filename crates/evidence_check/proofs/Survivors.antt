@@ -25,7 +25,7 @@ module _ (P : Entry → Type 0) where
   all_with_entry new (first ∷ others) holds all =
       elim (comes_before new first) as (λ b. comes_before new first ≡ b → AllByRecursion P (with_entry new (first ∷ others))) [
         | true ↦ λ before. rw before (holds, all)
-        | false ↦ λ behind. rw behind (all.0, all_with_entry new others holds all.1)
+        | false ↦ λ after. rw after (all.0, all_with_entry new others holds all.1)
       ] refl
 
   -- and of the one that came in
@@ -34,7 +34,7 @@ module _ (P : Entry → Type 0) where
   of_joined new (first ∷ others) all =
       elim (comes_before new first) as (λ b. comes_before new first ≡ b → P new) [
         | true ↦ λ before. let held : AllByRecursion P (new ∷ first ∷ others) = rw before at all in held.0
-        | false ↦ λ behind. let held : AllByRecursion P (first ∷ with_entry new others) = rw behind at all in of_joined new others held.1
+        | false ↦ λ after. let held : AllByRecursion P (first ∷ with_entry new others) = rw after at all in of_joined new others held.1
       ] refl
 
   -- what the row adds, if it adds an entry, has the property

@@ -16,8 +16,8 @@ use Rattle.retro_base.specs.Kind.{kind_of}
 use Rattle.retro_base.specs.OrderLaws.{all_with, all_without, own_numbers_with, own_numbers_without}
 use Rattle.evidence.specs.declared.evidence.Evidence.{Evidence}
 use Rattle.evidence.specs.Evidence.{IsEvidence, IsPqOp}
-use Rattle.evidence_check.specs.Laws.{AreTold, IsTrueOf}
-use Rattle.evidence_check.specs.Truth.{bridge_of, cause_of, edit_with, has_wrong_number, rows_after, same_bridge, same_change, told_edit}
+use Rattle.evidence_check.specs.Laws.{AreReported, IsTrueOf}
+use Rattle.evidence_check.specs.Truth.{bridge_of, cause_of, edit_with, has_wrong_number, rows_after, same_bridge, same_change, reported_edit}
 use Rattle.evidence_check.proofs.Accepted.{accepted_from}
 use Rattle.evidence_check.proofs.EntryOrder.{is_itself}
 use Rattle.evidence_check.proofs.Possible.{is_fresh, of_pq, possible_in}
@@ -37,54 +37,54 @@ states rows edit Plain is = absurd is
 states rows edit (Gain bridge entry) is = is.0
 states rows edit (Lose bridge entry) is = is.0
 
-module _ (bridge : OneBridgeIsStated) (one : OneChangeOfPq) (rows : List Row) (e : Evidence) (told : AreTold rows) (is : IsEvidence e) where
+module _ (bridge : OneBridgeIsStated) (one : OneChangeOfPq) (rows : List Row) (e : Evidence) (reported : AreReported rows) (is : IsEvidence e) where
   is_true : cause_of rows e ≡ None → IsTrueOf rows e
   is_true none =
       let accepted = accepted_from rows e none in
-      let edit : IsPqEdit rows (told_edit e) = possible_in rows told.history told.timeless e.added e.place e.number e.op is.op accepted.inside accepted.number accepted.op in
+      let edit : IsPqEdit rows (reported_edit e) = possible_in rows reported.history reported.timeless e.added e.place e.number e.op is.op accepted.inside accepted.number accepted.op in
       record {
         room = accepted.room;
         inside = accepted.inside;
         own_number = accepted.number;
         own_op = accepted.op;
         accepted = accepted.replays;
-        change = rw accepted.change ((one rows (told_edit e) edit accepted.replays).meets);
+        change = rw accepted.change ((one rows (reported_edit e) edit accepted.replays).meets);
       }
 
   accepts : IsTrueOf rows e → cause_of rows e ≡ None
   unfolding cause_of
   accepts true_of =
-      let edit : IsPqEdit rows (told_edit e) = possible_in rows told.history told.timeless e.added e.place e.number e.op is.op true_of.inside true_of.own_number true_of.own_op in
-      let change : e.change ≡ change_of Pq rows (told_edit e) = (one rows (told_edit e) edit true_of.accepted).alone e.change true_of.change in
-      let stated : bridge_of e.change ≡ stated_bridge rows (told_edit e) = (bridge rows (told_edit e) edit).alone (bridge_of e.change) (states rows (told_edit e) e.change true_of.change) in
+      let edit : IsPqEdit rows (reported_edit e) = possible_in rows reported.history reported.timeless e.added e.place e.number e.op is.op true_of.inside true_of.own_number true_of.own_op in
+      let change : e.change ≡ change_of Pq rows (reported_edit e) = (one rows (reported_edit e) edit true_of.accepted).alone e.change true_of.change in
+      let stated : bridge_of e.change ≡ stated_bridge rows (reported_edit e) = (bridge rows (reported_edit e) edit).alone (bridge_of e.change) (states rows (reported_edit e) e.change true_of.change) in
       rw (true_of.room, true_of.inside, true_of.own_number, true_of.own_op, true_of.accepted, ← change, ← stated, bridge_itself (bridge_of e.change), change_itself e.change) refl
 
   pub true_is_accepted : (cause_of rows e ≡ None) ↔ IsTrueOf rows e
   true_is_accepted = (is_true, accepts)
 
-told_with : (rows : List Row) → AreTold rows → (added : Bool) (place number : ℕ) (op : Op) → IsPqOp op → has_wrong_number added number place rows ≡ false
-    → IsAccepted Pq rows (edit_with added place (record { number = number; time = 0; op = op })) → AreTold (edited rows (edit_with added place (record { number = number; time = 0; op = op })))
-told_with rows told true place number op is own valid =
+reported_with : (rows : List Row) → AreReported rows → (added : Bool) (place number : ℕ) (op : Op) → IsPqOp op → has_wrong_number added number place rows ≡ false
+    → IsAccepted Pq rows (edit_with added place (record { number = number; time = 0; op = op })) → AreReported (edited rows (edit_with added place (record { number = number; time = 0; op = op })))
+reported_with rows reported true place number op is own valid =
     let row : Row = record { number = number; time = 0; op = op } in
     record {
       history = record {
-        of_kind = all_with (λ r. kind_of r.op ≡ Pq) rows place row told.history.of_kind (of_pq op is);
-        own_numbers = own_numbers_with rows place row told.history.own_numbers (is_fresh number rows own);
+        of_kind = all_with (λ r. kind_of r.op ≡ Pq) rows place row reported.history.of_kind (of_pq op is);
+        own_numbers = own_numbers_with rows place row reported.history.own_numbers (is_fresh number rows own);
         valid = valid;
       };
-      timeless = all_with (λ r. r.time ≡ 0) rows place row told.timeless refl;
+      timeless = all_with (λ r. r.time ≡ 0) rows place row reported.timeless refl;
     }
-told_with rows told false place number op is own valid = record {
+reported_with rows reported false place number op is own valid = record {
   history = record {
-    of_kind = all_without (λ r. kind_of r.op ≡ Pq) rows place told.history.of_kind;
-    own_numbers = own_numbers_without rows place told.history.own_numbers;
+    of_kind = all_without (λ r. kind_of r.op ≡ Pq) rows place reported.history.of_kind;
+    own_numbers = own_numbers_without rows place reported.history.own_numbers;
     valid = valid;
   };
-  timeless = all_without (λ r. r.time ≡ 0) rows place told.timeless;
+  timeless = all_without (λ r. r.time ≡ 0) rows place reported.timeless;
 }
 
--- the rows behind true evidence
-pub told_stays : (rows : List Row) (e : Evidence) → AreTold rows → IsEvidence e → cause_of rows e ≡ None → AreTold (rows_after rows e)
-told_stays rows e told is none =
+-- the rows after true evidence
+pub reported_stays : (rows : List Row) (e : Evidence) → AreReported rows → IsEvidence e → cause_of rows e ≡ None → AreReported (rows_after rows e)
+reported_stays rows e reported is none =
     let accepted = accepted_from rows e none in
-    told_with rows told e.added e.place e.number e.op is.op accepted.number accepted.replays
+    reported_with rows reported e.added e.place e.number e.op is.op accepted.number accepted.replays

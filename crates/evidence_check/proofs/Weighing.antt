@@ -16,7 +16,7 @@ use Rattle.retro_base.specs.Carried.{IsPqHistory}
 use Rattle.retro_base.specs.Weights.{dead_at, sum_of_weights, weight, weight_as}
 use Rattle.evidence_check.specs.declared.marked_row.MarkedRow.{MarkedRow}
 use Rattle.evidence_check.proofs.Marking.{length_rows}
-use Rattle.evidence_check.specs.Marks.{IsKept, IsMarked, dead_behind, dead_by, entry_of, row_of, rows_of}
+use Rattle.evidence_check.specs.Marks.{MarksSurvivors, IsMarked, dead_after, dead_by, entry_of, row_of, rows_of}
 
 -- a fold over one element more
 fold_take : {A B : Type 0} (f : B → A → B) (start : B) (xs : List A) (i : ℕ) (x : A) → slice_get xs i ≡ Some x
@@ -31,7 +31,7 @@ all_at P [] i x all there = absurd (cc)
 all_at P (y ∷ ys) zero x all there = let same : y ≡ x = cc in rw same at all.0
 all_at P (y ∷ ys) (suc i) x all there = all_at P ys i x all.1 there
 
-pub history : (marked : List MarkedRow) → IsKept marked → IsPqHistory (rows_of marked)
+pub history : (marked : List MarkedRow) → MarksSurvivors marked → IsPqHistory (rows_of marked)
 history marked kept = record {
   of_kind = kept.replayable.of_kind;
   own_numbers = kept.replayable.own_numbers;
@@ -43,27 +43,27 @@ at_most_one_more dead alive None index few = omega arith
 at_most_one_more dead true (Some e) index few = omega arith
 at_most_one_more dead false (Some e) index few = omega arith
 
--- the dead behind a row, by the weight that its mark says
+-- the dead after a row, by the weight that its mark says
 pub record Weighed (before after : ℕ) (alive : Bool) (o : Option Entry) : Type 0 where
-  pub behind : after ≡ dead_by before alive o
+  pub later : after ≡ dead_by before alive o
   pub held : o ≡ None → 1 ≤ before
 
 weighed : (survive : List Entry) (before after : ℕ) (alive : Bool) (o : Option Entry) → alive ≡ option_map_or (is_among survive) o false
     → pos after ≡ pos before +ℤ weight_as survive o → Weighed before after alive o
-weighed survive before after alive None mark sum = record { behind = omega (arith, ints); held = λ none. omega (arith, ints) }
+weighed survive before after alive None mark sum = record { later = omega (arith, ints); held = λ none. omega (arith, ints) }
 weighed survive before after alive (Some e) mark sum =
     elim (is_among survive e) as (λ b. is_among survive e ≡ b → Weighed before after alive (Some e)) [
       | true ↦ λ among.
           let marks : alive ≡ true = mark ∙ among in
           let sums : pos after ≡ pos before +ℤ pos 0 = rw among at sum in
-          record { behind = rw marks (omega (arith, ints)); held = λ none. absurd (cc) }
+          record { later = rw marks (omega (arith, ints)); held = λ none. absurd (cc) }
       | false ↦ λ dead.
           let marks : alive ≡ false = mark ∙ dead in
           let sums : pos after ≡ pos before +ℤ pos 1 = rw dead at sum in
-          record { behind = rw marks (omega (arith, ints)); held = λ none. absurd (cc) }
+          record { later = rw marks (omega (arith, ints)); held = λ none. absurd (cc) }
     ] refl
 
-module _ (count : WeightsCountTheDead) (marked : List MarkedRow) (kept : IsKept marked) where
+module _ (count : WeightsCountTheDead) (marked : List MarkedRow) (kept : MarksSurvivors marked) where
   -- nothing is held before the first row
   pub dead_at_start : dead_at (rows_of marked) 0 ≡ 0
   dead_at_start =
@@ -86,7 +86,7 @@ pub record Counted (marked : List MarkedRow) (index dead : ℕ) : Type 0 where
   pub count : dead ≡ dead_at (rows_of marked) index
   pub few : dead ≤ index
 
-module _ (count : WeightsCountTheDead) (marked : List MarkedRow) (kept : IsKept marked) where
+module _ (count : WeightsCountTheDead) (marked : List MarkedRow) (kept : MarksSurvivors marked) where
   pub counted_start : Counted marked 0 0
   counted_start = record { count = sym (dead_at_start count marked kept); few = omega arith }
 
@@ -95,9 +95,9 @@ module _ (count : WeightsCountTheDead) (marked : List MarkedRow) (kept : IsKept 
     pub counted_held : entry_of row ≡ None → 1 ≤ dead
     counted_held takes = rw counted.count ((step count marked kept index row there).held takes)
 
-    pub counted_next : Counted marked (suc index) (dead_behind dead row)
+    pub counted_next : Counted marked (suc index) (dead_after dead row)
     counted_next = record {
-      count = ap (λ d. dead_behind d row) counted.count ∙ sym (step count marked kept index row there).behind;
+      count = ap (λ d. dead_after d row) counted.count ∙ sym (step count marked kept index row there).later;
       few = at_most_one_more dead row.alive (entry_of row) index counted.few;
     }
 
@@ -119,7 +119,7 @@ bridge_by_count rows place = none_fail (λ e. is_among (survivors rows) e) (entr
 pub counted_bridge : (marked : List MarkedRow) (index dead : ℕ) → Counted marked index dead → is_bridge (rows_of marked) index ≡ (dead == 0)
 counted_bridge marked index dead counted = bridge_by_count (rows_of marked) index ∙ ap (λ n. n == 0) (sym counted.count)
 
--- the last bridge up to an index, and the first one from a place on that stands at an index or behind it
+-- the last bridge up to an index, and the first one from a place on that stands at an index or after it
 pub last_here : (rows : List Row) (index : ℕ) → is_bridge rows (suc index) ≡ true → last_bridge rows (suc index) ≡ suc index
 last_here rows index is = rw is refl
 
@@ -132,8 +132,8 @@ from_gap rows index gap same = ap (λ n. first_bridge_among n rows index) same
 pub first_here : (rows : List Row) (index : ℕ) → index < length rows → is_bridge rows index ≡ true → first_bridge rows index ≡ index
 first_here rows index within is = from_gap rows index (length rows - suc index) (omega arith) ∙ rw is refl
 
-pub first_behind : (rows : List Row) (index : ℕ) → index < length rows → is_bridge rows index ≡ false → first_bridge rows index ≡ first_bridge rows (suc index)
-first_behind rows index within is = from_gap rows index (length rows - suc index) (omega arith) ∙ rw is refl
+pub first_after : (rows : List Row) (index : ℕ) → index < length rows → is_bridge rows index ≡ false → first_bridge rows index ≡ first_bridge rows (suc index)
+first_after rows index within is = from_gap rows index (length rows - suc index) (omega arith) ∙ rw is refl
 
 pub first_at_end : (rows : List Row) → first_bridge rows (length rows) ≡ length rows
 first_at_end rows = ap (λ n. first_bridge_among n rows (length rows)) (let none : length rows - length rows ≡ 0 = omega arith in none)
@@ -143,14 +143,14 @@ abbrev pub no_row : MarkedRow
 no_row = record { number = 0; op = Enq (pos 0); alive = false }
 
 -- the walks, one row further
-module _ (law : WeightsCountTheDead) (marked : List MarkedRow) (kept : IsKept marked) (index dead : ℕ) (within : index < length marked) where
+module _ (law : WeightsCountTheDead) (marked : List MarkedRow) (kept : MarksSurvivors marked) (index dead : ℕ) (within : index < length marked) where
   abbrev row : MarkedRow
   row = get_or marked index no_row
 
   pub held_there : Counted marked index dead → entry_of (get_or marked index no_row) ≡ None → 1 ≤ dead
   held_there counted = counted_held law marked kept index dead row (slice_get-get_or marked index no_row within) counted
 
-  pub next_there : Counted marked index dead → Counted marked (index + 1) (dead_behind dead (get_or marked index no_row))
+  pub next_there : Counted marked index dead → Counted marked (index + 1) (dead_after dead (get_or marked index no_row))
   next_there counted = rw add-one (counted_next law marked kept index dead row (slice_get-get_or marked index no_row within) counted)
 
 -- the last bridge so far
@@ -176,7 +176,7 @@ pub first_later : (marked : List MarkedRow) (place index dead : ℕ) → index <
     → first_bridge (rows_of marked) place ≡ first_bridge (rows_of marked) index → first_bridge (rows_of marked) place ≡ first_bridge (rows_of marked) (index + 1)
 first_later marked place index dead within counted some same =
     let is : is_bridge (rows_of marked) index ≡ false = counted_bridge marked index dead counted ∙ ne_eqb dead 0 some in
-    rw add-one (same ∙ first_behind (rows_of marked) index (omega (arith, length_rows marked)) is)
+    rw add-one (same ∙ first_after (rows_of marked) index (omega (arith, length_rows marked)) is)
 
 pub first_starts : (marked : List MarkedRow) (place index : ℕ) → place ≡ index → first_bridge (rows_of marked) place ≡ first_bridge (rows_of marked) index
 first_starts marked place index same = ap (first_bridge (rows_of marked)) same

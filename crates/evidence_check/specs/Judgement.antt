@@ -12,57 +12,57 @@ use Rattle.evidence_check.specs.declared.error.CheckError.{CheckError}
 use Rattle.evidence_check.specs.declared.error.CheckError.TheVariants as causes
 use Rattle.evidence_check.specs.Truth.{cause_of, rows_after}
 
--- the rows that evidence has told of the timeline of a name
-pub record Told : Type 0 where
+-- the rows that evidence has reported of the timeline of a name
+pub record Reported : Type 0 where
   pub name : List ℕ
   pub rows : List Row
 
--- all that was told so far, and in how many lines
+-- all that was reported so far, and in how many lines
 pub record Judge : Type 0 where
-  pub told : List Told
+  pub reported : List Reported
   pub accepted : ℕ
 
 -- before the first line
-abbrev pub nothing_told : Judge
-nothing_told = record { told = []; accepted = 0 }
+abbrev pub nothing_reported : Judge
+nothing_reported = record { reported = []; accepted = 0 }
 
-abbrev pub is_named : List ℕ → Told → Bool
-is_named name told = bytes_eq told.name name
+abbrev pub is_named : List ℕ → Reported → Bool
+is_named name reported = bytes_eq reported.name name
 
--- the rows of a name, where something was told of it
-abbrev pub rows_of : List ℕ → List Told → Option (List Row)
+-- the rows of a name, where something was reported of it
+abbrev pub rows_of : List ℕ → List Reported → Option (List Row)
 rows_of name [] = None
 rows_of name (first ∷ others) = if is_named name first then Some first.rows else rows_of name others
 
 -- the same with these rows under the name; a new name comes last
-abbrev pub with_rows : List ℕ → List Row → List Told → List Told
+abbrev pub with_rows : List ℕ → List Row → List Reported → List Reported
 with_rows name rows [] = record { name = name; rows = rows } ∷ []
 with_rows name rows (first ∷ others) =
     if is_named name first then record first { rows = rows } ∷ others
     else first ∷ with_rows name rows others
 
 -- the name is a new one, and there are as many as there may be
-abbrev pub is_one_too_many : Option (List Row) → List Told → Bool
-is_one_too_many rows told = is_none rows && nat_le most_timelines (length told)
+abbrev pub is_one_too_many : Option (List Row) → List Reported → Bool
+is_one_too_many rows reported = is_none rows && nat_le most_timelines (length reported)
 
 -- the first cause for which evidence is refused
-abbrev pub first_cause : List Told → Evidence → Option CheckError
-first_cause told e =
-    if is_one_too_many (rows_of e.name told) told then Some causes.Timelines
-    else cause_of (unwrap_or (rows_of e.name told) []) e
+abbrev pub first_cause : List Reported → Evidence → Option CheckError
+first_cause reported e =
+    if is_one_too_many (rows_of e.name reported) reported then Some causes.Timelines
+    else cause_of (unwrap_or (rows_of e.name reported) []) e
 
--- what is told after evidence that is accepted
-abbrev pub told_after : List Told → Evidence → List Told
-told_after told e = with_rows e.name (rows_after (unwrap_or (rows_of e.name told) []) e) told
+-- what is reported after evidence that is accepted
+abbrev pub reported_after : List Reported → Evidence → List Reported
+reported_after reported e = with_rows e.name (rows_after (unwrap_or (rows_of e.name reported) []) e) reported
 
 -- the judge after evidence, or the cause for which it is refused
 abbrev pub decided : Option CheckError → Judge → Evidence → Result Judge CheckError
 decided (Some cause) judge e = Err cause
-decided None judge e = Ok (record { told = told_after judge.told e; accepted = judge.accepted + 1 })
+decided None judge e = Ok (record { reported = reported_after judge.reported e; accepted = judge.accepted + 1 })
 
 abbrev pub judged_evidence : Judge → Option Evidence → Result Judge CheckError
 judged_evidence judge None = Err causes.Syntax
-judged_evidence judge (Some e) = decided (first_cause judge.told e) judge e
+judged_evidence judge (Some e) = decided (first_cause judge.reported e) judge e
 
 -- a line is one of evidence by its first bytes
 abbrev pub is_evidence_line : List ℕ → Bool
@@ -84,20 +84,20 @@ pub data Judgement : Type 0 where
   accepted : ℕ → Judgement
   refused : ℕ → CheckError → Judgement
 
--- the judgement where this was made of a line, and the judgement of the lines behind it
+-- the judgement where this was made of a line, and the judgement of the lines after it
 abbrev pub by_verdict : ℕ → (Judge → Judgement) → Result Judge CheckError → Judgement
-by_verdict line behind (Ok judge) = behind judge
-by_verdict line behind (Err cause) = refused line cause
+by_verdict line after (Ok judge) = after judge
+by_verdict line after (Err cause) = refused line cause
 
--- the judgement of lines, behind so many others
+-- the judgement of lines, after so many others
 abbrev pub judgement_from : ℕ → Judge → List (List ℕ) → Judgement
 judgement_from before judge [] = accepted judge.accepted
 judgement_from before judge (line ∷ lines) = by_verdict (before + 1) (λ next. judgement_from (before + 1) next lines) (judged judge line)
 
 abbrev pub judgement : List (List ℕ) → Judgement
-judgement lines = judgement_from 0 nothing_told lines
+judgement lines = judgement_from 0 nothing_reported lines
 
--- the word of a cause; want of memory is none, and no judgement names it
+-- the word of a cause; out of memory is none, and no judgement names it
 abbrev pub cause_text : CheckError → List ℕ
 cause_text causes.Syntax = codes "syntax"
 cause_text causes.Timelines = codes "timelines"

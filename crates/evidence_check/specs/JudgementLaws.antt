@@ -12,7 +12,7 @@ use Rattle.evidence.specs.Laws.{LinesAreShort, PrintedReadsBack}
 use Rattle.evidence.specs.Spelling.{spelling}
 use Rattle.evidence_check.specs.Judgement.{Judge, decided, first_cause, is_evidence_line, judged, judged_line}
 
--- what stands behind the first bytes of a long line has no effect
+-- what stands after the first bytes of a long line has no effect
 judged-long : (judge : Judge) (line first : List ℕ) (long : Bool) → is_evidence_line first ≡ is_evidence_line line → (long ≡ false → first ≡ line)
     → judged_line judge line long ≡ judged_line judge first long
 unfolding judged_line
@@ -43,7 +43,7 @@ unfolding spelling
 spelling_begins e = refl
 
 -- evidence that is spelled is judged as what it says; the premises are laws of `evidence`
-pub judged-spelling : PrintedReadsBack → LinesAreShort → (judge : Judge) (e : Evidence) → IsEvidence e → judged judge (spelling e) ≡ decided (first_cause judge.told e) judge e
+pub judged-spelling : PrintedReadsBack → LinesAreShort → (judge : Judge) (e : Evidence) → IsEvidence e → judged judge (spelling e) ≡ decided (first_cause judge.reported e) judge e
 unfolding judged_line
 judged-spelling back short judge e is =
     let fits : length (spelling e) ≤ 160 = short e is in

@@ -41,18 +41,18 @@ abbrev pub IsMarked : List Entry → MarkedRow → Type 0
 IsMarked alive marked = marked.alive ≡ option_map_or (is_among alive) (entry_of marked) false
 
 -- the rows replay whole, and the marks are those of their survivors
-pub record IsKept (marked : List MarkedRow) : Type 0 where
+pub record MarksSurvivors (marked : List MarkedRow) : Type 0 where
   pub few : length marked ≤ most_rows
   pub replayable : IsReplayable Pq (rows_of marked)
   pub marks : AllByRecursion (IsMarked (survivors (rows_of marked))) marked
 
--- how many dead entries are held behind a row, by how many are held in front of it
+-- how many dead entries are held after a row, by how many are held in front of it
 abbrev pub dead_by : ℕ → Bool → Option Entry → ℕ
 dead_by dead alive None = dead - 1
 dead_by dead alive (Some entry) = if alive then dead else dead + 1
 
-abbrev pub dead_behind : ℕ → MarkedRow → ℕ
-dead_behind dead marked = dead_by dead marked.alive (entry_of marked)
+abbrev pub dead_after : ℕ → MarkedRow → ℕ
+dead_after dead marked = dead_by dead marked.alive (entry_of marked)
 
 -- the better one of an entry and another, where there is another
 abbrev pub better_of : (Entry → Entry → Bool) → Option Entry → Option Entry → Option Entry

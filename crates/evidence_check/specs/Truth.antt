@@ -1,4 +1,4 @@
--- Why the evidence of an edit is refused, by the rows that the evidence before it has told of the same timeline.
+-- Why the evidence of an edit is refused, by the rows that the evidence before it has reported of the same timeline.
 use Rattle.std.specs.Prelude.{ℕ, ◌==◌, Bool, true, false, not, ◌&&◌, nat_le, nat_lt, is_some, List, length, slice_get, if◌then◌else◌}
 use Rattle.std.specs.Prelude.{Option, Some, None}
 use Rattle.std.specs.Option.{option_map_or}
@@ -24,11 +24,11 @@ abbrev pub edit_with : Bool → ℕ → Row → Edit
 edit_with true place row = add place row
 edit_with false place row = cut place row
 
-abbrev pub told_row : Evidence → Row
-told_row e = record { number = e.number; time = 0; op = e.op }
+abbrev pub reported_row : Evidence → Row
+reported_row e = record { number = e.number; time = 0; op = e.op }
 
-abbrev pub told_edit : Evidence → Edit
-told_edit e = edit_with e.added e.place (told_row e)
+abbrev pub reported_edit : Evidence → Edit
+reported_edit e = edit_with e.added e.place (reported_row e)
 
 -- there is no room for one more row
 abbrev pub is_full : Bool → List Row → Bool
@@ -89,15 +89,15 @@ change_cause rows edit change =
     else (if not (same_change change (change_of Pq rows edit)) then Some causes.Entry
     else None))
 
--- the first cause for which evidence is refused, behind these rows
+-- the first cause for which evidence is refused, after these rows
 unfoldable pub cause_of : List Row → Evidence → Option CheckError
 cause_of rows e =
     if is_full e.added rows then Some causes.Full
     else (if is_outside e.added e.place rows then Some causes.Place
     else (if has_wrong_number e.added e.number e.place rows then Some causes.Number
     else (if has_wrong_op e.added e.op e.place rows then Some causes.Row
-    else change_cause rows (told_edit e) e.change)))
+    else change_cause rows (reported_edit e) e.change)))
 
--- the rows behind the edit
+-- the rows after the edit
 abbrev pub rows_after : List Row → Evidence → List Row
-rows_after rows e = edited rows (told_edit e)
+rows_after rows e = edited rows (reported_edit e)

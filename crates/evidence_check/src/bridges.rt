@@ -2,7 +2,7 @@
 
 ghost use Rattle.std.specs.Prelude.{◌≡◌, ◌≤◌, length};
 ghost use Rattle.retro_base.specs.Bridges.{first_bridge, last_bridge};
-ghost use Rattle.evidence_check.specs.Marks.{IsKept, better_of, greatest_dead, is_greater, is_less, least_alive, rows_of};
+ghost use Rattle.evidence_check.specs.Marks.{MarksSurvivors, better_of, greatest_dead, is_greater, is_less, least_alive, rows_of};
 
 use crate::marked_row::MarkedRow;
 use retro_base::Entry;
@@ -10,7 +10,7 @@ use retro_base::laws::weights_count_the_dead;
 
 /// The last bridge up to a place.
 pub(crate) fn last_bridge(rows: &[MarkedRow], place: u32) -> u32
-    requires kept { IsKept rows.now }
+    requires kept { MarksSurvivors rows.now }
     requires within { place ≤ length rows.now }
     ensures bridge { result ≡ last_bridge (rows_of rows.now) place }
     ensures within { result ≤ place }
@@ -19,7 +19,7 @@ pub(crate) fn last_bridge(rows: &[MarkedRow], place: u32) -> u32
     let mut dead = 0;
     let mut bridge = 0;
     for index in 0..place {
-        dead = rows[index as usize].dead_behind(dead);
+        dead = rows[index as usize].dead_after(dead);
         if dead == 0 {
             bridge = index + 1;
         }
@@ -29,7 +29,7 @@ pub(crate) fn last_bridge(rows: &[MarkedRow], place: u32) -> u32
 
 /// The first bridge from a place on.
 pub(crate) fn first_bridge(rows: &[MarkedRow], place: u32) -> u32
-    requires kept { IsKept rows.now }
+    requires kept { MarksSurvivors rows.now }
     requires within { place ≤ length rows.now }
     ensures bridge { result ≡ first_bridge (rows_of rows.now) place }
     ensures within { result ≤ length rows.now }
@@ -40,7 +40,7 @@ pub(crate) fn first_bridge(rows: &[MarkedRow], place: u32) -> u32
         if place <= index && dead == 0 {
             return index;
         }
-        dead = rows[index as usize].dead_behind(dead);
+        dead = rows[index as usize].dead_after(dead);
     }
     rows.len() as u32
 }

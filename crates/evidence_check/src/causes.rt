@@ -3,7 +3,7 @@
 ghost use Rattle.std.specs.Prelude.{◌≡◌, ◌==◌};
 ghost use Rattle.std.specs.List.{list_any};
 ghost use Rattle.evidence.specs.Evidence.{IsEvidence};
-ghost use Rattle.evidence_check.specs.Marks.{IsKept, rows_of};
+ghost use Rattle.evidence_check.specs.Marks.{MarksSurvivors, rows_of};
 ghost use Rattle.evidence_check.specs.Truth.{cause_of, has_wrong_number, has_wrong_op, is_full, is_outside, same_op};
 
 use crate::CheckError;
@@ -12,10 +12,10 @@ use crate::marked_row::MarkedRow;
 use evidence::Evidence;
 use retro_base::{MAX_ROWS, Op};
 
-/// Why evidence is refused behind these rows, if it is.
+/// Why evidence is refused after these rows, if it is.
 #[tactic(auto, unfolding(crate::specs::Truth::cause_of))]
 pub(crate) fn cause_of(rows: &[MarkedRow], evidence: &Evidence) -> Option<CheckError>
-    requires kept { IsKept rows.now }
+    requires kept { MarksSurvivors rows.now }
     requires evidence { IsEvidence evidence.now }
     ensures { result ≡ cause_of (rows_of rows.now) evidence.now }
 {

@@ -4,8 +4,8 @@ ghost use Rattle.std.specs.Prelude.{◌≡◌, ◌≤◌, false, length};
 ghost use Rattle.retro_base.specs.Carried.{IsPqEdit};
 ghost use Rattle.retro_base.specs.Weights.{added_as};
 ghost use Rattle.evidence.specs.Evidence.{IsEvidence};
-ghost use Rattle.evidence_check.specs.Marks.{IsKept, cause_against, gained, is_alive_at, lost, marked_change, rows_of};
-ghost use Rattle.evidence_check.specs.Truth.{bridge_of, change_cause, is_outside, same_bridge, same_change, told_edit};
+ghost use Rattle.evidence_check.specs.Marks.{MarksSurvivors, cause_against, gained, is_alive_at, lost, marked_change, rows_of};
+ghost use Rattle.evidence_check.specs.Truth.{bridge_of, change_cause, is_outside, same_bridge, same_change, reported_edit};
 
 use crate::CheckError;
 use crate::bridges::{first_bridge, greatest_dead, last_bridge, least_alive};
@@ -19,11 +19,11 @@ use retro_base::{Change, Entry};
 
 /// Why evidence is refused that tells of an edit which can be made in these rows, if it is.
 pub(crate) fn change_cause(rows: &[MarkedRow], evidence: &Evidence) -> Option<CheckError>
-    requires kept { IsKept rows.now }
+    requires kept { MarksSurvivors rows.now }
     requires evidence { IsEvidence evidence.now }
-    requires possible { IsPqEdit (rows_of rows.now) (told_edit evidence.now) }
+    requires possible { IsPqEdit (rows_of rows.now) (reported_edit evidence.now) }
     requires inside { is_outside evidence.now.added evidence.now.place (rows_of rows.now) ≡ false }
-    ensures { result ≡ change_cause (rows_of rows.now) (told_edit evidence.now) evidence.now.change }
+    ensures { result ≡ change_cause (rows_of rows.now) (reported_edit evidence.now) evidence.now.change }
 {
     one_entry_is_carried();
     greatest_from_bridge_is_gained();
@@ -52,7 +52,7 @@ fn cause_against(stated: Change, read: Option<Change>) -> Option<CheckError>
 
 /// What the edit changes. There is none where the rows after it do not replay.
 fn marked_change(rows: &[MarkedRow], evidence: &Evidence) -> Option<Change>
-    requires kept { IsKept rows.now }
+    requires kept { MarksSurvivors rows.now }
     requires inside { is_outside evidence.now.added evidence.now.place (rows_of rows.now) ≡ false }
     ensures { result ≡ marked_change rows.now evidence.now.added evidence.now.place (added_as evidence.now.op evidence.now.number) }
 {
@@ -77,7 +77,7 @@ fn marked_change(rows: &[MarkedRow], evidence: &Evidence) -> Option<Change>
 
 /// The greatest of an entry and the dead ones from the last bridge up to a place is gained.
 fn gained(rows: &[MarkedRow], place: u32, new: Option<Entry>) -> Option<Change>
-    requires kept { IsKept rows.now }
+    requires kept { MarksSurvivors rows.now }
     requires within { place ≤ length rows.now }
     ensures { result ≡ gained rows.now place new }
 {
@@ -88,7 +88,7 @@ fn gained(rows: &[MarkedRow], place: u32, new: Option<Entry>) -> Option<Change>
 
 /// The least entry that survives from before the first bridge from a place on is lost.
 fn lost(rows: &[MarkedRow], place: u32) -> Option<Change>
-    requires kept { IsKept rows.now }
+    requires kept { MarksSurvivors rows.now }
     requires within { place ≤ length rows.now }
     ensures { result ≡ lost rows.now place }
 {

@@ -1,10 +1,10 @@
 ghost use Rattle.std.specs.Prelude.{◌≡◌, ◌≤◌, ◌<◌, ◌^◌, [], length, position, None, Ok, IsOk, IsTrue, OnOk, OnErr, false};
 ghost use Rattle.evidence.specs.Evidence.{IsEvidence};
 ghost use Rattle.retro_base.specs.Limits.{longest_line};
-ghost use Rattle.evidence_check.specs.Judgement.{decided, first_cause, is_evidence_line, is_named, judged_line, nothing_told, told_after};
+ghost use Rattle.evidence_check.specs.Judgement.{decided, first_cause, is_evidence_line, is_named, judged_line, nothing_reported, reported_after};
 
 use crate::CheckError;
-use crate::told::Told;
+use crate::reported::Reported;
 use evidence::{Evidence, read_evidence};
 use retro_base::Name;
 use std::alloc::Global;
@@ -14,11 +14,11 @@ use std::marker::Model;
 const MAX_TIMELINES: usize = 8;
 
 /// Takes the lines of an output one after another, and accepts the evidence among them as long as it is true.
-/// Contracts see what was told, and in how many lines, as a judge of `specs/Judgement.antt`.
+/// Contracts see what was reported, and in how many lines, as a judge of `specs/Judgement.antt`.
 #[derive(Drop)]
 pub struct Checker {
     alloc: Global,
-    told: Vec<Told>,
+    reported: Vec<Reported>,
     accepted: u32,
 }
 
@@ -27,7 +27,7 @@ impl Model for Checker {
 
     ghost Value = { Judge };
 
-    ghost view = { λ c. record { told = c.told.items; accepted = c.accepted } };
+    ghost view = { λ c. record { reported = c.reported.items; accepted = c.accepted } };
 }
 
 impl Checker {
@@ -35,11 +35,11 @@ impl Checker {
 
     /// A checker of no line.
     pub fn new(alloc: Global) -> Checker
-        ensures { result ≡ nothing_told }
+        ensures { result ≡ nothing_reported }
     {
         Checker {
             alloc,
-            told: Vec::new(alloc),
+            reported: Vec::new(alloc),
             accepted: 0,
         }
     }
@@ -79,9 +79,9 @@ impl Checker {
     fn take_evidence(&mut self, evidence: &Evidence) -> Result<(), CheckError>
         requires evidence { IsEvidence evidence.now }
         requires count { self.old.accepted < 2 ^ 31 }
-        ensures ok { OnOk result (decided (first_cause self.old.told evidence.now) self.old evidence.now ≡ Ok self.new) }
+        ensures ok { OnOk result (decided (first_cause self.old.reported evidence.now) self.old evidence.now ≡ Ok self.new) }
         ensures err { OnErr result (self.new ≡ self.old) }
-        ensures cause { IsRefused result (first_cause self.old.told evidence.now) }
+        ensures cause { IsRefused result (first_cause self.old.reported evidence.now) }
     {
         self.tell(evidence)?;
         self.accepted += 1;
@@ -91,39 +91,39 @@ impl Checker {
     /// Adds what evidence tells.
     fn tell(&mut self, evidence: &Evidence) -> Result<(), CheckError>
         requires { IsEvidence evidence.now }
-        ensures truth { OnOk result (first_cause self.old.told evidence.now ≡ None) }
-        ensures told { OnOk result (self.new ≡ record self.old { told = told_after self.old.told evidence.now }) }
+        ensures truth { OnOk result (first_cause self.old.reported evidence.now ≡ None) }
+        ensures reported { OnOk result (self.new ≡ record self.old { reported = reported_after self.old.reported evidence.now }) }
         ensures err { OnErr result (self.new ≡ self.old) }
-        ensures cause { IsRefused result (first_cause self.old.told evidence.now) }
+        ensures cause { IsRefused result (first_cause self.old.reported evidence.now) }
     {
         match self.index_of(evidence.name) {
-            Some(index) => self.told[index].take(evidence),
+            Some(index) => self.reported[index].take(evidence),
             None => self.tell_first(evidence),
         }
     }
 
-    /// Adds what evidence tells of a timeline of which nothing was told yet.
+    /// Adds what evidence tells of a timeline of which nothing was reported yet.
     fn tell_first(&mut self, evidence: &Evidence) -> Result<(), CheckError>
         requires evidence { IsEvidence evidence.now }
-        requires fresh { position (is_named evidence.now.name) self.old.told ≡ None }
-        ensures truth { OnOk result (first_cause self.old.told evidence.now ≡ None) }
-        ensures told { OnOk result (self.new ≡ record self.old { told = told_after self.old.told evidence.now }) }
+        requires fresh { position (is_named evidence.now.name) self.old.reported ≡ None }
+        ensures truth { OnOk result (first_cause self.old.reported evidence.now ≡ None) }
+        ensures reported { OnOk result (self.new ≡ record self.old { reported = reported_after self.old.reported evidence.now }) }
         ensures err { OnErr result (self.new ≡ self.old) }
-        ensures cause { IsRefused result (first_cause self.old.told evidence.now) }
+        ensures cause { IsRefused result (first_cause self.old.reported evidence.now) }
     {
-        if self.told.as_slice().len() >= MAX_TIMELINES {
+        if self.reported.as_slice().len() >= MAX_TIMELINES {
             return Err(CheckError::Timelines);
         }
-        let mut told = Told::new(self.alloc, evidence.name);
-        told.take(evidence)?;
-        self.told.push(told)?;
+        let mut reported = Reported::new(self.alloc, evidence.name);
+        reported.take(evidence)?;
+        self.reported.push(reported)?;
         Ok(())
     }
 
-    /// The index of what was told under the name.
+    /// The index of what was reported under the name.
     fn index_of(&self, name: Name) -> Option<usize>
-        ensures { result ≡ position (is_named name) self.now.told }
+        ensures { result ≡ position (is_named name) self.now.reported }
     {
-        self.told.iter().position(|told| told.name() == name)
+        self.reported.iter().position(|reported| reported.name() == name)
     }
 }

@@ -4,7 +4,7 @@ ghost use Rattle.evidence_check.specs.declared.error.CheckError.TheVariants as c
 use std::alloc::AllocFailed;
 use thiserror::Error;
 
-/// Why a line of evidence is refused. Of several causes the first one is told.
+/// Why a line of evidence is refused. Of several causes the first one is reported.
 #[derive(Clone, Copy, Debug, PartialEq, Eq, Error)]
 pub enum CheckError {
     /// The line is no spelling of evidence.
@@ -16,7 +16,7 @@ pub enum CheckError {
     /// A row is put in, and the timeline has as many rows as it may have.
     #[error("full")]
     Full,
-    /// A row is put in behind all rows and further, or taken out where none stands.
+    /// A row is put in after all rows and further, or taken out where none stands.
     #[error("place")]
     Place,
     /// A row is put in under a number that another one has, or taken out under a number that is not its own.

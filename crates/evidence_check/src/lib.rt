@@ -2,7 +2,7 @@
 //!
 //! Whoever has the lines of `evidence` that a history has answered can check the whole of it here, without the
 //! engine and without any structure: a line is accepted exactly where it tells the truth after the lines that
-//! were accepted before it, and else the first cause against it is told. The definition is `specs/Truth.antt` for
+//! were accepted before it, and else the first cause against it is reported. The definition is `specs/Truth.antt` for
 //! one timeline and `specs/Judgement.antt` for all of them.
 //!
 //! For each timeline the rows are kept in a plain vector, with a mark for each entry that survives. The marks are
@@ -12,7 +12,7 @@
 //!
 //! - `Checker` takes the lines, `CheckError` says why one is refused.
 //! - `marked_row`, `bridges`, `changes`: the rows with their marks, and what is read off them.
-//! - `told`: what was told of one timeline.
+//! - `told`: what was reported of one timeline.
 //! - `laws`: evidence is accepted exactly where it is true.
 #![tactic(auto)]
 
@@ -24,7 +24,7 @@ mod edits;
 mod error;
 pub mod laws;
 mod marked_row;
-mod told;
+mod reported;
 
 pub use checker::Checker;
 pub use error::CheckError;

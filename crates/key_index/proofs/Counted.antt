@@ -8,7 +8,7 @@ use Rattle.monoid_laws.specs.Measure.{measure_of}
 use Rattle.weighted_tree.specs.Search.{IsRising, IsFirstOrNone}
 use Rattle.key_index.specs.KeyRows.{KeyRow, last_of}
 use Rattle.key_index.specs.Last.{no_row, one_row, joined_last}
-use Rattle.key_index.specs.Ordered.{Falls}
+use Rattle.key_index.specs.Ordered.{IsPartitioned}
 use Rattle.key_index.proofs.Lists.{none_pass, filter-yes, settled}
 
 module _ {A : Type 0} (test : A → Bool) where
@@ -22,14 +22,14 @@ module _ {A : Type 0} (test : A → Bool) where
   all_fail [] all = refl
   all_fail (x ∷ xs) all = filter-yes fails x xs (ap not all.0) ∙ ap (λ ys. x ∷ ys) (all_fail xs all.1)
 
-  pub take_count : (xs : List A) → Falls test xs → take (count xs) xs ≡ filter test xs
+  pub take_count : (xs : List A) → IsPartitioned test xs → take (count xs) xs ≡ filter test xs
   take_count [] falls = refl
   take_count (x ∷ xs) falls = elim (test x) as (λ b. test x ≡ b → take (length (cond b (x ∷ filter test xs) (filter test xs))) (x ∷ xs) ≡ cond b (x ∷ filter test xs) (filter test xs)) [
     | true ↦ λ passing. ap (λ ys. x ∷ ys) (take_count xs falls.1)
     | false ↦ λ failing. rw (none_pass test xs (falls.0 failing)) refl
   ] refl
 
-  pub drop_count : (xs : List A) → Falls test xs → drop (count xs) xs ≡ filter fails xs
+  pub drop_count : (xs : List A) → IsPartitioned test xs → drop (count xs) xs ≡ filter fails xs
   drop_count [] falls = refl
   drop_count (x ∷ xs) falls = elim (test x) as (λ b. test x ≡ b → drop (length (cond b (x ∷ filter test xs) (filter test xs))) (x ∷ xs) ≡ cond (not b) (x ∷ filter fails xs) (filter fails xs)) [
     | true ↦ λ passing. drop_count xs falls.1
@@ -68,7 +68,7 @@ module _ {A : Type 0} (test : A → Bool) where
   above_none : (m : ℕ) → true ≡ nat_lt 0 (suc m)
   above_none m = grind (arith, nat_tests)
 
-  exceeds_is : (xs : List A) (place : ℕ) → Falls test xs → place ≤ length xs → exceeds xs place ≡ nat_lt (count xs) place
+  exceeds_is : (xs : List A) (place : ℕ) → IsPartitioned test xs → place ≤ length xs → exceeds xs place ≡ nat_lt (count xs) place
   exceeds_is xs zero falls within = none_below (count xs)
   exceeds_is [] (suc place) falls within = absurd (omega arith)
   exceeds_is (x ∷ xs) (suc place) falls within = elim (test x) as (λ b. test x ≡ b → exceeds (x ∷ xs) (suc place) ≡ nat_lt (length (cond b (x ∷ filter test xs) (filter test xs))) (suc place)) [
@@ -76,7 +76,7 @@ module _ {A : Type 0} (test : A → Bool) where
     | false ↦ λ failing. tail_fails x xs place failing (falls.0 failing) ∙ rw (none_pass test xs (falls.0 failing)) (above_none place)
   ] refl
 
-  pub exceeds_rises : (xs : List A) → Falls test xs → IsRising (exceeds xs) 0 (length xs)
+  pub exceeds_rises : (xs : List A) → IsPartitioned test xs → IsRising (exceeds xs) 0 (length xs)
   exceeds_rises xs falls place later from order within holding =
       exceeds_is xs later falls within
       ∙ lt-ltb (count xs) later (omega (arith, ltb-true (count xs) place (sym (exceeds_is xs place falls (omega arith)) ∙ holding)))
@@ -85,7 +85,7 @@ module _ {A : Type 0} (test : A → Bool) where
   abbrev pub Counted : List A → Option ℕ → Type 0
   Counted xs answer = MatchOption answer (length xs ≡ count xs) (λ place. (0 < place) × (place - 1 ≡ count xs))
 
-  pub counted : (xs : List A) (answer : Option ℕ) → Falls test xs → IsFirstOrNone (exceeds xs) 0 (length xs) answer → Counted xs answer
+  pub counted : (xs : List A) (answer : Option ℕ) → IsPartitioned test xs → IsFirstOrNone (exceeds xs) 0 (length xs) answer → Counted xs answer
   counted xs None falls nowhere =
       omega (arith, count_within xs, ltb-false (count xs) (length xs) (sym (exceeds_is xs (length xs) falls (omega arith)) ∙ nowhere (length xs) (omega arith) (omega arith)))
   counted xs (Some zero) falls first = absurd (let wrong : false ≡ true = first.holds_there in cc)

@@ -72,10 +72,10 @@ module _ (k : ℤ) where
             (ap (λ b. cond b (puts row.1) (less k)) off ∙ gone) here.1)
       ] refl
 
--- which keys are there behind some rows
-abbrev pub there_behind : List KeyRow → (ℤ → Bool) → ℤ → Bool
-there_behind [] there = there
-there_behind (row ∷ rows) there = there_behind rows (there_after row there)
+-- which keys are there after some rows
+abbrev pub there_later : List KeyRow → (ℤ → Bool) → ℤ → Bool
+there_later [] there = there
+there_later (row ∷ rows) there = there_later rows (there_after row there)
 
 -- that is what the last row on each key says
 abbrev left_by : Option KeyRow → Bool → Bool
@@ -86,17 +86,17 @@ one_more : (o : Option KeyRow) (row : KeyRow) (before : Bool) → left_by o (put
 one_more None row before = refl
 one_more (Some r) row before = refl
 
-behind_is : (rows : List KeyRow) (there : ℤ → Bool) (key : ℤ) → there_behind rows there key ≡ left_by (last_of (filter (is_on key) rows)) (there key)
-behind_is [] there key = refl
-behind_is (row ∷ rows) there key =
-    behind_is rows (there_after row there) key
+later_is : (rows : List KeyRow) (there : ℤ → Bool) (key : ℤ) → there_later rows there key ≡ left_by (last_of (filter (is_on key) rows)) (there key)
+later_is [] there key = refl
+later_is (row ∷ rows) there key =
+    later_is rows (there_after row there) key
     ∙ elim (is_on key row) as (λ b. left_by (last_of (filter (is_on key) rows)) (cond b (puts row.1) (there key)) ≡ left_by (last_of (cond b (row ∷ filter (is_on key) rows) (filter (is_on key) rows))) (there key)) [
       | true ↦ one_more (last_of (filter (is_on key) rows)) row (there key)
       | false ↦ refl
     ]
 
-pub there_is : (rows : List KeyRow) (key : ℤ) → there_behind rows nothing key ≡ is_there (last_of (filter (is_on key) rows))
-there_is rows key = behind_is rows nothing key ∙ ended (last_of (filter (is_on key) rows)) where
+pub there_is : (rows : List KeyRow) (key : ℤ) → there_later rows nothing key ≡ is_there (last_of (filter (is_on key) rows))
+there_is rows key = later_is rows nothing key ∙ ended (last_of (filter (is_on key) rows)) where
   ended : (o : Option KeyRow) → left_by o false ≡ is_there o
   ended None = refl
   ended (Some row) = refl
@@ -110,12 +110,12 @@ none_added : (o : Option ℕ) → o ≡ option_map (λ i. 0 + i) o
 none_added None = refl
 none_added (Some i) = ap Some (let same : i ≡ 0 + i = omega arith in same)
 
-pub in_parts : (front back : List KeyRow) (there : ℤ → Bool) → fails there front ≡ None → fails there (front ++ back) ≡ option_map (λ i. length front + i) (fails (there_behind front there) back)
+pub in_parts : (front back : List KeyRow) (there : ℤ → Bool) → fails there front ≡ None → fails there (front ++ back) ≡ option_map (λ i. length front + i) (fails (there_later front there) back)
 in_parts [] back there ok = none_added (fails there back)
 in_parts (row ∷ front) back there ok =
     let here = went (takes_out row.1 && not (there (key_of row.1))) (fails (there_after row there) front) ok in
     goes (takes_out row.1 && not (there (key_of row.1))) (fails (there_after row there) (front ++ back)) _ here.0 (in_parts front back (there_after row there) here.1)
-    ∙ added (length front) (fails (there_behind front (there_after row there)) back)
+    ∙ added (length front) (fails (there_later front (there_after row there)) back)
 
 pub front_goes : (front back : List KeyRow) (there : ℤ → Bool) → fails there (front ++ back) ≡ None → fails there front ≡ None
 front_goes [] back there ok = refl
@@ -123,7 +123,7 @@ front_goes (row ∷ front) back there ok =
     let here = went (takes_out row.1 && not (there (key_of row.1))) (fails (there_after row there) (front ++ back)) ok in
     goes (takes_out row.1 && not (there (key_of row.1))) (fails (there_after row there) front) None here.0 (front_goes front back (there_after row there) here.1)
 
-pub back_goes : (front back : List KeyRow) (there : ℤ → Bool) → fails there (front ++ back) ≡ None → fails (there_behind front there) back ≡ None
+pub back_goes : (front back : List KeyRow) (there : ℤ → Bool) → fails there (front ++ back) ≡ None → fails (there_later front there) back ≡ None
 back_goes [] back there ok = ok
 back_goes (row ∷ front) back there ok =
     let here = went (takes_out row.1 && not (there (key_of row.1))) (fails (there_after row there) (front ++ back)) ok in
@@ -146,9 +146,9 @@ taken_name name key (row ∷ rows) =
       later None = refl
       later (Some i) = refl
 
-pub name_behind : {X : Type 0} (front back : List X) (n : ℕ) (o : Option ℕ) → n ≡ length front → option_and_then (slice_get (front ++ back)) (option_map (λ i. n + i) o) ≡ option_and_then (slice_get back) o
-name_behind front back n None same = refl
-name_behind [] back n (Some i) same = ap (slice_get back) (let none : n + i ≡ i = omega arith in none)
-name_behind (x ∷ front) back zero (Some i) same = absurd (omega arith)
-name_behind (x ∷ front) back (suc n) (Some i) same =
-    ap (slice_get (x ∷ (front ++ back))) (let one : suc n + i ≡ suc (n + i) = omega arith in one) ∙ name_behind front back n (Some i) (omega (arith, same))
+pub name_after : {X : Type 0} (front back : List X) (n : ℕ) (o : Option ℕ) → n ≡ length front → option_and_then (slice_get (front ++ back)) (option_map (λ i. n + i) o) ≡ option_and_then (slice_get back) o
+name_after front back n None same = refl
+name_after [] back n (Some i) same = ap (slice_get back) (let none : n + i ≡ i = omega arith in none)
+name_after (x ∷ front) back zero (Some i) same = absurd (omega arith)
+name_after (x ∷ front) back (suc n) (Some i) same =
+    ap (slice_get (x ∷ (front ++ back))) (let one : suc n + i ≡ suc (n + i) = omega arith in one) ∙ name_after front back n (Some i) (omega (arith, same))

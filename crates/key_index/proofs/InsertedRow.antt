@@ -15,13 +15,13 @@ use Rattle.key_index.specs.declared.key_index.Bad.TheVariants.{Inserted, Present
 use Rattle.key_index.specs.KeyRows.{KeyRow, LabelsRise, AreKeyRows, is_on, last_of, first_after, up_to, behind, with_row, named, bad_with, Replays}
 use Rattle.key_index.specs.Beside.{takes_out, is_there, taken_at}
 use Rattle.key_index.specs.Ordered.{reaches}
-use Rattle.key_index.specs.declared.search.Spot.TheVariants.{Label}
+use Rattle.key_index.specs.declared.search.Bound.TheVariants.{Label}
 use Rattle.key_index.proofs.Counted.{take_count, drop_count}
 use Rattle.key_index.proofs.InOrder.{label_falls}
 use Rattle.key_index.proofs.Neighbours.{lt_is_not_le}
 use Rattle.key_index.proofs.Lists.{filter_either, all-append, all_filter, filter-same, first_of, find_is}
 use Rattle.key_index.proofs.Replayed.{there_after, fails, nothing, failure_is}
-use Rattle.key_index.proofs.Failing.{with_more, first_taken, without_key, there_behind, there_is, in_parts, front_goes, back_goes, taken_name, name_behind}
+use Rattle.key_index.proofs.Failing.{with_more, first_taken, without_key, there_later, there_is, in_parts, front_goes, back_goes, taken_name, name_after}
 
 abbrev AreDict : List KeyRow → Type 0
 AreDict rows = AllByRecursion (λ (row : KeyRow). kind_of row.1 ≡ Dict) rows
@@ -39,7 +39,7 @@ del_gone label k there = ap (λ b. cond b false (there k)) ((Decides-int_eq k k)
 -- a row between others that can be performed
 module _ (front back : List KeyRow) (label : ℕ) (whole : fails nothing (front ++ back) ≡ None) where
   abbrev there : ℤ → Bool
-  there = there_behind front nothing
+  there = there_later front nothing
 
   abbrev rest : fails there back ≡ None
   rest = back_goes front back nothing whole
@@ -63,10 +63,10 @@ module _ (front back : List KeyRow) (label : ℕ) (whole : fails nothing (front 
 
 -- names of rows
 first_name : (front back : List Bad) → slice_get (front ++ Inserted ∷ back) (length front + 0) ≡ Some Inserted
-first_name front back = name_behind front (Inserted ∷ back) (length front) (Some 0) refl
+first_name front back = name_after front (Inserted ∷ back) (length front) (Some 0) refl
 
 further : (front back : List Bad) (o : Option ℕ) → option_and_then (slice_get (front ++ Inserted ∷ back)) (option_map (λ i. length front + i) (option_map suc o)) ≡ option_and_then (slice_get back) o
-further front back o = name_behind front (Inserted ∷ back) (length front) (option_map suc o) refl ∙ past o where
+further front back o = name_after front (Inserted ∷ back) (length front) (option_map suc o) refl ∙ past o where
   past : (o : Option ℕ) → option_and_then (slice_get (Inserted ∷ back)) (option_map suc o) ≡ option_and_then (slice_get back) o
   past None = refl
   past (Some i) = refl
@@ -85,7 +85,7 @@ module _ (label : ℕ) (rows : List KeyRow) (dict : AreDict rows) (whole : fails
   pub put_is_good : (k v : ℤ) → None ≡ bad_with label (Put k v) rows
   put_is_good k v = sym (ap (option_and_then (slice_get (named front ++ Inserted ∷ named back))) (failure_is (with_row label (Put k v) rows) (edited_dict (Put k v) refl) ∙ put_between front back label whole k v))
 
-  there_up_to : (k : ℤ) → there_behind front nothing k ≡ is_there (last_of (filter (λ row. is_on k row && nat_le row.0 label) rows))
+  there_up_to : (k : ℤ) → there_later front nothing k ≡ is_there (last_of (filter (λ row. is_on k row && nat_le row.0 label) rows))
   there_up_to k = there_is front k ∙ ap (λ found. is_there (last_of found)) (sym (filter_either (is_on k) (λ row. nat_le row.0 label) rows))
 
   pub del_is_bad : (k : ℤ) → is_there (last_of (filter (λ row. is_on k row && nat_le row.0 label) rows)) ≡ false → Some Inserted ≡ bad_with label (Del k) rows

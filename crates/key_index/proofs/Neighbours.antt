@@ -1,4 +1,4 @@
--- The rows next to a spot in the order of keys are the last row on its key up to its label, and the first one behind it.
+-- The rows next to a bound in the order of keys are the last row on its key up to its label, and the first one after it.
 use Rattle.std.proofs.Common.{◌≡◌, ℕ, ℤ, zero, suc, ◌-◌, ◌<◌, Bool, true, false, not, ◌&&◌, ◌||◌, cond, Option, Some, None, List, [], ◌∷◌, take, drop, slice_get, refl, sym, ap, ◌∙◌, arith}
 use Rattle.std.specs.Prelude.{int_lt, nat_le, nat_lt}
 use Rattle.std.specs.List.{AllByRecursion, filter, find}
@@ -9,7 +9,7 @@ use Rattle.std.proofs.lemmas.Bool.Decides.{nat_tests}
 use Rattle.retro_base.specs.OrderLaws.{all_weaker}
 use Rattle.key_index.specs.KeyRows.{KeyRow, key_of, is_on, last_of, last_before}
 use Rattle.key_index.specs.Ordered.{AreByKey, pair_before, pair_up_to, stands_before, reaches}
-use Rattle.key_index.specs.declared.search.Spot.TheVariants.{Key}
+use Rattle.key_index.specs.declared.search.Bound.TheVariants.{Key}
 use Rattle.key_index.proofs.Lists.{filter-yes, filter-no, none_pass, filter_passes, filter_both, filter-same, first_of, find_is, settled, last_of_take, drop_from}
 use Rattle.key_index.proofs.InOrder.{by_key_filter}
 
@@ -52,7 +52,7 @@ module _ (key : ℤ) (limit : ℕ) where
   back_step row rest back false true true here apart same = same
   back_step row rest back false true false here apart same = ap (λ rows. row ∷ rows) same ∙ sym (filter-yes (is_on key) row back here)
 
-  -- the rows on the key up to the label are those of the rows up to the spot
+  -- the rows on the key up to the label are those of the rows up to the bound
   pub on_front : (rows : List KeyRow) → filter (λ row. is_on key row && nat_le row.0 limit) rows ≡ filter (is_on key) (filter reached rows)
   on_front [] = refl
   on_front (row ∷ rows) =
@@ -63,7 +63,7 @@ module _ (key : ℤ) (limit : ℕ) where
   on_back (row ∷ rows) =
       back_step row _ (filter passed rows) (int_lt (key_of row.1) key) (is_on key row) (nat_le row.0 limit) refl (one_or_other (key_of row.1) key) (on_back rows)
 
-  -- of rows up to the spot, the last on the key is the last of all, if that is on the key
+  -- of rows up to the bound, the last on the key is the last of all, if that is on the key
   last_on : (rows : List KeyRow) → AreByKey rows → AllByRecursion (λ row. reached row ≡ true) rows → last_of (filter (is_on key) rows) ≡ option_and_then (if_on key) (last_of rows)
   last_on [] order all = refl
   last_on (row ∷ []) order all = elim (is_on key row) as (λ b. last_of (cond b (row ∷ []) []) ≡ cond b (Some row) None) [ true ↦ refl | false ↦ refl ]
@@ -79,7 +79,7 @@ module _ (key : ℤ) (limit : ℕ) where
         | false ↦ λ off. last_on (next ∷ rows) order.1 all.1 ∙ ap (option_and_then (if_on key)) (sym (settled (last_of rows) next row))
       ] refl
 
-  -- of rows behind it, the first on the key is the first of all, if that is on the key
+  -- of rows after it, the first on the key is the first of all, if that is on the key
   first_on : (rows : List KeyRow) → AreByKey rows → AllByRecursion (λ row. passed row ≡ true) rows → first_of (filter (is_on key) rows) ≡ option_and_then (if_on key) (first_of rows)
   first_on [] order all = refl
   first_on (row ∷ rows) order all =
@@ -93,7 +93,7 @@ module _ (key : ℤ) (limit : ℕ) where
         turned true h = absurd (cc)
         turned false h = refl
 
-  -- what stands next to the spot
+  -- what stands next to the bound
   pub last_found : (rows : List KeyRow) (count : ℕ) (row : KeyRow) → AreByKey rows → take count rows ≡ filter reached rows → 0 < count → slice_get rows (count - 1) ≡ Some row
       → if_on key row ≡ last_of (filter (λ row. is_on key row && nat_le row.0 limit) rows)
   last_found rows zero row order front some there = absurd (omega arith)
@@ -105,19 +105,19 @@ module _ (key : ℤ) (limit : ℕ) where
   pub none_up_to : (rows : List KeyRow) (count : ℕ) → take count rows ≡ filter reached rows → count ≡ 0 → None ≡ last_of (filter (λ row. is_on key row && nat_le row.0 limit) rows)
   none_up_to rows count front none = sym (ap last_of (on_front rows ∙ ap (filter (is_on key)) (sym front ∙ ap (λ n. take n rows) none)))
 
-  find_behind : (rows : List KeyRow) → find (λ row. is_on key row && nat_lt limit row.0) rows ≡ first_of (filter (is_on key) (filter passed rows))
-  find_behind rows =
+  find_after : (rows : List KeyRow) → find (λ row. is_on key row && nat_lt limit row.0) rows ≡ first_of (filter (is_on key) (filter passed rows))
+  find_after rows =
       find_is (λ row. is_on key row && nat_lt limit row.0) rows
       ∙ ap first_of (filter-same (λ row. is_on key row && nat_lt limit row.0) (λ row. is_on key row && not (nat_le row.0 limit)) (λ row. ap (λ b. is_on key row && b) (lt_is_not_le limit row.0)) rows ∙ on_back rows)
 
   pub first_found : (rows : List KeyRow) (count : ℕ) (row : KeyRow) → AreByKey rows → drop count rows ≡ filter passed rows → slice_get rows count ≡ Some row
       → if_on key row ≡ find (λ row. is_on key row && nat_lt limit row.0) rows
   first_found rows count row order back there =
-      sym (find_behind rows ∙ first_on (filter passed rows) (by_key_filter passed rows order) (filter_passes passed rows)
+      sym (find_after rows ∙ first_on (filter passed rows) (by_key_filter passed rows order) (filter_passes passed rows)
       ∙ ap (option_and_then (if_on key)) (ap first_of (sym back ∙ drop_from rows count row there)))
 
-  pub none_behind : (rows : List KeyRow) (count : ℕ) → drop count rows ≡ filter passed rows → drop count rows ≡ [] → None ≡ find (λ row. is_on key row && nat_lt limit row.0) rows
-  none_behind rows count back none = sym (find_behind rows ∙ ap (λ found. first_of (filter (is_on key) found)) (sym back ∙ none))
+  pub none_after : (rows : List KeyRow) (count : ℕ) → drop count rows ≡ filter passed rows → drop count rows ≡ [] → None ≡ find (λ row. is_on key row && nat_lt limit row.0) rows
+  none_after rows count back none = sym (find_after rows ∙ ap (λ found. first_of (filter (is_on key) found)) (sym back ∙ none))
 
 -- the rows of a key decide what stands beside a label on it
 module _ (key : ℤ) (rows by_key : List KeyRow) (same : filter (is_on key) by_key ≡ filter (is_on key) rows) where

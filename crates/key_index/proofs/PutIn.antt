@@ -13,7 +13,7 @@ use Rattle.retro_base.specs.declared.op.Op.{Op}
 use Rattle.retro_base.specs.Kind.{kind_of}
 use Rattle.key_index.specs.KeyRows.{KeyRow, key_of, is_on, op_at}
 use Rattle.key_index.specs.Ordered.{IsIndexed, pair_before, pair_up_to, stands_before, reaches}
-use Rattle.key_index.specs.declared.search.Spot.TheVariants.{Label, Key}
+use Rattle.key_index.specs.declared.search.Bound.TheVariants.{Label, Key}
 use Rattle.key_index.proofs.Lists.{filter_either, all-append, all_both, all_filter, all_unfiltered, filter_passes, filter-no}
 use Rattle.key_index.proofs.InOrder.{by_key_filter, rise_filter, rise_around, by_key_around}
 use Rattle.key_index.proofs.Neighbours.{on_front, on_back, same_that}

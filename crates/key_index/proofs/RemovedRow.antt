@@ -14,9 +14,9 @@ use Rattle.retro_base.specs.Kind.{kind_of}
 use Rattle.retro_base.specs.OrderLaws.{all_weaker}
 use Rattle.key_index.specs.KeyRows.{KeyRow, AreKeyRows, is_on, last_of, last_before, first_after, op_at, without, bad_label, failure_of, Replays}
 use Rattle.key_index.specs.Beside.{is_there, taken_at}
-use Rattle.key_index.proofs.Lists.{filter_either, all-append, all_front, all_behind, filter-no, none_pass, all_pass, first_of, find_is}
+use Rattle.key_index.proofs.Lists.{filter_either, all-append, all_front, all_after, filter-no, none_pass, all_pass, first_of, find_is}
 use Rattle.key_index.proofs.Replayed.{there_after, fails, nothing, failure_is}
-use Rattle.key_index.proofs.Failing.{with_more, without_key, there_behind, there_is, in_parts, front_goes, back_goes, row_goes, taken_name, name_behind}
+use Rattle.key_index.proofs.Failing.{with_more, without_key, there_later, there_is, in_parts, front_goes, back_goes, row_goes, taken_name, name_after}
 use Rattle.key_index.proofs.TakenOut.{StandsByLabel, by_label, without_it}
 
 abbrev AreDict : List KeyRow → Type 0
@@ -91,9 +91,9 @@ module _ (label : ℕ) (op : Op) (rows : List KeyRow) (keyed : AreKeyRows rows) 
   left_dict =
       let dict = subst AreDict stands.is keyed.of_dict in
       all-append (λ (row : KeyRow). kind_of row.1 ≡ Dict) before beyond (all_front (λ (row : KeyRow). kind_of row.1 ≡ Dict) before ((label, op) ∷ beyond) dict)
-      (all_behind (λ (row : KeyRow). kind_of row.1 ≡ Dict) before ((label, op) ∷ beyond) dict).1
+      (all_after (λ (row : KeyRow). kind_of row.1 ≡ Dict) before ((label, op) ∷ beyond) dict).1
 
-  fails_left : failure_of (without label rows) ≡ option_map (λ i. length before + i) (fails (there_behind before nothing) beyond)
+  fails_left : failure_of (without label rows) ≡ option_map (λ i. length before + i) (fails (there_later before nothing) beyond)
   fails_left =
       ap failure_of (ap (without label) stands.is ∙ without_it label op before beyond stands.below)
       ∙ failure_is (before ++ beyond) left_dict
@@ -102,15 +102,15 @@ module _ (label : ℕ) (op : Op) (rows : List KeyRow) (keyed : AreKeyRows rows) 
   abbrev labels : List KeyRow → List ℕ
   labels rows = map (λ (row : KeyRow). row.0) rows
 
-  bad_left : bad_label (without label rows) ≡ option_and_then (slice_get (labels beyond)) (fails (there_behind before nothing) beyond)
+  bad_left : bad_label (without label rows) ≡ option_and_then (slice_get (labels beyond)) (fails (there_later before nothing) beyond)
   bad_left =
       ap (option_and_then (slice_get (labels (without label rows)))) fails_left
-      ∙ ap (λ l. option_and_then (slice_get (labels l)) (option_map (λ i. length before + i) (fails (there_behind before nothing) beyond))) (ap (without label) stands.is ∙ without_it label op before beyond stands.below)
-      ∙ ap (λ l. option_and_then (slice_get l) (option_map (λ i. length before + i) (fails (there_behind before nothing) beyond))) (map-append (λ (row : KeyRow). row.0) before beyond)
-      ∙ name_behind (labels before) (labels beyond) (length before) (fails (there_behind before nothing) beyond) (sym (length-map before (λ (row : KeyRow). row.0)))
+      ∙ ap (λ l. option_and_then (slice_get (labels l)) (option_map (λ i. length before + i) (fails (there_later before nothing) beyond))) (ap (without label) stands.is ∙ without_it label op before beyond stands.below)
+      ∙ ap (λ l. option_and_then (slice_get l) (option_map (λ i. length before + i) (fails (there_later before nothing) beyond))) (map-append (λ (row : KeyRow). row.0) before beyond)
+      ∙ name_after (labels before) (labels beyond) (length before) (fails (there_later before nothing) beyond) (sym (length-map before (λ (row : KeyRow). row.0)))
 
-  after_it : fails (there_after (label, op) (there_behind before nothing)) beyond ≡ None
-  after_it = (row_goes (label, op) beyond (there_behind before nothing) (back_goes before ((label, op) ∷ beyond) nothing whole)).1
+  after_it : fails (there_after (label, op) (there_later before nothing)) beyond ≡ None
+  after_it = (row_goes (label, op) beyond (there_later before nothing) (back_goes before ((label, op) ∷ beyond) nothing whole)).1
 
   lesser : filter (λ row. nat_lt row.0 label) rows ≡ before
   lesser =
@@ -132,7 +132,7 @@ module _ (label : ℕ) (op : Op) (rows : List KeyRow) (keyed : AreKeyRows rows) 
       ∙ filter-no (λ (row : KeyRow). nat_lt label row.0) (label, op) beyond (not_itself label)
       ∙ all_pass (λ (row : KeyRow). nat_lt label row.0) beyond (all_weaker (λ (row : KeyRow). label < row.0) (λ (row : KeyRow). nat_lt label row.0 ≡ true) beyond (λ row more. below_label label row.0 more) stands.above)
 
-  there_below : (k : ℤ) → there_behind before nothing k ≡ is_there (last_before k label rows)
+  there_below : (k : ℤ) → there_later before nothing k ≡ is_there (last_before k label rows)
   there_below k =
       there_is before k ∙ ap (λ l. is_there (last_of (filter (is_on k) l))) (sym lesser)
       ∙ ap (λ l. is_there (last_of l)) (sym (filter_either (is_on k) (λ row. nat_lt row.0 label) rows))
@@ -146,21 +146,21 @@ module _ (label : ℕ) (op : Op) (rows : List KeyRow) (keyed : AreKeyRows rows) 
   pub put_again : (k v : ℤ) → op ≡ Put k v → is_there (last_before k label rows) ≡ true → None ≡ bad_label (without label rows)
   put_again k v same here =
       sym (bad_left ∙ ap (option_and_then (slice_get (labels beyond)))
-      (with_more beyond (there_after (label, op) (there_behind before nothing)) (there_behind before nothing)
-      (put_same_of label op k v (there_behind before nothing) same (there_below k ∙ here)) after_it))
+      (with_more beyond (there_after (label, op) (there_later before nothing)) (there_later before nothing)
+      (put_same_of label op k v (there_later before nothing) same (there_below k ∙ here)) after_it))
 
   -- the key is not there without it
   pub put_gone : (k v : ℤ) → op ≡ Put k v → is_there (last_before k label rows) ≡ false → taken_at (first_after k label rows) ≡ bad_label (without label rows)
   put_gone k v same gone =
       sym (bad_left ∙ ap (option_and_then (slice_get (labels beyond)))
-      (without_key k beyond (there_after (label, op) (there_behind before nothing)) (there_behind before nothing)
-      (put_apart_of label op k v (there_behind before nothing) same) (there_below k ∙ gone) after_it)
+      (without_key k beyond (there_after (label, op) (there_later before nothing)) (there_later before nothing)
+      (put_apart_of label op k v (there_later before nothing) same) (there_below k ∙ gone) after_it)
       ∙ taken_name (λ l. l) k beyond ∙ unchanged (taken_at (first_of (filter (is_on k) beyond))) ∙ ap taken_at (next_is k))
 
   -- a row that takes a key out is never missed
   pub not_missed : ((k v : ℤ) → op ≡ Put k v → ⊥) → None ≡ bad_label (without label rows)
   not_missed other =
-      let del = only_del op (all_behind (λ (row : KeyRow). kind_of row.1 ≡ Dict) before ((label, op) ∷ beyond) (subst AreDict stands.is keyed.of_dict)).0 other in
+      let del = only_del op (all_after (λ (row : KeyRow). kind_of row.1 ≡ Dict) before ((label, op) ∷ beyond) (subst AreDict stands.is keyed.of_dict)).0 other in
       sym (bad_left ∙ ap (option_and_then (slice_get (labels beyond)))
-      (with_more beyond (there_after (label, op) (there_behind before nothing)) (there_behind before nothing)
-      (del_more_of label op del.0 (there_behind before nothing) del.1) after_it))
+      (with_more beyond (there_after (label, op) (there_later before nothing)) (there_later before nothing)
+      (del_more_of label op del.0 (there_later before nothing) del.1) after_it))

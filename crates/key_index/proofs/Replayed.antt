@@ -97,7 +97,7 @@ module _ (key : ℤ) where
       ap is_some (lookup-remove_entry int_eq_equiv (int_eq key) (λ x y h. int_eq_equiv.congr key x y h) q ps (IsDistinct-from_sorted int_cmp (keys_of ps) s))
       ∙ (elim (int_eq key q) as (λ b. is_some (cond b None (lookup (int_eq q) ps)) ≡ cond b false (has q ps)) [ true ↦ refl | false ↦ refl ])
 
--- which keys are there behind a row
+-- which keys are there after a row
 abbrev pub there_after : KeyRow → (ℤ → Bool) → ℤ → Bool
 there_after row there key = cond (is_on key row) (puts row.1) (there key)
 

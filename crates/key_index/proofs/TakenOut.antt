@@ -12,11 +12,11 @@ use Rattle.retro_base.specs.Kind.{kind_of}
 use Rattle.retro_base.specs.OrderLaws.{all_weaker}
 use Rattle.key_index.specs.KeyRows.{KeyRow, LabelsRise, key_of, is_on, op_at, without}
 use Rattle.key_index.specs.Ordered.{AreByKey, IsIndexed, pair_before, pair_up_to, stands_before, reaches}
-use Rattle.key_index.specs.declared.search.Spot.TheVariants.{Label, Key}
-use Rattle.key_index.proofs.Lists.{all-append, all_front, all_behind, filter-yes, filter-no, none_pass, all_pass}
+use Rattle.key_index.specs.declared.search.Bound.TheVariants.{Label, Key}
+use Rattle.key_index.proofs.Lists.{all-append, all_front, all_after, filter-yes, filter-no, none_pass, all_pass}
 use Rattle.key_index.proofs.InOrder.{rise_without, by_key_without}
 
--- a row stands among others: all before it have lesser labels, all behind it greater ones
+-- a row stands among others: all before it have lesser labels, all after it greater ones
 pub record StandsByLabel (row : KeyRow) (rows : List KeyRow) : Type 0 where
   pub front : List KeyRow
   pub back : List KeyRow
@@ -47,7 +47,7 @@ by_label label op (row ∷ rows) rise there =
             front = row ∷ rest.front;
             back = rest.back;
             is = ap (λ found. row ∷ found) rest.is;
-            below = ((all_behind (λ (r : KeyRow). row.0 < r.0) rest.front ((label, op) ∷ rest.back) (subst (AllByRecursion (λ (r : KeyRow). row.0 < r.0)) rest.is rise.0)).0, rest.below);
+            below = ((all_after (λ (r : KeyRow). row.0 < r.0) rest.front ((label, op) ∷ rest.back) (subst (AllByRecursion (λ (r : KeyRow). row.0 < r.0)) rest.is rise.0)).0, rest.below);
             above = rest.above;
           }
     ] refl there
@@ -101,13 +101,13 @@ module _ (test : KeyRow → Bool) (row : KeyRow) (back : List KeyRow) where
 
 by_key_front : (front back : List KeyRow) (row : KeyRow) → AreByKey (front ++ row ∷ back) → AllByRecursion (λ (r : KeyRow). stands_before r row ≡ true) front
 by_key_front [] back row order = tt
-by_key_front (first ∷ front) back row order = ((all_behind (λ (r : KeyRow). stands_before first r ≡ true) front (row ∷ back) order.0).0, by_key_front front back row order.1)
+by_key_front (first ∷ front) back row order = ((all_after (λ (r : KeyRow). stands_before first r ≡ true) front (row ∷ back) order.0).0, by_key_front front back row order.1)
 
 by_key_back : (front back : List KeyRow) (row : KeyRow) → AreByKey (front ++ row ∷ back) → AllByRecursion (λ (r : KeyRow). stands_before row r ≡ true) back
 by_key_back [] back row order = order.0
 by_key_back (first ∷ front) back row order = by_key_back front back row order.1
 
--- up to a row that passes, where all before it pass and none behind it
+-- up to a row that passes, where all before it pass and none after it
 ends_with : (test : KeyRow → Bool) (front back : List KeyRow) (row : KeyRow) → AllByRecursion (λ (r : KeyRow). test r ≡ true) front → test row ≡ true
     → AllByRecursion (λ (r : KeyRow). test r ≡ false) back → filter test (front ++ row ∷ back) ≡ front ++ row ∷ []
 ends_with test front back row before here behind =
@@ -181,8 +181,8 @@ module _ (label : ℕ) (op : Op) (rows by_key : List KeyRow) (indexed : IsIndexe
       (up_to_itself label)
       (all_weaker (λ (r : KeyRow). label < r.0) (λ (r : KeyRow). reaches (Label label) r ≡ false) stands.back (λ r more. more_is_past r.0 label more) stands.above)
 
-  up_to_spot : filter (reaches (Key key label)) by_key ≡ stands_by_key.before ++ row ∷ []
-  up_to_spot =
+  up_to_bound : filter (reaches (Key key label)) by_key ≡ stands_by_key.before ++ row ∷ []
+  up_to_bound =
       ap (filter (reaches (Key key label))) stands_by_key.is
       ∙ ends_with (reaches (Key key label)) stands_by_key.before stands_by_key.behind row
       (all_weaker (λ (r : KeyRow). stands_before r row ≡ true) (λ (r : KeyRow). reaches (Key key label) r ≡ true) stands_by_key.before (λ r less. pair_less (key_of r.1) r.0 key label less)
@@ -197,7 +197,7 @@ module _ (label : ℕ) (op : Op) (rows by_key : List KeyRow) (indexed : IsIndexe
     place_is = counted_with rows stands.front row place within (front ∙ up_to_label)
 
     pub place_by_key_is : place_by_key ≡ length stands_by_key.before + 1
-    place_by_key_is = counted_with by_key stands_by_key.before row place_by_key within_by_key (front_by_key ∙ up_to_spot)
+    place_by_key_is = counted_with by_key stands_by_key.before row place_by_key within_by_key (front_by_key ∙ up_to_bound)
 
     left : remove rows (place - 1) ≡ stands.front ++ stands.back
     left = ap (λ n. remove rows n) (let one : place - 1 ≡ length stands.front = omega (arith, place_is) in one) ∙ ap (λ l. remove l (length stands.front)) stands.is ∙ removed stands.front stands.back row
@@ -234,7 +234,7 @@ module _ (label : ℕ) (op : Op) (rows by_key : List KeyRow) (indexed : IsIndexe
           by_label = record {
             rising = rise_without stands.front stands.back row (subst LabelsRise stands.is indexed.by_label.rising);
             of_dict = all-append (λ (r : KeyRow). kind_of r.1 ≡ Dict) stands.front stands.back (all_front (λ (r : KeyRow). kind_of r.1 ≡ Dict) stands.front (row ∷ stands.back) dict)
-                (all_behind (λ (r : KeyRow). kind_of r.1 ≡ Dict) stands.front (row ∷ stands.back) dict).1;
+                (all_after (λ (r : KeyRow). kind_of r.1 ≡ Dict) stands.front (row ∷ stands.back) dict).1;
           };
           ordered = by_key_without stands_by_key.before stands_by_key.behind row order;
           as_many = omega (

@@ -9,7 +9,7 @@ abbrev pub puts : Op → Bool
 puts (Put key value) = true
 puts op = false
 
--- the key is there behind the last row on it
+-- the key is there after the last row on it
 abbrev pub is_there : Option KeyRow → Bool
 is_there None = false
 is_there (Some row) = puts row.1

@@ -55,14 +55,14 @@ op_at label rows = lookup (λ other. other == label) rows
 abbrev pub without : ℕ → List KeyRow → List KeyRow
 without label rows = remove_entry (λ other. other == label) rows
 
--- the rows up to a label, and those behind it
+-- the rows up to a label, and those after it
 abbrev pub up_to : ℕ → List KeyRow → List KeyRow
 up_to label rows = filter (λ row. nat_le row.0 label) rows
 
 abbrev pub behind : ℕ → List KeyRow → List KeyRow
 behind label rows = filter (λ row. nat_lt label row.0) rows
 
--- the rows with one more behind those up to its label
+-- the rows with one more after those up to its label
 abbrev pub with_row : ℕ → Op → List KeyRow → List KeyRow
 with_row label op rows = up_to label rows ++ (label, op) ∷ behind label rows
 
@@ -76,7 +76,7 @@ failure_of rows = failure Dict (map as_row rows)
 abbrev pub Replays : List KeyRow → Type 0
 Replays rows = failure_of rows ≡ None
 
--- the first row that fails once a row is put in behind those up to a label: it is that row, or one that is there
+-- the first row that fails once a row is put in after those up to a label: it is that row, or one that is there
 abbrev pub named : List KeyRow → List Bad
 named rows = map (λ (row : KeyRow). Present row.0) rows
 

@@ -23,9 +23,9 @@ last items row = record { items = items; row = row }
 same : (a b : ℕ) (o p : Option KeyRow) → a ≡ b → o ≡ p → last a o ≡ last b p
 same a b o p e f = cc
 
-nothing_behind : (o : Option KeyRow) → option_or o None ≡ o
-nothing_behind None = refl
-nothing_behind (Some row) = refl
+nothing_after : (o : Option KeyRow) → option_or o None ≡ o
+nothing_after None = refl
+nothing_after (Some row) = refl
 
 grouped : (o p q : Option KeyRow) → option_or q (option_or p o) ≡ option_or (option_or q p) o
 grouped o p None = refl
@@ -35,7 +35,7 @@ pub last_laws : MonoidLaws (λ (a : Last). a.items) no_row joined_last
 last_laws = record {
   unit_items = refl;
   join_items = λ a b. refl;
-  left_unit = λ a. same (0 + a.items) a.items (option_or a.row None) a.row (omega arith) (nothing_behind a.row);
+  left_unit = λ a. same (0 + a.items) a.items (option_or a.row None) a.row (omega arith) (nothing_after a.row);
   right_unit = λ a. same (a.items + 0) a.items a.row a.row (omega arith) refl;
   assoc = λ a b c. same (a.items + b.items + c.items) (a.items + (b.items + c.items)) _ _ (omega arith) (grouped a.row b.row c.row);
 }

@@ -3,8 +3,8 @@ use Rattle.std.specs.Prelude.{◌≡◌, ℕ, ℤ, Bool, true, false, ◌&&◌, 
 use Rattle.std.specs.List.{AllByRecursion, filter}
 use Rattle.std.specs.Ordering.{int_eq}
 use Rattle.key_index.specs.KeyRows.{KeyRow, AreKeyRows, key_of, is_on}
-use Rattle.key_index.specs.declared.search.Spot.{Spot}
-use Rattle.key_index.specs.declared.search.Spot.TheVariants.{Label, Key}
+use Rattle.key_index.specs.declared.search.Bound.{Bound}
+use Rattle.key_index.specs.declared.search.Bound.TheVariants.{Label, Key}
 
 -- the order of pairs of a key and a label
 abbrev pub pair_before : ℤ → ℕ → ℤ → ℕ → Bool
@@ -24,15 +24,15 @@ pub record IsIndexed (rows by_key : List KeyRow) : Type 0 where
   pub as_many : length by_key ≡ length rows
   pub same : (key : ℤ) → filter (is_on key) by_key ≡ filter (is_on key) rows
 
--- a row stands up to a spot
+-- a row stands up to a bound
 abbrev pub pair_up_to : ℤ → ℕ → ℤ → ℕ → Bool
 pair_up_to k l key limit = int_lt k key || (int_eq k key && nat_le l limit)
 
-abbrev pub reaches : Spot → KeyRow → Bool
+abbrev pub reaches : Bound → KeyRow → Bool
 reaches (Label limit) row = nat_le row.0 limit
 reaches (Key key limit) row = pair_up_to (key_of row.1) row.0 key limit
 
--- behind an element that fails the test all fail it
-abbrev pub Falls : {A : Type 0} → (A → Bool) → List A → Type 0
-Falls test [] = Unit {0}
-Falls test (x ∷ xs) = (test x ≡ false → AllByRecursion (λ later. test later ≡ false) xs) × Falls test xs
+-- after an element that fails the test all fail it
+abbrev pub IsPartitioned : {A : Type 0} → (A → Bool) → List A → Type 0
+IsPartitioned test [] = Unit {0}
+IsPartitioned test (x ∷ xs) = (test x ≡ false → AllByRecursion (λ later. test later ≡ false) xs) × IsPartitioned test xs

@@ -3,7 +3,7 @@ ghost use Rattle.key_index.specs.Beside.{is_there, taken_at};
 
 use retro_base::Op;
 
-/// Whether a key is there behind the last row on it.
+/// Whether a key is there after the last row on it.
 pub(crate) fn is_there(last: Option<(u64, Op)>) -> bool
     ensures { result ≡ is_there last }
 {

@@ -7,7 +7,7 @@ ghost use Rattle.key_index.specs.Relabelled.{Rise, HoldsLabels, relabelled};
 use crate::beside::{is_there, taken_at};
 use crate::labels::Labels2;
 use crate::row::KeyRow;
-use crate::trees::{first_behind, last_up_to, op_at, put_in, relabel, take_out};
+use crate::trees::{first_later, last_up_to, op_at, put_in, relabel, take_out};
 use retro_base::{NoMemory, Op};
 use std::alloc::Global;
 use std::marker::{Brand, Model};
@@ -89,10 +89,10 @@ impl KeyIndex {
     pub fn after(&self, key: i64, label: u64) -> Option<(u64, Op)>
         ensures { result ≡ first_after key label self.now }
     {
-        first_behind::<Brand>(&self.by_key, key, label, Blank::new(1))
+        first_later::<Brand>(&self.by_key, key, label, Blank::new(1))
     }
 
-    /// The first row that fails once a row is put in right behind all rows whose label is at most `behind`.
+    /// The first row that fails once a row is put in right after all rows whose label is at most `after`.
     pub fn bad_after_insert(&self, behind: u64, op: Op) -> Option<Bad>
         requires replays { Replays self.now }
         requires dict { kind_of op ≡ Dict }

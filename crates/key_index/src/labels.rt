@@ -5,7 +5,7 @@ use retro_base::NoMemory;
 use std::alloc::Global;
 use std::marker::Model;
 
-/// A list of labels, as they are before or behind a relabelling.
+/// A list of labels, as they are before or after a relabelling.
 #[derive(Drop)]
 pub struct Labels2 {
     labels: Vec<u64>,

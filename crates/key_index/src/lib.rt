@@ -19,8 +19,8 @@
 //!
 //! What the layer above may rely on: the definitions of specs/KeyRows.antt, over plain lists.
 //!
-//! - `key_index`: the type and its calls. `labels`: the labels before and behind a relabelling.
-//! - `row`, `last`: what stands in the trees, and what they measure. `search`: how many rows stand up to a spot.
+//! - `key_index`: the type and its calls. `labels`: the labels before and after a relabelling.
+//! - `row`, `last`: what stands in the trees, and what they measure. `search`: how many rows stand up to a bound.
 //! - `trees`: what the calls do to the trees. `beside`: what the rows beside an edit say.
 #![tactic(auto)]
 

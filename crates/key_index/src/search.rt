@@ -1,7 +1,7 @@
 ghost use Rattle.std.specs.Prelude.{◌≡◌, ◌≤◌, length, take, drop, not, false};
 ghost use Rattle.std.specs.List.{filter};
 ghost use Rattle.std.specs.Option.{option_map_or};
-ghost use Rattle.key_index.specs.Ordered.{reaches, Falls};
+ghost use Rattle.key_index.specs.Ordered.{reaches, IsPartitioned};
 
 use crate::last::Last;
 use crate::row::{KeyRow, key_of};
@@ -11,44 +11,44 @@ use weighted_tree::Tree;
 
 /// Up to where rows are looked for.
 #[derive(Clone, Copy)]
-pub(crate) enum Spot {
+pub(crate) enum Bound {
     /// Up to a label.
     Label { label: u64 },
     /// On lesser keys, and up to a label on this one.
     Key { key: i64, label: u64 },
 }
 
-/// Whether a row stands up to the spot.
-pub(crate) fn reaches(spot: Spot, label: u64, op: Op) -> bool
-    ensures { result ≡ reaches spot (label, op) }
+/// Whether a row stands up to the bound.
+pub(crate) fn reaches(bound: Bound, label: u64, op: Op) -> bool
+    ensures { result ≡ reaches bound (label, op) }
 {
-    match spot {
-        Spot::Label { label: limit } => label <= limit,
-        Spot::Key { key, label: limit } => {
+    match bound {
+        Bound::Label { label: limit } => label <= limit,
+        Bound::Key { key, label: limit } => {
             key_of(op) < key || (key_of(op) == key && label <= limit)
         }
     }
 }
 
-/// How many rows stand up to the spot, where they stand in its order.
-pub(crate) fn count_up_to<L: Ledger>(rows: &Tree<KeyRow>, spot: Spot, steps: &mut Steps<L>) -> u32
-    requires { Falls (reaches spot) rows.now }
-    ensures front { take result rows.now ≡ filter (reaches spot) rows.now }
-    ensures back { drop result rows.now ≡ filter (λ row. not (reaches spot row)) rows.now }
+/// How many rows stand up to the bound, where they stand in its order.
+pub(crate) fn count_up_to<L: Ledger>(rows: &Tree<KeyRow>, bound: Bound, steps: &mut Steps<L>) -> u32
+    requires { IsPartitioned (reaches bound) rows.now }
+    ensures front { take result rows.now ≡ filter (reaches bound) rows.now }
+    ensures back { drop result rows.now ≡ filter (λ row. not (reaches bound row)) rows.now }
     ensures within { result ≤ length rows.now }
 {
-    match rows.first_place(0, |last: &Last| is_past(spot, last), steps) {
+    match rows.first_place(0, |last: &Last| is_past(bound, last), steps) {
         Some(place) => place - 1,
         None => rows.len(),
     }
 }
 
-/// Whether the last row of a range stands past the spot.
-fn is_past(spot: Spot, last: &Last) -> bool
-    ensures { result ≡ option_map_or (λ row. not (reaches spot row)) last.now.row false }
+/// Whether the last row of a range stands past the bound.
+fn is_past(bound: Bound, last: &Last) -> bool
+    ensures { result ≡ option_map_or (λ row. not (reaches bound row)) last.now.row false }
 {
     match last.row() {
-        Some((label, op)) => !reaches(spot, label, op),
+        Some((label, op)) => !reaches(bound, label, op),
         None => false,
     }
 }

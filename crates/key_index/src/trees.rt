@@ -8,7 +8,7 @@ ghost use Rattle.key_index.specs.Relabelled.{Rise, HoldsLabels, relabelled};
 
 use crate::labels::Labels2;
 use crate::row::{KeyRow, key_of};
-use crate::search::{Spot, count_up_to};
+use crate::search::{Bound, count_up_to};
 use retro_base::{NoMemory, Op, Steps};
 use std::sync::ledger::{Blank, Ledger};
 use weighted_tree::Tree;
@@ -30,15 +30,15 @@ pub(crate) fn last_up_to<L: Ledger>(
     ensures { result ≡ last_of (filter (λ row. is_on key row && nat_le row.0 label) by_key.now) }
 {
     let mut steps = Steps::<L>::new(blank);
-    let count = count_up_to(by_key, Spot::Key { key, label }, &mut steps);
+    let count = count_up_to(by_key, Bound::Key { key, label }, &mut steps);
     if count == 0 {
         return None;
     }
     on_key(key, by_key.get(count - 1, &mut steps))
 }
 
-/// The first row on a key behind a label.
-pub(crate) fn first_behind<L: Ledger>(
+/// The first row on a key after a label.
+pub(crate) fn first_later<L: Ledger>(
     by_key: &Tree<KeyRow>,
     key: i64,
     label: u64,
@@ -51,7 +51,7 @@ pub(crate) fn first_behind<L: Ledger>(
     ensures { result ≡ find (λ row. is_on key row && nat_lt label row.0) by_key.now }
 {
     let mut steps = Steps::<L>::new(blank);
-    let count = count_up_to(by_key, Spot::Key { key, label }, &mut steps);
+    let count = count_up_to(by_key, Bound::Key { key, label }, &mut steps);
     if count == by_key.len() {
         return None;
     }
@@ -78,7 +78,7 @@ pub(crate) fn op_at<L: Ledger>(rows: &Tree<KeyRow>, label: u64, blank: Blank) ->
     ensures { result ≡ op_at label rows.now }
 {
     let mut steps = Steps::<L>::new(blank);
-    let count = count_up_to(rows, Spot::Label { label }, &mut steps);
+    let count = count_up_to(rows, Bound::Label { label }, &mut steps);
     if count == 0 {
         return None;
     }
@@ -113,9 +113,9 @@ pub(crate) fn put_in<L: Ledger>(
         return Err(NoMemory);
     }
     let row = KeyRow::new(label, op);
-    let place = count_up_to(rows, Spot::Label { label }, &mut steps);
+    let place = count_up_to(rows, Bound::Label { label }, &mut steps);
     let key = key_of(op);
-    let place_by_key = count_up_to(by_key, Spot::Key { key, label }, &mut steps);
+    let place_by_key = count_up_to(by_key, Bound::Key { key, label }, &mut steps);
     by_key.insert(place_by_key, row, &mut steps)?;
     if rows.insert(place, row, &mut steps).is_err() {
         by_key.remove(place_by_key, &mut steps);
@@ -142,8 +142,8 @@ pub(crate) fn take_out<L: Ledger>(
 {
     let mut steps = Steps::<L>::new(blank);
     let key = key_of(op);
-    let place = count_up_to(rows, Spot::Label { label }, &mut steps);
-    let place_by_key = count_up_to(by_key, Spot::Key { key, label }, &mut steps);
+    let place = count_up_to(rows, Bound::Label { label }, &mut steps);
+    let place_by_key = count_up_to(by_key, Bound::Key { key, label }, &mut steps);
     rows.remove(place - 1, &mut steps);
     by_key.remove(place_by_key - 1, &mut steps);
 }

@@ -225,9 +225,9 @@ module _ {A : Type 0} {before : A → A → Bool} (order : IsOrder before) where
       ] refl
 
   -- elements that were put in order are as they were
-  absorbs_behind : (xs ys : List A) → in_order before (xs ++ in_order before ys) ≡ in_order before (xs ++ ys)
-  absorbs_behind [] ys = in_order-kept order (in_order before ys) (in_order-ordered order ys)
-  absorbs_behind (x ∷ xs) ys = ap (put_in before x) (absorbs_behind xs ys)
+  absorbs_after : (xs ys : List A) → in_order before (xs ++ in_order before ys) ≡ in_order before (xs ++ ys)
+  absorbs_after [] ys = in_order-kept order (in_order before ys) (in_order-ordered order ys)
+  absorbs_after (x ∷ xs) ys = ap (put_in before x) (absorbs_after xs ys)
 
   -- at level 0 all items that are there lie in the span itself
   zero_holds : (life : Lifetime A) → holds 0 life ≡ is_whole 0 life
@@ -247,7 +247,7 @@ module _ {A : Type 0} {before : A → A → Bool} (order : IsOrder before) where
     node_at level label lives node within is_of =
         ap (λ items. in_order before (items ++ in_order before (items_below level label lives))) (node_items before (suc level) lives node is_of)
         ∙ in_order-absorbs order (wholes (suc level) lives) (in_order before (items_below level label lives))
-        ∙ absorbs_behind (wholes (suc level) lives) (items_below level label lives)
+        ∙ absorbs_after (wholes (suc level) lives) (items_below level label lives)
         ∙ items_below-in_order level label lives within
 
     pub node_lawful : (level label : ℕ) (lives : List (Lifetime A)) (node : Node A M) → label < 2 ^ suc level → length lives ≤ most_items → IsOfNode before (suc level) lives node
@@ -286,5 +286,5 @@ module _ {A : Type 0} {before : A → A → Bool} (order : IsOrder before) where
         ∙ ap (λ items. in_order before (items ++ items_below level label lives)) (sym is_of.0 ∙ ap items_of none)
         ∙ elim (nat_lt label (2 ^ level)) as (λ b. nat_lt label (2 ^ level) ≡ b → in_order before (cond b (items_at label (in_first level lives)) (items_at (label - 2 ^ level) (in_second level lives))) ≡ []) [
           | true ↦ λ near. empty_at level label (in_first level lives) (grind (arith, nat_tests)) (left_of trie) (ap left_of none) is_of.1
-          | false ↦ λ far. empty_at level (label - 2 ^ level) (in_second level lives) (let behind : 2 ^ level ≤ label = grind (arith, nat_tests) in omega (arith, double level)) (right_of trie) (ap right_of none) is_of.2
+          | false ↦ λ far. empty_at level (label - 2 ^ level) (in_second level lives) (let later : 2 ^ level ≤ label = grind (arith, nat_tests) in omega (arith, double level)) (right_of trie) (ap right_of none) is_of.2
         ] refl

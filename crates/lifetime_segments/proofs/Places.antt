@@ -52,12 +52,12 @@ is_in-at before x y (z ∷ zs) there = elim (before z x) as (λ b. slice_get (z 
   | false ↦ λ there. let same : z ≡ y = cc in ap (λ w. not (before x w)) same
 ] there
 
--- at and behind its place no element stands before it
-pub place-not_behind : {A : Type 0} (before : A → A → Bool) (x y : A) (xs : List A) (index : ℕ) → slice_get xs index ≡ Some y → before y x ≡ false → place_in before x xs ≤ index
-place-not_behind before x y [] index there here = omega arith
-place-not_behind before x y (z ∷ zs) zero there here = let same : z ≡ y = cc in let passed : before z x ≡ false = ap (λ w. before w x) same ∙ here in rw passed (omega arith)
-place-not_behind before x y (z ∷ zs) (suc index) there here = elim (before z x) as (λ b. cond b (suc (place_in before x zs)) 0 ≤ suc index) [
-  | true ↦ let below = place-not_behind before x y zs index there here in omega arith
+-- at and after its place no element stands before it
+pub place-not_after : {A : Type 0} (before : A → A → Bool) (x y : A) (xs : List A) (index : ℕ) → slice_get xs index ≡ Some y → before y x ≡ false → place_in before x xs ≤ index
+place-not_after before x y [] index there here = omega arith
+place-not_after before x y (z ∷ zs) zero there here = let same : z ≡ y = cc in let passed : before z x ≡ false = ap (λ w. before w x) same ∙ here in rw passed (omega arith)
+place-not_after before x y (z ∷ zs) (suc index) there here = elim (before z x) as (λ b. cond b (suc (place_in before x zs)) 0 ≤ suc index) [
+  | true ↦ let below = place-not_after before x y zs index there here in omega arith
   | false ↦ omega arith
 ]
 

@@ -58,12 +58,12 @@ holds_first level label life within there = grind (arith, nat_tests)
 
 -- one that holds a label of the second half ends there
 holds_second : {A : Type 0} (level label : ℕ) (life : Lifetime A) → 2 ^ level ≤ label → holds label life ≡ true → nat_lt (2 ^ level) life.to ≡ true
-holds_second level label life behind there = grind (arith, nat_tests)
+holds_second level label life after there = grind (arith, nat_tests)
 
 holds_seen : {A : Type 0} (level label : ℕ) (life : Lifetime A) → 2 ^ level ≤ label → holds (label - 2 ^ level) (seen_from (2 ^ level) life) ≡ holds label life
-holds_seen level label life behind = seen_at (2 ^ level) label life.from life.to behind where
+holds_seen level label life after = seen_at (2 ^ level) label life.from life.to after where
   seen_at : (half label from to : ℕ) → half ≤ label → (nat_le (from - half) (label - half) && nat_lt (label - half) (to - half)) ≡ (nat_le from label && nat_lt label to)
-  seen_at half label from to behind = grind (arith, nat_tests)
+  seen_at half label from to after = grind (arith, nat_tests)
 
 module _ {A : Type 0} {before : A → A → Bool} (order : IsOrder before) where
   -- the items at a label of the first half
@@ -79,9 +79,9 @@ module _ {A : Type 0} {before : A → A → Bool} (order : IsOrder before) where
   -- the items at a label of the second half
   pub second-in_order : (level label : ℕ) (lives : List (Lifetime A)) → 2 ^ level ≤ label → label < 2 ^ suc level
       → in_order before (wholes (suc level) lives ++ items_at (label - 2 ^ level) (in_second level lives)) ≡ in_order before (items_at label lives)
-  second-in_order level label lives behind within =
+  second-in_order level label lives after within =
       split-in_order order (λ (life : Lifetime A). life.item) (is_whole (suc level)) (λ life. nat_lt (2 ^ level) life.to) (holds label) (seen_from (2 ^ level)) (holds (label - 2 ^ level))
-      (λ life. refl) (λ life. holds_seen level label life behind)
+      (λ life. refl) (λ life. holds_seen level label life after)
       (λ life whole. whole_holds (suc level) label life within whole)
-      (λ life broken there. holds_second level label life behind there)
+      (λ life broken there. holds_second level label life after there)
       lives

@@ -11,7 +11,7 @@ label_end = 2 ^ 40
 abbrev pub lifetime : {A : Type 0} → ℕ → ℕ → A → Lifetime A
 lifetime from to item = record { from = from; to = to; item = item }
 
--- it holds a label, and all labels end behind it
+-- it holds a label, and all labels end after it
 pub record IsInRange {A : Type 0} (life : Lifetime A) : Type 0 where
   pub rises : life.from < life.to
   pub within : life.to ≤ label_end

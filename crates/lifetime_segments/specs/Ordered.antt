@@ -13,7 +13,7 @@ abbrev pub AreInOrder : {A : Type 0} → (A → A → Bool) → List A → Type 
 AreInOrder before [] = Unit {0}
 AreInOrder before (x ∷ xs) = AllByRecursion (λ later. before later x ≡ false) xs × AreInOrder before xs
 
--- an element put in right behind those in front that stand before it
+-- an element put in right after those in front that stand before it
 abbrev pub put_in : {A : Type 0} → (A → A → Bool) → A → List A → List A
 put_in before x [] = x ∷ []
 put_in before x (y ∷ ys) = cond (before y x) (y ∷ put_in before x ys) (x ∷ y ∷ ys)
@@ -23,7 +23,7 @@ abbrev pub in_order : {A : Type 0} → (A → A → Bool) → List A → List A
 in_order before [] = []
 in_order before (x ∷ xs) = put_in before x (in_order before xs)
 
--- whether an element is there, right behind those in front that stand before it
+-- whether an element is there, right after those in front that stand before it
 abbrev pub is_in : {A : Type 0} → (A → A → Bool) → A → List A → Bool
 is_in before x [] = false
 is_in before x (y ∷ ys) = cond (before y x) (is_in before x ys) (not (before x y))

@@ -54,7 +54,7 @@ fn add_to_node<D: Decomposable, L: Ledger>(
     }
 }
 
-/// After want of memory on the second side, the first is as before.
+/// After out of memory on the second side, the first is as before.
 #[cycle(add)]
 fn add_to_halves<D: Decomposable, L: Ledger>(
     node: &mut Node<D::Item>,

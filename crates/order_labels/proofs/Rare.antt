@@ -3,7 +3,7 @@ use Rattle.std.proofs.Common.{◌≡◌, ℕ, ◌+◌, ◌-◌, ◌*◌, ◌/◌
 use Rattle.std.proofs.lemmas.Bool.{le-leb}
 use Rattle.std.proofs.lemmas.Nat.{pow_pos}
 use Rattle.retro_base.specs.Limits.{most_rows}
-use Rattle.order_labels.specs.Labels.{AreApart, label_before, label_behind, label_limit, has_room, middle, middle_rule, exponent, gap_of, spread}
+use Rattle.order_labels.specs.Labels.{AreApart, label_before, label_after, label_limit, has_room, middle, middle_rule, exponent, gap_of, spread}
 use Rattle.order_labels.specs.LabelLaws.{RelabellingIsRare}
 use Rattle.order_labels.specs.ApartLaws.{gap_at, apart_without}
 use Rattle.order_labels.specs.PowerLaws.{power-next}
@@ -19,7 +19,7 @@ lasting : Lasting middle_rule LieApart
 lasting = record {
   with_row = λ k labels place within apart.
       let wide : AreApart (2 * 2 ^ k) 0 label_limit labels = subst (λ d. AreApart d 0 label_limit labels) (power-next k) apart in
-      let room : has_room labels place ≡ true = le-leb 2 (label_behind label_limit labels place - label_before 0 labels place) (omega (arith, gap_at (2 * 2 ^ k) 0 label_limit labels place within wide, pow_pos k)) in
+      let room : has_room labels place ≡ true = le-leb 2 (label_after label_limit labels place - label_before 0 labels place) (omega (arith, gap_at (2 * 2 ^ k) 0 label_limit labels place within wide, pow_pos k)) in
       (middle labels place, simp room, halved (2 ^ k) labels place within wide);
   without_row = λ k labels place within apart. apart_without (2 ^ k) 0 label_limit labels place within apart;
 }

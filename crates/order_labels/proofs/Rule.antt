@@ -4,26 +4,26 @@ use Rattle.std.proofs.lemmas.Bool.{cases_Bool, leb-true, leb-false}
 use Rattle.std.specs.List.{insert, remove}
 use Rattle.std.proofs.lemmas.List.Edits.{length-insert, length-remove}
 use Rattle.retro_base.specs.Limits.{most_rows}
-use Rattle.order_labels.specs.Labels.{AreApart, AreLabels, label_limit, label_before, label_behind, has_room, middle, gap_of, spread, inserted}
+use Rattle.order_labels.specs.Labels.{AreApart, AreLabels, label_limit, label_before, label_after, has_room, middle, gap_of, spread, inserted}
 use Rattle.order_labels.specs.ApartLaws.{gap_at, apart_with, apart_without, less_apart, middle_apart}
 use Rattle.order_labels.specs.SpreadLaws.{spread-rises, length-multiples}
 
-room : (labels : List ℕ) (place : ℕ) → has_room labels place ≡ true → 2 ≤ label_behind label_limit labels place - label_before 0 labels place
-room labels place is = leb-true 2 (label_behind label_limit labels place - label_before 0 labels place) is
+room : (labels : List ℕ) (place : ℕ) → has_room labels place ≡ true → 2 ≤ label_after label_limit labels place - label_before 0 labels place
+room labels place is = leb-true 2 (label_after label_limit labels place - label_before 0 labels place) is
 
-pub no_room : (labels : List ℕ) (place : ℕ) → has_room labels place ≡ false → label_behind label_limit labels place - label_before 0 labels place < 2
-no_room labels place is = leb-false 2 (label_behind label_limit labels place - label_before 0 labels place) is
+pub no_room : (labels : List ℕ) (place : ℕ) → has_room labels place ≡ false → label_after label_limit labels place - label_before 0 labels place < 2
+no_room labels place is = leb-false 2 (label_after label_limit labels place - label_before 0 labels place) is
 
 -- the middle halves the distance at most
 pub halved : (distance : ℕ) (labels : List ℕ) (place : ℕ) → place ≤ length labels → AreApart (2 * distance) 0 label_limit labels → AreApart distance 0 label_limit (insert labels place (middle labels place))
 halved distance labels place within apart =
-    let beside = middle_apart distance (label_before 0 labels place) (label_behind label_limit labels place) (gap_at (2 * distance) 0 label_limit labels place within apart) in
+    let beside = middle_apart distance (label_before 0 labels place) (label_after label_limit labels place) (gap_at (2 * distance) 0 label_limit labels place within apart) in
     apart_with distance 0 label_limit labels place (middle labels place) within (less_apart (2 * distance) distance 0 label_limit labels (omega arith) apart) beside.0 beside.1
 
 -- where there is room
 pub rising_with : (labels : List ℕ) (place : ℕ) → place ≤ length labels → AreApart 1 0 label_limit labels → has_room labels place ≡ true → AreApart 1 0 label_limit (insert labels place (middle labels place))
 rising_with labels place within apart is =
-    let beside = middle_apart 1 (label_before 0 labels place) (label_behind label_limit labels place) (omega (arith, room labels place is)) in
+    let beside = middle_apart 1 (label_before 0 labels place) (label_after label_limit labels place) (omega (arith, room labels place is)) in
     apart_with 1 0 label_limit labels place (middle labels place) within apart beside.0 beside.1
 
 pub labels_with : (labels : List ℕ) (place : ℕ) → place ≤ length labels → length labels < most_rows → AreLabels labels → AreLabels (inserted labels place)
@@ -39,7 +39,7 @@ labels_with labels place within few are = elim (cases_Bool (has_room labels plac
 ]
 
 -- a label of another's choice, between those beside its place
-pub labels_labelled : (labels : List ℕ) (place label : ℕ) → place ≤ length labels → length labels < most_rows → label_before 0 labels place < label → label < label_behind label_limit labels place → AreLabels labels
+pub labels_labelled : (labels : List ℕ) (place label : ℕ) → place ≤ length labels → length labels < most_rows → label_before 0 labels place < label → label < label_after label_limit labels place → AreLabels labels
     → AreLabels (insert labels place label)
 labels_labelled labels place label within few above below are = record {
   few = omega (arith, length-insert labels place label within);
@@ -59,10 +59,10 @@ before_is first [] (suc place) label some read = cc
 before_is first (next ∷ labels) (suc zero) label some read = cc
 before_is first (next ∷ labels) (suc (suc place)) label some read = before_is next labels (suc place) label (omega arith) (let less : suc (suc place) - 1 ≡ suc (suc place - 1) = omega arith in subst (λ n. slice_get (next ∷ labels) n ≡ Some label) less read)
 
-pub behind_is : (last : ℕ) (labels : List ℕ) (place label : ℕ) → slice_get labels place ≡ Some label → label ≡ label_behind last labels place
-behind_is last [] place label read = cc
-behind_is last (next ∷ labels) zero label read = cc
-behind_is last (next ∷ labels) (suc place) label read = behind_is last labels place label read
+pub after_is : (last : ℕ) (labels : List ℕ) (place label : ℕ) → slice_get labels place ≡ Some label → label ≡ label_after last labels place
+after_is last [] place label read = cc
+after_is last (next ∷ labels) zero label read = cc
+after_is last (next ∷ labels) (suc place) label read = after_is last labels place label read
 
 -- what was put in at a place is read there
 pub read_back : (labels : List ℕ) (place label : ℕ) → place ≤ length labels → slice_get (insert labels place label) place ≡ Some label
@@ -72,13 +72,13 @@ read_back (next ∷ labels) zero label within = refl
 read_back (next ∷ labels) (suc place) label within = read_back labels place label (omega arith)
 
 -- whatever the answer of an insertion is
-pub labels_kept : {X E : Type 0} (labels next behind : List ℕ) (result : Result X E) → AreLabels labels → AreLabels next → OnOk result (behind ≡ next) → OnErr result (behind ≡ labels) → AreLabels behind
-labels_kept labels next behind (Ok x) are will ok err = subst AreLabels (sym ok) will
-labels_kept labels next behind (Err e) are will ok err = subst AreLabels (sym err) are
+pub labels_kept : {X E : Type 0} (labels next after : List ℕ) (result : Result X E) → AreLabels labels → AreLabels next → OnOk result (after ≡ next) → OnErr result (after ≡ labels) → AreLabels after
+labels_kept labels next after (Ok x) are will ok err = subst AreLabels (sym ok) will
+labels_kept labels next after (Err e) are will ok err = subst AreLabels (sym err) are
 
 -- all rows are spread once one more is there
 pub length-with : (labels more : List ℕ) (place label : ℕ) → place ≤ length labels → more ≡ insert labels place label → length more ≡ length labels + 1
 length-with labels more place label within put = omega (arith, ap length put, length-insert labels place label within)
 
-pub length-spread_with : (labels more behind : List ℕ) (place label : ℕ) → place ≤ length labels → more ≡ insert labels place label → behind ≡ spread (length more) → length behind ≡ length labels + 1
-length-spread_with labels more behind place label within put all = omega (arith, ap length all, length-multiples (gap_of (length more)) (length more), length-with labels more place label within put)
+pub length-spread_with : (labels more after : List ℕ) (place label : ℕ) → place ≤ length labels → more ≡ insert labels place label → after ≡ spread (length more) → length after ≡ length labels + 1
+length-spread_with labels more after place label within put all = omega (arith, ap length all, length-multiples (gap_of (length more)) (length more), length-with labels more place label within put)

@@ -29,17 +29,17 @@ label_before first labels zero = first
 label_before first [] (suc place) = first
 label_before first (label ∷ labels) (suc place) = label_before label labels place
 
--- the label behind a place, where `last` stands behind them all
-abbrev pub label_behind : ℕ → List ℕ → ℕ → ℕ
-label_behind last labels place = get_or labels place last
+-- the label after a place, where `last` stands after them all
+abbrev pub label_after : ℕ → List ℕ → ℕ → ℕ
+label_after last labels place = get_or labels place last
 
--- a number lies between the labels before and behind the place
+-- a number lies between the labels before and after the place
 abbrev pub has_room : List ℕ → ℕ → Bool
-has_room labels place = nat_le 2 (label_behind label_limit labels place - label_before 0 labels place)
+has_room labels place = nat_le 2 (label_after label_limit labels place - label_before 0 labels place)
 
 -- the middle of these labels
 abbrev pub middle : List ℕ → ℕ → ℕ
-middle labels place = (label_before 0 labels place + label_behind label_limit labels place) / 2
+middle labels place = (label_before 0 labels place + label_after label_limit labels place) / 2
 
 -- the greatest k for which the power 2 ^ k is at most n
 abbrev pub exponent : ℕ → ℕ

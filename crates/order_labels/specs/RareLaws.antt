@@ -16,8 +16,8 @@ not_both : {label : ℕ} {found : Option ℕ} → found ≡ Some label → found
 not_both some none = cc
 
 -- the number of the width and of the bound on rows
-pub least-number : least_insertions ≡ 23
-least-number = exponent-is (label_limit / (most_rows + 1)) 23 (omega arith) (omega arith) (omega arith)
+pub least-number : least_insertions ≡ 22
+least-number = exponent-is (label_limit / (most_rows + 1)) 22 (omega arith) (omega arith) (omega arith)
 
 -- so many insertions come before one that relabels
 pub rare_by : (rule : LabelRule) (LastFor : ℕ → List ℕ → Type 0) → Lasting rule LastFor

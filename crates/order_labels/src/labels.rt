@@ -1,6 +1,6 @@
 ghost use Rattle.std.specs.Prelude.{◌≡◌, ◌+◌, false, true, ◌<◌, ◌≤◌, ◌==◌, [], length, slice_get, position, Some, IfSome, IfOk, OnOk, OnErr, not};
 ghost use Rattle.std.specs.List.{insert, remove};
-ghost use Rattle.order_labels.specs.Labels.{AreApart, AreLabels, has_room, inserted, label_before, label_behind, label_limit, least_gap};
+ghost use Rattle.order_labels.specs.Labels.{AreApart, AreLabels, has_room, inserted, label_before, label_after, label_limit, least_gap};
 ghost use Rattle.retro_base.specs.Limits.{most_rows};
 
 use crate::label::Label;
@@ -75,7 +75,7 @@ impl Labels {
         requires within { place ≤ length self.old }
         requires room { length self.old < most_rows }
         requires above { label_before 0 self.old place < label }
-        requires below { label < label_behind label_limit self.old place }
+        requires below { label < label_after label_limit self.old place }
         ensures ok { OnOk result (self.new ≡ insert self.old place label) }
         ensures err { OnErr result (self.new ≡ self.old) }
     {
@@ -125,16 +125,16 @@ fn put_in<L: Ledger>(rows: &mut Tree<Label>, place: u32, blank: Blank) -> Result
 {
     let mut steps = Steps::<L>::new(blank);
     let before = label_before(rows, place, &mut steps);
-    let behind = label_behind(rows, place, &mut steps);
-    if behind - before >= 2 {
-        let label = (before + behind) / 2;
+    let after = label_after(rows, place, &mut steps);
+    if after - before >= 2 {
+        let label = (before + after) / 2;
         rows.insert(place, Label::new(label), &mut steps)?;
         return Ok(Fresh {
             label,
             relabelled: false,
         });
     }
-    rows.insert(place, Label::new(behind), &mut steps)?;
+    rows.insert(place, Label::new(after), &mut steps)?;
     spread(rows, &mut steps);
     Ok(Fresh {
         label: rows.get(place, &mut steps).number(),
@@ -171,10 +171,10 @@ fn label_before<L: Ledger>(rows: &Tree<Label>, place: u32, steps: &mut Steps<L>)
     rows.get(place - 1, steps).number()
 }
 
-/// The label behind a place, or the limit.
-fn label_behind<L: Ledger>(rows: &Tree<Label>, place: u32, steps: &mut Steps<L>) -> u64
+/// The label after a place, or the limit.
+fn label_after<L: Ledger>(rows: &Tree<Label>, place: u32, steps: &mut Steps<L>) -> u64
     requires { place ≤ length rows.now }
-    ensures { result ≡ label_behind label_limit rows.now place }
+    ensures { result ≡ label_after label_limit rows.now place }
 {
     if place == rows.len() {
         return LIMIT;

@@ -4,7 +4,7 @@
 //! stays in order wherever rows are put in between. A new row takes the middle of the labels beside it, and where no
 //! number lies between these all rows are relabelled: order maintenance by labels of a fixed width (Dietz 1982; Bender,
 //! Cole, Demaine, Farach-Colton and Zito 2002), with the simplest rule of all. It is enough here, since a spread of few
-//! rows over many numbers can be halved often before it is used up: at least 23 insertions lie between two relabellings.
+//! rows over many numbers can be halved often before it is used up: at least 22 insertions lie between two relabellings.
 //!
 //! | Call | Cost, with n rows |
 //! |---|---|

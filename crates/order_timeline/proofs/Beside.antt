@@ -10,18 +10,18 @@ length-beside [] names same = refl
 length-beside (run ∷ runs) [] same = absurd (omega arith)
 length-beside (run ∷ runs) (name ∷ names) same = omega (arith, length-append (replicate run name) (beside runs names), length-replicate run name, length-beside runs names (omega arith))
 
--- behind a front
-insert_behind : (front rest : List ℕ) (place x : ℕ) → insert (front ++ rest) (length front + place) x ≡ front ++ insert rest place x
-insert_behind [] rest place x = ap (λ n. insert rest n x) (let same : 0 + place ≡ place = omega arith in same)
-insert_behind (y ∷ front) rest place x =
+-- after a front
+insert_after : (front rest : List ℕ) (place x : ℕ) → insert (front ++ rest) (length front + place) x ≡ front ++ insert rest place x
+insert_after [] rest place x = ap (λ n. insert rest n x) (let same : 0 + place ≡ place = omega arith in same)
+insert_after (y ∷ front) rest place x =
     ap (λ n. insert ((y ∷ front) ++ rest) n x) (let same : suc (length front) + place ≡ suc (length front + place) = omega arith in same)
-    ∙ ap (λ xs. y ∷ xs) (insert_behind front rest place x)
+    ∙ ap (λ xs. y ∷ xs) (insert_after front rest place x)
 
-remove_behind : (front rest : List ℕ) (place : ℕ) → remove (front ++ rest) (length front + place) ≡ front ++ remove rest place
-remove_behind [] rest place = ap (remove rest) (let same : 0 + place ≡ place = omega arith in same)
-remove_behind (y ∷ front) rest place =
+remove_after : (front rest : List ℕ) (place : ℕ) → remove (front ++ rest) (length front + place) ≡ front ++ remove rest place
+remove_after [] rest place = ap (remove rest) (let same : 0 + place ≡ place = omega arith in same)
+remove_after (y ∷ front) rest place =
     ap (remove ((y ∷ front) ++ rest)) (let same : suc (length front) + place ≡ suc (length front + place) = omega arith in same)
-    ∙ ap (λ xs. y ∷ xs) (remove_behind front rest place)
+    ∙ ap (λ xs. y ∷ xs) (remove_after front rest place)
 
 -- within a run
 insert_within : (run name : ℕ) (rest : List ℕ) (place : ℕ) → place ≤ run → insert (replicate run name ++ rest) place name ≡ replicate (suc run) name ++ rest
@@ -37,9 +37,9 @@ remove_within (suc (suc run)) name rest (suc place) within =
     ap (λ xs. name ∷ xs) (remove_within (suc run) name rest place (omega arith) ∙ ap (λ n. replicate n name ++ rest) (let same : suc run - 1 ≡ run = omega arith in same))
     ∙ ap (λ n. replicate n name ++ rest) (let same : suc run ≡ suc (suc run) - 1 = omega arith in same)
 
--- the place behind the rows of a run, from where those begin
-behind : (run name place : ℕ) → run ≤ place → place ≡ length (replicate run name) + (place - run)
-behind run name place order = omega (arith, length-replicate run name)
+-- the place after the rows of a run, from where those begin
+after : (run name place : ℕ) → run ≤ place → place ≡ length (replicate run name) + (place - run)
+after run name place order = omega (arith, length-replicate run name)
 
 -- a row more in a run
 pub beside_with : (runs names : List ℕ) (index place count name : ℕ) → length names ≡ length runs → slice_get runs index ≡ Some count → slice_get names index ≡ Some name
@@ -54,8 +54,8 @@ beside_with (run ∷ runs) (first ∷ names) zero place count name same long is 
     ∙ ap (λ l. insert (replicate run first ++ beside runs names) place l) name_same
 beside_with (run ∷ runs) (first ∷ names) (suc index) place count name same long is begun within =
     ap (λ rest. replicate run first ++ rest) (beside_with runs names index (place - run) count name (omega arith) long is (omega arith) (omega arith))
-    ∙ sym (insert_behind (replicate run first) (beside runs names) (place - run) name)
-    ∙ ap (λ n. insert (replicate run first ++ beside runs names) n name) (sym (behind run first place (omega arith)))
+    ∙ sym (insert_after (replicate run first) (beside runs names) (place - run) name)
+    ∙ ap (λ n. insert (replicate run first ++ beside runs names) n name) (sym (after run first place (omega arith)))
 
 -- a row less
 pub beside_without : (runs names : List ℕ) (index place count : ℕ) → length names ≡ length runs → slice_get runs index ≡ Some count
@@ -67,8 +67,8 @@ beside_without (run ∷ runs) (first ∷ names) zero place count same long begun
     ap (λ n. replicate (n - 1) first ++ beside runs names) (sym runs_same) ∙ sym (remove_within run first (beside runs names) place (omega arith))
 beside_without (run ∷ runs) (first ∷ names) (suc index) place count same long begun within =
     ap (λ rest. replicate run first ++ rest) (beside_without runs names index (place - run) count (omega arith) long (omega arith) (omega arith))
-    ∙ sym (remove_behind (replicate run first) (beside runs names) (place - run))
-    ∙ ap (remove (replicate run first ++ beside runs names)) (sym (behind run first place (omega arith)))
+    ∙ sym (remove_after (replicate run first) (beside runs names) (place - run))
+    ∙ ap (remove (replicate run first ++ beside runs names)) (sym (after run first place (omega arith)))
 
 -- a run without rows is none
 pub beside_gone : (runs names : List ℕ) (index : ℕ) → index < length runs → length names ≡ length runs → beside (remove runs index) (remove names index) ≡ beside (slice_set runs index 0) names
@@ -77,22 +77,22 @@ beside_gone (run ∷ runs) [] index within same = absurd (omega arith)
 beside_gone (run ∷ runs) (name ∷ names) zero within same = refl
 beside_gone (run ∷ runs) (name ∷ names) (suc index) within same = ap (λ rest. replicate run name ++ rest) (beside_gone runs names index (omega arith) (omega arith))
 
--- take and drop behind a front
-take_behind : (front rest : List ℕ) (n : ℕ) → take (length front + n) (front ++ rest) ≡ front ++ take n rest
-take_behind [] rest n = ap (λ k. take k rest) (let same : 0 + n ≡ n = omega arith in same)
-take_behind (y ∷ front) rest n =
-    ap (λ k. take k ((y ∷ front) ++ rest)) (let same : suc (length front) + n ≡ suc (length front + n) = omega arith in same) ∙ ap (λ xs. y ∷ xs) (take_behind front rest n)
+-- take and drop after a front
+take_after : (front rest : List ℕ) (n : ℕ) → take (length front + n) (front ++ rest) ≡ front ++ take n rest
+take_after [] rest n = ap (λ k. take k rest) (let same : 0 + n ≡ n = omega arith in same)
+take_after (y ∷ front) rest n =
+    ap (λ k. take k ((y ∷ front) ++ rest)) (let same : suc (length front) + n ≡ suc (length front + n) = omega arith in same) ∙ ap (λ xs. y ∷ xs) (take_after front rest n)
 
-drop_behind : (front rest : List ℕ) (n : ℕ) → drop (length front + n) (front ++ rest) ≡ drop n rest
-drop_behind [] rest n = ap (λ k. drop k rest) (let same : 0 + n ≡ n = omega arith in same)
-drop_behind (y ∷ front) rest n =
-    ap (λ k. drop k ((y ∷ front) ++ rest)) (let same : suc (length front) + n ≡ suc (length front + n) = omega arith in same) ∙ drop_behind front rest n
+drop_after : (front rest : List ℕ) (n : ℕ) → drop (length front + n) (front ++ rest) ≡ drop n rest
+drop_after [] rest n = ap (λ k. drop k rest) (let same : 0 + n ≡ n = omega arith in same)
+drop_after (y ∷ front) rest n =
+    ap (λ k. drop k ((y ∷ front) ++ rest)) (let same : suc (length front) + n ≡ suc (length front + n) = omega arith in same) ∙ drop_after front rest n
 
-written_behind : (front rest : List ℕ) (from count name : ℕ) → written (front ++ rest) (length front + from) count name ≡ front ++ written rest from count name
-written_behind front rest from count name =
-    ap (λ xs. xs ++ replicate count name ++ drop (length front + from + count) (front ++ rest)) (take_behind front rest from)
+written_after : (front rest : List ℕ) (from count name : ℕ) → written (front ++ rest) (length front + from) count name ≡ front ++ written rest from count name
+written_after front rest from count name =
+    ap (λ xs. xs ++ replicate count name ++ drop (length front + from + count) (front ++ rest)) (take_after front rest from)
     ∙ ap (λ n. front ++ take from rest ++ replicate count name ++ drop n (front ++ rest)) (let same : length front + from + count ≡ length front + (from + count) = omega arith in same)
-    ∙ ap (λ xs. front ++ take from rest ++ replicate count name ++ xs) (drop_behind front rest (from + count))
+    ∙ ap (λ xs. front ++ take from rest ++ replicate count name ++ xs) (drop_after front rest (from + count))
     ∙ ap (λ xs. xs ++ drop (from + count) rest) (append_assoc front (take from rest) (replicate count name))
     ∙ append_assoc front (take from rest ++ replicate count name) (drop (from + count) rest)
 
@@ -115,7 +115,7 @@ beside_divided (run ∷ runs) (first ∷ names) zero count half name same long w
     ∙ ap (λ n. take n (replicate run first ++ b) ++ replicate (count - half) name ++ drop (0 + half + (count - half)) (replicate run first ++ b)) (let more : half ≡ 0 + half = omega arith in more)
 beside_divided (run ∷ runs) (first ∷ names) (suc index) count half name same long within =
     ap (λ rest. replicate run first ++ rest) (beside_divided runs names index count half name (omega arith) long within)
-    ∙ sym (written_behind (replicate run first) (beside runs names) (start_of runs index + half) (count - half) name)
+    ∙ sym (written_after (replicate run first) (beside runs names) (start_of runs index + half) (count - half) name)
     ∙ ap (λ n. written (replicate run first ++ beside runs names) n (count - half) name)
     (let same : length (replicate run first) + (start_of runs index + half) ≡ run + start_of runs index + half = omega (arith, length-replicate run first) in same)
 

@@ -11,7 +11,7 @@ use Rattle.order_labels.specs.Labels.{AreApart, AreLabels, label_limit}
 use Rattle.order_timeline.specs.Names.{AreDistinct, HaveLabels, AreFiled}
 use Rattle.order_timeline.proofs.Lookups.{is_name, some_same, none_not, first_here, first_later, position_here, position_nowhere, position_is, position_none}
 
--- what was read stays where something comes behind it
+-- what was read stays where something comes after it
 read_longer : (table more : List ℕ) (name label : ℕ) → slice_get table name ≡ Some label → slice_get (table ++ more) name ≡ Some label
 read_longer [] more name label read = absurd (none_not read)
 read_longer (x ∷ table) more zero label read = read
@@ -76,7 +76,7 @@ distinct_without [] (suc place) distinct = tt
 distinct_without (other ∷ names) zero distinct = distinct.1
 distinct_without (other ∷ names) (suc place) distinct = (all_without (λ next. other ≢ next) names place distinct.0, distinct_without names place distinct.1)
 
--- a name that is counted behind all others is none of them
+-- a name that is counted after all others is none of them
 pub new_name : (names : List ℕ) (table : List ℕ) (name : ℕ) → name ≡ length table → AllByRecursion (λ other. other < length table) names → AllByRecursion (λ other. name ≢ other) names
 new_name [] table name new known = tt
 new_name (other ∷ names) table name new known = ((λ same. omega (arith, same, new, known.0)), new_name names table name new known.1)

@@ -7,7 +7,7 @@ use Rattle.std.proofs.lemmas.List.Edits.{length-insert, length-remove}
 use Rattle.retro_base.specs.declared.row.Row.{Row}
 use Rattle.retro_base.specs.Timeline.{IsFresh, HaveOwnNumbers}
 use Rattle.order_timeline.specs.Numbers.{IsNamed, Changes, Writes, WritesRun, written}
-use Rattle.order_timeline.specs.Runs.{rows_in, start_of, beside, IsInRun, TakesRow, IsInRuns, IsKept}
+use Rattle.order_timeline.specs.Runs.{rows_in, start_of, beside, IsInRun, TakesRow, IsInRuns, RepresentsRows}
 use Rattle.order_timeline.specs.Rows.{MayCome}
 use Rattle.retro_base.specs.EditedLists.{remove-insert}
 use Rattle.order_timeline.proofs.Rows.{ordered_more}
@@ -106,10 +106,10 @@ pub start_of_divided : (runs more : List ℕ) (index count half : ℕ) → slice
 start_of_divided runs more index count half long is =
     ap (λ xs. start_of xs (index + 1)) (is ∙ divided_next runs index count half) ∙ ap (start_of (slice_set (insert runs (suc index) (count - half)) index half)) (add-one index) ∙ start_divided runs index count half long
 
-pub in_runs_behind : (rows : List Row) (runs more names others : List ℕ) (before after : BTreeMap ℕ ℕ) (index count half name from : ℕ) → IsInRuns rows runs names before → index < length runs → slice_get runs index ≡ Some count → half ≤ count
+pub in_runs_after : (rows : List Row) (runs more names others : List ℕ) (before after : BTreeMap ℕ ℕ) (index count half name from : ℕ) → IsInRuns rows runs names before → index < length runs → slice_get runs index ≡ Some count → half ≤ count
     → more ≡ divided runs index count half → others ≡ insert names (index + 1) name → from ≡ start_of runs index + half
     → WritesRun rows from (count - half) name before after → IsInRuns rows more others after
-in_runs_behind rows runs more names others before after index count half name from is there long within more_is others_is here writes =
+in_runs_after rows runs more names others before after index count half name from is there long within more_is others_is here writes =
     subst (λ xs. IsInRuns rows xs others after) (sym (more_is ∙ divided_next runs index count half))
     (subst (λ ls. IsInRuns rows (slice_set (insert runs (suc index) (count - half)) index half) ls after) (sym (others_is ∙ ap (λ n. insert names n name) (add-one index)))
     (in_runs_divided rows runs names before after index count half name from is there long within here writes))
@@ -137,9 +137,9 @@ in_runs_put rows more runs longer names before after index place row item count 
     (in_runs_with rows runs names before after index place row count name is within fresh takes long there writes))
 
 -- a timeline with a row more
-pub kept_put : (rows more : List Row) (first firsts runs longer names : List ℕ) (before after : BTreeMap ℕ ℕ) (index place : ℕ) (row item : Row) (count name run : ℕ) → IsKept rows first firsts before → MayCome rows place row
+pub kept_put : (rows more : List Row) (first firsts runs longer names : List ℕ) (before after : BTreeMap ℕ ℕ) (index place : ℕ) (row item : Row) (count name run : ℕ) → RepresentsRows rows first firsts before → MayCome rows place row
     → length names ≡ length runs → beside runs names ≡ beside first firsts → TakesRow runs index place → slice_get runs index ≡ Some count → slice_get names index ≡ Some name → Writes before after row.number name
-    → item ≡ row → more ≡ insert rows place item → run ≡ count + 1 → longer ≡ slice_set runs index run → IsKept more longer names after
+    → item ≡ row → more ≡ insert rows place item → run ≡ count + 1 → longer ≡ slice_set runs index run → RepresentsRows more longer names after
 kept_put rows more first firsts runs longer names before after index place row item count name run kept comes each same takes long there writes item_is more_is run_is longer_is = record {
   ordered = ordered_more rows more place row item item_is more_is kept.ordered comes.within comes.room comes.fresh comes.fits;
   in_runs = in_runs_put rows more runs longer names before after index place row item count name run (in_runs_same rows first firsts runs names before kept.in_runs each same)
@@ -147,8 +147,8 @@ kept_put rows more first firsts runs longer names before after index place row i
 }
 
 -- a timeline as before, once a number was noted and forgotten
-pub kept_again : (rows more : List Row) (first firsts runs names : List ℕ) (before after : BTreeMap ℕ ℕ) (number : ℕ) → IsKept rows first firsts before → IsFresh number rows
-    → length names ≡ length runs → beside runs names ≡ beside first firsts → more ≡ rows → Changes before after number None → IsKept more runs names after
+pub kept_again : (rows more : List Row) (first firsts runs names : List ℕ) (before after : BTreeMap ℕ ℕ) (number : ℕ) → RepresentsRows rows first firsts before → IsFresh number rows
+    → length names ≡ length runs → beside runs names ≡ beside first firsts → more ≡ rows → Changes before after number None → RepresentsRows more runs names after
 kept_again rows more first firsts runs names before after number kept fresh each same same_rows changes =
-    subst (λ xs. IsKept xs runs names after) (sym same_rows)
+    subst (λ xs. RepresentsRows xs runs names after) (sym same_rows)
     (record { ordered = kept.ordered; in_runs = in_runs_again rows runs names before after number fresh (in_runs_same rows first firsts runs names before kept.in_runs each same) changes })

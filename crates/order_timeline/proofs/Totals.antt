@@ -34,14 +34,14 @@ start_within [] (suc index) = omega arith
 start_within (run ∷ runs) (suc index) = omega (arith, start_within runs index)
 
 -- the place lies before the run with this index
-abbrev pub ends_behind : ℕ → List ℕ → ℕ → Bool
-ends_behind place runs index = nat_lt place (start_of runs index)
+abbrev pub ends_after : ℕ → List ℕ → ℕ → Bool
+ends_after place runs index = nat_lt place (start_of runs index)
 
-pub ends-rise : (place : ℕ) (runs : List ℕ) (from to : ℕ) → IsRising (ends_behind place runs) from to
+pub ends-rise : (place : ℕ) (runs : List ℕ) (from to : ℕ) → IsRising (ends_after place runs) from to
 ends-rise place runs from to index later above order within holding =
     lt-ltb place (start_of runs later) (omega (arith, ltb-true place (start_of runs index) holding, start_rises runs index later order))
 
-pub run-found : (place : ℕ) (runs : List ℕ) (answer : Option ℕ) (count : ℕ) → IsFirstOrNone (ends_behind place runs) 0 (length runs) answer → answer ≡ Some count → (1 ≤ count) × IsInRun runs (count - 1) place
+pub run-found : (place : ℕ) (runs : List ℕ) (answer : Option ℕ) (count : ℕ) → IsFirstOrNone (ends_after place runs) 0 (length runs) answer → answer ≡ Some count → (1 ≤ count) × IsInRun runs (count - 1) place
 run-found place runs None count nowhere is = cc
 run-found place runs (Some zero) count first is = absurd (omega (arith, ltb-true place 0 first.holds_there))
 run-found place runs (Some (suc index)) count first is =
@@ -53,7 +53,7 @@ run-found place runs (Some (suc index)) count first is =
     } in
     (omega arith, subst (λ k. IsInRun runs k place) (let less : index ≡ count - 1 = omega arith in less) here)
 
-pub run-there : (place : ℕ) (runs : List ℕ) (answer : Option ℕ) → place < rows_in runs → IsFirstOrNone (ends_behind place runs) 0 (length runs) answer → answer ≡ None → ⊥
+pub run-there : (place : ℕ) (runs : List ℕ) (answer : Option ℕ) → place < rows_in runs → IsFirstOrNone (ends_after place runs) 0 (length runs) answer → answer ≡ None → ⊥
 run-there place runs None within nowhere is =
     omega (arith, ltb-false place (start_of runs (length runs)) (nowhere (length runs) (omega arith) (omega arith)), ap rows_in (take_all (length runs) runs (omega arith)))
 run-there place runs (Some count) within first is = cc

@@ -39,7 +39,7 @@ pub record IsInRuns (rows : List Row) (runs names : List ℕ) (numbers : BTreeMa
   pub named : IsNamed rows (beside runs names) numbers
 
 -- what a timeline keeps: rows in order, in runs
-pub record IsKept (rows : List Row) (runs names : List ℕ) (numbers : BTreeMap ℕ ℕ) : Type 0 where
+pub record RepresentsRows (rows : List Row) (runs names : List ℕ) (numbers : BTreeMap ℕ ℕ) : Type 0 where
   pub ordered : IsOrdered rows
   pub in_runs : IsInRuns rows runs names numbers
 

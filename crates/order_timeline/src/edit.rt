@@ -1,6 +1,6 @@
 ghost use Rattle.std.specs.Prelude.{◌≡◌, ◌<◌, length, slice_get, Some, OnOk, OnErr};
 ghost use Rattle.std.specs.List.{insert, remove};
-ghost use Rattle.order_timeline.specs.Runs.{IsKept, beside};
+ghost use Rattle.order_timeline.specs.Runs.{RepresentsRows, beside};
 ghost use Rattle.order_timeline.specs.Rows.{MayCome};
 
 use crate::divide::{LONGEST_RUN, divide};
@@ -26,9 +26,9 @@ pub(crate) fn put_in<L: Ledger>(
     requires name { blank.name ≡ L.name }
     requires parts { blank.parts ≡ L.parts }
     requires shared { 0 < blank.parts }
-    requires kept { IsKept rows.old runs.old names.old numbers.old }
+    requires kept { RepresentsRows rows.old runs.old names.old numbers.old }
     requires comes { MayCome rows.old place row }
-    ensures kept { IsKept rows.new runs.new names.new numbers.new }
+    ensures kept { RepresentsRows rows.new runs.new names.new numbers.new }
     ensures ok { OnOk result (rows.new ≡ insert rows.old place row) }
     ensures err { OnErr result (rows.new ≡ rows.old) }
 {
@@ -83,9 +83,9 @@ pub(crate) fn take_out<L: Ledger>(
     requires name { blank.name ≡ L.name }
     requires parts { blank.parts ≡ L.parts }
     requires shared { 0 < blank.parts }
-    requires kept { IsKept rows.old runs.old names.old numbers.old }
+    requires kept { RepresentsRows rows.old runs.old names.old numbers.old }
     requires within { place < length rows.old }
-    ensures kept { IsKept rows.new runs.new names.new numbers.new }
+    ensures kept { RepresentsRows rows.new runs.new names.new numbers.new }
     ensures row { slice_get rows.old place ≡ Some result }
     ensures rows { rows.new ≡ remove rows.old place }
 {

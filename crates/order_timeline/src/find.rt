@@ -1,5 +1,5 @@
 ghost use Rattle.std.specs.Prelude.{◌≡◌, ◌<◌, ◌≤◌, length, slice_get, Some};
-ghost use Rattle.order_timeline.specs.Runs.{IsKept, IsNotBefore};
+ghost use Rattle.order_timeline.specs.Runs.{RepresentsRows, IsNotBefore};
 ghost use Rattle.retro_base.specs.Places.{place_of_row, place_of_time};
 ghost use Rattle.retro_base.specs.Timeline.{TimesNeverFall};
 
@@ -50,7 +50,7 @@ pub(crate) fn place_of<L: Ledger>(
     requires name { blank.name ≡ L.name }
     requires parts { blank.parts ≡ L.parts }
     requires shared { 0 < blank.parts }
-    requires kept { IsKept rows.now runs.now names.now numbers.now }
+    requires kept { RepresentsRows rows.now runs.now names.now numbers.now }
     ensures { result ≡ place_of_row number rows.now }
 {
     let mut steps = Steps::<L>::new(blank);

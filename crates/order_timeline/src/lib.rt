@@ -1,7 +1,7 @@
 //! A timeline: rows in order of time, found by place, by time and by number.
 //!
 //! A [`Timeline`] is a list of rows whose times never fall and whose numbers are distinct, and contracts see nothing
-//! else of it. A row that comes at a time stands behind all rows of that time that are there already, so the place of
+//! else of it. A row that comes at a time stands after all rows of that time that are there already, so the place of
 //! a time is the number of rows up to it; a row is named by its number, which it keeps wherever it stands. What the
 //! rows do is no matter here: they are performed by a structure of the kind.
 //!
@@ -9,7 +9,7 @@
 //! find a number they are divided into runs of at most 32 neighbours. A map has the name of each number's run, which the run
 //! keeps; a table has the label of each name, which may change; the label gives the place of the run, and the row is looked
 //! for among those of the run. So a label is wanted only where a run is divided, and a relabelling, which a list of labels
-//! asks for now and then, writes one label for each run: at least 23 runs are divided between two, and each has had 16
+//! asks for now and then, writes one label for each run: at least 22 runs are divided between two, and each has had 16
 //! insertions since it began.
 //!
 //! | Call | Cost, with n rows |

@@ -31,13 +31,13 @@ pub struct Timeline {
 impl Model for Timeline {
     ghost use Rattle.std.specs.Prelude.{List};
     ghost use Rattle.retro_base.specs.declared.row.Row.{Row};
-    ghost use Rattle.order_timeline.specs.Runs.{IsKept};
+    ghost use Rattle.order_timeline.specs.Runs.{RepresentsRows};
 
     ghost Value = { List Row };
 
     ghost view = { λ timeline. timeline.rows };
 
-    ghost invariant = { λ timeline. IsKept timeline.rows timeline.runs timeline.names timeline.numbers };
+    ghost invariant = { λ timeline. RepresentsRows timeline.rows timeline.runs timeline.names timeline.numbers };
 }
 
 impl Timeline {

@@ -1,4 +1,4 @@
--- Where the sum of the signs falls first, were a row put in or taken out: the sums behind the place rise or fall
+-- Where the sum of the signs falls first, were a row put in or taken out: the sums after the place rise or fall
 -- by the row's sign, and those before it stay.
 use Rattle.std.proofs.Common.{◌≡◌, ℕ, zero, suc, ◌+◌, ◌-◌, ◌<◌, ◌≤◌, ℤ, pos, negsuc, ◌+ℤ◌, ◌-ℤ◌, ◌≤ℤ◌, ◌<ℤ◌, Bool, List, [], ◌∷◌, take, map, length, Option, Some, None, refl, ap, ◌∙◌, arith, inl, inr, subst}
 use Rattle.std.specs.Prelude.{slice_get}
@@ -42,12 +42,12 @@ module _ (growth : Op → ℤ) where
   turned : (a b : ℤ) → a +ℤ b ≡ b +ℤ a
   turned a b = omega (arith, ints)
 
-  pub grown-insert-behind : (rows : List Row) (place : ℕ) (row : Row) (k : ℕ) → place ≤ k → place ≤ length rows → grown growth (insert rows place row) (suc k) ≡ grown growth rows k +ℤ growth row.op
-  grown-insert-behind rows zero row k behind within = turned (growth row.op) (grown growth rows k)
-  grown-insert-behind rows (suc place) row zero behind within = absurd (omega arith)
-  grown-insert-behind [] (suc place) row (suc k) behind within = absurd (omega arith)
-  grown-insert-behind (r ∷ rows) (suc place) row (suc k) behind within =
-      ap (λ s. growth r.op +ℤ s) (grown-insert-behind rows place row k (omega arith) (omega arith)) ∙ first_and_next (growth r.op) (grown growth rows k) (growth row.op)
+  pub grown-insert-after : (rows : List Row) (place : ℕ) (row : Row) (k : ℕ) → place ≤ k → place ≤ length rows → grown growth (insert rows place row) (suc k) ≡ grown growth rows k +ℤ growth row.op
+  grown-insert-after rows zero row k after within = turned (growth row.op) (grown growth rows k)
+  grown-insert-after rows (suc place) row zero after within = absurd (omega arith)
+  grown-insert-after [] (suc place) row (suc k) after within = absurd (omega arith)
+  grown-insert-after (r ∷ rows) (suc place) row (suc k) after within =
+      ap (λ s. growth r.op +ℤ s) (grown-insert-after rows place row k (omega arith) (omega arith)) ∙ first_and_next (growth r.op) (grown growth rows k) (growth row.op)
 
   pub grown-remove-before : (rows : List Row) (place k : ℕ) → k ≤ place → grown growth (remove rows place) k ≡ grown growth rows k
   grown-remove-before rows place zero before = refl
@@ -61,13 +61,13 @@ module _ (growth : Op → ℤ) where
   no_row : (row : Row) → ◌≡◌ {A = Option Row} None (Some row) → ⊥
   no_row row same = cc
 
-  pub grown-remove-behind : (rows : List Row) (place : ℕ) (row : Row) (k : ℕ) → place ≤ k → slice_get rows place ≡ Some row → grown growth rows (suc k) ≡ grown growth (remove rows place) k +ℤ growth row.op
-  grown-remove-behind [] zero row k behind at = absurd (no_row row at)
-  grown-remove-behind [] (suc place) row k behind at = absurd (no_row row at)
-  grown-remove-behind (r ∷ rows) zero row k behind at = turned (growth r.op) (grown growth rows k) ∙ ap (λ (q : Row). grown growth rows k +ℤ growth q.op) (some_row r row at)
-  grown-remove-behind (r ∷ rows) (suc place) row zero behind at = absurd (omega arith)
-  grown-remove-behind (r ∷ rows) (suc place) row (suc k) behind at =
-      ap (λ s. growth r.op +ℤ s) (grown-remove-behind rows place row k (omega arith) at) ∙ first_and_next (growth r.op) (grown growth (remove rows place) k) (growth row.op)
+  pub grown-remove-after : (rows : List Row) (place : ℕ) (row : Row) (k : ℕ) → place ≤ k → slice_get rows place ≡ Some row → grown growth rows (suc k) ≡ grown growth (remove rows place) k +ℤ growth row.op
+  grown-remove-after [] zero row k after at = absurd (no_row row at)
+  grown-remove-after [] (suc place) row k after at = absurd (no_row row at)
+  grown-remove-after (r ∷ rows) zero row k after at = turned (growth r.op) (grown growth rows k) ∙ ap (λ (q : Row). grown growth rows k +ℤ growth q.op) (some_row r row at)
+  grown-remove-after (r ∷ rows) (suc place) row zero after at = absurd (omega arith)
+  grown-remove-after (r ∷ rows) (suc place) row (suc k) after at =
+      ap (λ s. growth r.op +ℤ s) (grown-remove-after rows place row k (omega arith) at) ∙ first_and_next (growth r.op) (grown growth (remove rows place) k) (growth row.op)
 
 -- how the signs change where a row is put in or taken out
 pub signs-insert : (rows : List Row) (place : ℕ) (row : Row) → insert (signs_and_marks rows) place (sign_and_mark row) ≡ signs_and_marks (insert rows place row)
@@ -96,16 +96,16 @@ module _ (rows : List Row) (place : ℕ) (never : NeverFalls rows) where
     enough_with zero above small = omega (arith, ints)
     enough_with (suc k) above small = elim (cases_lt k place) [
       | inl before ↦ omega (arith, ints, grown-insert-before sign_of rows place row (suc k) (omega arith) within, enough (suc k) (omega arith))
-      | inr behind ↦ omega (arith, ints, grown-insert-behind sign_of rows place row k behind within, above k behind (omega arith))
+      | inr after ↦ omega (arith, ints, grown-insert-after sign_of rows place row k after within, above k after (omega arith))
     ]
 
     falls_with : (answer : Option ℕ) → FindsFirstAtMost (signs_and_marks rows) place (length rows) (negsuc 0 -ℤ sign_of row.op) answer → FallsFirst with_row answer
     falls_with None none = λ k small.
-        enough_with k (λ earlier behind below. omega (arith, ints, none earlier behind (omega (arith, length-insert rows place row within)), prefix-grown rows earlier)) (omega (arith, length-insert rows place row within))
+        enough_with k (λ earlier after below. omega (arith, ints, none earlier after (omega (arith, length-insert rows place row within)), prefix-grown rows earlier)) (omega (arith, length-insert rows place row within))
     falls_with (Some index) first = record {
       within = omega (arith, first.within, length-insert rows place row within);
-      falls = omega (arith, ints, grown-insert-behind sign_of rows place row index first.above within, first.reached, prefix-grown rows index);
-      not_before = λ k before. enough_with k (λ earlier behind below. omega (arith, ints, first.not_before earlier behind (omega arith), prefix-grown rows earlier)) (omega (arith, first.within));
+      falls = omega (arith, ints, grown-insert-after sign_of rows place row index first.above within, first.reached, prefix-grown rows index);
+      not_before = λ k before. enough_with k (λ earlier after below. omega (arith, ints, first.not_before earlier after (omega arith), prefix-grown rows earlier)) (omega (arith, first.within));
     }
 
     pub falls-insert : (answer : Option ℕ) → FindsFirstAtMost (signs_and_marks rows) place (length rows) (negsuc 0 -ℤ sign_of row.op) answer → FallsFirst (insert rows place row) answer
@@ -115,17 +115,17 @@ module _ (rows : List Row) (place : ℕ) (never : NeverFalls rows) where
   module _ (row : Row) (at : slice_get rows place ≡ Some row) (inside : place < length rows) where
     enough_without : (k : ℕ) → ((later : ℕ) → place < later → later ≤ suc k → (sign_of row.op -ℤ pos 1) <ℤ grown sign_of rows later) → suc k ≤ length rows → pos 0 ≤ℤ (pos 0 +ℤ grown sign_of (remove rows place) k)
     enough_without k above small = elim (cases_lt place k) [
-      | inl behind ↦ omega (arith, ints, grown-remove-behind sign_of rows place row k (omega arith) at, above (suc k) (omega arith) (omega arith))
+      | inl after ↦ omega (arith, ints, grown-remove-after sign_of rows place row k (omega arith) at, above (suc k) (omega arith) (omega arith))
       | inr before ↦ omega (arith, ints, grown-remove-before sign_of rows place k before, enough k (omega arith))
     ]
 
-    -- the sum falls no earlier than behind the row that follows
+    -- the sum falls no earlier than after the row that follows
     pub falls-later : (later : ℕ) → IsFirstAtMost (signs_and_marks rows) (place + 1) (length rows) (sign_of row.op -ℤ pos 1) later → place + 2 ≤ later
     falls-later later first = elim (cases_lt (place + 1) later) [
       | inl far ↦ omega arith
       | inr near ↦
           let same : later ≡ suc place = omega (arith, first.above) in
-          absurd (omega (arith, ints, first.reached, prefix-grown rows later, ap (grown sign_of rows) same, grown-remove-behind sign_of rows place row place (omega arith) at, grown-remove-before sign_of rows place place (omega arith), enough place (omega arith)))
+          absurd (omega (arith, ints, first.reached, prefix-grown rows later, ap (grown sign_of rows) same, grown-remove-after sign_of rows place row place (omega arith) at, grown-remove-before sign_of rows place place (omega arith), enough place (omega arith)))
     ]
 
     length_without : length (remove rows place) + 1 ≡ length rows
@@ -137,13 +137,13 @@ module _ (rows : List Row) (place : ℕ) (never : NeverFalls rows) where
 
     pub falls-remove-none : FindsFirstAtMost (signs_and_marks rows) (place + 1) (length rows) (sign_of row.op -ℤ pos 1) None → FallsFirst (remove rows place) None
     falls-remove-none none k small =
-        enough_without k (λ later behind below. omega (arith, ints, none later (omega arith) (omega (arith, length_without)), prefix-grown rows later)) (omega (arith, length_without))
+        enough_without k (λ later after below. omega (arith, ints, none later (omega arith) (omega (arith, length_without)), prefix-grown rows later)) (omega (arith, length_without))
 
     falls_at : (index : ℕ) → IsFirstAtMost (signs_and_marks rows) (place + 1) (length rows) (sign_of row.op -ℤ pos 1) (suc (suc index)) → place ≤ index → FallsAtFrom (pos 0) (remove rows place) index
     falls_at index first far = record {
       within = omega (arith, first.within, length_without);
-      falls = omega (arith, ints, grown-remove-behind sign_of rows place row (suc index) (omega arith) at, first.reached, prefix-grown rows (suc (suc index)));
-      not_before = λ k before. enough_without k (λ later behind below. omega (arith, ints, first.not_before later (omega arith) (omega arith), prefix-grown rows later)) (omega (arith, first.within));
+      falls = omega (arith, ints, grown-remove-after sign_of rows place row (suc index) (omega arith) at, first.reached, prefix-grown rows (suc (suc index)));
+      not_before = λ k before. enough_without k (λ later after below. omega (arith, ints, first.not_before later (omega arith) (omega arith), prefix-grown rows later)) (omega (arith, first.within));
     }
 
     pub falls-remove-some : (later : ℕ) → IsFirstAtMost (signs_and_marks rows) (place + 1) (length rows) (sign_of row.op -ℤ pos 1) later → FallsFirst (remove rows place) (Some (later - 2))

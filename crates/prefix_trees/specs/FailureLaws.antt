@@ -1,4 +1,4 @@
--- Rows of a line replay exactly where the sum of their signs never falls below 0, and the first one behind which
+-- Rows of a line replay exactly where the sum of their signs never falls below 0, and the first one after which
 -- it does is the first that cannot be performed.
 use Rattle.std.proofs.Common.{◌≡◌, ℕ, zero, suc, ◌≤◌, ℤ, pos, negsuc, ◌+ℤ◌, ◌≤ℤ◌, List, [], ◌∷◌, take, length, Option, Some, None, Result, Ok, Err, refl, sym, ap, ◌∙◌, arith, subst, length-take-le}
 use Rattle.std.specs.Result.{result_err, result_unwrap_or}
@@ -39,7 +39,7 @@ stops_first row rows start None sign none never = absurd (omega (arith, ints, ne
 stops_first row rows start (Some zero) sign none falls = refl
 stops_first row rows start (Some (suc index)) sign none falls = absurd (omega (arith, ints, falls.not_before 1 (omega arith), sign, none))
 
--- what falls behind a row that is performed
+-- what falls after a row that is performed
 falls_later : (row : Row) (rows : List Row) (start : ℤ) (answer : Option ℕ) → pos 0 ≤ℤ (start +ℤ sign_of row.op) → FallsFirstFrom start (row ∷ rows) answer
     → (later : Option ℕ) × FallsFirstFrom (start +ℤ sign_of row.op) rows later × (option_map suc later ≡ answer)
 falls_later row rows start None enough never = (None, λ place within. omega (arith, ints, never (suc place) (omega arith)), refl)
@@ -77,7 +77,7 @@ failure_from kind (row ∷ rows) xs answer line all falls =
 pub failure-falls : (kind : Kind) (rows : List Row) (answer : Option ℕ) → IsLine kind → AreOfKind kind rows → FallsFirst rows answer → failure kind rows ≡ answer
 failure-falls kind rows answer line all falls = ap (λ s. result_err (run rows s)) (empty-line kind line) ∙ failure_from kind rows [] answer line all falls
 
--- how many items there are behind rows that can be performed
+-- how many items there are after rows that can be performed
 sizes : (kind : Kind) (rows : List Row) (xs : List ℤ) (state : State) → IsLine kind → AreOfKind kind rows → run rows (items xs) ≡ Ok state
     → (zs : List ℤ) × (state ≡ items zs) × (pos (length zs) ≡ pos (length xs) +ℤ grown sign_of rows (length rows))
 sizes kind [] xs state line all is = (xs, sym (run-nil (items xs) state is), omega (arith, ints))
@@ -98,7 +98,7 @@ grown-take growth rows zero (suc earlier) order = absurd (omega arith)
 grown-take growth [] (suc place) (suc earlier) order = refl
 grown-take growth (row ∷ rows) (suc place) (suc earlier) order = ap (λ s. growth row.op +ℤ s) (grown-take growth rows place earlier (omega arith))
 
--- the line behind the first so many rows
+-- the line after the first so many rows
 pub record LineAt (kind : Kind) (rows : List Row) (place : ℕ) (line : List ℤ) : Type 0 where
   pub replayed : run (take place rows) (items []) ≡ Ok (items line)
   pub state : state_at kind rows place ≡ items line

@@ -1,15 +1,15 @@
--- A row of a line that finds nothing to take is one before which all items were taken: behind it the sum of the
+-- A row of a line that finds nothing to take is one before which all items were taken: after it the sum of the
 -- signs would be below 0.
 use Rattle.std.specs.Prelude.{ℕ, suc, ◌<◌, ◌≤◌, ℤ, pos, ◌+ℤ◌, ◌<ℤ◌, ◌≤ℤ◌, List, length}
 use Rattle.std.specs.Prelude.{Option, MatchOption}
 use Rattle.retro_base.specs.declared.row.Row.{Row}
 use Rattle.prefix_trees.specs.Growth.{sign_of, grown}
 
--- behind no row the sum falls below 0, where it begins with a number of items
+-- after no row the sum falls below 0, where it begins with a number of items
 abbrev pub NeverFallsFrom : ℤ → List Row → Type 0
 NeverFallsFrom start rows = (place : ℕ) → place ≤ length rows → pos 0 ≤ℤ (start +ℤ grown sign_of rows place)
 
--- the row at the index is the first one behind which it does
+-- the row at the index is the first one after which it does
 pub record FallsAtFrom (start : ℤ) (rows : List Row) (index : ℕ) : Type 0 where
   pub within : index < length rows
   pub falls : (start +ℤ grown sign_of rows (suc index)) <ℤ pos 0

@@ -57,7 +57,7 @@ some_item item other same = cc
 no_item : (item : ℤ × Bool) → ◌≡◌ {A = Option (ℤ × Bool)} None (Some item) → ⊥
 no_item item same = cc
 
--- a marked place has one mark more behind it
+-- a marked place has one mark more after it
 pub marks-next : (items : List (ℤ × Bool)) (place : ℕ) (sign : ℤ) → slice_get items place ≡ Some (sign, true) → marks_in (take (suc place) items) ≡ suc (marks_in (take place items))
 marks-next [] zero sign is = absurd (no_item (sign, true) is)
 marks-next [] (suc place) sign is = absurd (no_item (sign, true) is)

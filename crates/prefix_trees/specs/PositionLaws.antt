@@ -34,7 +34,7 @@ natural (negsuc n) h = absurd (omega (arith, ints))
 items_same : (xs ys : List ℤ) → items xs ≡ items ys → xs ≡ ys
 items_same xs ys same = cc
 
--- a row of a line of items, and the others behind it
+-- a row of a line of items, and the others after it
 record FirstRow (row : Row) (rows : List Row) (xs zs : List ℤ) : Type 0 where
   next : List ℤ
   move : Moves (left_growth row.op) (right_growth row.op) (value_of row.op) xs next
@@ -61,12 +61,12 @@ none_yet : (a : ℤ) → a +ℤ pos 0 ≡ a
 none_yet a = omega (arith, ints)
 
 module _ (kind : Kind) (line : IsLine kind) (position : ℤ) where
-  -- the position is inside behind so many rows, where the ends stood at these growths before
+  -- the position is inside after so many rows, where the ends stood at these growths before
   abbrev InsideAt : ℤ → ℤ → List Row → ℕ → Type 0
   InsideAt left right rows place = IsInside (left +ℤ grown left_growth rows place) (right +ℤ grown right_growth rows place) position
 
-  inside_behind : (left right : ℤ) (row : Row) (rows : List Row) (place : ℕ) → InsideAt left right (row ∷ rows) (suc place) → InsideAt (left +ℤ left_growth row.op) (right +ℤ right_growth row.op) rows place
-  inside_behind left right row rows place inside = record {
+  inside_after : (left right : ℤ) (row : Row) (rows : List Row) (place : ℕ) → InsideAt left right (row ∷ rows) (suc place) → InsideAt (left +ℤ left_growth row.op) (right +ℤ right_growth row.op) rows place
+  inside_after left right row rows place inside = record {
     from_left = omega (arith, ints, inside.from_left);
     to_right = omega (arith, ints, inside.to_right);
   }
@@ -89,12 +89,12 @@ module _ (kind : Kind) (line : IsLine kind) (position : ℤ) where
       ap (λ ys. slice_get ys j) (sym (end_is xs zs is)) ∙ ap (slice_get xs) (let same : j ≡ i = omega (arith, ints) in same)
   untouched (row ∷ rows) left right xs zs i j all is size inside at end =
       let first = first_row kind row rows xs zs line all.0 is in
-      let next = inside_behind left right row rows 0 (inside 1 (omega arith)) in
+      let next = inside_after left right row rows 0 (inside 1 (omega arith)) in
       let now = inside 0 (omega arith) in
       let middle = natural ((left +ℤ left_growth row.op) +ℤ position) (omega (arith, ints, next.from_left)) in
       let size' = size_next left right row xs first.next first.move size in
       untouched rows (left +ℤ left_growth row.op) (right +ℤ right_growth row.op) first.next zs middle.0 j all.1 first.others size'
-      (λ place within. inside_behind left right row rows place (inside (suc place) (omega arith)))
+      (λ place within. inside_after left right row rows place (inside (suc place) (omega arith)))
       middle.1
       (omega (arith, ints, end))
       ∙ first.move.kept i middle.0 (omega (arith, ints, at, size, now.to_right)) (omega (arith, ints, middle.1, size', next.to_right)) (omega (arith, ints, middle.1, at))
@@ -113,13 +113,13 @@ module _ (kind : Kind) (line : IsLine kind) (position : ℤ) where
       })))
   written_from (row ∷ rows) left right xs zs j zero all is size within at place_within outside inside =
       let first = first_row kind row rows xs zs line all.0 is in
-      let next = inside_behind left right row rows 0 (inside 1 (omega arith) (omega arith)) in
+      let next = inside_after left right row rows 0 (inside 1 (omega arith) (omega arith)) in
       let middle = natural ((left +ℤ left_growth row.op) +ℤ position) (omega (arith, ints, next.from_left)) in
       let size' = size_next left right row xs first.next first.move size in (
         row,
         refl,
         untouched rows (left +ℤ left_growth row.op) (right +ℤ right_growth row.op) first.next zs middle.0 j all.1 first.others size'
-            (λ later below. inside_behind left right row rows later (inside (suc later) (omega arith) (omega arith)))
+            (λ later below. inside_after left right row rows later (inside (suc later) (omega arith) (omega arith)))
             middle.1
             (omega (arith, ints, at))
             ∙ first.move.written middle.0 (omega (arith, ints, middle.1, size', next.to_right))
@@ -134,4 +134,4 @@ module _ (kind : Kind) (line : IsLine kind) (position : ℤ) where
       (size_next left right row xs first.next first.move size) within
       (omega (arith, ints, at)) (omega arith)
       (λ there. outside (inside_first left right row rows place there))
-      (λ later after below. inside_behind left right row rows later (inside (suc later) (omega arith) (omega arith)))
+      (λ later after below. inside_after left right row rows later (inside (suc later) (omega arith) (omega arith)))

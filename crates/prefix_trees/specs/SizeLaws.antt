@@ -2,6 +2,7 @@
 use Rattle.std.proofs.Common.{◌≡◌, ℕ, zero, suc, ◌≤◌, ℤ, pos, negsuc, ◌≤ℤ◌, List, [], ◌∷◌, length, refl, ap, arith}
 use Rattle.std.specs.Result.{result_err}
 use Rattle.std.proofs.lemmas.Int.{ints}
+use Rattle.retro_base.specs.Limits.{most_rows}
 use Rattle.retro_base.specs.declared.kind.Kind.{Kind}
 use Rattle.retro_base.specs.declared.op.Op.{Op}
 use Rattle.retro_base.specs.declared.op.Op.TheVariants.{Enq, Deq, Push, Pop, PushL, PushR, PopL, PopR, Put, Del, Ins, DelMin}
@@ -37,7 +38,7 @@ natural (pos n) h = (n, refl)
 natural (negsuc n) h = absurd (omega (arith, ints))
 
 pub natural-size : (kind : Kind) (rows : List Row) → IsLine kind → IsReplayable kind rows → (place : ℕ) (size : ℤ) → place ≤ length rows → size ≡ grown sign_of rows place
-    → (n : ℕ) × (size ≡ pos n) × (n ≤ place) × (place ≤ 65536)
+    → (n : ℕ) × (size ≡ pos n) × (n ≤ place) × (place ≤ most_rows)
 natural-size kind rows line replayable place size within is =
     let found = natural size (omega (arith, ints, never-falls kind rows line replayable.of_kind replayable.valid place within, is)) in
     (found.0, found.1, omega (arith, ints, found.1, is, grown-le rows place), omega (arith, within, replayable.few))

@@ -15,9 +15,9 @@ pub record IsWrittenAt (rows : List Row) (items : List ℤ) (index place : ℕ) 
   pub within : place < length rows
   pub writes : (row : Row) → slice_get rows place ≡ Some row → slice_get items index ≡ value_of row.op
 
--- behind so many rows, the position of the item at the index of the line at a place is between the ends
-abbrev pub InsideBehind : List Row → ℕ → ℕ → ℕ → Type 0
-InsideBehind rows place index earlier = IsInside (grown left_growth rows earlier) (grown right_growth rows earlier) (pos index -ℤ grown left_growth rows place)
+-- after so many rows, the position of the item at the index of the line at a place is between the ends
+abbrev pub InsideAfter : List Row → ℕ → ℕ → ℕ → Type 0
+InsideAfter rows place index earlier = IsInside (grown left_growth rows earlier) (grown right_growth rows earlier) (pos index -ℤ grown left_growth rows place)
 
 same_row : (row other : Row) → ◌≡◌ {A = Option Row} (Some row) (Some other) → row ≡ other
 same_row row other same = cc
@@ -42,15 +42,15 @@ from_start : (a : ℤ) → pos 0 +ℤ a ≡ a
 from_start a = omega (arith, ints)
 
 module _ (kind : Kind) (line : IsLine kind) (rows : List Row) (place index : ℕ) (items : List ℤ) (all : AreOfKind kind rows) (within : place ≤ length rows) (at : LineAt kind rows place items) (there : index < length items) where
-  behind_start : (earlier : ℕ) → earlier ≤ place → InsideBehind rows place index earlier
+  after_start : (earlier : ℕ) → earlier ≤ place → InsideAfter rows place index earlier
       → IsInside (pos 0 +ℤ grown left_growth (take place rows) earlier) (pos 0 +ℤ grown right_growth (take place rows) earlier) (pos index -ℤ grown left_growth rows place)
-  behind_start earlier before inside =
+  after_start earlier before inside =
       subst (λ (s : ℤ). IsInside s (pos 0 +ℤ grown right_growth (take place rows) earlier) (pos index -ℤ grown left_growth rows place)) (sym (from_start (grown left_growth (take place rows) earlier) ∙ grown-take left_growth rows place earlier before))
       (subst (λ (s : ℤ). IsInside (grown left_growth rows earlier) s (pos index -ℤ grown left_growth rows place)) (sym (from_start (grown right_growth (take place rows) earlier) ∙ grown-take right_growth rows place earlier before)) inside)
 
-  from_behind : (earlier : ℕ) → earlier ≤ place → IsInside (pos 0 +ℤ grown left_growth (take place rows) earlier) (pos 0 +ℤ grown right_growth (take place rows) earlier) (pos index -ℤ grown left_growth rows place)
-      → InsideBehind rows place index earlier
-  from_behind earlier before inside =
+  from_after : (earlier : ℕ) → earlier ≤ place → IsInside (pos 0 +ℤ grown left_growth (take place rows) earlier) (pos 0 +ℤ grown right_growth (take place rows) earlier) (pos index -ℤ grown left_growth rows place)
+      → InsideAfter rows place index earlier
+  from_after earlier before inside =
       subst (λ (s : ℤ). IsInside s (grown right_growth rows earlier) (pos index -ℤ grown left_growth rows place)) (from_start (grown left_growth (take place rows) earlier) ∙ grown-take left_growth rows place earlier before)
       (subst (λ (s : ℤ). IsInside (pos 0 +ℤ grown left_growth (take place rows) earlier) s (pos index -ℤ grown left_growth rows place)) (from_start (grown right_growth (take place rows) earlier) ∙ grown-take right_growth rows place earlier before) inside)
 
@@ -58,14 +58,14 @@ module _ (kind : Kind) (line : IsLine kind) (rows : List Row) (place index : ℕ
   size = length-take-le place rows within
 
   -- it was written by the row at the last place at which its position was outside
-  pub written-at : (written : ℕ) → written ≤ place → (InsideBehind rows place index written → ⊥) → ((later : ℕ) → written < later → later ≤ place → InsideBehind rows place index later)
+  pub written-at : (written : ℕ) → written ≤ place → (InsideAfter rows place index written → ⊥) → ((later : ℕ) → written < later → later ≤ place → InsideAfter rows place index later)
       → IsWrittenAt rows items index written
   written-at written before outside inside =
       let found = written_from kind line (pos index -ℤ grown left_growth rows place) (take place rows) (pos 0) (pos 0) [] items index written (all_taken kind rows place all) at.replayed (omega (arith, ints)) there
       (omega (arith, ints, ap (grown left_growth (take place rows)) size, grown-take left_growth rows place place (omega arith)))
       (omega (arith, size))
-      (λ there. outside (from_behind written before there))
-      (λ later after below. behind_start later (omega (arith, size)) (inside later after (omega (arith, size)))) in
+      (λ there. outside (from_after written before there))
+      (λ later after below. after_start later (omega (arith, size)) (inside later after (omega (arith, size)))) in
       let row = get_taken rows place written found.0 found.1 in
       record {
         there = there;

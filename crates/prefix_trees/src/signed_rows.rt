@@ -129,7 +129,7 @@ impl SignedRows {
         value_of(self.row_at(place, steps).op).unwrap()
     }
 
-    /// How many items there are behind the first so many rows.
+    /// How many items there are after the first so many rows.
     pub fn size_at<L: Ledger>(&self, place: u32, steps: &mut Steps<L>) -> i64
         requires { place ≤ length self.now }
         ensures size { result ≡ grown sign_of self.now place }

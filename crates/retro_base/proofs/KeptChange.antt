@@ -9,7 +9,7 @@ use Rattle.retro_base.specs.declared.row.Change.{Change}
 use Rattle.retro_base.specs.declared.row.Change.TheVariants.{Plain}
 use Rattle.retro_base.specs.declared.row.Entry.{Entry}
 use Rattle.retro_base.specs.declared.row.Row.{Row}
-use Rattle.retro_base.specs.Content.{IsKept}
+use Rattle.retro_base.specs.Content.{RepresentsRows}
 use Rattle.retro_base.specs.Kind.{kind_of}
 use Rattle.retro_base.specs.State.{State, items, pairs, entries, empty}
 use Rattle.retro_base.specs.Replay.{run, IsValid}
@@ -22,15 +22,15 @@ use Rattle.retro_base.specs.lemmas.Counted.{pq_holds_entries, entries_are_of_pq}
 use Rattle.retro_base.specs.lemmas.Replayable.{plain_change}
 
 -- entries are kept of a priority queue alone
-pub kind_is : (kind : Kind) (rows : List Row) (state : State) (es : List Entry) → IsKept kind rows state → state ≡ entries es → kind ≡ Pq
+pub kind_is : (kind : Kind) (rows : List Row) (state : State) (es : List Entry) → RepresentsRows kind rows state → state ≡ entries es → kind ≡ Pq
 kind_is kind rows state es keeps same = entries_are_of_pq kind rows state es same keeps.replayable.of_kind keeps.kept
 
-pub kept_survivors : (kind : Kind) (rows : List Row) (state : State) (es : List Entry) → IsKept kind rows state → state ≡ entries es → es ≡ survivors rows
+pub kept_survivors : (kind : Kind) (rows : List Row) (state : State) (es : List Entry) → RepresentsRows kind rows state → state ≡ entries es → es ≡ survivors rows
 kept_survivors kind rows state es keeps same =
     let whole : run rows (empty Pq) ≡ Ok (entries es) = subst (λ k. run rows (empty k) ≡ Ok (entries es)) (kind_is kind rows state es keeps same) (keeps.kept ∙ ap (λ s. Ok s) same) in
     sym (ap (λ r. entries_of (result_unwrap_or r (empty Pq))) whole)
 
-pub kept_history : (kind : Kind) (rows : List Row) (state : State) (es : List Entry) → IsKept kind rows state → state ≡ entries es → IsPqHistory rows
+pub kept_history : (kind : Kind) (rows : List Row) (state : State) (es : List Entry) → RepresentsRows kind rows state → state ≡ entries es → IsPqHistory rows
 kept_history kind rows state es keeps same =
     let is = kind_is kind rows state es keeps same in
     record {
@@ -39,19 +39,19 @@ kept_history kind rows state es keeps same =
       valid = rw is at keeps.replayable.valid;
     }
 
-pub kept_adds : (kind : Kind) (rows : List Row) (state : State) (es : List Entry) (place : ℕ) (row : Row) → IsKept kind rows state → state ≡ entries es
+pub kept_adds : (kind : Kind) (rows : List Row) (state : State) (es : List Entry) (place : ℕ) (row : Row) → RepresentsRows kind rows state → state ≡ entries es
     → place ≤ length rows → IsFresh row.number rows → kind_of row.op ≡ kind → IsPqEdit rows (add place row)
 kept_adds kind rows state es place row keeps same within fresh of_kind =
     record { history = kept_history kind rows state es keeps same; within = within; own_row = (of_kind ∙ kind_is kind rows state es keeps same, fresh) }
 
-pub kept_cuts : (kind : Kind) (rows : List Row) (state : State) (es : List Entry) (place : ℕ) (row : Row) → IsKept kind rows state → state ≡ entries es
+pub kept_cuts : (kind : Kind) (rows : List Row) (state : State) (es : List Entry) (place : ℕ) (row : Row) → RepresentsRows kind rows state → state ≡ entries es
     → slice_get rows place ≡ Some row → IsPqEdit rows (cut place row)
 kept_cuts kind rows state es place row keeps same there = record { history = kept_history kind rows state es keeps same; within = there; own_row = tt }
 
-pub kept_accepts : (kind : Kind) (rows edited : List Row) (state : State) (es : List Entry) → IsKept kind rows state → state ≡ entries es → IsValid kind edited → IsValid Pq edited
+pub kept_accepts : (kind : Kind) (rows edited : List Row) (state : State) (es : List Entry) → RepresentsRows kind rows state → state ≡ entries es → IsValid kind edited → IsValid Pq edited
 kept_accepts kind rows edited state es keeps same valid = rw (kind_is kind rows state es keeps same) at valid
 
-pub kept_changes : (kind : Kind) (rows : List Row) (state : State) (es : List Entry) (edit : Edit) (change : Change) → IsKept kind rows state → state ≡ entries es
+pub kept_changes : (kind : Kind) (rows : List Row) (state : State) (es : List Entry) (edit : Edit) (change : Change) → RepresentsRows kind rows state → state ≡ entries es
     → IsPqChange rows edit change → IsChange kind rows edit change
 kept_changes kind rows state es edit change keeps same changes = subst (λ k. IsChange k rows edit change) (sym (kind_is kind rows state es keeps same)) changes
 
@@ -62,10 +62,10 @@ no_items state e f = cc
 no_pairs : {ps : List (ℤ × ℤ)} {es : List Entry} (state : State) → state ≡ pairs ps → state ≡ entries es → ⊥
 no_pairs state e f = cc
 
-pub plain_of_items : (kind : Kind) (rows : List Row) (state : State) (xs : List ℤ) (edit : Edit) → IsKept kind rows state → state ≡ items xs → IsChange kind rows edit Plain
+pub plain_of_items : (kind : Kind) (rows : List Row) (state : State) (xs : List ℤ) (edit : Edit) → RepresentsRows kind rows state → state ≡ items xs → IsChange kind rows edit Plain
 plain_of_items kind rows state xs edit keeps same = plain_change kind rows edit (λ is.
     let held = pq_holds_entries kind rows state is keeps.replayable.of_kind keeps.kept in no_items state same held.1)
 
-pub plain_of_pairs : (kind : Kind) (rows : List Row) (state : State) (ps : List (ℤ × ℤ)) (edit : Edit) → IsKept kind rows state → state ≡ pairs ps → IsChange kind rows edit Plain
+pub plain_of_pairs : (kind : Kind) (rows : List Row) (state : State) (ps : List (ℤ × ℤ)) (edit : Edit) → RepresentsRows kind rows state → state ≡ pairs ps → IsChange kind rows edit Plain
 plain_of_pairs kind rows state ps edit keeps same = plain_change kind rows edit (λ is.
     let held = pq_holds_entries kind rows state is keeps.replayable.of_kind keeps.kept in no_pairs state same held.1)

@@ -6,8 +6,8 @@ use Rattle.retro_base.specs.State.{comes_before}
 use Rattle.retro_base.specs.Bridges.{is_among}
 
 -- the order seen from its other end
-abbrev pub comes_behind : Entry → Entry → Bool
-comes_behind a b = comes_before b a
+abbrev pub comes_after : Entry → Entry → Bool
+comes_after a b = comes_before b a
 
 -- the second entry, unless there is a first one and the second is worse
 abbrev pub better : (Entry → Entry → Bool) → Option Entry → Entry → Entry
@@ -21,4 +21,4 @@ greater_dead alive greatest (Some entry) = if is_among alive entry then greatest
 
 abbrev pub lesser_survivor : List Entry → Option Entry → Option Entry → Option Entry
 lesser_survivor alive least None = least
-lesser_survivor alive least (Some entry) = if is_among alive entry then Some (better comes_behind least entry) else least
+lesser_survivor alive least (Some entry) = if is_among alive entry then Some (better comes_after least entry) else least

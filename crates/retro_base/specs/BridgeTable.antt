@@ -11,7 +11,7 @@ use Rattle.retro_base.specs.Weights.{added_by}
 abbrev pub added : List Row → List Entry
 added rows = filter_map added_by rows
 
--- a dead entry that was added at this place or behind it
+-- a dead entry that was added at this place or after it
 abbrev pub IsDeadFrom : List Row → ℕ → Entry → Type 0
 IsDeadFrom rows place entry = Contains (added (drop place rows)) entry × ¬ Contains (survivors rows) entry
 

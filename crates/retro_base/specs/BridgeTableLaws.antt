@@ -1,5 +1,5 @@
 -- The table of changes, line by line; each is the contract of a function of `src/laws.rt`. An entry that comes in is
--- exchanged for each greater one that is taken behind it, and no dead entry reaches over a bridge: so the greatest dead one from
+-- exchanged for each greater one that is taken after it, and no dead entry reaches over a bridge: so the greatest dead one from
 -- the bridge on is gained. An entry that goes is made up for by the next one where it would be taken, until a bridge is reached:
 -- so the least survivor from before it is lost, or nothing is left to be taken.
 --
@@ -7,7 +7,7 @@
 --     add an ins              the last up to p     gain the greatest of it and the dead from b on   never
 --     cut a delmin            the last up to p     gain the greatest dead one from b on             never
 --     add a delmin            the first from p     lose the least survivor from before b            at b
---     cut an ins, dead        the first behind p   lose the least survivor from before b            at b - 2
+--     cut an ins, dead        the first after p   lose the least survivor from before b            at b - 2
 --     cut an ins, survivor    none                 lose it                                          never
 use Rattle.std.specs.Prelude.{◌≡◌, ◌↔◌, ◌⊎◌, ℕ, suc, ◌-◌, List, Contains, Some, None}
 use Rattle.retro_base.specs.declared.kind.Kind.TheVariants.{Pq}
@@ -45,7 +45,7 @@ abbrev pub AddedTakeLoses : Type 0
 AddedTakeLoses = (rows : List Row) (place : ℕ) (row : Row) (bridge : ℕ) → IsPqEdit rows (add place row) → added_by row ≡ None
     → IsFirstBridge rows place bridge → LosesAt rows (add place row) bridge bridge
 
--- a row that is cut and whose entry is dead loses before the first bridge behind it, and the rows fail at the row that ended there
+-- a row that is cut and whose entry is dead loses before the first bridge after it, and the rows fail at the row that ended there
 abbrev pub CutDeadLoses : Type 0
 CutDeadLoses = (rows : List Row) (place : ℕ) (row : Row) (entry : Entry) (bridge : ℕ) → IsPqEdit rows (cut place row) → added_by row ≡ Some entry
     → ¬ Contains (survivors rows) entry → IsFirstBridge rows (suc place) bridge → LosesAt rows (cut place row) bridge (bridge - 2)

@@ -19,7 +19,7 @@ entries_of (items xs) = []
 entries_of (pairs ps) = []
 entries_of (entries es) = es
 
--- the entries that a priority queue holds at a place, and those that it holds behind all rows
+-- the entries that a priority queue holds at a place, and those that it holds after all rows
 abbrev pub entries_at : List Row → ℕ → List Entry
 entries_at rows place = entries_of (state_at Pq rows place)
 
@@ -61,12 +61,12 @@ abbrev pub last_bridge : List Row → ℕ → ℕ
 last_bridge rows zero = zero
 last_bridge rows (suc place) = if is_bridge rows (suc place) then suc place else last_bridge rows place
 
--- the first bridge among so many places from one on, or else the place behind them
+-- the first bridge among so many places from one on, or else the place after them
 abbrev pub first_bridge_among : ℕ → List Row → ℕ → ℕ
 first_bridge_among zero rows place = place
 first_bridge_among (suc more) rows place = if is_bridge rows place then place else first_bridge_among more rows (suc place)
 
--- the first bridge from a place on: the place behind all rows is one
+-- the first bridge from a place on: the place after all rows is one
 abbrev pub first_bridge : List Row → ℕ → ℕ
 first_bridge rows place = first_bridge_among (length rows - place) rows place
 
@@ -82,7 +82,7 @@ sought_for_added (Ins key) place = back_from place
 sought_for_added DelMin place = on_from place
 sought_for_added op place = nowhere
 
--- for a row that is cut: at its place, but behind an entry that is dead, and nowhere for one that survives
+-- for a row that is cut: at its place, but after an entry that is dead, and nowhere for one that survives
 abbrev pub sought_for_cut : List Row → Op → ℕ → ℕ → Sought
 sought_for_cut rows (Ins key) number place = if survives rows (record { key = key; number = number }) then nowhere else on_from (suc place)
 sought_for_cut rows DelMin number place = back_from place

@@ -1,4 +1,4 @@
--- An edit of a priority queue carries one entry along: behind it the new states are the old ones with one entry more, or
+-- An edit of a priority queue carries one entry along: after it the new states are the old ones with one entry more, or
 -- with one fewer.
 use Rattle.std.specs.Prelude.{◌≡◌, ℕ, ◌+◌, suc, Bool, true, false, not, is_some, List}
 use Rattle.retro_base.specs.declared.kind.Kind.TheVariants.{Pq}
@@ -29,7 +29,7 @@ pub record IsPqEdit (rows : List Row) (edit : Edit) : Type 0 where
   pub within : IsWithin rows edit
   pub own_row : AddsOwnRow rows edit
 
--- the place just behind an edit among the rows before it, and among those after it
+-- the place just after an edit among the rows before it, and among those after it
 abbrev pub old_start : Edit → ℕ
 old_start (add place row) = place
 old_start (cut place row) = suc place
@@ -47,7 +47,7 @@ abbrev pub Differ : Bool → Entry → List Entry → List Entry → Type 0
 Differ true entry old new = Joins entry old new
 Differ false entry old new = Joins entry new old
 
--- the edit carries this entry so many rows behind it
+-- the edit carries this entry so many rows after it
 abbrev pub Carries : List Row → Edit → ℕ → Entry → Type 0
 Carries rows edit more entry = Differ (gives edit) entry (entries_at rows (old_start edit + more)) (entries_at (edited rows edit) (new_start edit + more))
 

@@ -1,4 +1,4 @@
--- Laws on the entry that an edit carries along; each is the contract of a function of `src/laws.rt`. Behind an edit both
+-- Laws on the entry that an edit carries along; each is the contract of a function of `src/laws.rt`. After an edit both
 -- lists have the same rows, and their states differ by one entry. Where a row takes this entry from the one list, it takes the
 -- next one from the other, and the states differ by that one from then on.
 --
@@ -19,7 +19,7 @@ use Rattle.retro_base.specs.Carried.{IsPqEdit, old_start, gives, Carries, Change
 abbrev pub GivingIsAccepted : Type 0
 GivingIsAccepted = (rows : List Row) (edit : Edit) → IsPqEdit rows edit → gives edit ≡ true → IsAccepted Pq rows edit
 
--- at each place behind an accepted edit the states differ by exactly one entry
+-- at each place after an accepted edit the states differ by exactly one entry
 abbrev pub OneIsCarried : Type 0
 OneIsCarried = (rows : List Row) (edit : Edit) (more : ℕ) → IsPqEdit rows edit → IsAccepted Pq rows edit
     → (entry : Entry) × Carries rows edit more entry

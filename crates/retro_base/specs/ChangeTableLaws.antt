@@ -1,5 +1,5 @@
 -- Each line of the table of changes names the change of its edit: the bridge, and the entry that is gained or lost from there.
--- So who finds a bridge and the greatest dead entry behind it, or the least survivor before it, has the change.
+-- So who finds a bridge and the greatest dead entry after it, or the least survivor before it, has the change.
 use Rattle.std.specs.Prelude.{◌≡◌, ◌⊎◌, ℕ, suc, List, Contains, Some, None}
 use Rattle.retro_base.specs.declared.row.Change.TheVariants.{Gain, Lose}
 use Rattle.retro_base.specs.declared.row.Entry.{Entry}
@@ -40,7 +40,7 @@ abbrev pub CutSurvivorChanges : Type 0
 CutSurvivorChanges = (rows : List Row) (place : ℕ) (row : Row) (entry : Entry) → IsPqEdit rows (cut place row)
     → added_by row ≡ Some entry → Contains (survivors rows) entry → IsPqChange rows (cut place row) (Lose None entry)
 
--- a row that takes and is cut leaves a dead entry behind the last bridge
+-- a row that takes and is cut leaves a dead entry after the last bridge
 abbrev pub CutTakeLeavesDead : Type 0
 CutTakeLeavesDead = (rows : List Row) (place : ℕ) (row : Row) (bridge : ℕ) → IsPqEdit rows (cut place row)
     → added_by row ≡ None → IsLastBridge rows place bridge → (entry : Entry) × IsDeadFrom rows bridge entry

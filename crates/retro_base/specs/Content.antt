@@ -14,7 +14,7 @@ state_of (Line line) = items line.items
 state_of (Pairs map) = pairs map.entries
 state_of (Entries held) = entries held
 
--- the rows of a structure, with the state behind them
-pub record IsKept (kind : Kind) (rows : List Row) (state : State) : Type 0 where
+-- the rows of a structure, with the state after them
+pub record RepresentsRows (kind : Kind) (rows : List Row) (state : State) : Type 0 where
   pub replayable : IsReplayable kind rows
   pub kept : run rows (empty kind) ≡ Ok state

@@ -20,7 +20,7 @@ abbrev pub one_fewer : ℕ → Option ℕ
 one_fewer zero = None
 one_fewer (suc size) = Some size
 
--- how many items there are behind an operation, or none where it takes and there is nothing to take
+-- how many items there are after an operation, or none where it takes and there is nothing to take
 abbrev pub size_after : Op → ℕ → Option ℕ
 size_after (Enq value) size = Some (suc size)
 size_after Deq size = one_fewer size
@@ -35,17 +35,17 @@ size_after (Del key) size = one_fewer size
 size_after (Ins key) size = Some (suc size)
 size_after DelMin size = one_fewer size
 
--- how many pairs of a key there are behind an operation, or none where it takes the pair and there is none
+-- how many pairs of a key there are after an operation, or none where it takes the pair and there is none
 abbrev pub pair_after : ℤ → Op → ℕ → Option ℕ
 pair_after key (Put other value) size = if int_eq key other then Some 1 else Some size
 pair_after key (Del other) size = if int_eq key other then one_fewer size else Some size
 pair_after key op size = Some size
 
--- how many are counted behind an operation
+-- how many are counted after an operation
 abbrev pub quantity_after : Quantity → Op → ℕ → Option ℕ
 quantity_after Items op size = size_after op size
 quantity_after (Key key) op size = pair_after key op size
 
--- how many are counted behind these rows, or the index of the first one that finds nothing to take
+-- how many are counted after these rows, or the index of the first one that finds nothing to take
 abbrev pub counted : Quantity → List Row → ℕ → Result ℕ ℕ
 counted quantity rows size = fold_rows (λ row n. quantity_after quantity row.op n) rows size

@@ -28,3 +28,18 @@ same_kind Deque Deque = true
 same_kind Dict Dict = true
 same_kind Pq Pq = true
 same_kind kind other = false
+
+-- the operation puts something in, and takes nothing out
+abbrev pub adds : Op → Bool
+adds (Enq v) = true
+adds Deq = false
+adds (Push v) = true
+adds Pop = false
+adds (PushL v) = true
+adds (PushR v) = true
+adds PopL = false
+adds PopR = false
+adds (Put k v) = true
+adds (Del k) = false
+adds (Ins k) = true
+adds DelMin = false

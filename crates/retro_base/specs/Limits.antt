@@ -3,7 +3,7 @@ use Rattle.std.specs.Prelude.{ℕ, ◌^◌}
 
 -- the rows of a timeline
 abbrev pub most_rows : ℕ
-most_rows = 65536
+most_rows = 131072
 
 -- the number that no row draws: row numbers are from 1 to below it
 abbrev pub next_limit : ℕ

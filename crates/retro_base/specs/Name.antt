@@ -45,7 +45,7 @@ name_of word = if is_name word then Some word else None
 abbrev pub padded : List ℕ → List ℕ
 padded word = word ++ replicate (longest_name - length word) 0
 
--- a name in as many bytes as one may have: its own, and zeros behind them
+-- a name in as many bytes as one may have: its own, and zeros after them
 pub record IsPadded (bytes : List ℕ) (size : ℕ) : Type 0 where
   pub valid : is_name (take size bytes) ≡ true
   pub size_is : size ≡ length (take size bytes)

@@ -4,7 +4,7 @@ use Rattle.std.specs.Fmt.{signed_decimal}
 use Rattle.retro_base.specs.declared.op.Op.{Op}
 use Rattle.retro_base.specs.declared.op.Op.TheVariants.{Enq, Deq, Push, Pop, PushL, PushR, PopL, PopR, Put, Del, Ins, DelMin}
 
--- a value, behind a space
+-- a value, after a space
 abbrev pub value_text : ℤ → List ℕ
 value_text value = codes " " ++ signed_decimal value
 

@@ -4,7 +4,7 @@ use Rattle.std.specs.Prelude.{Option}
 use Rattle.std.specs.Prelude.{count_by, position}
 use Rattle.retro_base.specs.declared.row.Row.{Row}
 
--- the place of a time: behind all rows of this time and of earlier ones
+-- the place of a time: after all rows of this time and of earlier ones
 abbrev pub place_of_time : ℕ → List Row → ℕ
 place_of_time time rows = count_by (λ row. nat_le row.time time) rows
 

@@ -41,19 +41,19 @@ pub valid_take : (kind : Kind) (rows : List Row) (count : ℕ) → IsValid kind 
 valid_take kind rows count valid = first_possible step rows count (empty kind) valid
 
 -- a number of its own is none of those before
-fresh_behind : (rows : List Row) (index : ℕ) (row : Row) → HaveOwnNumbers rows → slice_get rows index ≡ Some row → IsFresh row.number (take index rows)
-fresh_behind rows zero row own there = tt
-fresh_behind [] (suc index) row own there = tt
-fresh_behind (first ∷ rows) (suc index) row own there =
-    (λ same. all_at (λ r. r.number ≢ first.number) rows index row own.0 there (sym same), fresh_behind rows index row own.1 there)
+fresh_after : (rows : List Row) (index : ℕ) (row : Row) → HaveOwnNumbers rows → slice_get rows index ≡ Some row → IsFresh row.number (take index rows)
+fresh_after rows zero row own there = tt
+fresh_after [] (suc index) row own there = tt
+fresh_after (first ∷ rows) (suc index) row own there =
+    (λ same. all_at (λ r. r.number ≢ first.number) rows index row own.0 there (sym same), fresh_after rows index row own.1 there)
 
--- a time fits behind the rows before it
-fits_behind : (rows : List Row) (index : ℕ) (row : Row) → TimesNeverFall rows → slice_get rows index ≡ Some row
+-- a time fits after the rows before it
+fits_later : (rows : List Row) (index : ℕ) (row : Row) → TimesNeverFall rows → slice_get rows index ≡ Some row
     → Fits (take index rows) (length (take index rows)) row.time
-fits_behind rows zero row never there = tt
-fits_behind [] (suc index) row never there = tt
-fits_behind (first ∷ rows) (suc index) row never there =
-    (all_at (λ r. first.time ≤ r.time) rows index row never.0 there, fits_behind rows index row never.1 there)
+fits_later rows zero row never there = tt
+fits_later [] (suc index) row never there = tt
+fits_later (first ∷ rows) (suc index) row never there =
+    (all_at (λ r. first.time ≤ r.time) rows index row never.0 there, fits_later rows index row never.1 there)
 
 take_next : (rows : List Row) (index : ℕ) (row : Row) → slice_get rows index ≡ Some row → take (suc index) rows ≡ take index rows ++ row ∷ []
 take_next [] index row there = absurd (cc)
@@ -77,7 +77,7 @@ pub record ComesNext (kind : Kind) (rows : List Row) (next : ℕ) (row : Row) : 
   pub of_kind : kind_of row.op ≡ kind
   pub accepted : IsValid kind (insert rows (length rows) row)
 
--- each row of a timeline comes next behind those before it
+-- each row of a timeline comes next after those before it
 pub comes_next : (kind : Kind) (rows : List Row) (next index : ℕ) (row : Row) → IsTimeline kind rows next → slice_get rows index ≡ Some row
     → ComesNext kind (take index rows) next row
 comes_next kind rows next index row timeline there =
@@ -86,8 +86,8 @@ comes_next kind rows next index row timeline there =
     insert_end (take index rows) row ∙ sym (take_next rows index row there) in
     record {
       numbered = all_at (λ r. (1 ≤ r.number) × (r.number < next)) rows index row timeline.numbered there;
-      fresh = fresh_behind rows index row timeline.replayable.own_numbers there;
-      fits = fits_behind rows index row timeline.in_order there;
+      fresh = fresh_after rows index row timeline.replayable.own_numbers there;
+      fits = fits_later rows index row timeline.in_order there;
       room = omega (arith, below.0, below.1, timeline.replayable.few);
       of_kind = all_at (λ r. kind_of r.op ≡ kind) rows index row timeline.replayable.of_kind there;
       accepted = rw appended (valid_take kind rows (suc index) timeline.replayable.valid);

@@ -8,12 +8,12 @@ use Rattle.retro_base.specs.declared.kind.Kind.{Kind}
 use Rattle.retro_base.specs.declared.row.Row.{Row}
 use Rattle.retro_base.specs.State.{State, empty, step}
 
--- the outcome of rows that stand behind one more row: a failure is one place later
+-- the outcome of rows that stand after one more row: a failure is one place later
 abbrev pub one_later : {S : Type 0} → Result S ℕ → Result S ℕ
 one_later (Ok state) = Ok state
 one_later (Err index) = Err (suc index)
 
--- rows taken one after another by a step that may be impossible: the state behind them, or the index of the first impossible one
+-- rows taken one after another by a step that may be impossible: the state after them, or the index of the first impossible one
 unfoldable pub fold_rows : {S : Type 0} → (Row → S → Option S) → List Row → S → Result S ℕ
 fold_rows next_of [] state = Ok state
 fold_rows next_of (row ∷ rows) state = option_map_or (λ next. one_later (fold_rows next_of rows next)) (next_of row state) (Err 0)
@@ -38,6 +38,6 @@ IsValid kind rows = failure kind rows ≡ None
 abbrev pub state_at : Kind → List Row → ℕ → State
 state_at kind rows place = result_unwrap_or (replay kind rows place) (empty kind)
 
--- what the structure holds behind all rows
+-- what the structure holds after all rows
 abbrev pub present : Kind → List Row → State
 present kind rows = result_unwrap_or (run rows (empty kind)) (empty kind)

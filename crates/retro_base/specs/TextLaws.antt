@@ -25,7 +25,7 @@ prefix_after old middle new front back reached prefix = record {
   appended = prefix.appended ∙ ap (λ text. text ++ prefix.part) reached ∙ append_assoc old front prefix.part;
 }
 
--- The texts of items, appended one behind the other.
+-- The texts of items, appended one after the other.
 module _ {X : Type 0} (text_of : X → List ℕ) (old out new : List ℕ) (items : List X) (i : ℕ) (item : X) where
   -- one item more
   pub one_more : out ≡ old ++ flat_map text_of (take i items) → slice_get items i ≡ Some item → new ≡ out ++ text_of item → new ≡ old ++ flat_map text_of (take (i + 1) items)
@@ -34,7 +34,7 @@ module _ {X : Type 0} (text_of : X → List ℕ) (old out new : List ℕ) (items
       let taken : take (i + 1) items ≡ take i items ++ item ∷ [] = rw add-one (take-suc items i item within ∙ ap (λ x. take i items ++ x ∷ []) (get_or_from_slice_get items i item item at)) in
       more ∙ ap (λ text. text ++ text_of item) so_far ∙ flat_map_more text_of old (take i items) item ∙ ap (λ xs. old ++ flat_map text_of xs) (sym taken)
 
-  -- the whole is what is in front, the text of the item, and what is behind
+  -- the whole is what is in front, the text of the item, and what is after
   around : slice_get items i ≡ Some item → flat_map text_of items ≡ flat_map text_of (take i items) ++ (text_of item ++ flat_map text_of (drop (i + 1) items))
   around at =
       let within : i < length items = slice_get_within items i item at in

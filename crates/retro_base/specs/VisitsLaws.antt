@@ -116,6 +116,6 @@ visits-taken_back (suc length) start put refused back first second none third = 
 }
 
 -- worked out by hand
-digits-of_small : (digits 0 ≡ 1) × (digits 1 ≡ 1) × (digits 2 ≡ 2) × (digits 3 ≡ 2) × (digits 4 ≡ 3) × (digits 65535 ≡ 16) × (digits 65536 ≡ 17)
+digits-of_small : (digits 0 ≡ 1) × (digits 1 ≡ 1) × (digits 2 ≡ 2) × (digits 3 ≡ 2) × (digits 4 ≡ 3) × (digits 131071 ≡ 17) × (digits 131072 ≡ 18)
 unfolding digits
 digits-of_small = (refl, refl, refl, refl, refl, refl, refl)

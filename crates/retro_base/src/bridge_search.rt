@@ -9,7 +9,7 @@ ghost use Rattle.retro_base.specs.Changes.{IsPqChange};
 ghost use Rattle.retro_base.specs.Edits.{add, cut, IsAccepted};
 ghost use Rattle.retro_base.specs.Limits.{most_rows};
 ghost use Rattle.retro_base.specs.State.{comes_before};
-ghost use Rattle.retro_base.specs.Better.{comes_behind, better, greater_dead, lesser_survivor};
+ghost use Rattle.retro_base.specs.Better.{comes_after, better, greater_dead, lesser_survivor};
 ghost use Rattle.retro_base.specs.Weights.{added_by, weight_as};
 
 use crate::entries::Entries;
@@ -78,7 +78,7 @@ fn greater(first: Option<Entry>, second: Entry) -> Entry
 
 /// The lesser of two entries, where there is a first one.
 fn lesser(first: Option<Entry>, second: Entry) -> Entry
-    ensures { result ≡ better comes_behind first second }
+    ensures { result ≡ better comes_after first second }
 {
     match first {
         Some(first) if first.comes_before(second) => first,
@@ -106,7 +106,7 @@ fn lesser_survivor(alive: &Entries, least: Option<Entry>, row: Row) -> Option<En
     }
 }
 
-/// The greatest dead entry that was added at a place or behind it.
+/// The greatest dead entry that was added at a place or after it.
 fn greatest_dead_from(alive: &Entries, rows: &[Row], place: usize) -> Option<Entry>
     requires alive { alive.now ≡ survivors rows.now }
     requires within { place ≤ length rows.now }
@@ -114,9 +114,9 @@ fn greatest_dead_from(alive: &Entries, rows: &[Row], place: usize) -> Option<Ent
         ((entry : Entry) → ¬ IsDeadFrom rows.now place entry)
         (IsGreatest (IsDeadFrom rows.now place)) }
 {
-    let (_, behind) = rows.split_at(place);
+    let (_, after) = rows.split_at(place);
     let mut greatest = None;
-    for row in behind {
+    for row in after {
         greatest = greater_dead(alive, greatest, *row);
     }
     greatest
@@ -167,7 +167,7 @@ fn gained_from(alive: &Entries, rows: &[Row], bridge: u32) -> Change
     }
 }
 
-/// What a priority queue gains or loses where a row is put in behind all rows.
+/// What a priority queue gains or loses where a row is put in after all rows.
 fn change_at_end(alive: &Entries, rows: &[Row], row: Row) -> Change
     requires possible { IsPqEdit rows.now (add (length rows.now) row) }
     requires accepted { IsAccepted Pq rows.now (add (length rows.now) row) }

@@ -12,7 +12,7 @@ use crate::{Answer, Kind, Listing, NoMemory, Question, Row};
 use std::alloc::Global;
 use std::collections::{BTreeMap, VecDeque};
 
-/// What a structure holds behind some rows.
+/// What a structure holds after some rows.
 #[derive(Drop)]
 pub(crate) enum Content {
     /// The items of a queue from the front, of a stack from the top, of a deque from the left.

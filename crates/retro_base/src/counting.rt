@@ -35,7 +35,7 @@ fn quantity_of(op: Op) -> Quantity
     }
 }
 
-/// How many items there are behind an operation, where there is one to take.
+/// How many items there are after an operation, where there is one to take.
 fn size_after(op: Op, size: u32) -> Option<u32>
     requires { size + 1 < 2 ^ 32 }
     ensures { result ≡ size_after op size }
@@ -53,7 +53,7 @@ fn size_after(op: Op, size: u32) -> Option<u32>
     }
 }
 
-/// How many pairs of the key there are behind an operation, where there is one to take.
+/// How many pairs of the key there are after an operation, where there is one to take.
 fn pair_after(key: i64, op: Op, size: u32) -> Option<u32>
     ensures { result ≡ pair_after key op size }
 {
@@ -64,7 +64,7 @@ fn pair_after(key: i64, op: Op, size: u32) -> Option<u32>
     }
 }
 
-/// How many are counted behind an operation, where there is one to take.
+/// How many are counted after an operation, where there is one to take.
 fn counted_after(quantity: Quantity, op: Op, size: u32) -> Option<u32>
     requires { size + 1 < 2 ^ 32 }
     ensures { result ≡ quantity_after quantity op size }
@@ -75,7 +75,7 @@ fn counted_after(quantity: Quantity, op: Op, size: u32) -> Option<u32>
     }
 }
 
-/// How many are counted behind these rows, or the index of the first one that finds nothing.
+/// How many are counted after these rows, or the index of the first one that finds nothing.
 fn count(quantity: Quantity, rows: &[Row], size: u32) -> Result<u32, u32>
     requires { size + length rows.now < 2 ^ 32 }
     ensures { result ≡ counted quantity rows.now size }

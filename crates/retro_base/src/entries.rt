@@ -59,7 +59,7 @@ impl Entries {
         ensures order { AreInOrder self.now }
         ensures within { result ≤ length self.now }
         ensures before { AllWithin (λ other. comes_before other entry ≡ true) self.now 0 result }
-        ensures behind { AllWithin (λ other. comes_before other entry ≡ false) self.now result (length self.now) }
+        ensures after { AllWithin (λ other. comes_before other entry ≡ false) self.now result (length self.now) }
     {
         self.held.partition_point(|other| other.comes_before(entry))
     }

@@ -17,7 +17,7 @@ pub fn dead_come_first()
     ensures { DeadComeFirst }
 {}
 
-/// A law: an edit that puts in a row that adds, or takes out one that takes, is accepted. Behind an
+/// A law: an edit that puts in a row that adds, or takes out one that takes, is accepted. After an
 /// accepted edit the states differ by one entry at each place, and so do the presents.
 pub fn one_entry_is_carried()
     ensures giving { GivingIsAccepted }

@@ -1,5 +1,5 @@
 ghost use Rattle.std.specs.Prelude.{◌≡◌};
-ghost use Rattle.retro_base.specs.Kind.{kind_of};
+ghost use Rattle.retro_base.specs.Kind.{adds, kind_of};
 
 use crate::Kind;
 
@@ -43,6 +43,17 @@ impl Op {
             Op::PushL { .. } | Op::PushR { .. } | Op::PopL | Op::PopR => Kind::Deque,
             Op::Put { .. } | Op::Del { .. } => Kind::Dict,
             Op::Ins { .. } | Op::DelMin => Kind::Pq,
+        }
+    }
+
+    /// Whether the operation puts something in, as `enq`, `push`, `put` and `ins` do, and takes nothing out.
+    pub fn adds(self) -> bool
+        ensures { result ≡ adds self }
+    {
+        match self {
+            Op::Enq { .. } | Op::Push { .. } | Op::PushL { .. } | Op::PushR { .. } => true,
+            Op::Put { .. } | Op::Ins { .. } => true,
+            Op::Deq | Op::Pop | Op::PopL | Op::PopR | Op::Del { .. } | Op::DelMin => false,
         }
     }
 }

@@ -4,7 +4,7 @@ ghost use Rattle.retro_base.specs.Text.{AppendsPrefix};
 
 use crate::{NoMemory, Op, Text};
 
-/// Appends the text of an operation, as a script spells it: its word, and its values behind spaces. Without
+/// Appends the text of an operation, as a script spells it: its word, and its values after spaces. Without
 /// memory a first part of it may have been appended.
 pub fn print_op(op: Op, out: &mut Text) -> Result<(), NoMemory>
     ensures ok { OnOk result (out.new ≡ out.old ++ op_text op) }

@@ -12,7 +12,7 @@ use std::alloc::Global;
 use std::collections::{BTreeMap, VecDeque};
 use std::marker::Model;
 
-/// Rows of a kind that are performed as they come, each at the end, with the state behind them. A test of a
+/// Rows of a kind that are performed as they come, each at the end, with the state after them. A test of a
 /// further row looks at the state alone, so that it costs as little as performing one.
 #[derive(Drop)]
 pub struct PerformedRows {
@@ -22,14 +22,14 @@ pub struct PerformedRows {
 }
 
 impl Model for PerformedRows {
-    ghost use Rattle.retro_base.specs.Content.{state_of, IsKept};
+    ghost use Rattle.retro_base.specs.Content.{state_of, RepresentsRows};
     ghost use Rattle.retro_base.specs.Timeline.{Structure};
 
     ghost Value = { Structure };
 
     ghost view = { λ p. record { kind = p.kind; rows = p.rows } };
 
-    ghost invariant = { λ p. IsKept p.kind p.rows (state_of p.present) };
+    ghost invariant = { λ p. RepresentsRows p.kind p.rows (state_of p.present) };
 }
 
 impl PerformedRows {

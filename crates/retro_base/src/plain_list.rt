@@ -2,7 +2,7 @@ ghost use Rattle.std.specs.Prelude.{◌≡◌, ◌<◌, ◌≤◌, [], ◌∷◌
 ghost use Rattle.std.specs.List.{insert, remove};
 ghost use Rattle.retro_base.specs.declared.row.Row.{Row};
 ghost use Rattle.retro_base.specs.Changes.{IsChange};
-ghost use Rattle.retro_base.specs.Content.{state_of, IsKept};
+ghost use Rattle.retro_base.specs.Content.{state_of, RepresentsRows};
 ghost use Rattle.retro_base.specs.Edits.{add, cut};
 ghost use Rattle.retro_base.specs.Kind.{kind_of};
 ghost use Rattle.retro_base.specs.Timeline.{IsFresh};
@@ -16,7 +16,7 @@ use crate::{Answer, Change, Kind, Listing, NoMemory, Op, Question, Retro, Row};
 use std::alloc::Global;
 use std::marker::Model;
 
-/// What a structure of the kind holds behind these rows.
+/// What a structure of the kind holds after these rows.
 fn replayed(alloc: Global, kind: Kind, rows: &[Row]) -> Result<Content, NoMemory>
     requires { IsValid kind rows.now }
     ensures { IfOk result (λ content. run rows.now (empty kind) ≡ Ok (state_of content)) }
@@ -26,7 +26,7 @@ fn replayed(alloc: Global, kind: Kind, rows: &[Row]) -> Result<Content, NoMemory
     Ok(content)
 }
 
-/// What a structure of the kind holds behind these rows, were the row at the place taken out.
+/// What a structure of the kind holds after these rows, were the row at the place taken out.
 fn replayed_without(
     alloc: Global,
     kind: Kind,
@@ -132,7 +132,7 @@ fn remove_and_replay(
 
 /// What changes in the present where a row is put in.
 fn change_of_insert(kind: Kind, rows: &[Row], present: &Content, place: usize, row: Row) -> Change
-    requires kept { IsKept kind rows.now (state_of present.now) }
+    requires kept { RepresentsRows kind rows.now (state_of present.now) }
     requires within { place ≤ length rows.now }
     requires fresh { IsFresh row.number rows.now }
     requires of_kind { kind_of row.op ≡ kind }
@@ -147,7 +147,7 @@ fn change_of_insert(kind: Kind, rows: &[Row], present: &Content, place: usize, r
 
 /// What changes in the present where the row at a place is taken out.
 fn change_of_remove(kind: Kind, rows: &[Row], present: &Content, place: usize) -> Change
-    requires kept { IsKept kind rows.now (state_of present.now) }
+    requires kept { RepresentsRows kind rows.now (state_of present.now) }
     requires within { place < length rows.now }
     requires replays { IsValid kind (remove rows.now place) }
     ensures { (row : Row) → slice_get rows.now place ≡ Some row
@@ -174,14 +174,14 @@ pub struct PlainList {
 }
 
 impl Model for PlainList {
-    ghost use Rattle.retro_base.specs.Content.{state_of, IsKept};
+    ghost use Rattle.retro_base.specs.Content.{state_of, RepresentsRows};
     ghost use Rattle.retro_base.specs.Timeline.{Structure};
 
     ghost Value = { Structure };
 
     ghost view = { λ p. record { kind = p.kind; rows = p.rows.items } };
 
-    ghost invariant = { λ p. IsKept p.kind p.rows.items (state_of p.present) };
+    ghost invariant = { λ p. RepresentsRows p.kind p.rows.items (state_of p.present) };
 }
 
 impl PlainList {

@@ -78,7 +78,7 @@ pub trait Retro {
         requires { suits question (kind self.now) ≡ true }
         ensures { result ≡ answer_of (present (kind self.now) (rows self.now)) question };
 
-    /// The answer to a question about the state at a place, behind so many rows. The rows stay,
+    /// The answer to a question about the state at a place, after so many rows. The rows stay,
     /// whatever the answer.
     fn ask(&mut self, place: u32, question: Question) -> Result<Answer, NoMemory>
         requires within { place ≤ length (rows self.old) }
@@ -87,7 +87,7 @@ pub trait Retro {
         ensures rows { rows self.new ≡ rows self.old }
         ensures answer { IfOk result (λ answer. answer ≡ answer_of (state_at (kind self.old) (rows self.old) place) question) };
 
-    /// The whole content at a place, behind so many rows. The rows stay, whatever the answer.
+    /// The whole content at a place, after so many rows. The rows stay, whatever the answer.
     fn all(&mut self, place: u32) -> Result<Listing, NoMemory>
         requires { place ≤ length (rows self.old) }
         ensures kind { kind self.new ≡ kind self.old }

@@ -39,7 +39,7 @@ impl Text {
         Ok(())
     }
 
-    /// Appends a number in decimal, behind a `-` where it is below 0. Without memory for it the text stays as it was.
+    /// Appends a number in decimal, after a `-` where it is below 0. Without memory for it the text stays as it was.
     pub fn push_number<I: Integer>(&mut self, number: I) -> Result<(), NoMemory>
         ensures ok { OnOk result (self.new ≡ self.old ++ I.text number) }
         ensures err { OnErr result (self.new ≡ self.old) }

@@ -123,12 +123,12 @@ goes_on_next mark long shown ended bytes first bench refused (Some now) (Some af
 pub before_end : (script first : Option (List ℕ)) (bench : Bench) (refused ended : Bool) (rest written : Option (List ℕ)) → ended ≡ false
     → ((bytes : List ℕ) → script ≡ Some bytes → GoesOn bytes first bench refused ended rest written)
     → (bytes : List ℕ) → script ≡ Some bytes → GoesOn bytes first bench refused false rest written
-before_end script first bench refused ended rest written e on bytes told =
-    subst (λ b. GoesOn bytes first bench refused b rest written) e (on bytes told)
+before_end script first bench refused ended rest written e on bytes reported =
+    subst (λ b. GoesOn bytes first bench refused b rest written) e (on bytes reported)
 
 -- and of what waits, which may go on
 pub goes_on_sent : (script first : Option (List ℕ)) (bench : Bench) (refused ended : Bool) (rest written written' : Option (List ℕ)) → written' ≡ written
     → ((bytes : List ℕ) → script ≡ Some bytes → GoesOn bytes first bench refused ended rest written)
     → (bytes : List ℕ) → script ≡ Some bytes → GoesOn bytes first bench refused ended rest written'
-goes_on_sent script first bench refused ended rest written written' same on bytes told =
-    subst (λ w. GoesOn bytes first bench refused ended rest w) (sym same) (on bytes told)
+goes_on_sent script first bench refused ended rest written written' same on bytes reported =
+    subst (λ w. GoesOn bytes first bench refused ended rest w) (sym same) (on bytes reported)

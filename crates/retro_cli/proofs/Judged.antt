@@ -10,34 +10,34 @@ use Rattle.evidence.specs.declared.evidence.Evidence.{Evidence}
 use Rattle.evidence.specs.Reading.{evidence_of}
 use Rattle.evidence_check.specs.declared.error.CheckError.{CheckError}
 use Rattle.evidence_check.specs.declared.error.CheckError.TheVariants.{Syntax}
-use Rattle.evidence_check.specs.Judgement.{Judge, by_verdict, decided, first_cause, is_evidence_line, judged, judged_evidence, judged_line, judgement_from, nothing_told, told_after}
+use Rattle.evidence_check.specs.Judgement.{Judge, by_verdict, decided, first_cause, is_evidence_line, judged, judged_evidence, judged_line, judgement_from, nothing_reported, reported_after}
 use Rattle.evidence_check.specs.JudgementLaws.{judged-first}
 use Rattle.retro_cli.specs.declared.judging.Refusal.{Refusal}
 use Rattle.retro_cli.specs.Verdicts.{RefusalIsRead}
-use Rattle.retro_cli.specs.Judging.{Verdict, so_far, against, judgement_behind, judgement_of, lines_read, verdict_on, with_line}
+use Rattle.retro_cli.specs.Judging.{Verdict, so_far, against, judgement_after, judgement_of, lines_read, verdict_on, with_line}
 use Rattle.retro_cli.proofs.GoesOn.{GivenAs, none_is_not_some, some_same}
 
 -- the judgement of the lines read and of those of what is left is that of all
 pub record JudgesOn (bytes : List ℕ) (verdict : Verdict) (rest : Option (List ℕ)) : Type 0 where
   pub left : List ℕ
   pub rest_is : rest ≡ Some left
-  pub same : judgement_behind verdict (lines left) ≡ judgement_of bytes
+  pub same : judgement_after verdict (lines left) ≡ judgement_of bytes
 
-pub judges_first : (bytes : List ℕ) (rest : Option (List ℕ)) → rest ≡ Some bytes → JudgesOn bytes (so_far 0 nothing_told) rest
+pub judges_first : (bytes : List ℕ) (rest : Option (List ℕ)) → rest ≡ Some bytes → JudgesOn bytes (so_far 0 nothing_reported) rest
 judges_first bytes rest is = record { left = bytes; rest_is = is; same = refl }
 
 -- one more line is judged by what is shown of it
-behind_verdict : (count : ℕ) (outcome : Result Judge CheckError) (more : List (List ℕ))
-    → judgement_behind (verdict_on (count + 1) outcome) more ≡ by_verdict (count + 1) (λ next. judgement_from (count + 1) next more) outcome
-behind_verdict count (Ok judge) more = refl
-behind_verdict count (Err cause) more = refl
+after_verdict : (count : ℕ) (outcome : Result Judge CheckError) (more : List (List ℕ))
+    → judgement_after (verdict_on (count + 1) outcome) more ≡ by_verdict (count + 1) (λ next. judgement_from (count + 1) next more) outcome
+after_verdict count (Ok judge) more = refl
+after_verdict count (Err cause) more = refl
 
-behind_line : (verdict : Verdict) (line shown : List ℕ) (long : Bool) (more : List (List ℕ)) → ((judge : Judge) → judged judge line ≡ judged_line judge shown long)
-    → judgement_behind (with_line verdict shown long) more ≡ judgement_behind verdict (line ∷ more)
-behind_line (so_far count judge) line shown long more shows =
-    behind_verdict count (judged_line judge shown long) more
+later_line : (verdict : Verdict) (line shown : List ℕ) (long : Bool) (more : List (List ℕ)) → ((judge : Judge) → judged judge line ≡ judged_line judge shown long)
+    → judgement_after (with_line verdict shown long) more ≡ judgement_after verdict (line ∷ more)
+later_line (so_far count judge) line shown long more shows =
+    after_verdict count (judged_line judge shown long) more
     ∙ ap (by_verdict (count + 1) (λ next. judgement_from (count + 1) next more)) (sym (shows judge))
-behind_line (against at cause) line shown long more shows = refl
+later_line (against at cause) line shown long more shows = refl
 
 -- the line that was given, of which this is shown
 record Shown (long : Bool) (shown now after : List ℕ) : Type 0 where
@@ -69,22 +69,22 @@ judges_next mark long shown ended bytes verdict (Some now) (Some after) as_given
     record {
       left = after;
       rest_is = refl;
-      same = behind_line verdict given.line shown long (lines after) given.judged_as
-          ∙ ap (judgement_behind verdict) (sym given.cut ∙ ap lines same) ∙ on.same;
+      same = later_line verdict given.line shown long (lines after) given.judged_as
+          ∙ ap (judgement_after verdict) (sym given.cut ∙ ap lines same) ∙ on.same;
     }
 
 -- at the end all lines are judged
 pub judges_all : (bytes shown : List ℕ) (ended : Bool) (verdict : Verdict) (rest rest' : Option (List ℕ))
-    → GivesNextOf End shown ended rest rest' → JudgesOn bytes verdict rest → judgement_behind verdict [] ≡ judgement_of bytes
+    → GivesNextOf End shown ended rest rest' → JudgesOn bytes verdict rest → judgement_after verdict [] ≡ judgement_of bytes
 judges_all bytes shown ended verdict None rest' next on = absurd (none_is_not_some on.rest_is)
 judges_all bytes shown ended verdict (Some now) None next on = absurd next
 judges_all bytes shown ended verdict (Some now) (Some after) next on =
     let none : on.left ≡ [] = some_same (Some now) on.rest_is refl ∙ next.0 in
-    sym (ap (λ xs. judgement_behind verdict (lines xs)) none) ∙ on.same
+    sym (ap (λ xs. judgement_after verdict (lines xs)) none) ∙ on.same
 
 -- where the source tells its bytes
 pub judgement_is : (script rest rest' : Option (List ℕ)) (shown : List ℕ) (ended : Bool) (verdict : Verdict) → GivesNextOf End shown ended rest rest'
-    → ((bytes : List ℕ) → script ≡ Some bytes → JudgesOn bytes verdict rest) → IfSome script (λ bytes. judgement_behind verdict [] ≡ judgement_of bytes)
+    → ((bytes : List ℕ) → script ≡ Some bytes → JudgesOn bytes verdict rest) → IfSome script (λ bytes. judgement_after verdict [] ≡ judgement_of bytes)
 judgement_is None rest rest' shown ended verdict next on = tt
 judgement_is (Some bytes) rest rest' shown ended verdict next on = judges_all bytes shown ended verdict rest rest' next (on bytes refl)
 
@@ -106,11 +106,11 @@ is_given End long as_given = absurd as_given
 -- a line that is accepted counts as one at the most
 decided_one : (cause : Option CheckError) (judge next : Judge) (e : Evidence) → decided cause judge e ≡ Ok next → next.accepted ≤ judge.accepted + 1
 decided_one (Some cause) judge next e is = cc
-decided_one None judge next e is = let same : next ≡ record { told = told_after judge.told e; accepted = judge.accepted + 1 } = cc in rw same (omega arith)
+decided_one None judge next e is = let same : next ≡ record { reported = reported_after judge.reported e; accepted = judge.accepted + 1 } = cc in rw same (omega arith)
 
 evidence_one : (judge next : Judge) (e : Option Evidence) → judged_evidence judge e ≡ Ok next → next.accepted ≤ judge.accepted + 1
 evidence_one judge next None is = cc
-evidence_one judge next (Some e) is = decided_one (first_cause judge.told e) judge next e is
+evidence_one judge next (Some e) is = decided_one (first_cause judge.reported e) judge next e is
 
 by_test : (is_evidence long : Bool) (judge next : Judge) (e : Option Evidence)
     → (if not is_evidence then Ok judge else (if long then Err Syntax else judged_evidence judge e)) ≡ Ok next → next.accepted ≤ judge.accepted + 1

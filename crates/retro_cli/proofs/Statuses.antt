@@ -5,7 +5,7 @@ use Rattle.std.specs.Prelude.{◌↔◌, IfErr, IfOk, IfSome, IsSome, OnOk, opti
 use Rattle.retro_base.specs.Limits.{most_bytes}
 use Rattle.retro_io.specs.declared.sink.Sink as sinks
 use Rattle.retro_io.specs.declared.source.Source as sources
-use Rattle.retro_io.specs.Faults.{Counts, Rose}
+use Rattle.retro_io.specs.Faults.{CountsFaults, HasRisen}
 use Rattle.retro_cli.specs.declared.form.Form.{Form}
 use Rattle.retro_base.specs.declared.kind.Kind.{Kind}
 use Rattle.retro_cli.specs.declared.status.Status.TheVariants as statuses
@@ -44,7 +44,7 @@ write_fault_is (Err stops.WriteFault) = refl
 write_fault_is (Err stops.NoMemory) = refl
 write_fault_is (Err stops.TooLong) = refl
 
--- an end at an input that is too long is told so, and no other one
+-- an end at an input that is too long is reported so, and no other one
 pub too_long_is : (outcome : Outcome) → (status_after outcome ≡ statuses.TooLong) ↔ (outcome ≡ ended_at stops.TooLong)
 too_long_is (Ok false) = (λ e. cc, λ e. cc)
 too_long_is (Ok true) = (λ e. cc, λ e. cc)
@@ -64,8 +64,8 @@ words_are_known (Err stops.TooLong) form some = (λ e. cc, λ e. absurd (false�
 
 -- without a fault
 pub ends_without_fault : (script : Option (List ℕ)) (outcome : Outcome) (reads reads' writes writes' : ℕ)
-    → Counts (stops_at_read outcome) reads reads' → Counts (stops_at_write outcome) writes writes' → (outcome ≡ ended_at stops.TooLong → MayBeTooLong script)
-    → (Rose reads reads' → ⊥) → (Rose writes writes' → ⊥) → EndsWithoutFault script (status_after outcome)
+    → CountsFaults (stops_at_read outcome) reads reads' → CountsFaults (stops_at_write outcome) writes writes' → (outcome ≡ ended_at stops.TooLong → MayBeTooLong script)
+    → (HasRisen reads reads' → ⊥) → (HasRisen writes writes' → ⊥) → EndsWithoutFault script (status_after outcome)
 ends_without_fault script (Ok false) reads reads' writes writes' of_reads of_writes longer no_read no_write = tt
 ends_without_fault script (Ok true) reads reads' writes writes' of_reads of_writes longer no_read no_write = tt
 ends_without_fault script (Err stops.ReadFault) reads reads' writes writes' of_reads of_writes longer no_read no_write = absurd (no_read of_reads.1)

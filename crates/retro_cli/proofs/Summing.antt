@@ -6,7 +6,7 @@ use Rattle.retro_base.specs.declared.kind.Kind.{Kind}
 use Rattle.retro_base.specs.Limits.{longest_line}
 use Rattle.retro_base.specs.Name.{is_name, name_of}
 use Rattle.script_gen.specs.Coming.{GivesNext}
-use Rattle.script_gen.specs.Script.{generated, lines_from, state_behind}
+use Rattle.script_gen.specs.Script.{generated, lines_from, state_after}
 use Rattle.workbench.specs.Answers.{bench_after, reactions}
 use Rattle.workbench.specs.Bench.{Bench, BenchState}
 use Rattle.workbench.specs.Reaction.{Reaction, reacts, reacts_to}
@@ -56,18 +56,18 @@ shown_whole : (bench : Bench) (line : List ℕ) → length line ≤ longest_line
 shown_whole bench line short = ap (reacts_to bench line) (le-ltb longest_line (length line) short)
 
 -- lines are left, and so many were refused
-pub record Counts (first bench : Bench) (all left : List (List ℕ)) (refused : ℕ) : Type 0 where
+pub record CountsFaults (first bench : Bench) (all left : List (List ℕ)) (refused : ℕ) : Type 0 where
   pub bench_is : bench_after bench left ≡ bench_after first all
   pub refused_is : refused + refusals bench left ≡ refusals first all
   pub few : refused + length left ≤ length all
 
-pub counts_first : (bench : Bench) (all : List (List ℕ)) → Counts bench bench all all 0
+pub counts_first : (bench : Bench) (all : List (List ℕ)) → CountsFaults bench bench all all 0
 counts_first bench all = record { bench_is = refl; refused_is = omega arith; few = omega arith }
 
 -- a line more is answered
 pub counts_next : (first bench after : Bench) (all left left' : List (List ℕ)) (refused : ℕ) (line answer : List ℕ) (is_refused : Bool)
     → GivesNext left left' line true → length line ≤ longest_line → reacts_to bench line false ≡ record { bench = after; answer = answer; refused = is_refused }
-    → Counts first bench all left refused → Counts first after all left' (refused + one_if is_refused)
+    → CountsFaults first bench all left refused → CountsFaults first after all left' (refused + one_if is_refused)
 counts_next first bench after all [] left' refused line answer is_refused gives short reacted counts = absurd gives
 counts_next first bench after all (next ∷ more) left' refused line answer is_refused gives short reacted counts =
     let same : reacts bench next ≡ record { bench = after; answer = answer; refused = is_refused } =
@@ -82,15 +82,15 @@ counts_next first bench after all (next ∷ more) left' refused line answer is_r
 
 -- and counted where it is refused
 pub counts_then : (first bench : Bench) (all left : List (List ℕ)) (refused counted : ℕ) (is_refused : Bool) → is_refused ≡ true → counted ≡ refused + 1
-    → Counts first bench all left (refused + one_if is_refused) → Counts first bench all left counted
+    → CountsFaults first bench all left (refused + one_if is_refused) → CountsFaults first bench all left counted
 counts_then first bench all left refused counted is_refused is count counts =
-    rw count (subst (λ b. Counts first bench all left (refused + one_if b)) is counts)
+    rw count (subst (λ b. CountsFaults first bench all left (refused + one_if b)) is counts)
 
 pub counts_else : (first bench : Bench) (all left : List (List ℕ)) (refused counted : ℕ) (is_refused : Bool) → is_refused ≡ false → counted ≡ refused
-    → Counts first bench all left (refused + one_if is_refused) → Counts first bench all left counted
+    → CountsFaults first bench all left (refused + one_if is_refused) → CountsFaults first bench all left counted
 counts_else first bench all left refused counted is_refused is count counts =
     let none : refused + one_if is_refused ≡ counted = rw is (omega (arith, count)) in
-    subst (λ n. Counts first bench all left n) none counts
+    subst (λ n. CountsFaults first bench all left n) none counts
 
 -- a bench that is not spent
 pub state_is : (state : BenchState) (bench : Bench) → state.spent ≡ false → state.bench ≡ bench → state ≡ record { bench = bench; spent = false }
@@ -98,14 +98,14 @@ state_is state bench unspent same = rw (← same, ← unspent) refl
 
 -- at the end all are
 pub counts_all : (first bench : Bench) (all left left' : List (List ℕ)) (refused : ℕ) (line : List ℕ)
-    → GivesNext left left' line false → Counts first bench all left refused → (bench ≡ bench_after first all) × (refused ≡ refusals first all)
+    → GivesNext left left' line false → CountsFaults first bench all left refused → (bench ≡ bench_after first all) × (refused ≡ refusals first all)
 counts_all first bench all [] left' refused line gives counts =
     (sym (bench_after-none bench) ∙ counts.bench_is, omega (arith, counts.refused_is, refusals-none bench))
 counts_all first bench all (next ∷ more) left' refused line gives counts = absurd gives
 
 lines_count : (kind : Kind) (lines number state : ℕ) → length (lines_from kind lines number state) ≡ lines
 lines_count kind zero number state = refl
-lines_count kind (suc more) number state = ap suc (lines_count kind more (number + 1) (state_behind kind state))
+lines_count kind (suc more) number state = ap suc (lines_count kind more (number + 1) (state_after kind state))
 
 -- how many lines a generated script has
 pub length-generated : (kind : Kind) (lines start : ℕ) → length (generated kind lines start) ≡ lines + 1

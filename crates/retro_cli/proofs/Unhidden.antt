@@ -1,4 +1,4 @@
--- No cause for which evidence is refused is want of memory: so where memory was wanted, the line is not refused.
+-- No cause for which evidence is refused is out of memory: so where memory was wanted, the line is not refused.
 use Rattle.std.proofs.Common.{◌≡◌, ℕ, ◌+◌, Bool, true, false, List, [], refl, ap, ◌∙◌, subst, Option, Some, None, Result, Ok, Err, inl, inr}
 use Rattle.std.specs.Prelude.{◌⊎◌, if◌then◌else◌, is_some, not, unwrap_or}
 use Rattle.retro_base.specs.declared.row.Change.{Change}
@@ -12,11 +12,11 @@ use Rattle.evidence.specs.declared.evidence.Evidence.{Evidence}
 use Rattle.evidence.specs.Reading.{evidence_of}
 use Rattle.evidence_check.specs.declared.error.CheckError.{CheckError}
 use Rattle.evidence_check.specs.declared.error.CheckError.TheVariants as causes
-use Rattle.evidence_check.specs.Judgement.{Judge, Told, decided, first_cause, is_evidence_line, is_one_too_many, judged_evidence, judged_line, rows_of}
+use Rattle.evidence_check.specs.Judgement.{Judge, Reported, decided, first_cause, is_evidence_line, is_one_too_many, judged_evidence, judged_line, rows_of}
 use Rattle.evidence_check.specs.Refused.{cause_in}
-use Rattle.evidence_check.specs.Truth.{bridge_of, cause_of, change_cause, has_wrong_number, has_wrong_op, is_full, is_outside, same_bridge, same_change, told_edit}
+use Rattle.evidence_check.specs.Truth.{bridge_of, cause_of, change_cause, has_wrong_number, has_wrong_op, is_full, is_outside, same_bridge, same_change, reported_edit}
 use Rattle.retro_cli.specs.declared.judging.Refusal.{Refusal}
-use Rattle.retro_cli.specs.Judging.{is_refusal, judgement_behind, verdict_on, with_line}
+use Rattle.retro_cli.specs.Judging.{is_refusal, judgement_after, verdict_on, with_line}
 use Rattle.retro_cli.specs.Verdicts.{verdict}
 
 -- a cause that a judgement names, or none
@@ -54,12 +54,12 @@ cause_named : (rows : List Row) (e : Evidence) → is_named (cause_of rows e) �
 unfolding cause_of
 cause_named rows e =
     named_first (is_full e.added rows) (is_outside e.added e.place rows) (has_wrong_number e.added e.number e.place rows)
-    (has_wrong_op e.added e.op e.place rows) (change_cause rows (told_edit e) e.change) (change_named rows (told_edit e) e.change)
+    (has_wrong_op e.added e.op e.place rows) (change_cause rows (reported_edit e) e.change) (change_named rows (reported_edit e) e.change)
 
-first_named : (told : List Told) (e : Evidence) → is_named (first_cause told e) ≡ true
-first_named told e =
-    named_if (is_one_too_many (rows_of e.name told) told) (Some causes.Timelines) (cause_of (unwrap_or (rows_of e.name told) []) e) refl
-    (cause_named (unwrap_or (rows_of e.name told) []) e)
+first_named : (reported : List Reported) (e : Evidence) → is_named (first_cause reported e) ≡ true
+first_named reported e =
+    named_if (is_one_too_many (rows_of e.name reported) reported) (Some causes.Timelines) (cause_of (unwrap_or (rows_of e.name reported) []) e) refl
+    (cause_named (unwrap_or (rows_of e.name reported) []) e)
 
 decided_named : (cause : Option CheckError) (judge : Judge) (e : Evidence) → is_named cause ≡ true → is_named (cause_in (decided cause judge e)) ≡ true
 decided_named None judge e named = refl
@@ -67,7 +67,7 @@ decided_named (Some cause) judge e named = named
 
 evidence_named : (judge : Judge) (e : Option Evidence) → is_named (cause_in (judged_evidence judge e)) ≡ true
 evidence_named judge None = refl
-evidence_named judge (Some e) = decided_named (first_cause judge.told e) judge e (first_named judge.told e)
+evidence_named judge (Some e) = decided_named (first_cause judge.reported e) judge e (first_named judge.reported e)
 
 by_tests : (is_evidence long : Bool) (judge : Judge) (e : Option Evidence)
     → is_named (cause_in (if not is_evidence then Ok judge else (if long then Err causes.Syntax else judged_evidence judge e))) ≡ true
@@ -79,10 +79,10 @@ line_named : (judge : Judge) (bytes : List ℕ) (long : Bool) → is_named (caus
 unfolding judged_line
 line_named judge bytes long = by_tests (is_evidence_line bytes) long judge (evidence_of bytes)
 
--- so an outcome with want of memory, or with the cause that it has, is no refusal where it is want of memory
+-- so an outcome with out of memory, or with the cause that it has, is no refusal where it is out of memory
 not_refused : (line : ℕ) (outcome : Result Judge CheckError) (error : CheckError) → is_named (cause_in outcome) ≡ true → error ≡ causes.NoMemory
-    → ((error ≡ causes.NoMemory) × (cause_in outcome ≡ None)) ⊎ (cause_in outcome ≡ Some error) → is_refusal (judgement_behind (verdict_on line outcome) []) ≡ false
-not_refused line (Ok judge) error named wanted told = refl
+    → ((error ≡ causes.NoMemory) × (cause_in outcome ≡ None)) ⊎ (cause_in outcome ≡ Some error) → is_refusal (judgement_after (verdict_on line outcome) []) ≡ false
+not_refused line (Ok judge) error named wanted reported = refl
 not_refused line (Err cause) error named wanted (inl both) = let none = both.1 in absurd (cc)
 not_refused line (Err cause) error named wanted (inr same) =
     let is : is_named (Some causes.NoMemory) ≡ true = subst (λ c. is_named c ≡ true) (same ∙ ap Some wanted) named in absurd (cc)
@@ -90,7 +90,7 @@ not_refused line (Err cause) error named wanted (inr same) =
 pub unhidden : (judge : Judge) (lines : ℕ) (refusal : Option Refusal) (bytes : List ℕ) (long : Bool) (error : CheckError) → is_some refusal ≡ false
     → error ≡ causes.NoMemory
     → ((error ≡ causes.NoMemory) × (cause_in (judged_line judge bytes long) ≡ None)) ⊎ (cause_in (judged_line judge bytes long) ≡ Some error)
-    → is_refusal (judgement_behind (with_line (verdict judge lines refusal) bytes long) []) ≡ false
-unhidden judge lines None bytes long error unrefused wanted told =
-    not_refused (lines + 1) (judged_line judge bytes long) error (line_named judge bytes long) wanted told
-unhidden judge lines (Some refusal) bytes long error unrefused wanted told = absurd (cc)
+    → is_refusal (judgement_after (with_line (verdict judge lines refusal) bytes long) []) ≡ false
+unhidden judge lines None bytes long error unrefused wanted reported =
+    not_refused (lines + 1) (judged_line judge bytes long) error (line_named judge bytes long) wanted reported
+unhidden judge lines (Some refusal) bytes long error unrefused wanted reported = absurd (cc)

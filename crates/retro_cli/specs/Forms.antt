@@ -6,7 +6,7 @@ use Rattle.script_grammar.specs.Numbers.{natural_up_to}
 use Rattle.retro_cli.specs.declared.form.Form.{Form}
 use Rattle.retro_cli.specs.declared.form.Form.TheVariants.{Run, Check, Gen}
 
--- the most lines that a generated script has behind its first one
+-- the most lines that a generated script has after its first one
 abbrev pub most_generated : ℕ
 most_generated = 1000000
 
@@ -17,7 +17,7 @@ form_of_word word =
     else (if bytes_eq word (codes "check") then Some Check
     else None)
 
--- `gen KIND N START`, behind its first word
+-- `gen KIND N START`, after its first word
 abbrev pub generation : List ℕ → List ℕ → List ℕ → Option Form
 generation kind lines start =
     option_and_then (λ k. option_and_then (λ n. option_map (Gen k n) (natural_up_to (2 ^ 64 - 1) start)) (natural_up_to most_generated lines)) (kind_of_word kind)

@@ -14,17 +14,17 @@ abbrev pub lines_read : Verdict → ℕ
 lines_read (so_far count judge) = count
 lines_read (against line cause) = line
 
--- the judgement of what was read and of these lines behind it
-abbrev pub judgement_behind : Verdict → List (List ℕ) → Judgement
-judgement_behind (so_far count judge) more = judgement_from count judge more
-judgement_behind (against line cause) more = refused line cause
+-- the judgement of what was read and of these lines after it
+abbrev pub judgement_after : Verdict → List (List ℕ) → Judgement
+judgement_after (so_far count judge) more = judgement_from count judge more
+judgement_after (against line cause) more = refused line cause
 
 -- the verdict on a line
 abbrev pub verdict_on : ℕ → Result Judge CheckError → Verdict
 verdict_on line (Ok judge) = so_far line judge
 verdict_on line (Err cause) = against line cause
 
--- the verdict behind one more line, of which these bytes are shown
+-- the verdict after one more line, of which these bytes are shown
 abbrev pub with_line : Verdict → List ℕ → Bool → Verdict
 with_line (so_far count judge) bytes long = verdict_on (count + 1) (judged_line judge bytes long)
 with_line (against line cause) bytes long = against line cause

@@ -14,7 +14,7 @@ answers_to first = concat (map (λ (reaction : Reaction). reaction.answer) (reac
 abbrev pub refuses_one : List (List ℕ) → Bool
 refuses_one first = list_any (λ (reaction : Reaction). reaction.refused) (reactions empty_bench first)
 
--- the reaction to the end of the input, behind all lines of a script
+-- the reaction to the end of the input, after all lines of a script
 abbrev pub close_of : List (List ℕ) → Reaction
 close_of all = closing (bench_after empty_bench all)
 

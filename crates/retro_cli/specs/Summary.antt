@@ -21,13 +21,13 @@ refusals bench lines = length (filter (λ (reaction : Reaction). reaction.refuse
 abbrev pub of_generated : (NamedTimeline → ℕ) → Bench → ℕ
 of_generated number bench = option_map_or number (timeline_of generated_name bench.timelines) 0
 
--- the numbers, each behind its word
+-- the numbers, each after its word
 abbrev pub summary_text : ℕ → ℕ → ℕ → ℕ → List ℕ
 summary_text lines refused rows size =
     codes "lines " ++ (decimal lines ++ (codes " accepted " ++ (decimal (lines - refused) ++ (codes " refused " ++ (decimal refused
     ++ (codes " rows " ++ (decimal rows ++ (codes " size " ++ (decimal size ++ line_feed ∷ [])))))))))
 
--- the summary of lines that are answered from the first one on, when this bench stands behind them
+-- the summary of lines that are answered from the first one on, when this bench stands after them
 abbrev pub summary_at : List (List ℕ) → Bench → List ℕ
 summary_at lines bench =
     summary_text (length lines) (refusals empty_bench lines) (of_generated (λ timeline. length timeline.rows) bench) (of_generated present_size bench)

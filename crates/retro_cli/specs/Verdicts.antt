@@ -4,7 +4,7 @@ use Rattle.evidence_check.specs.Judgement.{Judge}
 use Rattle.retro_cli.specs.declared.judging.Refusal.{Refusal}
 use Rattle.retro_cli.specs.Judging.{Verdict, so_far, against}
 
--- the verdict of a judge behind so many lines, of which this one was refused, if any was
+-- the verdict of a judge after so many lines, of which this one was refused, if any was
 abbrev pub verdict : Judge → ℕ → Option Refusal → Verdict
 verdict judge lines None = so_far lines judge
 verdict judge lines (Some refusal) = against refusal.line refusal.cause

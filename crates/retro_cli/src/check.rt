@@ -1,9 +1,9 @@
 ghost use Rattle.std.specs.Prelude.{◌≡◌, ◌≤◌, ◌<◌, ◌-◌, ◌+◌, ◌↔◌, [], false, true, IfOk, IfErr, IfSome, IsErrOf, OnOk, option_map};
 ghost use Rattle.retro_base.specs.Limits.{most_bytes};
-ghost use Rattle.retro_io.specs.Faults.{Counts, last_count};
+ghost use Rattle.retro_io.specs.Faults.{CountsFaults, last_count};
 ghost use Rattle.retro_io.specs.LineReader.{MovesOn, has_failed, held, limit_of, rest_of, source_of, taken};
 ghost use Rattle.retro_cli.specs.Delivery.{StandsAt};
-ghost use Rattle.retro_cli.specs.Judging.{is_refusal, judged_output, judgement_behind, judgement_of};
+ghost use Rattle.retro_cli.specs.Judging.{is_refusal, judged_output, judgement_after, judgement_of};
 ghost use Rattle.retro_cli.specs.Run.{MayBeTooLong};
 ghost use Rattle.retro_cli.specs.Stop.{stops_at_read, stops_at_write};
 
@@ -21,8 +21,8 @@ fn judge_lines<S: Source>(alloc: Global, reader: &mut LineReader<'_, S>) -> Resu
     requires few { limit_of reader.old ≤ most_bytes }
     ensures moves { MovesOn reader.old reader.new }
     ensures ended { OnOk result (S.ended (source_of reader.new) ≡ true) }
-    ensures judged { IfOk result (λ judging. IfSome (rest_of reader.old) (λ bytes. judgement_behind judging [] ≡ judgement_of bytes)) }
-    ensures source_faults { Counts (stops_at_read result) (S.faults (source_of reader.old)) (S.faults (source_of reader.new)) }
+    ensures judged { IfOk result (λ judging. IfSome (rest_of reader.old) (λ bytes. judgement_after judging [] ≡ judgement_of bytes)) }
+    ensures source_faults { CountsFaults (stops_at_read result) (S.faults (source_of reader.old)) (S.faults (source_of reader.new)) }
     ensures too_long { IsErrOf result Stop.TooLong ↔ (taken reader.new ≡ limit_of reader.new + 1) }
     ensures writes_nothing { stops_at_write result ≡ false }
 {
@@ -46,8 +46,8 @@ pub(crate) fn run_check<S: Source, K: Sink>(
     ensures ended { OnOk result (S.ended source.new ≡ true) }
     ensures stands { StandsAt ⟦<K as Sink>⟧ (option_map judged_output (S.left source.old)) sink.old sink.new result }
     ensures refusal { IfOk result (λ refused. IfSome (S.left source.old) (λ bytes. refused ≡ is_refusal (judgement_of bytes))) }
-    ensures source_faults { Counts (stops_at_read result) (S.faults source.old) (S.faults source.new) }
-    ensures sink_faults { Counts (stops_at_write result) (K.faults sink.old) (K.faults sink.new) }
+    ensures source_faults { CountsFaults (stops_at_read result) (S.faults source.old) (S.faults source.new) }
+    ensures sink_faults { CountsFaults (stops_at_write result) (K.faults sink.old) (K.faults sink.new) }
     ensures too_long { S.taken source.new < last_count → (IsErrOf result Stop.TooLong ↔ (most_bytes < S.taken source.new - S.taken source.old)) }
     ensures longer { IsErrOf result Stop.TooLong → MayBeTooLong (S.left source.old) }
     ensures sent { K.waiting sink.old ≡ [] → stops_at_write result ≡ false → K.waiting sink.new ≡ [] }

@@ -1,5 +1,5 @@
 ghost use Rattle.std.specs.Prelude.{◌≡◌, [], Some, IfErr, OnErr, OnOk, IsErrOf};
-ghost use Rattle.retro_io.specs.Faults.{Counts};
+ghost use Rattle.retro_io.specs.Faults.{CountsFaults};
 ghost use Rattle.retro_io.specs.Flushes.{EndsWithFailedSend, EndsWithFailedWrite, StaysUnflushed};
 ghost use Rattle.retro_io.specs.Sink.{Appends, AppendsProperPrefix};
 ghost use Rattle.retro_cli.specs.Delivery.{StandsAt};
@@ -15,7 +15,7 @@ pub(crate) fn append<K: Sink>(text: &[u8], sink: &mut K) -> Result<(), Stop>
     ensures failed { IfErr result (λ stop. stop ≡ Stop.WriteFault) }
     ensures part { OnErr result (AppendsProperPrefix (K.written sink.old) text.now (K.written sink.new)) }
     ensures last { OnErr result (EndsWithFailedWrite ⟦<K as Sink>⟧ sink.old sink.new) }
-    ensures faults { Counts (stops_at_write result) (K.faults sink.old) (K.faults sink.new) }
+    ensures faults { CountsFaults (stops_at_write result) (K.faults sink.old) (K.faults sink.new) }
 {
     put_all(sink, text)?;
     Ok(())
@@ -28,7 +28,7 @@ pub(crate) fn send<K: Sink>(sink: &mut K) -> Result<(), Stop>
     ensures unflushed { OnOk result (StaysUnflushed ⟦<K as Sink>⟧ sink.old sink.new) }
     ensures failed { IfErr result (λ stop. stop ≡ Stop.WriteFault) }
     ensures last { OnErr result (EndsWithFailedSend ⟦<K as Sink>⟧ sink.old sink.new) }
-    ensures faults { Counts (stops_at_write result) (K.faults sink.old) (K.faults sink.new) }
+    ensures faults { CountsFaults (stops_at_write result) (K.faults sink.old) (K.faults sink.new) }
 {
     match sink.send() {
         Ok(()) => Ok(()),
@@ -41,7 +41,7 @@ pub(crate) fn deliver<K: Sink>(text: &[u8], sink: &mut K) -> Result<(), Stop>
     ensures stands { StandsAt ⟦<K as Sink>⟧ (Some text.now) sink.old sink.new result }
     ensures sent { OnOk result (K.waiting sink.new ≡ []) }
     ensures failed { IfErr result (λ stop. stop ≡ Stop.WriteFault) }
-    ensures faults { Counts (stops_at_write result) (K.faults sink.old) (K.faults sink.new) }
+    ensures faults { CountsFaults (stops_at_write result) (K.faults sink.old) (K.faults sink.new) }
 {
     append(text, sink)?;
     match sink.flush() {

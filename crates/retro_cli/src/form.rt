@@ -5,7 +5,7 @@ use crate::Words;
 use retro_base::Kind;
 use script_grammar::{kind_of_word, read_natural_up_to};
 
-/// The most lines that a generated script has behind its first one.
+/// The most lines that a generated script has after its first one.
 const MAX_GENERATED: u64 = 1_000_000;
 
 /// What the words of a command line ask for.
@@ -15,7 +15,7 @@ pub(crate) enum Form {
     Run,
     /// `check`: evidence is judged.
     Check,
-    /// `gen KIND N START`: a generated script of N lines behind its first one is answered and summed up.
+    /// `gen KIND N START`: a generated script of N lines after its first one is answered and summed up.
     Gen { kind: Kind, lines: u32, start: u64 },
 }
 

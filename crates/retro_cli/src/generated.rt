@@ -1,5 +1,5 @@
 ghost use Rattle.std.specs.Prelude.{◌≡◌, ◌≤◌, ◌<◌, ◌+◌, ◌-◌, ◌^◌, ◌++◌, [], false, length, Some, IfOk, IsErrOf, OnOk};
-ghost use Rattle.retro_io.specs.Faults.{Counts};
+ghost use Rattle.retro_io.specs.Faults.{CountsFaults};
 ghost use Rattle.script_gen.specs.Script.{generated};
 ghost use Rattle.workbench.specs.Answers.{bench_after};
 ghost use Rattle.workbench.specs.Bench.{empty_bench, present_size};
@@ -111,7 +111,7 @@ pub(crate) fn run_generated<K: Sink>(
     ensures refusal { IfOk result (λ refused. refused ≡ false) }
     ensures reads_nothing { stops_at_read result ≡ false }
     ensures in_time { IsErrOf result Stop.TooLong → ⊥ }
-    ensures sink_faults { Counts (stops_at_write result) (K.faults sink.old) (K.faults sink.new) }
+    ensures sink_faults { CountsFaults (stops_at_write result) (K.faults sink.old) (K.faults sink.new) }
     ensures sent { K.waiting sink.old ≡ [] → stops_at_write result ≡ false → K.waiting sink.new ≡ [] }
 {
     let summary = sum_up(alloc, kind, lines, start)?;

@@ -1,7 +1,7 @@
 ghost use Rattle.std.specs.Prelude.{◌≡◌, ◌<◌, ◌≤◌, ◌+◌, ◌^◌, ◌++◌, [], length, IsTrue, OnOk, OnErr, false};
-ghost use Rattle.evidence_check.specs.Judgement.{cause_text, nothing_told};
+ghost use Rattle.evidence_check.specs.Judgement.{cause_text, nothing_reported};
 ghost use Rattle.retro_base.specs.Limits.{longest_line};
-ghost use Rattle.retro_cli.specs.Judging.{is_refusal, judgement_behind, judgement_line, lines_read, so_far, with_line};
+ghost use Rattle.retro_cli.specs.Judging.{is_refusal, judgement_after, judgement_line, lines_read, so_far, with_line};
 
 use evidence_check::{CheckError, Checker};
 use retro_base::{NoMemory, Text};
@@ -38,7 +38,7 @@ impl Model for Judging {
 impl Judging {
     /// Of no line.
     pub(crate) fn new(alloc: Global) -> Judging
-        ensures { result ≡ so_far 0 nothing_told }
+        ensures { result ≡ so_far 0 nothing_reported }
     {
         Judging {
             checker: Checker::new(alloc),
@@ -48,13 +48,13 @@ impl Judging {
     }
 
     /// Takes a line. Of a line that is too long its first bytes are given, as many as a line may have, and `long`
-    /// says that it has more. Want of memory never hides a refusal.
+    /// says that it has more. out of memory never hides a refusal.
     pub(crate) fn take(&mut self, line: &[u8], long: bool) -> Result<(), NoMemory>
         requires within { length line.now ≤ longest_line }
         requires full { IsTrue long → length line.now ≡ longest_line }
         requires count { lines_read self.old < 2 ^ 31 }
         ensures judged { OnOk result (self.new ≡ with_line self.old line.now long) }
-        ensures none_hidden { OnErr result (is_refusal (judgement_behind (with_line self.old line.now long) []) ≡ false) }
+        ensures none_hidden { OnErr result (is_refusal (judgement_after (with_line self.old line.now long) []) ≡ false) }
     {
         if self.refusal.is_some() {
             return Ok(());
@@ -75,14 +75,14 @@ impl Judging {
 
     /// Whether a line was refused.
     pub(crate) fn is_refused(&self) -> bool
-        ensures { result ≡ is_refusal (judgement_behind self.now []) }
+        ensures { result ≡ is_refusal (judgement_after self.now []) }
     {
         self.refusal.is_some()
     }
 
     /// Appends the line that says the judgement of the lines taken.
     pub(crate) fn print(&self, out: &mut Text) -> Result<(), NoMemory>
-        ensures { OnOk result (out.new ≡ out.old ++ judgement_line (judgement_behind self.now [])) }
+        ensures { OnOk result (out.new ≡ out.old ++ judgement_line (judgement_after self.now [])) }
     {
         match self.refusal {
             None => {

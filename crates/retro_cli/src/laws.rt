@@ -4,7 +4,7 @@ ghost use Rattle.retro_cli.specs.Accepted.{WhatIsWrittenIsAccepted};
 ghost use Rattle.retro_cli.specs.SavedText.{SavedTextReadsBack};
 
 use evidence::laws::{lines_are_short, lines_are_values};
-use evidence_check::laws::accepted_edits_are_told;
+use evidence_check::laws::accepted_edits_are_reported;
 use timeline_file::laws::saved_reads_back;
 
 /// A law that closes the circle: whatever the script, the judgement of the lines that it writes is that all lines of
@@ -12,7 +12,7 @@ use timeline_file::laws::saved_reads_back;
 pub fn what_is_written_is_accepted()
     ensures { WhatIsWrittenIsAccepted }
 {
-    accepted_edits_are_told();
+    accepted_edits_are_reported();
     lines_are_values();
     lines_are_short();
 }

@@ -1,6 +1,6 @@
 ghost use Rattle.std.specs.Prelude.{◌≡◌, ◌-◌, ◌<◌, ◌↔◌, [], false, IsSome, None};
 ghost use Rattle.retro_base.specs.Limits.{most_bytes};
-ghost use Rattle.retro_io.specs.Faults.{Counts, Rose, last_count};
+ghost use Rattle.retro_io.specs.Faults.{CountsFaults, HasRisen, last_count};
 ghost use Rattle.retro_cli.specs.Forms.{form_of};
 ghost use Rattle.retro_cli.specs.Program.{Runs};
 ghost use Rattle.retro_cli.specs.Run.{EndsWithoutFault, is_read_fault, is_write_fault};
@@ -26,13 +26,13 @@ pub fn run<S: Source, K: Sink>(alloc: Global, words: &Words, source: &mut S, sin
     ensures words { (result ≡ Status.Words) ↔ (form_of words.now ≡ None) }
     ensures too_long { S.taken source.new < last_count →
         ((result ≡ Status.TooLong) ↔ (most_bytes < S.taken source.new - S.taken source.old)) }
-    // Completeness: without a fault there is no other end than an output, want of memory, or an input that is too long.
+    // Completeness: without a fault there is no other end than an output, out of memory, or an input that is too long.
     ensures complete { IsSome (form_of words.now)
-        → (Rose (S.faults source.old) (S.faults source.new) → ⊥) → (Rose (K.faults sink.old) (K.faults sink.new) → ⊥)
+        → (HasRisen (S.faults source.old) (S.faults source.new) → ⊥) → (HasRisen (K.faults sink.old) (K.faults sink.new) → ⊥)
         → EndsWithoutFault (S.left source.old) result }
     // The source's count of faults rises at a failed read, the sink's at a failed write or flush, and else both stay.
-    ensures source_faults { Counts (is_read_fault result) (S.faults source.old) (S.faults source.new) }
-    ensures sink_faults { Counts (is_write_fault result) (K.faults sink.old) (K.faults sink.new) }
+    ensures source_faults { CountsFaults (is_read_fault result) (S.faults source.old) (S.faults source.new) }
+    ensures sink_faults { CountsFaults (is_write_fault result) (K.faults sink.old) (K.faults sink.new) }
     // Where nothing waits at the sink before, nothing waits where the run ends, unless the sink failed.
     ensures sent { K.waiting sink.old ≡ [] → is_write_fault result ≡ false → K.waiting sink.new ≡ [] }
 {

@@ -1,6 +1,6 @@
 ghost use Rattle.std.specs.Prelude.{◌≡◌, [], ◌+◌, ◌-◌, ◌<◌, ◌↔◌, ◌≤◌, false, true, IsTrue, IfOk, IfErr, Ok, OnErr, OnOk, IsErrOf, is_err, length};
 ghost use Rattle.retro_base.specs.Limits.{longest_line, most_bytes};
-ghost use Rattle.retro_io.specs.Faults.{Counts, last_count};
+ghost use Rattle.retro_io.specs.Faults.{CountsFaults, last_count};
 ghost use Rattle.retro_io.specs.Sink.{Appends, AppendsProperPrefix};
 ghost use Rattle.retro_io.specs.Flushes.{EndsWithFailedSend, EndsWithFailedWrite, StaysUnflushed};
 ghost use Rattle.retro_io.specs.LineReader.{GivesLine, MovesOn, StopsAt, given, has_ended, has_failed, held, limit_of, rest_of, source_of, taken};
@@ -36,7 +36,7 @@ fn answer_line<K: Sink>(
     ensures untouched { OnErr result (stops_at_write result ≡ false → sink.new ≡ sink.old) }
     ensures unflushed { OnOk result (StaysUnflushed ⟦<K as Sink>⟧ sink.old sink.new) }
     ensures last { IsErrOf result Stop.WriteFault → EndsWithFailedWrite ⟦<K as Sink>⟧ sink.old sink.new }
-    ensures sink_faults { Counts (stops_at_write result) (K.faults sink.old) (K.faults sink.new) }
+    ensures sink_faults { CountsFaults (stops_at_write result) (K.faults sink.old) (K.faults sink.new) }
     ensures reads_nothing { (IsErrOf result Stop.ReadFault → ⊥) × (IsErrOf result Stop.TooLong → ⊥) }
 {
     let reply = bench.line(line, long)?;
@@ -54,7 +54,7 @@ fn answer_end<K: Sink>(bench: &mut Bench, sink: &mut K) -> Result<bool, Stop>
     ensures untouched { OnErr result (stops_at_write result ≡ false → sink.new ≡ sink.old) }
     ensures unflushed { OnOk result (StaysUnflushed ⟦<K as Sink>⟧ sink.old sink.new) }
     ensures last { IsErrOf result Stop.WriteFault → EndsWithFailedWrite ⟦<K as Sink>⟧ sink.old sink.new }
-    ensures sink_faults { Counts (stops_at_write result) (K.faults sink.old) (K.faults sink.new) }
+    ensures sink_faults { CountsFaults (stops_at_write result) (K.faults sink.old) (K.faults sink.new) }
     ensures reads_nothing { (IsErrOf result Stop.ReadFault → ⊥) × (IsErrOf result Stop.TooLong → ⊥) }
 {
     let reply = bench.end()?;
@@ -72,7 +72,7 @@ fn send_before_read<S: Source, K: Sink>(
     ensures unflushed { OnOk result (StaysUnflushed ⟦<K as Sink>⟧ sink.old sink.new) }
     ensures failed { IfErr result (λ stop. stop ≡ Stop.WriteFault) }
     ensures last { OnErr result (EndsWithFailedSend ⟦<K as Sink>⟧ sink.old sink.new) }
-    ensures sink_faults { Counts (stops_at_write result) (K.faults sink.old) (K.faults sink.new) }
+    ensures sink_faults { CountsFaults (stops_at_write result) (K.faults sink.old) (K.faults sink.new) }
 {
     if reader.holds_line() {
         Ok(())
@@ -91,7 +91,7 @@ fn next_line<S: Source, K: Sink>(
     requires sent { has_line_feed (held reader.old) ≡ false → K.waiting _sink.now ≡ [] }
     ensures moves { MovesOn reader.old reader.new }
     ensures failed { has_failed reader.new ≡ is_err result }
-    ensures source_faults { Counts (is_fault result) (S.faults (source_of reader.old)) (S.faults (source_of reader.new)) }
+    ensures source_faults { CountsFaults (is_fault result) (S.faults (source_of reader.old)) (S.faults (source_of reader.new)) }
     ensures gives { IfOk result (λ mark. GivesLine mark reader.old reader.new) }
     ensures stops { IfErr result (λ error. StopsAt error reader.old reader.new) }
     ensures too_long { IsErrOf result ReadError.TooLong ↔ (taken reader.new ≡ limit_of reader.new + 1) }
@@ -115,8 +115,8 @@ fn answer_lines<S: Source, K: Sink>(
     ensures unflushed { OnOk result (StaysUnflushed ⟦<K as Sink>⟧ sink.old sink.new) }
     ensures stands { IfErr result (Stands ⟦<K as Sink>⟧ (rest_of reader.old) (S.left (source_of reader.new)) sink.old sink.new
         (limit_of reader.old - given reader.old)) }
-    ensures source_faults { Counts (stops_at_read result) (S.faults (source_of reader.old)) (S.faults (source_of reader.new)) }
-    ensures sink_faults { Counts (stops_at_write result) (K.faults sink.old) (K.faults sink.new) }
+    ensures source_faults { CountsFaults (stops_at_read result) (S.faults (source_of reader.old)) (S.faults (source_of reader.new)) }
+    ensures sink_faults { CountsFaults (stops_at_write result) (K.faults sink.old) (K.faults sink.new) }
     ensures too_long { IsErrOf result Stop.TooLong ↔ (taken reader.new ≡ limit_of reader.new + 1) }
     ensures sent { IfErr result (λ stop. StopsReading stop → K.waiting sink.new ≡ []) }
 {
@@ -146,8 +146,8 @@ pub(crate) fn run_script<S: Source, K: Sink>(
     ensures ended { OnOk result ((S.ended source.new ≡ true) × (K.flushed sink.new ≡ true)) }
     ensures answers { IfOk result (Answers ⟦<K as Sink>⟧ (S.left source.old) (S.left source.new) sink.old sink.new) }
     ensures stands { IfErr result (Stands ⟦<K as Sink>⟧ (S.left source.old) (S.left source.new) sink.old sink.new most_bytes) }
-    ensures source_faults { Counts (stops_at_read result) (S.faults source.old) (S.faults source.new) }
-    ensures sink_faults { Counts (stops_at_write result) (K.faults sink.old) (K.faults sink.new) }
+    ensures source_faults { CountsFaults (stops_at_read result) (S.faults source.old) (S.faults source.new) }
+    ensures sink_faults { CountsFaults (stops_at_write result) (K.faults sink.old) (K.faults sink.new) }
     ensures too_long { S.taken source.new < last_count → (IsErrOf result Stop.TooLong ↔ (most_bytes < S.taken source.new - S.taken source.old)) }
     ensures longer { IsErrOf result Stop.TooLong → MayBeTooLong (S.left source.old) }
     ensures sent { K.waiting sink.old ≡ [] → stops_at_write result ≡ false → K.waiting sink.new ≡ [] }

@@ -20,7 +20,7 @@ use Rattle.prefix_trees.specs.Growth.{left_growth, right_growth, sign_of, grown}
 use Rattle.prefix_trees.specs.Prefixes.{signs_of, prefix, FindsLastAtMost}
 use Rattle.prefix_trees.specs.FailureLaws.{LineAt}
 use Rattle.prefix_trees.specs.FoundLaws.{FindsWriter}
-use Rattle.prefix_trees.specs.WriterLaws.{IsWrittenAt, InsideBehind, written-at}
+use Rattle.prefix_trees.specs.WriterLaws.{IsWrittenAt, InsideAfter, written-at}
 use Rattle.retro_deque.specs.Kept.{growths, later}
 
 module _ (growth : Op → ℤ) where
@@ -73,17 +73,17 @@ left-bounded (row ∷ rows) (suc place) =
     (omega (arith, ints, one.0, rest.0), omega (arith, ints, one.1, rest.1))
 
 module _ (rows : List Row) (place index : ℕ) (position : ℤ) (items : List ℤ) (all : AreOfKind Deque rows) (within : place ≤ length rows) (at : LineAt Deque rows place items) (there : index < length items) (position_is : position ≡ pos index -ℤ grown left_growth rows place) where
-  -- the left end reaches the position behind so many rows, and the right end does
-  inside : (earlier : ℕ) → (negsuc 0 -ℤ position) <ℤ prefix (growths left_growth rows) earlier → position <ℤ prefix (growths right_growth rows) earlier → InsideBehind rows place index earlier
+  -- the left end reaches the position after so many rows, and the right end does
+  inside : (earlier : ℕ) → (negsuc 0 -ℤ position) <ℤ prefix (growths left_growth rows) earlier → position <ℤ prefix (growths right_growth rows) earlier → InsideAfter rows place index earlier
   inside earlier left right = record {
     from_left = omega (arith, ints, left, prefix-growths left_growth rows earlier, position_is);
     to_right = omega (arith, ints, right, prefix-growths right_growth rows earlier, position_is);
   }
 
-  not_left : (earlier : ℕ) → prefix (growths left_growth rows) earlier ≤ℤ (negsuc 0 -ℤ position) → InsideBehind rows place index earlier → ⊥
+  not_left : (earlier : ℕ) → prefix (growths left_growth rows) earlier ≤ℤ (negsuc 0 -ℤ position) → InsideAfter rows place index earlier → ⊥
   not_left earlier left inside = omega (arith, ints, left, inside.from_left, prefix-growths left_growth rows earlier, position_is)
 
-  not_right : (earlier : ℕ) → prefix (growths right_growth rows) earlier ≤ℤ position → InsideBehind rows place index earlier → ⊥
+  not_right : (earlier : ℕ) → prefix (growths right_growth rows) earlier ≤ℤ position → InsideAfter rows place index earlier → ⊥
   not_right earlier right inside = omega (arith, ints, right, inside.to_right, prefix-growths right_growth rows earlier, position_is)
 
   abbrev ByLeft : Option ℕ → Type 0
@@ -104,7 +104,7 @@ module _ (rows : List Row) (place index : ℕ) (position : ℤ) (items : List �
     | inl before ↦ subst (IsWrittenAt rows items index) (let same : second ≡ max first second = omega arith in same)
         (written-at Deque tt rows place index items all within at there second right.within (not_right second right.reached)
         (λ later after below. inside later (left.not_after later (omega arith) below) (right.not_after later after below)))
-    | inr behind ↦ subst (IsWrittenAt rows items index) (let same : first ≡ max first second = omega arith in same)
+    | inr beyond ↦ subst (IsWrittenAt rows items index) (let same : first ≡ max first second = omega arith in same)
         (written-at Deque tt rows place index items all within at there first left.within (not_left first left.reached)
         (λ later after below. inside later (left.not_after later after below) (right.not_after later (omega arith) below)))
   ]

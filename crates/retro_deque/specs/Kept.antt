@@ -12,7 +12,7 @@ abbrev pub growths : (Op → ℤ) → List Row → List (ℤ × Bool)
 growths growth rows = map (λ row. (growth row.op, false)) rows
 
 -- rows that replay, and the growth of both ends
-pub record IsKept (rows : List Row) (lefts rights : List (ℤ × Bool)) : Type 0 where
+pub record RepresentsRows (rows : List Row) (lefts rights : List (ℤ × Bool)) : Type 0 where
   pub replayable : IsReplayable Deque rows
   pub lefts_are : lefts ≡ growths left_growth rows
   pub rights_are : rights ≡ growths right_growth rows

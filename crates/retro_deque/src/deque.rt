@@ -7,7 +7,7 @@ ghost use Rattle.retro_base.specs.Visits.{VisitsWithin};
 
 use crate::ends::{later, put_in};
 use prefix_trees::{
-    Line, SignTree, SignedRows, ask_line, ask_uncounted, failure_with, failure_without, list_line,
+    Sequence, SignTree, SignedRows, ask_sequence, ask_uncounted, failure_with, failure_without, list_sequence,
 };
 use retro_base::{
     Answer, Change, Kind, Listing, NoMemory, Op, Partial, Question, Retro, Row, Steps, uncounted,
@@ -27,13 +27,13 @@ pub struct RetroDeque {
 impl Model for RetroDeque {
     ghost use Rattle.std.specs.Prelude.{List};
     ghost use Rattle.retro_base.specs.declared.row.Row.{Row};
-    ghost use Rattle.retro_deque.specs.Kept.{IsKept};
+    ghost use Rattle.retro_deque.specs.Kept.{RepresentsRows};
 
     ghost Value = { List Row };
 
     ghost view = { λ deque. deque.rows };
 
-    ghost invariant = { λ deque. IsKept deque.rows deque.lefts deque.rights };
+    ghost invariant = { λ deque. RepresentsRows deque.rows deque.lefts deque.rights };
 }
 
 impl RetroDeque {
@@ -48,7 +48,7 @@ impl RetroDeque {
         }
     }
 
-    /// The answer to a question about the state at a place, behind so many rows.
+    /// The answer to a question about the state at a place, after so many rows.
     pub fn ask_past<L: Ledger>(
         &self,
         place: u32,
@@ -60,7 +60,7 @@ impl RetroDeque {
         ensures answer { result ≡ answer_of (state_at Deque self.now place) question }
         ensures visits { VisitsWithin 144 (length self.now) steps.old steps.new }
     {
-        ask_line(self, place, question, steps)
+        ask_sequence(self, place, question, steps)
     }
 
     /// The same deque once more, with a counter of its own.
@@ -82,7 +82,7 @@ impl RetroDeque {
     }
 }
 
-impl Line for RetroDeque {
+impl Sequence for RetroDeque {
     ghost use Rattle.retro_base.specs.declared.kind.Kind.TheVariants.{Deque};
 
     ghost kind = { Deque };
@@ -159,11 +159,11 @@ impl Partial for RetroDeque {
     }
 
     fn ask_now<L: Ledger>(&self, question: Question, steps: &mut Steps<L>) -> Answer {
-        ask_line(self, self.rows.len(), question, steps)
+        ask_sequence(self, self.rows.len(), question, steps)
     }
 
     fn all_now(&self) -> Result<Listing, NoMemory> {
-        list_line(self, self.rows.len())
+        list_sequence(self, self.rows.len())
     }
 
     fn copy(&self) -> Result<RetroDeque, NoMemory> {
@@ -211,6 +211,6 @@ impl Retro for RetroDeque {
     }
 
     fn all(&mut self, place: u32) -> Result<Listing, NoMemory> {
-        list_line(self, place)
+        list_sequence(self, place)
     }
 }

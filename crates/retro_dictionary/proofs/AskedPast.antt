@@ -1,4 +1,4 @@
--- What is found of the lifetimes that hold the label of a row is what is found of the pairs behind it.
+-- What is found of the lifetimes that hold the label of a row is what is found of the pairs after it.
 use Rattle.std.proofs.Common.{◌≡◌, ℕ, zero, suc, ◌<◌, ◌≤◌, ℤ, false, Ok, Less, List, [], ◌∷◌, ◌++◌, map, take, length, refl, sym, ap, ◌∙◌, arith}
 use Rattle.std.specs.List.{AllByRecursion}
 use Rattle.std.specs.List.Sorted.{IsStrictlySortedBy}
@@ -19,7 +19,7 @@ use Rattle.lifetime_segments.specs.Lifetimes.{label_end, items_at}
 use Rattle.lifetime_segments.specs.LifetimeLaws.{items_at-in_order}
 use Rattle.lifetime_segments.specs.Ordered.{AreInOrder, in_order}
 use Rattle.lifetime_segments.specs.OrderedLaws.{in_order-kept}
-use Rattle.order_labels.specs.Labels.{label_before, label_behind, label_limit, AreApart}
+use Rattle.order_labels.specs.Labels.{label_before, label_later, label_limit, AreApart}
 use Rattle.retro_dictionary.specs.DictionaryLaws.{LifetimesHoldContent, SearchAnswers}
 use Rattle.retro_dictionary.specs.Kept.{AreKept}
 use Rattle.retro_dictionary.proofs.Answered.{answer-found}
@@ -43,12 +43,12 @@ not_before p q less = grind (arith, ints)
 pub pairs-ordered : (ps : List (ℤ × ℤ)) → AreSorted ps → AreInOrder pair_before ps
 unfolding IsStrictlySortedBy
 pairs-ordered [] s = tt
-pairs-ordered (p ∷ ps) s = (all_behind ps s.0, pairs-ordered ps s.1) where
-  all_behind : (qs : List (ℤ × ℤ)) → AllByRecursion (λ k. int_cmp p.0 k ≡ Less) (keys_of qs) → AllByRecursion (λ later. pair_before later p ≡ false) qs
-  all_behind [] all = tt
-  all_behind (q ∷ qs) all = (not_before p q all.0, all_behind qs all.1)
+pairs-ordered (p ∷ ps) s = (all_after ps s.0, pairs-ordered ps s.1) where
+  all_after : (qs : List (ℤ × ℤ)) → AllByRecursion (λ k. int_cmp p.0 k ≡ Less) (keys_of qs) → AllByRecursion (λ later. pair_before later p ≡ false) qs
+  all_after [] all = tt
+  all_after (q ∷ qs) all = (not_before p q all.0, all_after qs all.1)
 
--- the pairs behind the first rows
+-- the pairs after the first rows
 pub record IsThere (rows : List Row) (labels : List ℕ) (lifetimes : List (Lifetime (ℤ × ℤ))) (place : ℕ) : Type 0 where
   pub left : List (ℤ × ℤ)
   pub state : state_at Dict rows place ≡ pairs left
@@ -62,13 +62,13 @@ module _ (rows : List Row) (labels : List ℕ) (index : List KeyRow) (lifetimes 
   apart : AreApart 1 0 label_limit labels
   apart = kept.rising.rising
 
-  -- the labels before and behind the place
-  before_behind : (label_before 0 labels place < label_behind label_limit labels place) × (label_behind label_limit labels place ≤ label_limit)
-  before_behind = beside 0 label_limit labels place (omega (arith, kept.as_many)) apart
+  -- the labels before and after the place
+  before_after : (label_before 0 labels place < label_later label_limit labels place) × (label_later label_limit labels place ≤ label_limit)
+  before_after = beside 0 label_limit labels place (omega (arith, kept.as_many)) apart
 
   run_first : (label : ℕ) → label_before 0 labels place ≡ label → run (map as_row (up_to label (labelled labels rows))) (pairs []) ≡ Ok (pairs first_rows.left)
   run_first label is =
-      ap (λ rs. run (map as_row rs) (pairs [])) (up_to-is labels rows place kept.as_many apart label (omega (arith, is)) (omega (arith, is, before_behind.0)))
+      ap (λ rs. run (map as_row rs) (pairs [])) (up_to-is labels rows place kept.as_many apart label (omega (arith, is)) (omega (arith, is, before_after.0)))
       ∙ run-labelled (take place labels) (take place rows) [] (length-fronts labels rows place kept.as_many) ∙ first_rows.ran
 
   found_first : (label : ℕ) → label_before 0 labels place ≡ label → label < label_end → in_order pair_before (items_at label lifetimes) ≡ first_rows.left
@@ -83,12 +83,12 @@ module _ (rows : List Row) (labels : List ℕ) (index : List KeyRow) (lifetimes 
 
   sorted_first : AreSorted first_rows.left
   sorted_first =
-      let below = before_behind in
+      let below = before_after in
       (held (label_before 0 labels place) (omega (arith, below.0, below.1)) (labelled labels rows) [] first_rows.left (rises label_limit 0 labels rows apart) sorted_nil (run_first (label_before 0 labels place) refl)).sorted
 
   found_later : (earlier : ℕ) (range : KeyRange) → place ≡ suc earlier → found_at labels lifetimes (suc earlier) range ≡ found_in first_rows.left range
   found_later earlier range is =
-      ap (λ ps. found_in ps range) (found_first (label_before 0 labels (suc earlier)) (ap (label_before 0 labels) is) (omega (arith, before_behind.0, before_behind.1, ap (label_before 0 labels) is)))
+      ap (λ ps. found_in ps range) (found_first (label_before 0 labels (suc earlier)) (ap (label_before 0 labels) is) (omega (arith, before_after.0, before_after.1, ap (label_before 0 labels) is)))
 
   found_at-is : (range : KeyRange) → found_at labels lifetimes place range ≡ found_in first_rows.left range
   found_at-is range = go place refl where
@@ -113,7 +113,7 @@ content_at : (rows : List Row) (labels : List ℕ) (index : List KeyRow) (lifeti
     → state_at Dict rows place ≡ pairs (in_order pair_before (items_at (label_before 0 labels place) lifetimes))
 unfolding there first_rows
 content_at rows labels index lifetimes place kept within some =
-    let beside_it = before_behind rows labels index lifetimes place kept within in
+    let beside_it = before_after rows labels index lifetimes place kept within in
     (there rows labels index lifetimes place kept within).state
     ∙ sym (ap pairs (found_first rows labels index lifetimes place kept within (label_before 0 labels place) refl (omega (arith, beside_it.0, beside_it.1))))
 

@@ -9,10 +9,10 @@ use Rattle.weighted_tree.specs.Search.{IsRising, IsFirstOrNone}
 use Rattle.key_index.specs.KeyRows.{last_of}
 use Rattle.lifetime_segments.specs.Ordered.{AreInOrder}
 use Rattle.retro_base.specs.OrderLaws.{all_weaker}
-use Rattle.retro_dictionary.specs.declared.search.Spot.{Spot}
-use Rattle.retro_dictionary.specs.declared.search.Spot.TheVariants.{Below, UpTo}
+use Rattle.retro_dictionary.specs.declared.search.Bound.{Bound}
+use Rattle.retro_dictionary.specs.declared.search.Bound.TheVariants.{Below, UpTo}
 use Rattle.retro_dictionary.specs.PairSearch.{pair_before}
-use Rattle.retro_dictionary.specs.Spots.{reaches, Falls}
+use Rattle.retro_dictionary.specs.Bounds.{reaches, IsPartitioned}
 
 module _ {A : Type 0} (test : A → Bool) where
   abbrev pub fails : A → Bool
@@ -40,14 +40,14 @@ module _ {A : Type 0} (test : A → Bool) where
   all_fail [] all = refl
   all_fail (x ∷ xs) all = ap (λ b. cond (not b) (x ∷ filter fails xs) (filter fails xs)) all.0 ∙ ap (λ ys. x ∷ ys) (all_fail xs all.1)
 
-  pub take_count : (xs : List A) → Falls test xs → take (count xs) xs ≡ filter test xs
+  pub take_count : (xs : List A) → IsPartitioned test xs → take (count xs) xs ≡ filter test xs
   take_count [] falls = refl
   take_count (x ∷ xs) falls = elim (test x) as (λ b. test x ≡ b → take (length (cond b (x ∷ filter test xs) (filter test xs))) (x ∷ xs) ≡ cond b (x ∷ filter test xs) (filter test xs)) [
     | true ↦ λ passing. ap (λ ys. x ∷ ys) (take_count xs falls.1)
     | false ↦ λ failing. rw (none_pass xs (falls.0 failing)) refl
   ] refl
 
-  pub drop_count : (xs : List A) → Falls test xs → drop (count xs) xs ≡ filter fails xs
+  pub drop_count : (xs : List A) → IsPartitioned test xs → drop (count xs) xs ≡ filter fails xs
   drop_count [] falls = refl
   drop_count (x ∷ xs) falls = elim (test x) as (λ b. test x ≡ b → drop (length (cond b (x ∷ filter test xs) (filter test xs))) (x ∷ xs) ≡ cond (not b) (x ∷ filter fails xs) (filter fails xs)) [
     | true ↦ λ passing. drop_count xs falls.1
@@ -85,7 +85,7 @@ module _ {A : Type 0} (test : A → Bool) where
   both_more : (n m : ℕ) → ltb n m ≡ ltb (suc n) (suc m)
   both_more n m = grind (arith, nat_tests)
 
-  exceeds_is : (xs : List A) (place : ℕ) → Falls test xs → place ≤ length xs → exceeds xs place ≡ ltb (count xs) place
+  exceeds_is : (xs : List A) (place : ℕ) → IsPartitioned test xs → place ≤ length xs → exceeds xs place ≡ ltb (count xs) place
   exceeds_is xs zero falls within = sym (le-ltb (count xs) 0 (omega arith))
   exceeds_is [] (suc place) falls within = absurd (omega arith)
   exceeds_is (x ∷ xs) (suc place) falls within = elim (test x) as (λ b. test x ≡ b → exceeds (x ∷ xs) (suc place) ≡ ltb (length (cond b (x ∷ filter test xs) (filter test xs))) (suc place)) [
@@ -93,7 +93,7 @@ module _ {A : Type 0} (test : A → Bool) where
     | false ↦ λ failing. tail_fails x xs place failing (falls.0 failing) ∙ rw (none_pass xs (falls.0 failing)) (sym (lt-ltb 0 (suc place) (omega arith)))
   ] refl
 
-  pub exceeds_rises : (xs : List A) → Falls test xs → IsRising (exceeds xs) 0 (length xs)
+  pub exceeds_rises : (xs : List A) → IsPartitioned test xs → IsRising (exceeds xs) 0 (length xs)
   exceeds_rises xs falls place later from order within holding =
       exceeds_is xs later falls within
       ∙ lt-ltb (count xs) later (omega (arith, ltb-true (count xs) place (sym (exceeds_is xs place falls (omega arith)) ∙ holding)))
@@ -102,7 +102,7 @@ module _ {A : Type 0} (test : A → Bool) where
   abbrev pub Counted : List A → Option ℕ → Type 0
   Counted xs answer = MatchOption answer (length xs ≡ count xs) (λ place. (0 < place) × (place - 1 ≡ count xs))
 
-  pub counted : (xs : List A) (answer : Option ℕ) → Falls test xs → IsFirstOrNone (exceeds xs) 0 (length xs) answer → Counted xs answer
+  pub counted : (xs : List A) (answer : Option ℕ) → IsPartitioned test xs → IsFirstOrNone (exceeds xs) 0 (length xs) answer → Counted xs answer
   counted xs None falls nowhere =
       omega (arith, count_within xs, ltb-false (count xs) (length xs) (sym (exceeds_is xs (length xs) falls (omega arith)) ∙ nowhere (length xs) (omega arith) (omega arith)))
   counted xs (Some zero) falls first = absurd (let wrong : false ≡ true = first.holds_there in cc)
@@ -115,12 +115,12 @@ module _ {A : Type 0} (test : A → Bool) where
     ),
   )
 
--- behind a pair past a spot all are past it
-further : (spot : Spot) (p q : ℤ × ℤ) → pair_before q p ≡ false → reaches spot p ≡ false → reaches spot q ≡ false
+-- after a pair past a bound all are past it
+further : (bound : Bound) (p q : ℤ × ℤ) → pair_before q p ≡ false → reaches bound p ≡ false → reaches bound q ≡ false
 further (Below key) p q order past = grind (arith, ints)
 further (UpTo key) p q order past = grind (arith, ints)
 
-pub reaches-falls : (spot : Spot) (ps : List (ℤ × ℤ)) → AreInOrder pair_before ps → Falls (reaches spot) ps
-reaches-falls spot [] ordered = tt
-reaches-falls spot (p ∷ ps) ordered =
-    (λ past. all_weaker (λ (q : ℤ × ℤ). pair_before q p ≡ false) (λ (q : ℤ × ℤ). reaches spot q ≡ false) ps (λ q behind. further spot p q behind past) ordered.0, reaches-falls spot ps ordered.1)
+pub reaches-falls : (bound : Bound) (ps : List (ℤ × ℤ)) → AreInOrder pair_before ps → IsPartitioned (reaches bound) ps
+reaches-falls bound [] ordered = tt
+reaches-falls bound (p ∷ ps) ordered =
+    (λ past. all_weaker (λ (q : ℤ × ℤ). pair_before q p ≡ false) (λ (q : ℤ × ℤ). reaches bound q ≡ false) ps (λ q after. further bound p q after past) ordered.0, reaches-falls bound ps ordered.1)

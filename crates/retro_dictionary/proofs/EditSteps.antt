@@ -14,7 +14,7 @@ use Rattle.retro_dictionary.proofs.LabelledRows.{front-below, in_two, with_row-p
 pub undone : (rows : List Row) (labels : List ℕ) (index : List KeyRow) (lifetimes : List (Lifetime (ℤ × ℤ))) → AreKept rows labels index lifetimes → (place label : ℕ) (row : Row) → IsBetween labels place label → without label (with_row label row.op index) ≡ index
 undone rows labels index lifetimes kept place label row between =
     ap (λ i. without label (with_row label row.op i)) kept.indexed
-    ∙ ap (without label) (with_row-parts labels rows place kept.as_many kept.rising.rising label row.op (omega (arith, between.before)) between.behind_it)
+    ∙ ap (without label) (with_row-parts labels rows place kept.as_many kept.rising.rising label row.op (omega (arith, between.before)) between.after_it)
     ∙ without-parts label (labelled (take place labels) (take place rows)) (labelled (drop place labels) (drop place rows)) row.op (front-below label_limit 0 labels rows place label kept.rising.rising between.before)
     ∙ sym (kept.indexed ∙ in_two labels rows place kept.as_many)
 

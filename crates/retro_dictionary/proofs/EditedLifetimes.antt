@@ -40,13 +40,13 @@ put_key DelMin pair puts = absurd (cc)
 
 -- the lifetimes that rows begin before others
 abbrev pub fronts : List KeyRow → List KeyRow → List (Lifetime (ℤ × ℤ))
-fronts [] behind = []
-fronts (row ∷ front) behind = begun row.0 (put_by row.1) (front ++ behind) ++ fronts front behind
+fronts [] after = []
+fronts (row ∷ front) after = begun row.0 (put_by row.1) (front ++ after) ++ fronts front after
 
-pub lifetimes-append : (front behind : List KeyRow) → lifetimes_of (front ++ behind) ≡ fronts front behind ++ lifetimes_of behind
-lifetimes-append [] behind = refl
-lifetimes-append (row ∷ front) behind =
-    ap (λ ls. begun row.0 (put_by row.1) (front ++ behind) ++ ls) (lifetimes-append front behind) ∙ sym (append_assoc (begun row.0 (put_by row.1) (front ++ behind)) (fronts front behind) (lifetimes_of behind))
+pub lifetimes-append : (front after : List KeyRow) → lifetimes_of (front ++ after) ≡ fronts front after ++ lifetimes_of after
+lifetimes-append [] after = refl
+lifetimes-append (row ∷ front) after =
+    ap (λ ls. begun row.0 (put_by row.1) (front ++ after) ++ ls) (lifetimes-append front after) ∙ sym (append_assoc (begun row.0 (put_by row.1) (front ++ after)) (fronts front after) (lifetimes_of after))
 
 -- a lifetime ends alike where a row on its key stands in front
 none_later : {A : Type 0} (o : Option A) (x : A) → option_or o (Some x) ≡ None → ⊥
@@ -62,44 +62,44 @@ end-found key (first ∷ front) xs ys row found = elim (cases_Bool (is_on key fi
       rw off (end-found key front xs ys row rest)
 ]
 
--- and where none does, at the next one behind
-pub end-behind : (key : ℤ) (front xs : List KeyRow) → last_on key front ≡ None → end_of key (front ++ xs) ≡ end_of key xs
-end-behind key [] xs none = refl
-end-behind key (first ∷ front) xs none = elim (cases_Bool (is_on key first)) [
+-- and where none does, at the next one after
+pub end-after : (key : ℤ) (front xs : List KeyRow) → last_on key front ≡ None → end_of key (front ++ xs) ≡ end_of key xs
+end-after key [] xs none = refl
+end-after key (first ∷ front) xs none = elim (cases_Bool (is_on key first)) [
   | inl on ↦ absurd (none_later (last_on key front) first (sym (ap (λ b. last_of (cond b (first ∷ filter (is_on key) front) (filter (is_on key) front))) on) ∙ none))
   | inr off ↦
       let rest : last_on key front ≡ None = sym (ap (λ b. last_of (cond b (first ∷ filter (is_on key) front) (filter (is_on key) front))) off) ∙ none in
-      rw off (end-behind key front xs rest)
+      rw off (end-after key front xs rest)
 ]
 
 -- a row on another key ends nothing
-end-other : (key : ℤ) (front : List KeyRow) (row : KeyRow) (behind : List KeyRow) → is_on key row ≡ false → end_of key (front ++ row ∷ behind) ≡ end_of key (front ++ behind)
-end-other key [] row behind off = rw off refl
-end-other key (first ∷ front) row behind off = ap (λ n. cond (is_on key first) first.0 n) (end-other key front row behind off)
+end-other : (key : ℤ) (front : List KeyRow) (row : KeyRow) (after : List KeyRow) → is_on key row ≡ false → end_of key (front ++ row ∷ after) ≡ end_of key (front ++ after)
+end-other key [] row after off = rw off refl
+end-other key (first ∷ front) row after off = ap (λ n. cond (is_on key first) first.0 n) (end-other key front row after off)
 
-module _ (new : KeyRow) (behind : List KeyRow) where
+module _ (new : KeyRow) (after : List KeyRow) where
   abbrev k : ℤ
   k = key_of new.1
 
   -- the pair that the row cuts, and all else
   pub record IsCut (front : List KeyRow) (left : Option KeyRow) : Type 0 where
     pub others : List (Lifetime (ℤ × ℤ))
-    pub without_row : HaveSameItems (fronts front behind) (up_to_label (option_and_then placed_by left) (end_of k behind) ++ others)
-    pub with_row : HaveSameItems (fronts front (new ∷ behind)) (up_to_label (option_and_then placed_by left) new.0 ++ others)
+    pub without_row : HaveSameItems (fronts front after) (up_to_label (option_and_then placed_by left) (end_of k after) ++ others)
+    pub with_row : HaveSameItems (fronts front (new ∷ after)) (up_to_label (option_and_then placed_by left) new.0 ++ others)
 
-  begun-same : (from : ℕ) (put : Option (ℤ × ℤ)) (front : List KeyRow) → ((pair : ℤ × ℤ) → put ≡ Some pair → end_of pair.0 (front ++ new ∷ behind) ≡ end_of pair.0 (front ++ behind))
-      → begun from put (front ++ new ∷ behind) ≡ begun from put (front ++ behind)
+  begun-same : (from : ℕ) (put : Option (ℤ × ℤ)) (front : List KeyRow) → ((pair : ℤ × ℤ) → put ≡ Some pair → end_of pair.0 (front ++ new ∷ after) ≡ end_of pair.0 (front ++ after))
+      → begun from put (front ++ new ∷ after) ≡ begun from put (front ++ after)
   begun-same from None front same = refl
   begun-same from (Some pair) front same = ap (λ n. lifetime from n pair ∷ []) (same pair refl)
 
   -- a row whose lifetime stays as it was
-  kept : (row : KeyRow) (front : List KeyRow) (left : Option KeyRow) → begun row.0 (put_by row.1) (front ++ new ∷ behind) ≡ begun row.0 (put_by row.1) (front ++ behind) → IsCut front left → IsCut (row ∷ front) left
+  kept : (row : KeyRow) (front : List KeyRow) (left : Option KeyRow) → begun row.0 (put_by row.1) (front ++ new ∷ after) ≡ begun row.0 (put_by row.1) (front ++ after) → IsCut front left → IsCut (row ∷ front) left
   kept row front left same cut =
-      let own = begun row.0 (put_by row.1) (front ++ behind) in
+      let own = begun row.0 (put_by row.1) (front ++ after) in
       record {
         others = own ++ cut.others;
-        without_row = among own (fronts front behind) (up_to_label (option_and_then placed_by left) (end_of k behind)) cut.others cut.without_row;
-        with_row = rw same (among own (fronts front (new ∷ behind)) (up_to_label (option_and_then placed_by left) new.0) cut.others cut.with_row);
+        without_row = among own (fronts front after) (up_to_label (option_and_then placed_by left) (end_of k after)) cut.others cut.without_row;
+        with_row = rw same (among own (fronts front (new ∷ after)) (up_to_label (option_and_then placed_by left) new.0) cut.others cut.with_row);
       } where
         among : (own all one others : List (Lifetime (ℤ × ℤ))) → HaveSameItems all (one ++ others) → HaveSameItems (own ++ all) (one ++ (own ++ others))
         among own all one others is = record { as_many = λ test. omega (arith, is.as_many test, count-append test own all, count-append test one others, count-append test own others, count-append test one (own ++ others)) }
@@ -113,21 +113,21 @@ module _ (new : KeyRow) (behind : List KeyRow) where
   }
   cut_by row front (Some pair) puts on none cut =
       let same_key : pair.0 ≡ k = sym (put_key row.1 pair puts) ∙ on in
-      let ends : end_of pair.0 (front ++ behind) ≡ end_of k behind = ap (λ key. end_of key (front ++ behind)) same_key ∙ end-behind k front behind none in
-      let cuts : end_of pair.0 (front ++ new ∷ behind) ≡ new.0 = ap (λ key. end_of key (front ++ new ∷ behind)) same_key ∙ end-behind k front (new ∷ behind) none ∙ ap (λ b. cond b new.0 (end_of k behind)) (int_eq_equiv.refl k) in
+      let ends : end_of pair.0 (front ++ after) ≡ end_of k after = ap (λ key. end_of key (front ++ after)) same_key ∙ end-after k front after none in
+      let cuts : end_of pair.0 (front ++ new ∷ after) ≡ new.0 = ap (λ key. end_of key (front ++ new ∷ after)) same_key ∙ end-after k front (new ∷ after) none ∙ ap (λ b. cond b new.0 (end_of k after)) (int_eq_equiv.refl k) in
       record {
         others = cut.others;
-        without_row = rw puts (rw ends (same-append (lifetime row.0 (end_of k behind) pair ∷ []) (lifetime row.0 (end_of k behind) pair ∷ []) (fronts front behind) cut.others (same-refl (lifetime row.0 (end_of k behind) pair ∷ [])) cut.without_row));
-        with_row = rw puts (rw cuts (same-append (lifetime row.0 new.0 pair ∷ []) (lifetime row.0 new.0 pair ∷ []) (fronts front (new ∷ behind)) cut.others (same-refl (lifetime row.0 new.0 pair ∷ [])) cut.with_row));
+        without_row = rw puts (rw ends (same-append (lifetime row.0 (end_of k after) pair ∷ []) (lifetime row.0 (end_of k after) pair ∷ []) (fronts front after) cut.others (same-refl (lifetime row.0 (end_of k after) pair ∷ [])) cut.without_row));
+        with_row = rw puts (rw cuts (same-append (lifetime row.0 new.0 pair ∷ []) (lifetime row.0 new.0 pair ∷ []) (fronts front (new ∷ after)) cut.others (same-refl (lifetime row.0 new.0 pair ∷ [])) cut.with_row));
       }
 
-  -- a row on the key, with another one on it behind
+  -- a row on the key, with another one on it after
   cut_on : (row : KeyRow) (front : List KeyRow) (last : Option KeyRow) → last_on k front ≡ last → key_of row.1 ≡ k → IsCut front last → IsCut (row ∷ front) (option_or last (Some row))
   cut_on row front None is on cut = cut_by row front (put_by row.1) refl on is cut
   cut_on row front (Some later) is on cut =
       kept row front (Some later) (begun-same row.0 (put_by row.1) front (λ pair puts.
       let same_key : pair.0 ≡ k = sym (put_key row.1 pair puts) ∙ on in
-      rw same_key (end-found k front (new ∷ behind) behind later is))) cut
+      rw same_key (end-found k front (new ∷ after) after later is))) cut
 
   pub cut : (front : List KeyRow) → IsCut front (last_on k front)
   cut [] = record { others = []; without_row = same-refl []; with_row = same-refl [] }
@@ -138,36 +138,36 @@ module _ (new : KeyRow) (behind : List KeyRow) where
     | inr off ↦
         subst (IsCut (row ∷ front)) (sym (ap (λ b. last_of (cond b (row ∷ filter (is_on k) front) (filter (is_on k) front))) off))
         (kept row front (last_on k front) (begun-same row.0 (put_by row.1) front (λ pair puts.
-        end-other pair.0 front new behind (ap (int_eq k) (sym (put_key row.1 pair puts)) ∙ (int_eq_equiv.symm k (key_of row.1) ∙ off)))) (cut front))
+        end-other pair.0 front new after (ap (int_eq k) (sym (put_key row.1 pair puts)) ∙ (int_eq_equiv.symm k (key_of row.1) ∙ off)))) (cut front))
   ]
 
   -- the lifetimes with the row and without it
   pub record IsEdited (front : List KeyRow) : Type 0 where
     pub others : List (Lifetime (ℤ × ℤ))
-    pub without_row : HaveSameItems (lifetimes_of (front ++ behind)) (up_to_label (option_and_then placed_by (last_on k front)) (end_of k behind) ++ others)
-    pub with_row : HaveSameItems (lifetimes_of (front ++ new ∷ behind)) (up_to_label (option_and_then placed_by (last_on k front)) new.0 ++ (begun new.0 (put_by new.1) behind ++ others))
+    pub without_row : HaveSameItems (lifetimes_of (front ++ after)) (up_to_label (option_and_then placed_by (last_on k front)) (end_of k after) ++ others)
+    pub with_row : HaveSameItems (lifetimes_of (front ++ new ∷ after)) (up_to_label (option_and_then placed_by (last_on k front)) new.0 ++ (begun new.0 (put_by new.1) after ++ others))
 
   pub edited : (front : List KeyRow) → IsEdited front
   edited front =
       let part = cut front in
       let left = option_and_then placed_by (last_on k front) in
       record {
-        others = part.others ++ lifetimes_of behind;
-        without_row = rw (lifetimes-append front behind) (record {
+        others = part.others ++ lifetimes_of after;
+        without_row = rw (lifetimes-append front after) (record {
           as_many = λ test.
-              omega (arith, part.without_row.as_many test, count-append test (fronts front behind) (lifetimes_of behind), count-append test (up_to_label left (end_of k behind)) part.others, count-append test part.others (lifetimes_of behind), count-append test (up_to_label left (end_of k behind)) (part.others ++ lifetimes_of behind));
+              omega (arith, part.without_row.as_many test, count-append test (fronts front after) (lifetimes_of after), count-append test (up_to_label left (end_of k after)) part.others, count-append test part.others (lifetimes_of after), count-append test (up_to_label left (end_of k after)) (part.others ++ lifetimes_of after));
         });
-        with_row = rw (lifetimes-append front (new ∷ behind)) (record {
+        with_row = rw (lifetimes-append front (new ∷ after)) (record {
           as_many = λ test.
               omega (
                 arith,
                 part.with_row.as_many test,
-                count-append test (fronts front (new ∷ behind)) (begun new.0 (put_by new.1) behind ++ lifetimes_of behind),
-                count-append test (begun new.0 (put_by new.1) behind) (lifetimes_of behind),
+                count-append test (fronts front (new ∷ after)) (begun new.0 (put_by new.1) after ++ lifetimes_of after),
+                count-append test (begun new.0 (put_by new.1) after) (lifetimes_of after),
                 count-append test (up_to_label left new.0) part.others,
-                count-append test part.others (lifetimes_of behind),
-                count-append test (begun new.0 (put_by new.1) behind) (part.others ++ lifetimes_of behind),
-                count-append test (up_to_label left new.0) (begun new.0 (put_by new.1) behind ++ (part.others ++ lifetimes_of behind)),
+                count-append test part.others (lifetimes_of after),
+                count-append test (begun new.0 (put_by new.1) after) (part.others ++ lifetimes_of after),
+                count-append test (up_to_label left new.0) (begun new.0 (put_by new.1) after ++ (part.others ++ lifetimes_of after)),
               );
         });
       }

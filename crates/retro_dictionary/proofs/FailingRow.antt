@@ -16,12 +16,12 @@ use Rattle.retro_base.specs.declared.row.Row.{Row}
 use Rattle.retro_base.specs.Replay.{failure, run}
 use Rattle.retro_base.specs.State.{State, empty, step}
 use Rattle.retro_base.specs.lemmas.Folds.{err_within}
-use Rattle.key_index.specs.KeyRows.{KeyRow, named, op_at, up_to, behind, with_row, without, failure_of, bad_with, bad_label, Replays}
+use Rattle.key_index.specs.KeyRows.{KeyRow, named, op_at, up_to, after, with_row, without, failure_of, bad_with, bad_label, Replays}
 use Rattle.lifetime_segments.specs.declared.lifetime.Lifetime.{Lifetime}
 use Rattle.order_labels.specs.Labels.{AreApart, label_limit, label_before}
 use Rattle.retro_dictionary.specs.Kept.{AreKept}
 use Rattle.retro_dictionary.specs.Labelled.{labelled}
-use Rattle.retro_dictionary.proofs.LabelledRows.{beside, length-fronts, op-is, up_to-is, behind-is, with_row-is, without-is}
+use Rattle.retro_dictionary.proofs.LabelledRows.{beside, length-fronts, op-is, up_to-is, after-is, with_row-is, without-is}
 use Rattle.retro_dictionary.proofs.Performed.{failure-labelled}
 use Rattle.retro_dictionary.specs.Failures.{moved_up, moved_down, place_of_bad, place_of_bad_label}
 
@@ -61,8 +61,8 @@ further place at index is = elim (cases_lt at place) [
   | inl before ↦
       let one : moved_up place at ≡ at = ap (λ b. cond b at (at + 1)) (lt-ltb at place before) in
       ap (λ b. cond b (suc at) (suc at + 1)) (lt-ltb (suc at) (suc place) (omega arith)) ∙ omega (arith, one, is)
-  | inr behind ↦
-      let one : moved_up place at ≡ at + 1 = ap (λ b. cond b at (at + 1)) (le-ltb at place behind) in
+  | inr after ↦
+      let one : moved_up place at ≡ at + 1 = ap (λ b. cond b at (at + 1)) (le-ltb at place after) in
       ap (λ b. cond b (suc at) (suc at + 1)) (le-ltb (suc at) (suc place) (omega arith)) ∙ omega (arith, one, is)
 ]
 
@@ -115,9 +115,9 @@ module _ (labels : List ℕ) (place : ℕ) (within : place ≤ length labels) (l
 
 back : (place at index : ℕ) → moved_down place at ≡ index → moved_down (suc place) (suc at) ≡ suc index
 back place at index is = elim (cases_lt place at) [
-  | inl behind ↦
-      let one : moved_down place at ≡ at - 1 = ap (λ b. cond b (at - 1) at) (lt-ltb place at behind) in
-      ap (λ b. cond b (suc at - 1) (suc at)) (lt-ltb (suc place) (suc at) (omega arith)) ∙ omega (arith, one, is, behind)
+  | inl after ↦
+      let one : moved_down place at ≡ at - 1 = ap (λ b. cond b (at - 1) at) (lt-ltb place at after) in
+      ap (λ b. cond b (suc at - 1) (suc at)) (lt-ltb (suc place) (suc at) (omega arith)) ∙ omega (arith, one, is, after)
   | inr before ↦
       let one : moved_down place at ≡ at = ap (λ b. cond b (at - 1) at) (le-ltb place at before) in
       ap (λ b. cond b (suc at - 1) (suc at)) (le-ltb (suc place) (suc at) (omega arith)) ∙ omega (arith, one, is)
@@ -184,11 +184,11 @@ module _ (rows : List Row) (labels : List ℕ) (index : List KeyRow) (lifetimes 
       ∙ failure-labelled (insert labels place label) (insert rows place row) (omega (arith, length-insert labels place label (omega (arith, within, kept.as_many)), length-insert rows place row within, kept.as_many)) in
       let front : named (up_to label index) ≡ map (λ l. Present l) (take place labels) =
       ap (λ i. named (up_to label i)) kept.indexed ∙ ap named (up_to-is labels rows place kept.as_many kept.rising.rising label (omega arith) fits.0) ∙ named-labelled (take place labels) (take place rows) (length-fronts labels rows place kept.as_many) in
-      let behind_it : named (behind label index) ≡ map (λ l. Present l) (drop place labels) =
-      ap (λ i. named (behind label i)) kept.indexed ∙ ap named (behind-is labels rows place kept.as_many kept.rising.rising label (omega arith) fits.0) ∙ named-labelled (drop place labels) (drop place rows) (length-backs labels rows place kept.as_many) in
+      let after_it : named (after label index) ≡ map (λ l. Present l) (drop place labels) =
+      ap (λ i. named (after label i)) kept.indexed ∙ ap named (after-is labels rows place kept.as_many kept.rising.rising label (omega arith) fits.0) ∙ named-labelled (drop place labels) (drop place rows) (length-backs labels rows place kept.as_many) in
       place-of_bad labels place (omega (arith, within, kept.as_many)) label_limit kept.rising.rising bad (failure Dict (insert rows place row))
-      (is ∙ ap (λ names. option_and_then (slice_get (names ++ Inserted ∷ named (behind label index))) (failure_of (with_row label row.op index))) front
-      ∙ ap (λ names. option_and_then (slice_get (map (λ l. Present l) (take place labels) ++ Inserted ∷ names)) (failure_of (with_row label row.op index))) behind_it
+      (is ∙ ap (λ names. option_and_then (slice_get (names ++ Inserted ∷ named (after label index))) (failure_of (with_row label row.op index))) front
+      ∙ ap (λ names. option_and_then (slice_get (map (λ l. Present l) (take place labels) ++ Inserted ∷ names)) (failure_of (with_row label row.op index))) after_it
       ∙ ap (option_and_then (slice_get (map (λ l. Present l) (take place labels) ++ Inserted ∷ map (λ l. Present l) (drop place labels)))) new)
       (λ none. sym new ∙ if_none (Replays (with_row label row.op index)) bad none good) where
         if_none : (P : Type 0) (o : Option Bad) → o ≡ None → IfNone o P → P

@@ -85,7 +85,7 @@ module _ (label : ℕ) (below : label < label_end) where
   all_stay [] = refl
   all_stay (e ∷ es) = ap (λ b. cond b (e ∷ filter (stays label []) es) (filter (stays label []) es)) (lt-ltb label label_end below) ∙ ap (λ ps. e ∷ ps) (all_stay es)
 
-  -- rows behind the label
+  -- rows after the label
   abbrev AreLater : List KeyRow → Type 0
   AreLater rows = AllByRecursion (λ (row : KeyRow). label < row.0) rows
 
@@ -105,7 +105,7 @@ module _ (label : ℕ) (below : label < label_end) where
   pairs-append : (xs ys : List (Lifetime (ℤ × ℤ))) → items_at label (xs ++ ys) ≡ items_at label xs ++ items_at label ys
   pairs-append xs ys = ap (map (λ (l : Lifetime (ℤ × ℤ)). l.item)) (filter-append (holds label) xs ys) ∙ map-append (λ (l : Lifetime (ℤ × ℤ)). l.item) (filter (holds label) xs) (filter (holds label) ys)
 
-  -- what is begun behind the label does not hold it
+  -- what is begun after the label does not hold it
   begun_later : (from : ℕ) (put : Option (ℤ × ℤ)) (rows : List KeyRow) → label < from → items_at label (begun from put rows) ≡ []
   begun_later from None rows later = refl
   begun_later from (Some pair) rows later = ap (λ b. map (λ (l : Lifetime (ℤ × ℤ)). l.item) (cond (b && ltb label (end_of pair.0 rows)) (begun from (Some pair) rows) [])) (lt-leb from label later)
@@ -115,8 +115,8 @@ module _ (label : ℕ) (below : label < label_end) where
   none_held (row ∷ rows) later =
       pairs-append (begun row.0 (put_by row.1) rows) (lifetimes_of rows) ∙ ap (λ ps. ps ++ items_at label (lifetimes_of rows)) (begun_later row.0 (put_by row.1) rows later.0) ∙ none_held rows later.1
 
-  behind_rises : (row : KeyRow) (rows : List KeyRow) → label < row.0 → LabelsRise (row ∷ rows) → AreLater (row ∷ rows)
-  behind_rises row rows later rise = (later, all_weaker (λ (r : KeyRow). row.0 < r.0) (λ (r : KeyRow). label < r.0) rows (λ r above. omega arith) rise.0)
+  after_rises : (row : KeyRow) (rows : List KeyRow) → label < row.0 → LabelsRise (row ∷ rows) → AreLater (row ∷ rows)
+  after_rises row rows later rise = (later, all_weaker (λ (r : KeyRow). row.0 < r.0) (λ (r : KeyRow). label < r.0) rows (λ r above. omega arith) rise.0)
 
   held_before : (rows : List KeyRow) (ps after : List (ℤ × ℤ)) → AreLater rows → AreSorted ps → run (map as_row (up_to label rows)) (pairs ps) ≡ Ok (pairs after) → IsHeld rows ps after
   held_before rows ps after later s ran =
@@ -216,6 +216,6 @@ module _ (label : ℕ) (below : label < label_end) where
   pub held : (rows : List KeyRow) (ps after : List (ℤ × ℤ)) → LabelsRise rows → AreSorted ps → run (map as_row (up_to label rows)) (pairs ps) ≡ Ok (pairs after) → IsHeld rows ps after
   held [] ps after rise s ran = held_before [] ps after tt s ran
   held (row ∷ rows) ps after rise s ran = elim (cases_lt label row.0) [
-    | inl later ↦ held_before (row ∷ rows) ps after (behind_rises row rows later rise) s ran
+    | inl later ↦ held_before (row ∷ rows) ps after (after_rises row rows later rise) s ran
     | inr up ↦ held_up row.0 row.1 rows after up (λ ps s ran. held rows ps after rise.1 s ran) ps s ran
   ]

@@ -19,7 +19,7 @@ use Rattle.retro_dictionary.specs.Labelled.{labelled}
 use Rattle.retro_dictionary.specs.Lifetimes.{end_of, put_by, lifetimes_of}
 use Rattle.retro_dictionary.specs.Numbers.{IsOfNumbers}
 use Rattle.retro_dictionary.proofs.KeptLifetimes.{cut-is, joined-is, length-ordered}
-use Rattle.retro_dictionary.proofs.LabelledRows.{AllAbove, AllBelow, in_two, with-inserted, front-below, back-above, below-last, label_before-below, label-behind, beside, with_row-is, fresh-is, last-is, next-is, at-parts, removed-parts, without-is, last-at, next-at, length-labelled}
+use Rattle.retro_dictionary.proofs.LabelledRows.{AllAbove, AllBelow, in_two, with-inserted, front-below, back-above, below-last, label_before-below, label-after, beside, with_row-is, fresh-is, last-is, next-is, at-parts, removed-parts, without-is, last-at, next-at, length-labelled}
 
 -- the row that left a pair stands before a label
 placed_below : (label : ℕ) (row : KeyRow) → row.0 < label → (put : Option (ℤ × ℤ)) → IfSome (option_map (λ (pair : ℤ × ℤ). let placed : Placed = (row.0, pair) in placed) put) (λ (pair : Placed). pair.0 < label)
@@ -73,7 +73,7 @@ module _ (rows : List Row) (labels : List ℕ) (index : List KeyRow) (lifetimes 
   all_within = below-last label_limit 0 labels rows apart
 
   label_within : label < label_end
-  label_within = omega (arith, between.behind_it, (beside 0 label_limit labels place (omega (arith, kept.as_many)) apart).1)
+  label_within = omega (arith, between.after_it, (beside 0 label_limit labels place (omega (arith, kept.as_many)) apart).1)
 
   left-is : left_of index label row.op ≡ option_and_then placed_by (last_of (filter (is_on (key_of row.op)) front))
   unfolding front
@@ -87,7 +87,7 @@ module _ (rows : List Row) (labels : List ℕ) (index : List KeyRow) (lifetimes 
   unfolding front back
   can-cut = record {
     before = rw left-is (last_below label (key_of row.op) front (front-below label_limit 0 labels rows place label apart between.before));
-    behind_it = rw following-is (end_above label (key_of row.op) back label_within (back-above label_limit 0 labels rows place label apart between.behind_it));
+    after_it = rw following-is (end_above label (key_of row.op) back label_within (back-above label_limit 0 labels rows place label apart between.after_it));
     within = rw following-is (end_within (key_of row.op) back (below_all front back (subst (AllBelow label_end) (in_two labels rows place kept.as_many) all_within)));
     room = omega (arith, ap length kept.held, ap length kept.indexed, length-ordered index, length-labelled labels rows, kept.replayable.few);
   }
@@ -100,7 +100,7 @@ module _ (rows : List Row) (labels : List ℕ) (index : List KeyRow) (lifetimes 
       ∙ ap (cut_at (option_and_then placed_by (last_of (filter (is_on (key_of row.op)) front))) label (put_by row.op) (end_of (key_of row.op) back))
       (kept.held ∙ ap (λ i. ordered (lifetimes_of i)) (kept.indexed ∙ in_two labels rows place kept.as_many))
       ∙ cut-is front (label, row.op) back
-      ∙ sym (ap (λ i. ordered (lifetimes_of i)) (ap (with_row label row.op) kept.indexed ∙ with_row-is labels rows place kept.as_many apart label row (omega (arith, between.before)) between.behind_it ∙ with-inserted labels rows place label row kept.as_many))
+      ∙ sym (ap (λ i. ordered (lifetimes_of i)) (ap (with_row label row.op) kept.indexed ∙ with_row-is labels rows place kept.as_many apart label row (omega (arith, between.before)) between.after_it ∙ with-inserted labels rows place label row kept.as_many))
 
   pub no_row-at : op_at label index ≡ None
   no_row-at = ap (op_at label) kept.indexed ∙ fresh-is labels rows place kept.as_many apart label between
@@ -112,9 +112,9 @@ module _ (rows : List Row) (labels : List ℕ) (index : List KeyRow) (lifetimes 
     as_many = omega (arith, length-insert labels place label (omega (arith, within, kept.as_many)), length-insert rows place row within, kept.as_many);
     rising = record {
       few = omega (arith, length-insert labels place label (omega (arith, within, kept.as_many)), length-insert rows place row within, kept.as_many, can.after.few);
-      rising = apart_with 1 0 label_limit labels place label (omega (arith, within, kept.as_many)) apart (omega (arith, between.before)) (omega (arith, between.behind_it));
+      rising = apart_with 1 0 label_limit labels place label (omega (arith, within, kept.as_many)) apart (omega (arith, between.before)) (omega (arith, between.after_it));
     };
-    indexed = ap (with_row label row.op) kept.indexed ∙ with_row-is labels rows place kept.as_many apart label row (omega (arith, between.before)) between.behind_it;
+    indexed = ap (with_row label row.op) kept.indexed ∙ with_row-is labels rows place kept.as_many apart label row (omega (arith, between.before)) between.after_it;
     held = cut-held;
   }
 
@@ -153,7 +153,7 @@ module _ (rows : List Row) (labels : List ℕ) (index : List KeyRow) (lifetimes 
 
   label_next : label < end_of (key_of row.op) later
   unfolding later
-  label_next = end_above label (key_of row.op) later label_in (back-above label_limit 0 labels rows (suc place) label rising_labels (label-behind label_limit 0 labels place label rising_labels label_there))
+  label_next = end_above label (key_of row.op) later label_in (back-above label_limit 0 labels rows (suc place) label rising_labels (label-after label_limit 0 labels place label rising_labels label_there))
 
   pub can-join : CanPut (left_of index label row.op) (next_of index label row.op) lifetimes
   unfolding former

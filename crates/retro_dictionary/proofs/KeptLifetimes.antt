@@ -33,16 +33,16 @@ taken-ordered None to xs = refl
 taken-ordered (Some placed) to xs = without-put_in (earlier_order pair_order) _ (ordered xs)
 
 -- what a row begins, where the next row on its key is known
-pub begun-is : (row : KeyRow) (behind : List KeyRow) (put : Option (ℤ × ℤ)) → put_by row.1 ≡ put → begun row.0 put behind ≡ up_to_label (placed_at row.0 put) (end_of (key_of row.1) behind)
-begun-is row behind None puts = refl
-begun-is row behind (Some pair) puts = ap (λ key. up_to_label (placed_at row.0 (Some pair)) (end_of key behind)) (sym (put_key row.1 pair puts))
+pub begun-is : (row : KeyRow) (after : List KeyRow) (put : Option (ℤ × ℤ)) → put_by row.1 ≡ put → begun row.0 put after ≡ up_to_label (placed_at row.0 put) (end_of (key_of row.1) after)
+begun-is row after None puts = refl
+begun-is row after (Some pair) puts = ap (λ key. up_to_label (placed_at row.0 (Some pair)) (end_of key after)) (sym (put_key row.1 pair puts))
 
-module _ (front : List KeyRow) (row : KeyRow) (behind : List KeyRow) where
+module _ (front : List KeyRow) (row : KeyRow) (after : List KeyRow) where
   abbrev left : Option Placed
   left = option_and_then placed_by (last_on (key_of row.1) front)
 
   abbrev next : ℕ
-  next = end_of (key_of row.1) behind
+  next = end_of (key_of row.1) after
 
   abbrev own : Lives
   own = up_to_label (placed_at row.0 (put_by row.1)) next
@@ -50,17 +50,17 @@ module _ (front : List KeyRow) (row : KeyRow) (behind : List KeyRow) where
   front_swap : (a b c : Lives) → HaveSameItems (a ++ (b ++ c)) (b ++ (a ++ c))
   front_swap a b c = record { as_many = λ test. omega (arith, count-append test a (b ++ c), count-append test b c, count-append test b (a ++ c), count-append test a c) }
 
-  without-is : ordered (lifetimes_of (front ++ behind)) ≡ ordered (up_to_label left next ++ (edited row behind front).others)
-  without-is = same-ordered (lifetimes_of (front ++ behind)) (up_to_label left next ++ (edited row behind front).others) (edited row behind front).without_row
+  without-is : ordered (lifetimes_of (front ++ after)) ≡ ordered (up_to_label left next ++ (edited row after front).others)
+  without-is = same-ordered (lifetimes_of (front ++ after)) (up_to_label left next ++ (edited row after front).others) (edited row after front).without_row
 
-  with-is : ordered (lifetimes_of (front ++ row ∷ behind)) ≡ ordered (up_to_label left row.0 ++ (own ++ (edited row behind front).others))
+  with-is : ordered (lifetimes_of (front ++ row ∷ after)) ≡ ordered (up_to_label left row.0 ++ (own ++ (edited row after front).others))
   with-is =
-      same-ordered (lifetimes_of (front ++ row ∷ behind)) (up_to_label left row.0 ++ (begun row.0 (put_by row.1) behind ++ (edited row behind front).others)) (edited row behind front).with_row
-      ∙ ap (λ xs. ordered (up_to_label left row.0 ++ (xs ++ (edited row behind front).others))) (begun-is row behind (put_by row.1) refl)
+      same-ordered (lifetimes_of (front ++ row ∷ after)) (up_to_label left row.0 ++ (begun row.0 (put_by row.1) after ++ (edited row after front).others)) (edited row after front).with_row
+      ∙ ap (λ xs. ordered (up_to_label left row.0 ++ (xs ++ (edited row after front).others))) (begun-is row after (put_by row.1) refl)
 
-  pub cut-is : cut_at left row.0 (put_by row.1) next (ordered (lifetimes_of (front ++ behind))) ≡ ordered (lifetimes_of (front ++ row ∷ behind))
+  pub cut-is : cut_at left row.0 (put_by row.1) next (ordered (lifetimes_of (front ++ after))) ≡ ordered (lifetimes_of (front ++ row ∷ after))
   cut-is =
-      let others = (edited row behind front).others in
+      let others = (edited row after front).others in
       ap (λ xs. cut_at left row.0 (put_by row.1) next xs) without-is
       ∙ ap (λ xs. all_taken (up_to_label left next) (all_put (up_to_label left row.0) xs)) (put-ordered (placed_at row.0 (put_by row.1)) next (up_to_label left next ++ others))
       ∙ ap (all_taken (up_to_label left next)) (put-ordered left row.0 (own ++ (up_to_label left next ++ others)) ∙ same-ordered (up_to_label left row.0 ++ (own ++ (up_to_label left next ++ others))) (up_to_label left next ++ (up_to_label left row.0 ++ (own ++ others))) (moved others))
@@ -80,9 +80,9 @@ module _ (front : List KeyRow) (row : KeyRow) (behind : List KeyRow) where
               );
         }
 
-  pub joined-is : joined_at left row.0 (put_by row.1) next (ordered (lifetimes_of (front ++ row ∷ behind))) ≡ ordered (lifetimes_of (front ++ behind))
+  pub joined-is : joined_at left row.0 (put_by row.1) next (ordered (lifetimes_of (front ++ row ∷ after))) ≡ ordered (lifetimes_of (front ++ after))
   joined-is =
-      let others = (edited row behind front).others in
+      let others = (edited row after front).others in
       ap (λ xs. joined_at left row.0 (put_by row.1) next xs) with-is
       ∙ ap (λ xs. all_taken own (all_taken (up_to_label left row.0) xs)) (put-ordered left next (up_to_label left row.0 ++ (own ++ others)) ∙ same-ordered (up_to_label left next ++ (up_to_label left row.0 ++ (own ++ others))) (up_to_label left row.0 ++ (own ++ (up_to_label left next ++ others))) (moved others))
       ∙ ap (all_taken own) (taken-ordered left row.0 (own ++ (up_to_label left next ++ others)))

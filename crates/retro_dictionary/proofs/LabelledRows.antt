@@ -6,7 +6,7 @@ use Rattle.std.proofs.lemmas.Bool.{le-leb, lt-leb, lt-ltb, le-ltb, eq-eqb, ne_eq
 use Rattle.retro_base.specs.declared.row.Row.{Row}
 use Rattle.retro_base.specs.declared.op.Op.{Op}
 use Rattle.retro_base.specs.OrderLaws.{all_weaker}
-use Rattle.key_index.specs.KeyRows.{KeyRow, LabelsRise, is_on, last_of, last_before, first_after, op_at, without, up_to, behind, with_row}
+use Rattle.key_index.specs.KeyRows.{KeyRow, LabelsRise, is_on, last_of, last_before, first_after, op_at, without, up_to, after, with_row}
 use Rattle.lifetime_segments.specs.declared.lifetime.Lifetime.{Lifetime}
 use Rattle.lifetime_segments.specs.Lifetimes.{items_at}
 use Rattle.lifetime_segments.specs.Ordered.{in_order}
@@ -14,7 +14,7 @@ use Rattle.retro_dictionary.specs.declared.pairs.Found.{Found}
 use Rattle.retro_dictionary.specs.declared.pairs.KeyRange.{KeyRange}
 use Rattle.retro_dictionary.specs.Asked.{found_at}
 use Rattle.retro_dictionary.specs.PairSearch.{pair_before, found_in}
-use Rattle.order_labels.specs.Labels.{AreApart, label_limit, label_before, label_behind}
+use Rattle.order_labels.specs.Labels.{AreApart, label_limit, label_before, label_later}
 use Rattle.retro_dictionary.specs.Edited.{IsBetween, label_or_end}
 use Rattle.retro_dictionary.specs.Labelled.{labelled}
 use Rattle.retro_dictionary.specs.Lifetimes.{end_of}
@@ -59,18 +59,18 @@ module _ (last : ℕ) where
   front-below first (next ∷ labels) (row ∷ rows) (suc place) label apart before =
       (omega (arith, first_up_to next labels place apart.1), front-below next labels rows place label apart.1 before)
 
-  pub back-above : (first : ℕ) (labels : List ℕ) (rows : List Row) (place label : ℕ) → AreApart 1 first last labels → label < label_behind last labels place → AllAbove label (labelled (drop place labels) (drop place rows))
-  back-above first [] rows zero label apart behind = tt
-  back-above first [] rows (suc place) label apart behind = tt
-  back-above first (next ∷ labels) [] zero label apart behind = tt
-  back-above first (next ∷ labels) (row ∷ rows) zero label apart behind = (behind, above next label labels rows (omega arith) apart.1)
-  back-above first (next ∷ labels) [] (suc place) label apart behind = none place labels where
+  pub back-above : (first : ℕ) (labels : List ℕ) (rows : List Row) (place label : ℕ) → AreApart 1 first last labels → label < label_later last labels place → AllAbove label (labelled (drop place labels) (drop place rows))
+  back-above first [] rows zero label apart after = tt
+  back-above first [] rows (suc place) label apart after = tt
+  back-above first (next ∷ labels) [] zero label apart after = tt
+  back-above first (next ∷ labels) (row ∷ rows) zero label apart after = (after, above next label labels rows (omega arith) apart.1)
+  back-above first (next ∷ labels) [] (suc place) label apart after = none place labels where
     none : (place : ℕ) (labels : List ℕ) → AllAbove label (labelled (drop place labels) [])
     none zero [] = tt
     none zero (l ∷ ls) = tt
     none (suc place) [] = tt
     none (suc place) (l ∷ ls) = none place ls
-  back-above first (next ∷ labels) (row ∷ rows) (suc place) label apart behind = back-above next labels rows place label apart.1 behind
+  back-above first (next ∷ labels) (row ∷ rows) (suc place) label apart after = back-above next labels rows place label apart.1 after
 
 -- beside each other part by part
 pub labelled-append : (ls ms : List ℕ) (rows more : List Row) → length ls ≡ length rows → labelled (ls ++ ms) (rows ++ more) ≡ labelled ls rows ++ labelled ms more
@@ -99,10 +99,10 @@ module _ (label : ℕ) where
   up_to-parts [] (row ∷ back) here there = ap (λ b. cond b (row ∷ up_to label back) (up_to label back)) (lt-leb row.0 label there.0) ∙ up_to-parts [] back here there.1
   up_to-parts (row ∷ front) back here there = ap (λ b. cond b (row ∷ up_to label (front ++ back)) (up_to label (front ++ back))) (le-leb row.0 label here.0) ∙ ap (λ rest. row ∷ rest) (up_to-parts front back here.1 there)
 
-  behind-parts : (front back : List KeyRow) → AllByRecursion (λ (row : KeyRow). row.0 ≤ label) front → AllAbove label back → behind label (front ++ back) ≡ back
-  behind-parts [] [] here there = refl
-  behind-parts [] (row ∷ back) here there = ap (λ b. cond b (row ∷ behind label back) (behind label back)) (lt-ltb label row.0 there.0) ∙ ap (λ rest. row ∷ rest) (behind-parts [] back here there.1)
-  behind-parts (row ∷ front) back here there = ap (λ b. cond b (row ∷ behind label (front ++ back)) (behind label (front ++ back))) (le-ltb label row.0 here.0) ∙ behind-parts front back here.1 there
+  after-parts : (front back : List KeyRow) → AllByRecursion (λ (row : KeyRow). row.0 ≤ label) front → AllAbove label back → after label (front ++ back) ≡ back
+  after-parts [] [] here there = refl
+  after-parts [] (row ∷ back) here there = ap (λ b. cond b (row ∷ after label back) (after label back)) (lt-ltb label row.0 there.0) ∙ ap (λ rest. row ∷ rest) (after-parts [] back here there.1)
+  after-parts (row ∷ front) back here there = ap (λ b. cond b (row ∷ after label (front ++ back)) (after label (front ++ back))) (le-ltb label row.0 here.0) ∙ after-parts front back here.1 there
 
   -- a row at the label itself stands between
   is_at : KeyRow → Bool
@@ -156,7 +156,7 @@ pub end-first : (key : ℤ) (rows : List KeyRow) → end_of key rows ≡ label_o
 end-first key [] = refl
 end-first key (row ∷ rows) = elim (is_on key row) as (λ b. cond b row.0 (end_of key rows) ≡ label_or_end (cond b (Some row) (find (is_on key) rows))) [ true ↦ refl | false ↦ end-first key rows ]
 
--- the element at a place, and those behind it
+-- the element at a place, and those after it
 pub drop-at : {A : Type 0} (xs : List A) (place : ℕ) (x : A) → slice_get xs place ≡ Some x → drop place xs ≡ x ∷ drop (suc place) xs
 drop-at [] place x there = absurd (cc)
 drop-at (y ∷ ys) zero x there = let same : y ≡ x = cc in ap (λ z. z ∷ ys) same
@@ -169,15 +169,15 @@ module _ (last : ℕ) where
   label_before-below first (next ∷ labels) zero label apart there = let same : next ≡ label = cc in omega (arith, apart.0)
   label_before-below first (next ∷ labels) (suc place) label apart there = label_before-below next labels place label apart.1 there
 
-  pub label-behind : (first : ℕ) (labels : List ℕ) (place label : ℕ) → AreApart 1 first last labels → slice_get labels place ≡ Some label → label < label_behind last labels (suc place)
-  label-behind first [] place label apart there = absurd (cc)
-  label-behind first (next ∷ []) zero label apart there = let same : next ≡ label = cc in omega (arith, apart.1)
-  label-behind first (next ∷ other ∷ labels) zero label apart there = let same : next ≡ label = cc in omega (arith, apart.1.0)
-  label-behind first (next ∷ []) (suc place) label apart there = absurd (cc)
-  label-behind first (next ∷ other ∷ labels) (suc place) label apart there = label-behind next (other ∷ labels) place label apart.1 there
+  pub label-after : (first : ℕ) (labels : List ℕ) (place label : ℕ) → AreApart 1 first last labels → slice_get labels place ≡ Some label → label < label_later last labels (suc place)
+  label-after first [] place label apart there = absurd (cc)
+  label-after first (next ∷ []) zero label apart there = let same : next ≡ label = cc in omega (arith, apart.1)
+  label-after first (next ∷ other ∷ labels) zero label apart there = let same : next ≡ label = cc in omega (arith, apart.1.0)
+  label-after first (next ∷ []) (suc place) label apart there = absurd (cc)
+  label-after first (next ∷ other ∷ labels) (suc place) label apart there = label-after next (other ∷ labels) place label apart.1 there
 
 -- the labels beside a place
-pub beside : (first last : ℕ) (labels : List ℕ) (place : ℕ) → place ≤ length labels → AreApart 1 first last labels → (label_before first labels place < label_behind last labels place) × (label_behind last labels place ≤ last)
+pub beside : (first last : ℕ) (labels : List ℕ) (place : ℕ) → place ≤ length labels → AreApart 1 first last labels → (label_before first labels place < label_later last labels place) × (label_later last labels place ≤ last)
 beside first last [] zero within apart = (omega arith, omega arith)
 beside first last [] (suc place) within apart = absurd (omega arith)
 beside first last (label ∷ labels) zero within apart = (omega (arith, apart.0), omega (arith, first_below_last last label labels apart.1))
@@ -197,35 +197,35 @@ module _ (labels : List ℕ) (rows : List Row) (place : ℕ) (same : length labe
   front_up_to label before =
       all_weaker (λ (row : KeyRow). row.0 < suc label) (λ (row : KeyRow). row.0 ≤ label) front_rows (λ row below. omega arith) (front-below label_limit 0 labels rows place (suc label) apart (omega arith))
 
-  -- the rows up to a label from the one before the place on, and those behind it
-  pub up_to-is : (label : ℕ) → label_before 0 labels place ≤ label → label < label_behind label_limit labels place → up_to label (labelled labels rows) ≡ front_rows
-  up_to-is label before behind_it = ap (up_to label) (in_two labels rows place same) ∙ up_to-parts label front_rows back_rows (front_up_to label before) (back-above label_limit 0 labels rows place label apart behind_it)
+  -- the rows up to a label from the one before the place on, and those after it
+  pub up_to-is : (label : ℕ) → label_before 0 labels place ≤ label → label < label_later label_limit labels place → up_to label (labelled labels rows) ≡ front_rows
+  up_to-is label before after_it = ap (up_to label) (in_two labels rows place same) ∙ up_to-parts label front_rows back_rows (front_up_to label before) (back-above label_limit 0 labels rows place label apart after_it)
 
-  pub behind-is : (label : ℕ) → label_before 0 labels place ≤ label → label < label_behind label_limit labels place → behind label (labelled labels rows) ≡ back_rows
-  behind-is label before behind_it = ap (behind label) (in_two labels rows place same) ∙ behind-parts label front_rows back_rows (front_up_to label before) (back-above label_limit 0 labels rows place label apart behind_it)
+  pub after-is : (label : ℕ) → label_before 0 labels place ≤ label → label < label_later label_limit labels place → after label (labelled labels rows) ≡ back_rows
+  after-is label before after_it = ap (after label) (in_two labels rows place same) ∙ after-parts label front_rows back_rows (front_up_to label before) (back-above label_limit 0 labels rows place label apart after_it)
 
   -- a row that is put in
-  pub with_row-parts : (label : ℕ) (op : Op) → label_before 0 labels place ≤ label → label < label_behind label_limit labels place → with_row label op (labelled labels rows) ≡ front_rows ++ (label, op) ∷ back_rows
-  with_row-parts label op before behind_it = ap (λ xs. xs ++ (label, op) ∷ behind label (labelled labels rows)) (up_to-is label before behind_it) ∙ ap (λ xs. front_rows ++ (label, op) ∷ xs) (behind-is label before behind_it)
+  pub with_row-parts : (label : ℕ) (op : Op) → label_before 0 labels place ≤ label → label < label_later label_limit labels place → with_row label op (labelled labels rows) ≡ front_rows ++ (label, op) ∷ back_rows
+  with_row-parts label op before after_it = ap (λ xs. xs ++ (label, op) ∷ after label (labelled labels rows)) (up_to-is label before after_it) ∙ ap (λ xs. front_rows ++ (label, op) ∷ xs) (after-is label before after_it)
 
-  pub with_row-is : (label : ℕ) (row : Row) → label_before 0 labels place ≤ label → label < label_behind label_limit labels place → with_row label row.op (labelled labels rows) ≡ labelled (insert labels place label) (insert rows place row)
-  with_row-is label row before behind_it = with_row-parts label row.op before behind_it ∙ sym (with-inserted labels rows place label row same)
+  pub with_row-is : (label : ℕ) (row : Row) → label_before 0 labels place ≤ label → label < label_later label_limit labels place → with_row label row.op (labelled labels rows) ≡ labelled (insert labels place label) (insert rows place row)
+  with_row-is label row before after_it = with_row-parts label row.op before after_it ∙ sym (with-inserted labels rows place label row same)
 
   pub fresh-is : (label : ℕ) → IsBetween labels place label → op_at label (labelled labels rows) ≡ None
   fresh-is label between =
-      ap (op_at label) (in_two labels rows place same) ∙ lookup-none label front_rows back_rows (front-below label_limit 0 labels rows place label apart between.before) (back-above label_limit 0 labels rows place label apart between.behind_it)
+      ap (op_at label) (in_two labels rows place same) ∙ lookup-none label front_rows back_rows (front-below label_limit 0 labels rows place label apart between.before) (back-above label_limit 0 labels rows place label apart between.after_it)
 
   -- the rows beside it on a key
   pub last-is : (label : ℕ) (key : ℤ) → IsBetween labels place label → last_before key label (labelled labels rows) ≡ last_of (filter (is_on key) front_rows)
   last-is label key between =
       ap (last_before key label) (in_two labels rows place same)
       ∙ last_before-parts label key front_rows back_rows (front-below label_limit 0 labels rows place label apart between.before)
-      (all_weaker (λ (row : KeyRow). label < row.0) (λ (row : KeyRow). label ≤ row.0) back_rows (λ row above. omega arith) (back-above label_limit 0 labels rows place label apart between.behind_it))
+      (all_weaker (λ (row : KeyRow). label < row.0) (λ (row : KeyRow). label ≤ row.0) back_rows (λ row above. omega arith) (back-above label_limit 0 labels rows place label apart between.after_it))
 
   pub next-is : (label : ℕ) (key : ℤ) → IsBetween labels place label → label_or_end (first_after key label (labelled labels rows)) ≡ end_of key back_rows
   next-is label key between =
       ap label_or_end (ap (first_after key label) (in_two labels rows place same)
-      ∙ first_after-parts label key front_rows back_rows (front_up_to label (omega (arith, between.before))) (back-above label_limit 0 labels rows place label apart between.behind_it))
+      ∙ first_after-parts label key front_rows back_rows (front_up_to label (omega (arith, between.before))) (back-above label_limit 0 labels rows place label apart between.after_it))
       ∙ sym (end-first key back_rows)
 
   -- the row at a place
@@ -234,7 +234,7 @@ module _ (labels : List ℕ) (rows : List Row) (place : ℕ) (same : length labe
     below = front-below label_limit 0 labels rows place label apart (label_before-below label_limit 0 labels place label apart label_there)
 
     later : AllAbove label later_rows
-    later = back-above label_limit 0 labels rows (suc place) label apart (label-behind label_limit 0 labels place label apart label_there)
+    later = back-above label_limit 0 labels rows (suc place) label apart (label-after label_limit 0 labels place label apart label_there)
 
     pub at-parts : labelled labels rows ≡ front_rows ++ (label, row.op) ∷ later_rows
     at-parts =
@@ -282,10 +282,10 @@ before-is labels zero label some read = absurd (omega arith)
 before-is labels (suc place) label some read =
     sym (before-read 0 labels place label (subst (λ n. slice_get labels n ≡ Some label) (let less : suc place - 1 ≡ place = omega arith in less) read))
 
-pub found-behind : (labels : List ℕ) (lifetimes : List (Lifetime (ℤ × ℤ))) (place label : ℕ) (range : KeyRange) (value : Found) → 0 < place → slice_get labels (place - 1) ≡ Some label
+pub found-after : (labels : List ℕ) (lifetimes : List (Lifetime (ℤ × ℤ))) (place label : ℕ) (range : KeyRange) (value : Found) → 0 < place → slice_get labels (place - 1) ≡ Some label
     → value ≡ found_in (in_order pair_before (items_at label lifetimes)) range → value ≡ found_at labels lifetimes place range
-found-behind labels lifetimes zero label range value some read is = absurd (omega arith)
-found-behind labels lifetimes (suc place) label range value some read is =
+found-after labels lifetimes zero label range value some read is = absurd (omega arith)
+found-after labels lifetimes (suc place) label range value some read is =
     let there : slice_get labels place ≡ Some label = subst (λ n. slice_get labels n ≡ Some label) (let less : suc place - 1 ≡ place = omega arith in less) read in
     is ∙ ap (λ l. found_in (in_order pair_before (items_at l lifetimes)) range) (sym (before-read 0 labels place label there))
 

@@ -1,4 +1,4 @@
--- Pairs whose keys rise, listed one after another: behind each the next one is the least that is left.
+-- Pairs whose keys rise, listed one after another: after each the next one is the least that is left.
 use Rattle.std.proofs.Common.{◌≡◌, ℕ, zero, suc, ◌+◌, ◌<◌, ◌≤◌, ℤ, pos, negsuc, ◌+ℤ◌, ◌≤ℤ◌, true, false, ◌&&◌, cond, Some, None, Less, List, [], ◌∷◌, ◌++◌, map, length, take, drop, slice_get, refl, sym, ap, ◌∙◌, arith, subst, w64}
 use Rattle.std.specs.Prelude.{int_le}
 use Rattle.std.specs.Int.{saturate_signed}
@@ -33,7 +33,7 @@ pub record IsListed (ps : List (ℤ × ℤ)) (count : ℕ) (low : ℤ) (listing 
 abbrev AllAbove : ℤ → List (ℤ × ℤ) → Type 0
 AllAbove key ps = AllByRecursion (λ k. int_cmp key k ≡ Less) (keys_of ps)
 
--- behind a key
+-- after a key
 stays : (key low k : ℤ) → low ≡ key +ℤ pos 1 → int_cmp key k ≡ Less → k ≤ℤ greatest_number → (int_le low k && int_le k greatest_number) ≡ true
 stays key low k next above within = grind (arith, ints)
 
@@ -54,15 +54,15 @@ above-at key [] index p above there = absurd (cc)
 above-at key (q ∷ qs) zero p above there = let same : q ≡ p = cc in subst (λ (pair : ℤ × ℤ). int_cmp key pair.0 ≡ Less) same above.0
 above-at key (q ∷ qs) (suc index) p above there = above-at key qs index p above.1 there
 
-left-behind : (ps : List (ℤ × ℤ)) (index : ℕ) (p : ℤ × ℤ) (low : ℤ) → AreSorted ps → AreOfNumbers ps → slice_get ps index ≡ Some p → low ≡ p.0 +ℤ pos 1 → pairs_from low ps ≡ drop (suc index) ps
+left-after : (ps : List (ℤ × ℤ)) (index : ℕ) (p : ℤ × ℤ) (low : ℤ) → AreSorted ps → AreOfNumbers ps → slice_get ps index ≡ Some p → low ≡ p.0 +ℤ pos 1 → pairs_from low ps ≡ drop (suc index) ps
 unfolding IsStrictlySortedBy
-left-behind [] index p low rising all there next = absurd (cc)
-left-behind (q ∷ qs) zero p low rising all there next =
+left-after [] index p low rising all there next = absurd (cc)
+left-after (q ∷ qs) zero p low rising all there next =
     let same : q.0 ≡ p.0 = (let one : q ≡ p = cc in ap (λ (pair : ℤ × ℤ). pair.0) one) in
     ap (λ b. cond b (q ∷ pairs_from low qs) (pairs_from low qs)) (falls_out q.0 low q.0 (next ∙ ap (λ k. k +ℤ pos 1) (sym same)) (grind (arith, ints)))
     ∙ all_stay q.0 low qs (next ∙ ap (λ k. k +ℤ pos 1) (sym same)) rising.0 all.1
-left-behind (q ∷ qs) (suc index) p low rising all there next =
-    ap (λ b. cond b (q ∷ pairs_from low qs) (pairs_from low qs)) (falls_out p.0 low q.0 next (lower q.0 p.0 (above-at q.0 qs index p rising.0 there))) ∙ left-behind qs index p low rising.1 all.1 there next
+left-after (q ∷ qs) (suc index) p low rising all there next =
+    ap (λ b. cond b (q ∷ pairs_from low qs) (pairs_from low qs)) (falls_out p.0 low q.0 next (lower q.0 p.0 (above-at q.0 qs index p rising.0 there))) ∙ left-after qs index p low rising.1 all.1 there next
 
 -- a key below another one is not the greatest number
 saturates : (z : ℤ) → least_number ≤ℤ z → z ≤ℤ greatest_number → saturate_signed w64 z ≡ z
@@ -114,7 +114,7 @@ module _ (ps : List (ℤ × ℤ)) (count : ℕ) (low : ℤ) (listing : List Item
       let later : suc count ≡ count + 1 = omega arith in
       record {
         items = ap (λ items. items ++ contents.Pair p.0 p.1 ∷ []) listed.items ∙ sym (one-more ps count p there) ∙ ap (λ n. listing_of (take n ps)) later;
-        rest = λ more. left-behind ps count p next rising all there (is ∙ next-number ps count p rising all there (omega arith)) ∙ ap (λ n. drop n ps) later;
+        rest = λ more. left-after ps count p next rising all there (is ∙ next-number ps count p rising all there (omega arith)) ∙ ap (λ n. drop n ps) later;
       }
 
 -- all are listed

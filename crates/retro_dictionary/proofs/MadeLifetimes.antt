@@ -16,7 +16,7 @@ use Rattle.retro_dictionary.specs.Lifetimes.{end_of, put_by, lifetimes_of}
 use Rattle.retro_dictionary.specs.Relabelling.{begun_by}
 use Rattle.retro_dictionary.proofs.KeptEdits.{end_above, end_within, below_all}
 use Rattle.retro_dictionary.proofs.KeptLifetimes.{begun-is, put-ordered, length-ordered}
-use Rattle.retro_dictionary.proofs.LabelledRows.{AllAbove, AllBelow, back-above, below-last, label-behind, label-below, drop-at, at-parts, next-at, length-labelled}
+use Rattle.retro_dictionary.proofs.LabelledRows.{AllAbove, AllBelow, back-above, below-last, label-after, label-below, drop-at, at-parts, next-at, length-labelled}
 
 placed-below : (label to : ℕ) (put : Option (ℤ × ℤ)) → label < to → IfSome (placed_at label put) (λ (pair : Placed). pair.0 < to)
 placed-below label to None below = tt
@@ -38,12 +38,12 @@ module _ (labels : List ℕ) (rows : List Row) (index : List KeyRow) (same : len
   all_within : AllBelow label_end later
   all_within = (below_all _ ((label, row.op) ∷ later) (subst (AllBelow label_end) (at-parts labels rows place same apart label row label_there row_there) (below-last label_limit 0 labels rows apart))).1
 
-  all_behind : AllAbove label later
-  all_behind = back-above label_limit 0 labels rows (suc place) label apart (label-behind label_limit 0 labels place label apart label_there)
+  all_after : AllAbove label later
+  all_after = back-above label_limit 0 labels rows (suc place) label apart (label-after label_limit 0 labels place label apart label_there)
 
   can-put : CanPut (placed_at label (put_by row.op)) (next_of index label row.op) (ordered (lifetimes_of later))
   can-put = record {
-    rises = rw following-is (placed-below label (end_of (key_of row.op) later) (put_by row.op) (end_above label (key_of row.op) later (label-below label_limit 0 labels place label apart label_there) all_behind));
+    rises = rw following-is (placed-below label (end_of (key_of row.op) later) (put_by row.op) (end_above label (key_of row.op) later (label-below label_limit 0 labels place label apart label_there) all_after));
     within = rw following-is (end_within (key_of row.op) later all_within);
     room = omega (arith, length-ordered later, length-labelled (drop (suc place) labels) (drop (suc place) rows), length-drop (suc place) rows);
   }
@@ -55,13 +55,13 @@ module _ (labels : List ℕ) (rows : List Row) (index : List KeyRow) (same : len
       ∙ ap (λ own. ordered (own ++ lifetimes_of later)) (sym (begun-is (label, row.op) later (put_by row.op) refl))
       ∙ sym (ap (λ ls. ordered (lifetimes_of (labelled ls (drop place rows)))) (drop-at labels place label label_there) ∙ ap (λ rs. ordered (lifetimes_of (labelled (label ∷ drop (suc place) labels) rs))) (drop-at rows place row row_there))
 
-  -- where all rows behind it have theirs
+  -- where all rows after it have theirs
   module _ (next : ℕ) (lifetimes : List (Lifetime (ℤ × ℤ))) (next_is : next ≡ suc place) (made : lifetimes ≡ ordered (lifetimes_of (labelled (drop next labels) (drop next rows)))) where
-    made-behind : lifetimes ≡ ordered (lifetimes_of later)
-    made-behind = made ∙ ap (λ n. ordered (lifetimes_of (labelled (drop n labels) (drop n rows)))) next_is
+    made-after : lifetimes ≡ ordered (lifetimes_of later)
+    made-after = made ∙ ap (λ n. ordered (lifetimes_of (labelled (drop n labels) (drop n rows)))) next_is
 
     pub can-begin : CanPut (placed_at label (put_by row.op)) (next_of index label row.op) lifetimes
-    can-begin = subst (CanPut (placed_at label (put_by row.op)) (next_of index label row.op)) (sym made-behind) can-put
+    can-begin = subst (CanPut (placed_at label (put_by row.op)) (next_of index label row.op)) (sym made-after) can-put
 
     pub one-made : begun_by label row.op index lifetimes ≡ ordered (lifetimes_of (labelled (drop place labels) (drop place rows)))
-    one-made = ap (begun_by label row.op index) made-behind ∙ one-put
+    one-made = ap (begun_by label row.op index) made-after ∙ one-put

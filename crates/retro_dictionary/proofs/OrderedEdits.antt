@@ -10,12 +10,12 @@ use Rattle.retro_dictionary.specs.PairSearchLaws.{pair_order}
 use Rattle.retro_dictionary.proofs.EditedLifetimes.{edited, last_on}
 use Rattle.retro_dictionary.proofs.InOrder.{in_order-same}
 
-pub ends-one : (front : List KeyRow) (row : KeyRow) (behind : List KeyRow) → EndsOne front row behind
-ends-one front row behind =
-    let parts = edited row behind front in
+pub ends-one : (front : List KeyRow) (row : KeyRow) (after : List KeyRow) → EndsOne front row after
+ends-one front row after =
+    let parts = edited row after front in
     let left = option_and_then placed_by (last_on (key_of row.1) front) in
     record {
       others = parts.others;
-      without_row = in_order-same (earlier_order pair_order) (lifetimes_of (front ++ behind)) (up_to_label left (end_of (key_of row.1) behind) ++ parts.others) parts.without_row;
-      with_row = in_order-same (earlier_order pair_order) (lifetimes_of (front ++ row ∷ behind)) (up_to_label left row.0 ++ (begun row.0 (put_by row.1) behind ++ parts.others)) parts.with_row;
+      without_row = in_order-same (earlier_order pair_order) (lifetimes_of (front ++ after)) (up_to_label left (end_of (key_of row.1) after) ++ parts.others) parts.without_row;
+      with_row = in_order-same (earlier_order pair_order) (lifetimes_of (front ++ row ∷ after)) (up_to_label left row.0 ++ (begun row.0 (put_by row.1) after ++ parts.others)) parts.with_row;
     }

@@ -16,13 +16,13 @@ use Rattle.retro_dictionary.specs.Asked.{IsNumber, AreOfNumbers}
 use Rattle.retro_dictionary.specs.Numbers.{IsOfNumbers, HaveNumbers}
 use Rattle.retro_dictionary.specs.Labelled.{labelled}
 
--- the pairs behind an operation
-abbrev pub pairs_behind : Op → List (ℤ × ℤ) → Option (List (ℤ × ℤ))
-pairs_behind (Put key value) ps = Some (with_key key value ps)
-pairs_behind (Del key) ps = without_key key ps
-pairs_behind op ps = None
+-- the pairs after an operation
+abbrev pub pairs_after : Op → List (ℤ × ℤ) → Option (List (ℤ × ℤ))
+pairs_after (Put key value) ps = Some (with_key key value ps)
+pairs_after (Del key) ps = without_key key ps
+pairs_after op ps = None
 
-perform-pairs : (op : Op) (number : ℕ) (ps : List (ℤ × ℤ)) → perform op number (pairs ps) ≡ option_map pairs (pairs_behind op ps)
+perform-pairs : (op : Op) (number : ℕ) (ps : List (ℤ × ℤ)) → perform op number (pairs ps) ≡ option_map pairs (pairs_after op ps)
 unfolding perform
 perform-pairs (Put key value) number ps = refl
 perform-pairs (Del key) number ps = refl
@@ -37,20 +37,20 @@ perform-pairs PopR number ps = refl
 perform-pairs (Ins k) number ps = refl
 perform-pairs DelMin number ps = refl
 
--- what the rows behind a first one make of the pairs that it leaves
-abbrev pub run_behind : List Row → Option (List (ℤ × ℤ)) → Result State ℕ
-run_behind rows None = Err 0
-run_behind rows (Some qs) = one_later (run rows (pairs qs))
+-- what the rows after a first one make of the pairs that it leaves
+abbrev pub run_after : List Row → Option (List (ℤ × ℤ)) → Result State ℕ
+run_after rows None = Err 0
+run_after rows (Some qs) = one_later (run rows (pairs qs))
 
 pub run-none : (s : State) → run [] s ≡ Ok s
 unfolding fold_rows
 run-none s = refl
 
-pub run-cons : (row : Row) (rows : List Row) (ps : List (ℤ × ℤ)) → run (row ∷ rows) (pairs ps) ≡ run_behind rows (pairs_behind row.op ps)
+pub run-cons : (row : Row) (rows : List Row) (ps : List (ℤ × ℤ)) → run (row ∷ rows) (pairs ps) ≡ run_after rows (pairs_after row.op ps)
 unfolding fold_rows
 run-cons row rows ps =
     ap (λ o. option_map_or (λ next. one_later (fold_rows step rows next)) o (Err 0)) (perform-pairs row.op row.number ps)
-    ∙ elim (pairs_behind row.op ps) as (λ o. option_map_or (λ next. one_later (fold_rows step rows next)) (option_map pairs o) (Err 0) ≡ run_behind rows o) [ None ↦ refl | Some qs ↦ refl ]
+    ∙ elim (pairs_after row.op ps) as (λ o. option_map_or (λ next. one_later (fold_rows step rows next)) (option_map pairs o) (Err 0) ≡ run_after rows o) [ None ↦ refl | Some qs ↦ refl ]
 
 -- numbers and times change nothing
 pub run-labelled : (labels : List ℕ) (rows : List Row) (ps : List (ℤ × ℤ)) → length labels ≡ length rows → run (map as_row (labelled labels rows)) (pairs ps) ≡ run rows (pairs ps)
@@ -59,7 +59,7 @@ run-labelled [] (row ∷ rows) ps same = absurd (omega arith)
 run-labelled (label ∷ labels) [] ps same = absurd (omega arith)
 run-labelled (label ∷ labels) (row ∷ rows) ps same =
     run-cons (as_row (label, row.op)) (map as_row (labelled labels rows)) ps
-    ∙ elim (pairs_behind row.op ps) as (λ o. run_behind (map as_row (labelled labels rows)) o ≡ run_behind rows o) [
+    ∙ elim (pairs_after row.op ps) as (λ o. run_after (map as_row (labelled labels rows)) o ≡ run_after rows o) [
       | None ↦ refl
       | Some qs ↦ ap one_later (run-labelled labels rows qs (omega arith))
     ]
@@ -100,19 +100,19 @@ abbrev IfPairs : ℕ → Option (List (ℤ × ℤ)) → Type 0
 IfPairs count None = Unit {0}
 IfPairs count (Some ps) = AreOfNumbers ps × (length ps ≤ suc count)
 
-keys-behind : (op : Op) (ps : List (ℤ × ℤ)) → IsOfNumbers op → AreOfNumbers ps → IfPairs (length ps) (pairs_behind op ps)
-keys-behind (Put key value) ps is all = (keys-with key value ps is.0 is.1 all, one_more key value ps)
-keys-behind (Del key) ps is all = elim (is_some (lookup (int_eq key) ps)) as (λ b. IfPairs (length ps) (if b then Some (remove_entry (int_eq key) ps) else None)) [ true ↦ (keys-without key ps all, omega (arith, no_more key ps)) | false ↦ tt ]
-keys-behind (Enq v) ps is all = tt
-keys-behind Deq ps is all = tt
-keys-behind (Push v) ps is all = tt
-keys-behind Pop ps is all = tt
-keys-behind (PushL v) ps is all = tt
-keys-behind (PushR v) ps is all = tt
-keys-behind PopL ps is all = tt
-keys-behind PopR ps is all = tt
-keys-behind (Ins k) ps is all = tt
-keys-behind DelMin ps is all = tt
+keys-after : (op : Op) (ps : List (ℤ × ℤ)) → IsOfNumbers op → AreOfNumbers ps → IfPairs (length ps) (pairs_after op ps)
+keys-after (Put key value) ps is all = (keys-with key value ps is.0 is.1 all, one_more key value ps)
+keys-after (Del key) ps is all = elim (is_some (lookup (int_eq key) ps)) as (λ b. IfPairs (length ps) (if b then Some (remove_entry (int_eq key) ps) else None)) [ true ↦ (keys-without key ps all, omega (arith, no_more key ps)) | false ↦ tt ]
+keys-after (Enq v) ps is all = tt
+keys-after Deq ps is all = tt
+keys-after (Push v) ps is all = tt
+keys-after Pop ps is all = tt
+keys-after (PushL v) ps is all = tt
+keys-after (PushR v) ps is all = tt
+keys-after PopL ps is all = tt
+keys-after PopR ps is all = tt
+keys-after (Ins k) ps is all = tt
+keys-after DelMin ps is all = tt
 
 -- what the first rows leave
 pub record Leave (rows : List Row) (before : List (ℤ × ℤ)) : Type 0 where
@@ -129,9 +129,9 @@ pub leave : (rows : List Row) (place : ℕ) (ps : List (ℤ × ℤ)) → HaveNum
 leave rows zero ps keyed keys ok = record { left = ps; ran = run-none (pairs ps); keys = keys; few = omega arith }
 leave [] (suc place) ps keyed keys ok = record { left = ps; ran = run-none (pairs ps); keys = keys; few = omega arith }
 leave (row ∷ rows) (suc place) ps keyed keys ok =
-    elim (pairs_behind row.op ps) as (λ o. pairs_behind row.op ps ≡ o → IfPairs (length ps) o → Leave (row ∷ take place rows) ps) [
-      | None ↦ λ stops _. absurd (let wrong = ap result_err (sym (run-cons row rows ps ∙ ap (run_behind rows) stops)) ∙ ok in cc)
+    elim (pairs_after row.op ps) as (λ o. pairs_after row.op ps ≡ o → IfPairs (length ps) o → Leave (row ∷ take place rows) ps) [
+      | None ↦ λ stops _. absurd (let wrong = ap result_err (sym (run-cons row rows ps ∙ ap (run_after rows) stops)) ∙ ok in cc)
       | Some qs ↦ λ goes kept.
-          let rest = leave rows place qs keyed.1 kept.0 (not_failed (run rows (pairs qs)) (ap result_err (sym (run-cons row rows ps ∙ ap (run_behind rows) goes)) ∙ ok)) in
-          record { left = rest.left; ran = run-cons row (take place rows) ps ∙ ap (run_behind (take place rows)) goes ∙ ap one_later rest.ran; keys = rest.keys; few = omega (arith, rest.few, kept.1) }
-    ] refl (keys-behind row.op ps keyed.0 keys)
+          let rest = leave rows place qs keyed.1 kept.0 (not_failed (run rows (pairs qs)) (ap result_err (sym (run-cons row rows ps ∙ ap (run_after rows) goes)) ∙ ok)) in
+          record { left = rest.left; ran = run-cons row (take place rows) ps ∙ ap (run_after (take place rows)) goes ∙ ap one_later rest.ran; keys = rest.keys; few = omega (arith, rest.few, kept.1) }
+    ] refl (keys-after row.op ps keyed.0 keys)

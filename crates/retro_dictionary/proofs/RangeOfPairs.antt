@@ -10,9 +10,9 @@ use Rattle.lifetime_segments.specs.Ordered.{AreInOrder}
 use Rattle.retro_base.specs.Answers.{pairs_between}
 use Rattle.retro_base.specs.OrderLaws.{all_weaker}
 use Rattle.retro_dictionary.specs.declared.pairs.Found.{Found}
-use Rattle.retro_dictionary.specs.declared.search.Spot.TheVariants.{Below, UpTo}
+use Rattle.retro_dictionary.specs.declared.search.Bound.TheVariants.{Below, UpTo}
 use Rattle.retro_dictionary.specs.PairSearch.{pair_before, found_in}
-use Rattle.retro_dictionary.specs.Spots.{reaches}
+use Rattle.retro_dictionary.specs.Bounds.{reaches}
 use Rattle.retro_dictionary.proofs.CountedPairs.{none_pass, all_pass, filter_passes}
 use Rattle.retro_dictionary.proofs.MeasuredPairs.{all_taken}
 

@@ -4,7 +4,7 @@ use Rattle.std.specs.List.{insert}
 use Rattle.std.proofs.lemmas.Bool.{cases_lt, le-leb, lt-ltb, ne_eqb}
 use Rattle.std.proofs.lemmas.Nat.{pow_pos, mod_below}
 use Rattle.retro_base.specs.Limits.{most_rows}
-use Rattle.order_labels.specs.Labels.{AreApart, label_before, label_behind, label_limit, has_room, middle, exponent, gap_of, spread}
+use Rattle.order_labels.specs.Labels.{AreApart, label_before, label_later, label_limit, has_room, middle, exponent, gap_of, spread}
 use Rattle.order_labels.specs.LabelLaws.{RelabellingIsRare, least_insertions}
 use Rattle.order_labels.specs.ApartLaws.{gap_at, apart_with, apart_without, less_apart, below_more, halves_apart, next_inside, next_at_end, next_before, middle_apart}
 use Rattle.order_labels.specs.SpreadLaws.{exponent-falls, multiples-apart, spread-apart}
@@ -37,18 +37,18 @@ wide k labels apart = subst (λ d. AreApart d 0 (label_limit - d) labels) (power
 
 -- a label that lies apart from those beside it
 with_label : (distance : ℕ) (labels : List ℕ) (place label : ℕ) → place ≤ length labels → AreApart (2 * distance) 0 (label_limit - 2 * distance) labels
-    → label_before 0 labels place + distance ≤ label → label + distance ≤ label_behind (label_limit - distance) labels place → AreApart distance 0 (label_limit - distance) (insert labels place label)
-with_label distance labels place label within apart before behind =
+    → label_before 0 labels place + distance ≤ label → label + distance ≤ label_later (label_limit - distance) labels place → AreApart distance 0 (label_limit - distance) (insert labels place label)
+with_label distance labels place label within apart before after =
     apart_with distance 0 (label_limit - distance) labels place label within
-    (below_more distance 0 (label_limit - 2 * distance) (label_limit - distance) labels (omega arith) (less_apart (2 * distance) distance 0 (label_limit - 2 * distance) labels (omega arith) apart)) before behind
+    (below_more distance 0 (label_limit - 2 * distance) (label_limit - distance) labels (omega arith) (less_apart (2 * distance) distance 0 (label_limit - 2 * distance) labels (omega arith) apart)) before after
 
-has : (labels : List ℕ) (place : ℕ) → label_before 0 labels place + 2 ≤ label_behind label_limit labels place → has_room labels place ≡ true
-has labels place room = le-leb 2 (label_behind label_limit labels place - label_before 0 labels place) (omega arith)
+has : (labels : List ℕ) (place : ℕ) → label_before 0 labels place + 2 ≤ label_later label_limit labels place → has_room labels place ≡ true
+has labels place room = le-leb 2 (label_later label_limit labels place - label_before 0 labels place) (omega arith)
 
-by_middle : (labels : List ℕ) (place : ℕ) → label_before 0 labels place + 2 ≤ label_behind label_limit labels place → is_after_all labels place ≡ false → row_rule labels place ≡ Some (middle labels place)
+by_middle : (labels : List ℕ) (place : ℕ) → label_before 0 labels place + 2 ≤ label_later label_limit labels place → is_after_all labels place ≡ false → row_rule labels place ≡ Some (middle labels place)
 by_middle labels place room is = simp (has labels place room, is)
 
-after_all : (labels : List ℕ) (place : ℕ) → label_before 0 labels place + 2 ≤ label_behind label_limit labels place → is_after_all labels place ≡ true
+after_all : (labels : List ℕ) (place : ℕ) → label_before 0 labels place + 2 ≤ label_later label_limit labels place → is_after_all labels place ≡ true
     → row_rule labels place ≡ Some (label_after (label_before 0 labels (place - 1)) (label_before 0 labels place))
 after_all labels place room is = simp (has labels place room, is)
 
@@ -61,9 +61,9 @@ module _ (k : ℕ) where
   unfolding Halves
   inside labels place within apart =
       let distance = 2 ^ k in
-      let far : label_before 0 labels place + 2 * distance ≤ label_behind label_limit labels place =
+      let far : label_before 0 labels place + 2 * distance ≤ label_later label_limit labels place =
       omega (arith, gap_at (2 * distance) 0 (label_limit - 2 * distance) labels place (omega arith) (wide k labels apart), next_inside (label_limit - 2 * distance) label_limit labels place within) in
-      let beside = middle_apart distance (label_before 0 labels place) (label_behind label_limit labels place) far in
+      let beside = middle_apart distance (label_before 0 labels place) (label_later label_limit labels place) far in
       let other : is_after_all labels place ≡ false = simp (ne_eqb place (length labels) (λ same. omega (arith, same))) in (
         middle labels place,
         by_middle labels place (omega (arith, pow_pos k)) other,
@@ -148,8 +148,8 @@ former-below labels place within some apart =
     omega (arith, gap_at 1 0 label_limit labels (place - 1) (omega arith) apart, next_before 0 label_limit labels (place - 1) (omega arith), ap (label_before 0 labels) next)
 
 -- the label of a row lies between those beside its place
-pub middle-between : (labels : List ℕ) (place : ℕ) → label_before 0 labels place + 2 ≤ label_behind label_limit labels place → IsBetween labels place (middle labels place)
-middle-between labels place room = record { before = omega arith; behind_it = omega arith }
+pub middle-between : (labels : List ℕ) (place : ℕ) → label_before 0 labels place + 2 ≤ label_later label_limit labels place → IsBetween labels place (middle labels place)
+middle-between labels place room = record { before = omega arith; after_it = omega arith }
 
 pub after-between : (labels : List ℕ) (place : ℕ) → place ≡ length labels → label_before 0 labels place + 2 ≤ label_limit → IsBetween labels place (label_after (label_before 0 labels (place - 1)) (label_before 0 labels place))
 after-between labels place same room =
@@ -157,4 +157,4 @@ after-between labels place same room =
     let gap = last - label_before 0 labels (place - 1) in
     let beside = further (unit_after gap (label_limit - last)) last (unit-some gap (label_limit - last)) in
     let most = unit-within gap (label_limit - last) (omega arith) in
-    record { before = omega (arith, beside.0, unit-some gap (label_limit - last)); behind_it = omega (arith, beside.1, most, next_at_end label_limit labels place same) }
+    record { before = omega (arith, beside.0, unit-some gap (label_limit - last)); after_it = omega (arith, beside.1, most, next_at_end label_limit labels place same) }

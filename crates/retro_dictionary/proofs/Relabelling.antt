@@ -13,7 +13,7 @@ use Rattle.retro_base.specs.declared.row.Row.{Row}
 use Rattle.key_index.specs.KeyRows.{KeyRow, op_at, with_row, without}
 use Rattle.key_index.specs.Relabelled.{Rise, HoldsLabels, counterpart, relabelled, is_in}
 use Rattle.lifetime_segments.specs.declared.lifetime.Lifetime.{Lifetime}
-use Rattle.order_labels.specs.Labels.{AreApart, label_limit, label_before, label_behind, has_room, middle, gap_of, multiples, spread, inserted}
+use Rattle.order_labels.specs.Labels.{AreApart, label_limit, label_before, label_later, has_room, middle, gap_of, multiples, spread, inserted}
 use Rattle.order_labels.specs.ApartLaws.{apart_without}
 use Rattle.order_labels.specs.SpreadLaws.{length-multiples, multiple-at, spread-rises}
 use Rattle.retro_dictionary.specs.Edited.{IsBetween, CanInsert}
@@ -72,7 +72,7 @@ above-removed last first [] place label apart there = absurd (cc)
 above-removed last first (next ∷ labels) zero label apart there = let same : next ≡ label = cc in omega (arith, apart.0)
 above-removed last first (next ∷ labels) (suc place) label apart there = above-removed last next labels place label apart.1 there
 
-below-removed : (last first : ℕ) (labels : List ℕ) (place label : ℕ) → AreApart 1 first last labels → slice_get labels place ≡ Some label → label < label_behind last (remove labels place) place
+below-removed : (last first : ℕ) (labels : List ℕ) (place label : ℕ) → AreApart 1 first last labels → slice_get labels place ≡ Some label → label < label_later last (remove labels place) place
 below-removed last first [] place label apart there = absurd (cc)
 below-removed last first (next ∷ []) zero label apart there = let same : next ≡ label = cc in omega (arith, apart.1)
 below-removed last first (next ∷ other ∷ labels) zero label apart there = let same : next ≡ label = cc in omega (arith, apart.1.0)
@@ -137,7 +137,7 @@ module _ (count place : ℕ) (within : place ≤ count) (few : count < most_rows
   new-between : IsBetween (other_labels count place) place (new_label count place)
   new-between = record {
     before = above-removed label_limit 0 all_labels place (new_label count place) all-rise new-there;
-    behind_it = below-removed label_limit 0 all_labels place (new_label count place) all-rise new-there;
+    after_it = below-removed label_limit 0 all_labels place (new_label count place) all-rise new-there;
   }
 
 -- the rows of a dictionary get them
@@ -173,7 +173,7 @@ module _ (rows : List Row) (labels : List ℕ) (index : List KeyRow) (lifetimes 
     free = ap (op_at new) relabelled-rows ∙ fresh-is others rows place many rise new between;
     undone = λ op.
         ap (λ i. without new (with_row new op i)) relabelled-rows
-        ∙ ap (without new) (with_row-parts others rows place many rise new op (omega (arith, between.before)) between.behind_it)
+        ∙ ap (without new) (with_row-parts others rows place many rise new op (omega (arith, between.before)) between.after_it)
         ∙ without-parts new (labelled (take place others) (take place rows)) (labelled (drop place others) (drop place rows)) op (front-below label_limit 0 others rows place new rise between.before)
         ∙ sym (relabelled-rows ∙ in_two others rows place many);
     back = ap (relabelled others labels) relabelled-rows ∙ relabelled-is label_limit 0 others labels rows rise (omega (arith, many, kept.as_many)) ∙ sym kept.indexed;
@@ -182,7 +182,7 @@ module _ (rows : List Row) (labels : List ℕ) (index : List KeyRow) (lifetimes 
   -- all rows by their labels
   all-are : (row : Row) → relabelled_with labels others new row.op index ≡ all row
   all-are row =
-      ap (with_row new row.op) relabelled-rows ∙ with_row-is others rows place many rise new row (omega (arith, between.before)) between.behind_it
+      ap (with_row new row.op) relabelled-rows ∙ with_row-is others rows place many rise new row (omega (arith, between.before)) between.after_it
       ∙ ap (λ ls. labelled ls (insert rows place row)) (insert-remove (spread (length rows + 1)) place new (new-there (length rows) place within few))
 
   -- and what is kept of them

@@ -33,13 +33,13 @@ SearchAnswers =
     → answer_of (state_at Dict rows place) question ≡ answer_from question (found_at labels lifetimes place (range_of question))
 
 -- the lifetimes with one more row and without it: the row ends that of the pair that the last row before it on its key put, and begins its own; all others are the same
-pub record EndsOne (front : List KeyRow) (row : KeyRow) (behind : List KeyRow) : Type 0 where
+pub record EndsOne (front : List KeyRow) (row : KeyRow) (after : List KeyRow) : Type 0 where
   pub others : List (Lifetime (ℤ × ℤ))
-  pub without_row : ordered (lifetimes_of (front ++ behind)) ≡ ordered (up_to_label (option_and_then placed_by (last_of (filter (is_on (key_of row.1)) front))) (end_of (key_of row.1) behind) ++ others)
-  pub with_row : ordered (lifetimes_of (front ++ row ∷ behind)) ≡ ordered (up_to_label (option_and_then placed_by (last_of (filter (is_on (key_of row.1)) front))) row.0 ++ (begun row.0 (put_by row.1) behind ++ others))
+  pub without_row : ordered (lifetimes_of (front ++ after)) ≡ ordered (up_to_label (option_and_then placed_by (last_of (filter (is_on (key_of row.1)) front))) (end_of (key_of row.1) after) ++ others)
+  pub with_row : ordered (lifetimes_of (front ++ row ∷ after)) ≡ ordered (up_to_label (option_and_then placed_by (last_of (filter (is_on (key_of row.1)) front))) row.0 ++ (begun row.0 (put_by row.1) after ++ others))
 
 abbrev pub EditsEndOne : Type 0
-EditsEndOne = (front : List KeyRow) (row : KeyRow) (behind : List KeyRow) → EndsOne front row behind
+EditsEndOne = (front : List KeyRow) (row : KeyRow) (after : List KeyRow) → EndsOne front row after
 
 -- a row that is put in at a label between those beside its place has this label alone, its lifetimes have room, and what is kept of the rows is kept with it
 abbrev pub InsertionsAreKept : Type 0

@@ -11,7 +11,7 @@ use Rattle.lifetime_segments.specs.declared.lifetime.Lifetime.{Lifetime}
 use Rattle.lifetime_segments.specs.Lifetimes.{label_end, stands_earlier}
 use Rattle.lifetime_segments.specs.Lawful.{most_items}
 use Rattle.lifetime_segments.specs.Ordered.{put_in, without}
-use Rattle.order_labels.specs.Labels.{label_limit, label_before, label_behind}
+use Rattle.order_labels.specs.Labels.{label_limit, label_before, label_later}
 use Rattle.retro_dictionary.specs.Changes.{Placed, placed_by, up_to_label}
 use Rattle.retro_dictionary.specs.Lifetimes.{put_by}
 use Rattle.retro_dictionary.specs.Numbers.{IsOfNumbers}
@@ -51,7 +51,7 @@ pub record CanPut (placed : Option Placed) (to : ℕ) (lifetimes : List (Lifetim
 -- so have the two that a row makes
 pub record CanCut (left : Option Placed) (label next : ℕ) (lifetimes : List (Lifetime (ℤ × ℤ))) : Type 0 where
   pub before : IfSome left (λ (pair : Placed). pair.0 < label)
-  pub behind_it : label < next
+  pub after_it : label < next
   pub within : next ≤ label_end
   pub room : length lifetimes + 1 < most_items
 
@@ -72,7 +72,7 @@ joined_by label op index lifetimes = joined_at (left_of index label op) label (p
 -- a label lies between those beside a place
 pub record IsBetween (labels : List ℕ) (place label : ℕ) : Type 0 where
   pub before : label_before 0 labels place < label
-  pub behind_it : label < label_behind label_limit labels place
+  pub after_it : label < label_later label_limit labels place
 
 -- a row can be put in at a place
 pub record CanInsert (rows : List Row) (place : ℕ) (row : Row) : Type 0 where

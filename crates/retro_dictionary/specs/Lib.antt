@@ -10,7 +10,7 @@ pub mod Listed
 pub mod Labelled
 pub mod RowLabels
 pub mod Kept
-pub mod Spots
+pub mod Bounds
 pub mod DictionaryLaws
 pub mod Edited
 pub mod Numbers

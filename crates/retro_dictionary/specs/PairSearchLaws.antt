@@ -83,8 +83,8 @@ module _ {A : Type 0} {before : A → A → Bool} (order : IsOrder before) where
     | false ↦ λ level. refl
   ] refl
 
-  behind : (x y z : A) → before y x ≡ false → before z y ≡ false → before z x ≡ false
-  behind x y z near far = elim (before z x) as (λ b. before z x ≡ b → b ≡ false) [
+  after : (x y z : A) → before y x ≡ false → before z y ≡ false → before z x ≡ false
+  after x y z near far = elim (before z x) as (λ b. before z x ≡ b → b ≡ false) [
     | true ↦ λ past. sym (between order x y z past far) ∙ near
     | false ↦ λ level. refl
   ] refl
@@ -121,7 +121,7 @@ module _ {A : Type 0} {before : A → A → Bool} (order : IsOrder before) where
         ] refl
         | false ↦ λ pq. elim (before r q) as (λ b. before r q ≡ b → cond (before r p) (Some r) (Some p) ≡ first (Some p) (cond b (Some r) (Some q))) [
           | true ↦ λ rq. refl
-          | false ↦ λ qr. ap (λ c. cond c (Some r) (Some p)) (behind p q r pq qr) ∙ sym (ap (λ c. cond c (Some q) (Some p)) pq)
+          | false ↦ λ qr. ap (λ c. cond c (Some r) (Some p)) (after p q r pq qr) ∙ sym (ap (λ c. cond c (Some q) (Some p)) pq)
         ] refl
       ] refl
 

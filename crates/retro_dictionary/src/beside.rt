@@ -1,5 +1,5 @@
 ghost use Rattle.std.specs.Prelude.{◌≡◌, ◌+◌, ◌<◌, ◌≤◌, false, length, IfSome, IfNone};
-ghost use Rattle.order_labels.specs.Labels.{AreLabels, label_before, label_behind, label_limit, has_room};
+ghost use Rattle.order_labels.specs.Labels.{AreLabels, label_before, label_later, label_limit, has_room};
 ghost use Rattle.retro_dictionary.specs.Edited.{IsBetween};
 ghost use Rattle.retro_dictionary.specs.RowLabels.{label_after, row_rule, unit_after};
 
@@ -19,9 +19,9 @@ pub(crate) fn label_before(labels: &Labels, place: u32) -> u64
 }
 
 /// The label of the row at a place, or the end of all labels.
-fn label_behind(labels: &Labels, place: u32) -> u64
+fn label_later(labels: &Labels, place: u32) -> u64
     requires { place ≤ length labels.now }
-    ensures { result ≡ label_behind label_limit labels.now place }
+    ensures { result ≡ label_later label_limit labels.now place }
 {
     if place == labels.len() {
         return END;
@@ -41,7 +41,7 @@ pub(crate) fn free_label(labels: &Labels, place: u32) -> Option<u64>
     ensures full { IfNone result (has_room labels.now place ≡ false) }
 {
     let before = label_before(labels, place);
-    let after = label_behind(labels, place);
+    let after = label_later(labels, place);
     if after - before < 2 {
         return None;
     }

@@ -53,7 +53,7 @@ impl RetroDictionary {
         }
     }
 
-    /// The answer to a question about the state at a place, behind so many rows.
+    /// The answer to a question about the state at a place, after so many rows.
     fn answer_at(&self, place: u32, question: Question) -> Answer
         requires within { place ≤ length self.now }
         ensures { result ≡ answer_of (state_at Dict self.now place) question }
@@ -62,7 +62,7 @@ impl RetroDictionary {
         answer_from(question, &found)
     }
 
-    /// The whole content at a place, behind so many rows.
+    /// The whole content at a place, after so many rows.
     fn listing_at(&self, place: u32) -> Result<Listing, NoMemory>
         requires within { place ≤ length self.now }
         ensures { IfOk result (λ listing. listing ≡ content (state_at Dict self.now place)) }
@@ -88,8 +88,8 @@ impl Retro for RetroDictionary {
     }
 
     fn failure_after_insert(&self, place: u32, op: Op) -> Option<u32> {
-        let behind = label_before(&self.labels, place);
-        place_of_bad(&self.labels, place, self.index.bad_after_insert(behind, op))
+        let after = label_before(&self.labels, place);
+        place_of_bad(&self.labels, place, self.index.bad_after_insert(after, op))
     }
 
     fn failure_after_remove(&self, place: u32) -> Option<u32> {

@@ -33,9 +33,9 @@ pub fn removals_are_kept()
 {}
 
 /// A law: where rows get their labels by the rule of a dictionary, from the empty one on or from the labels that a relabelling
-/// has left, at least 23 insertions come before the next relabelling, whatever is put in and taken out. The number is that of
+/// has left, at least 22 insertions come before the next relabelling, whatever is put in and taken out. The number is that of
 /// the width of a label and of the bound on rows.
 pub fn relabelling_is_rare()
     ensures rare { RelabellingIsRare row_rule }
-    ensures number { least_insertions ≡ 23 }
+    ensures number { least_insertions ≡ 22 }
 {}

@@ -2,7 +2,7 @@
 //!
 //! A pair of a key and its value is there from the row that puts it to the next row on its key: that is its lifetime,
 //! from one label to before another (`order_labels`). So the pairs whose lifetimes hold the label of a row are what the
-//! dictionary holds behind it, and a question about the past is a search of them: decomposable search over lifetimes, as
+//! dictionary holds after it, and a question about the past is a search of them: decomposable search over lifetimes, as
 //! in Demaine, Iacono and Langerman, "Retroactive Data Structures", section 4. An edit ends or lengthens one lifetime and
 //! begins or takes one, however long the history is.
 //!
@@ -15,13 +15,13 @@
 //! |---|---|
 //! | `failure_after_insert`, `failure_after_remove` | log n |
 //! | `insert`, `remove` | log² n in each of at most 80 spans, for each of at most three lifetimes |
-//! | `insert`, where no label is left | as much for each row; at least 23 insertions lie between two of these |
+//! | `insert`, where no label is left | as much for each row; at least 22 insertions lie between two of these |
 //! | `ask`, `ask_now` | log n in each of at most 41 spans |
 //! | `all` | as much for each pair |
 //!
 //! `insert`, `remove` and `all` take memory; where there is none, all is as before.
 //!
-//! What the layer above may rely on is `Retro`. Why it holds is told by specs/Lifetimes.antt, which lifetimes rows have;
+//! What the layer above may rely on is `Retro`. Why it holds is reported by specs/Lifetimes.antt, which lifetimes rows have;
 //! specs/Asked.antt, which range of keys answers a question; specs/Kept.antt, what is kept of rows; the laws over them
 //! in specs/DictionaryLaws.antt; and specs/RowLabels.antt, which label a row gets.
 //!

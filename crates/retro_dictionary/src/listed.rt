@@ -33,7 +33,7 @@ pub(crate) fn list_at(
             key: pair.key,
             value: pair.value,
         })?;
-        // Behind the greatest key of all nothing is left.
+        // After the greatest key of all nothing is left.
         low = pair.key.saturating_add(1);
     }
     Ok(listing)

@@ -4,7 +4,7 @@ ghost use Rattle.std.specs.Option.{option_map_or, option_map};
 ghost use Rattle.lifetime_segments.specs.Lawful.{IsLawful};
 ghost use Rattle.retro_dictionary.specs.PairSearch.{pair_before, found_in, none_found, found_together, lesser, greater};
 ghost use Rattle.retro_dictionary.specs.PairMeasure.{PairsMeasured};
-ghost use Rattle.retro_dictionary.specs.Spots.{reaches, Falls};
+ghost use Rattle.retro_dictionary.specs.Bounds.{reaches, IsPartitioned};
 
 use crate::pairs::{Found, KeyPair, KeyRange, PairsMeasure};
 use lifetime_segments::Decomposable;
@@ -97,8 +97,8 @@ fn found_in<L: Ledger>(items: &Tree<KeyPair>, range: KeyRange, blank: Blank) -> 
     ensures { result ≡ found_in items.now range }
 {
     let mut steps = Steps::<L>::new(blank);
-    let from = count_up_to(items, Spot::Below { key: range.low }, &mut steps);
-    let to = count_up_to(items, Spot::UpTo { key: range.high }, &mut steps);
+    let from = count_up_to(items, Bound::Below { key: range.low }, &mut steps);
+    let to = count_up_to(items, Bound::UpTo { key: range.high }, &mut steps);
     if to <= from {
         return PairSearch::empty();
     }
@@ -120,42 +120,42 @@ fn found_of(count: u32, measure: &PairsMeasure) -> Found
 
 /// Up to where pairs are looked for.
 #[derive(Clone, Copy)]
-enum Spot {
+enum Bound {
     /// Below a key.
     Below { key: i64 },
     /// Up to a key.
     UpTo { key: i64 },
 }
 
-/// Whether a pair stands up to the spot.
-fn reaches(spot: Spot, pair: KeyPair) -> bool
-    ensures { result ≡ reaches spot pair }
+/// Whether a pair stands up to the bound.
+fn reaches(bound: Bound, pair: KeyPair) -> bool
+    ensures { result ≡ reaches bound pair }
 {
-    match spot {
-        Spot::Below { key } => pair.key < key,
-        Spot::UpTo { key } => pair.key <= key,
+    match bound {
+        Bound::Below { key } => pair.key < key,
+        Bound::UpTo { key } => pair.key <= key,
     }
 }
 
-/// How many pairs stand up to the spot.
-fn count_up_to<L: Ledger>(items: &Tree<KeyPair>, spot: Spot, steps: &mut Steps<L>) -> u32
+/// How many pairs stand up to the bound.
+fn count_up_to<L: Ledger>(items: &Tree<KeyPair>, bound: Bound, steps: &mut Steps<L>) -> u32
     requires { IsLawful pair_before items.now }
-    ensures front { take result items.now ≡ filter (reaches spot) items.now }
-    ensures back { drop result items.now ≡ filter (λ pair. not (reaches spot pair)) items.now }
+    ensures front { take result items.now ≡ filter (reaches bound) items.now }
+    ensures back { drop result items.now ≡ filter (λ pair. not (reaches bound pair)) items.now }
     ensures within { result ≤ length items.now }
 {
-    match items.first_place(0, |measure: &PairsMeasure| is_past(spot, measure), steps) {
+    match items.first_place(0, |measure: &PairsMeasure| is_past(bound, measure), steps) {
         Some(place) => place - 1,
         None => items.len(),
     }
 }
 
-/// Whether the greatest pair of a range stands past the spot.
-fn is_past(spot: Spot, measure: &PairsMeasure) -> bool
-    ensures { result ≡ option_map_or (λ pair. not (reaches spot pair)) (option_map (λ first. first.0) measure.now.1.1.first) false }
+/// Whether the greatest pair of a range stands past the bound.
+fn is_past(bound: Bound, measure: &PairsMeasure) -> bool
+    ensures { result ≡ option_map_or (λ pair. not (reaches bound pair)) (option_map (λ first. first.0) measure.now.1.1.first) false }
 {
     match measure.second().second().element() {
-        Some(pair) => !reaches(spot, pair),
+        Some(pair) => !reaches(bound, pair),
         None => false,
     }
 }

@@ -10,13 +10,13 @@ abbrev pub count_after : ℕ → ℕ → ℕ
 count_after count more = max count (min (count + more) last_count)
 
 -- a count of faults rose in a call: it is greater at the exit than at the entry, or it stands at its last value
-abbrev pub Rose : ℕ → ℕ → Type 0
-Rose before after = (before < after) ⊎ (after ≡ last_count)
+abbrev pub HasRisen : ℕ → ℕ → Type 0
+HasRisen before after = (before < after) ⊎ (after ≡ last_count)
 
 -- what a call does to a count of faults: one that fails raises it, and any other leaves it as it was
-abbrev pub Counts : Bool → ℕ → ℕ → Type 0
-Counts true before after = (before ≤ after) × Rose before after
-Counts false before after = after ≡ before
+abbrev pub CountsFaults : Bool → ℕ → ℕ → Type 0
+CountsFaults true before after = (before ≤ after) × HasRisen before after
+CountsFaults false before after = after ≡ before
 
 -- a count of faults after a call: one that fails counts
 abbrev pub faults_after : {V E : Type 0} → ℕ → Result V E → ℕ

@@ -4,11 +4,11 @@ use Rattle.std.specs.Io.KnownBytes.{Consumes, IsAtEnd, Keeps}
 use Rattle.retro_io.specs.declared.std_source.StdSource.{StdSource}
 use Rattle.retro_io.specs.declared.std_sink.StdSink.{StdSink}
 
--- the reader behind a source
+-- the reader after a source
 abbrev pub reader_of : {R : Type 0} → StdSource R → R
 reader_of source = source.reader
 
--- the writer behind a sink
+-- the writer after a sink
 abbrev pub writer_of : {W : Type 0} → StdSink W → W
 writer_of sink = sink.writer
 

@@ -46,7 +46,7 @@ module _ {S : Type 0} {G : Ghosts S} where
   abbrev pub has_failed : LineReader S G → Bool
   has_failed r = r.failed
 
-  -- the source behind the reader's reference
+  -- the source below the reader's reference
   abbrev pub source_of : LineReader S G → S
   source_of r = r.source.now
 

@@ -3,7 +3,7 @@ use Rattle.std.specs.Prelude.{◌≡◌, ◌⊎◌, ℕ, Bool, true, false, List
 use Rattle.retro_io.specs.declared.outbox.Outbox.{Outbox}
 use Rattle.retro_io.specs.declared.sink.Sink.{Ghosts}
 use Rattle.retro_io.specs.declared.source.Failed.{Failed}
-use Rattle.retro_io.specs.Faults.{Counts, faults_after}
+use Rattle.retro_io.specs.Faults.{CountsFaults, faults_after}
 use Rattle.retro_io.specs.Sink.{HandsAll, HandsAllUntilFault}
 
 -- the most bytes that wait at an outbox
@@ -37,12 +37,12 @@ module _ {K : Type 0} (G : Ghosts K) where
     pub for_good : before.failed ≡ true → after ≡ before
     pub handed : after.failed ≡ false → HandsOn before (sink_of after)
     pub cut_off : after.failed ≡ true → before.failed ≡ false → HandsOnUntilFault before (sink_of after)
-    pub counts : before.failed ≡ false → Counts after.failed (G.faults (sink_of before)) (G.faults (sink_of after))
+    pub counts : before.failed ≡ false → CountsFaults after.failed (G.faults (sink_of before)) (G.faults (sink_of after))
 
   -- an outbox fails exactly where the sink's count of faults rises in the call, or it failed before; from then on it leaves the sink alone
   pub record FailsWithSink (before : Outbox K) (fails : Bool) (after : Outbox K) : Type 0 where
     pub failed : after.failed ≡ fails
-    pub at_once : before.failed ≡ false → Counts fails (G.faults (sink_of before)) (G.faults (sink_of after))
+    pub at_once : before.failed ≡ false → CountsFaults fails (G.faults (sink_of before)) (G.faults (sink_of after))
     pub for_good : before.failed ≡ true → (fails ≡ true) × (sink_of after ≡ sink_of before)
 
   -- all that waits was handed on, and then one such call of the sink was made

@@ -1,7 +1,7 @@
 ghost use Rattle.std.specs.Prelude.{◌≡◌, ◌+◌, ◌-◌, ◌≢◌, ◌≤◌, ◌<◌, ℕ, [], ◌∷◌, ◌++◌, true, false, length, take, drop, slice_index, Result, is_err, IfOk, MatchResult, MatchOption};
 ghost use Rattle.std.specs.List.{slice_range};
 ghost use Rattle.retro_io.specs.DueReads.{ReadOnce};
-ghost use Rattle.retro_io.specs.Faults.{Counts};
+ghost use Rattle.retro_io.specs.Faults.{CountsFaults};
 ghost use Rattle.retro_io.specs.Lines.{has_line_feed, longest_line, line_feed, without_return};
 ghost use Rattle.retro_io.specs.Marks.{Shows};
 ghost use Rattle.retro_io.specs.Source.{Gives, bytes_given, bytes_left, taken_after};
@@ -147,7 +147,7 @@ impl LineBuffer {
         ensures at_end { IfOk result (λ count. count ≡ 0 → (bytes_left (S.left source.new) ≡ []) × (S.ended source.new ≡ true)) }
         ensures taken { S.taken source.new ≡ taken_after (S.taken source.old) result }
         ensures reads { ReadOnce S.reads most source.old (drop (length self.old.held) self.new.held) source.new }
-        ensures counts { Counts (is_err result) (S.faults source.old) (S.faults source.new) }
+        ensures counts { CountsFaults (is_err result) (S.faults source.old) (S.faults source.new) }
     {
         move_to_front(&mut self.bytes, self.start, self.end);
         self.end -= self.start;
@@ -217,7 +217,7 @@ fn read_into<S: Source>(
     ensures at_end { IfOk result (λ count. count ≡ 0 → (bytes_left (S.left source.new) ≡ []) × (S.ended source.new ≡ true)) }
     ensures taken { S.taken source.new ≡ taken_after (S.taken source.old) result }
     ensures reads { S.reads source.old (upto - from) (bytes_given result (drop from bytes.new)) source.new }
-    ensures counts { Counts (is_err result) (S.faults source.old) (S.faults source.new) }
+    ensures counts { CountsFaults (is_err result) (S.faults source.old) (S.faults source.new) }
 {
     source.read(&mut bytes[from..upto])
 }

@@ -1,6 +1,6 @@
 ghost use Rattle.std.specs.Prelude.{◌≡◌, ◌+◌, ◌-◌, ◌^◌, ◌≤◌, ◌<◌, ◌↔◌, [], true, false, length, take, drop, Result, Ok, IfOk, IfErr, IsErrOf, is_err};
 ghost use Rattle.retro_io.specs.DueReads.{ReadOnce, WereDue, WereDueOf};
-ghost use Rattle.retro_io.specs.Faults.{Counts};
+ghost use Rattle.retro_io.specs.Faults.{CountsFaults};
 ghost use Rattle.retro_io.specs.Lines.{has_line_feed, longest_line};
 ghost use Rattle.retro_io.specs.Marks.{is_fault};
 ghost use Rattle.retro_io.specs.Reads.{GivesFirst, MakesOf, Took};
@@ -48,7 +48,7 @@ impl<'a, S: Source> LineReader<'a, S> {
         Ok(LineReader::with_buffer(buffer, source, limit))
     }
 
-    /// The same with a buffer that is there already, and so without want of memory.
+    /// The same with a buffer that is there already, and so without out of memory.
     pub fn with_buffer(buffer: LineBuffer, source: &'a mut S, limit: u64) -> LineReader<'a, S>
         requires limit { limit < 2 ^ 62 }
         requires empty { buffer.held ≡ [] }
@@ -109,7 +109,7 @@ impl<'a, S: Source> LineReader<'a, S> {
         requires { has_failed self.old ≡ false }
         ensures moves { MovesOn self.old self.new }
         ensures failed { has_failed self.new ≡ is_err result }
-        ensures source_faults { Counts (is_fault result) (S.faults (source_of self.old)) (S.faults (source_of self.new)) }
+        ensures source_faults { CountsFaults (is_fault result) (S.faults (source_of self.old)) (S.faults (source_of self.new)) }
         // The lines given are those of the bytes, whatever the pieces.
         ensures gives { IfOk result (λ mark. GivesLine mark self.old self.new) }
         ensures stops { IfErr result (λ error. StopsAt error self.old self.new) }
@@ -137,7 +137,7 @@ impl<'a, S: Source> LineReader<'a, S> {
         requires unbroken { has_line_feed (held self.old) ≡ false }
         ensures moves { MovesOn self.old self.new }
         ensures failed { has_failed self.new ≡ is_err result }
-        ensures source_faults { Counts (is_fault result) (S.faults (source_of self.old)) (S.faults (source_of self.new)) }
+        ensures source_faults { CountsFaults (is_fault result) (S.faults (source_of self.old)) (S.faults (source_of self.new)) }
         ensures took { Took (S.left (source_of self.old)) (S.left (source_of self.new)) (taken self.new - taken self.old)
             (λ got. MakesOf result (line_of self.new) (has_ended self.new) (held self.old) (held self.new) got
             × WereDue S.reads (limit_of self.old - taken self.old) (held self.old) false (source_of self.old) got (source_of self.new)) }
@@ -163,7 +163,7 @@ impl<'a, S: Source> LineReader<'a, S> {
         requires long { longest_line + 1 < length (held self.old) }
         ensures moves { MovesOn self.old self.new }
         ensures failed { has_failed self.new ≡ is_err result }
-        ensures source_faults { Counts (is_fault result) (S.faults (source_of self.old)) (S.faults (source_of self.new)) }
+        ensures source_faults { CountsFaults (is_fault result) (S.faults (source_of self.old)) (S.faults (source_of self.new)) }
         ensures took { Took (S.left (source_of self.old)) (S.left (source_of self.new)) (taken self.new - taken self.old)
             (λ got. MakesOf result (line_of self.new) (has_ended self.new) (held self.old) (held self.new) got
             × WereDue S.reads (limit_of self.old - taken self.old) (held self.old) false (source_of self.old) got (source_of self.new)) }
@@ -216,7 +216,7 @@ impl<'a, S: Source> LineReader<'a, S> {
         ensures failed { has_failed self.new ≡ is_err result }
         ensures ended { has_ended self.new ≡ false }
         ensures count { IfOk result (λ count. taken self.new ≡ taken self.old + count) }
-        ensures source_faults { Counts (is_fault result) (S.faults (source_of self.old)) (S.faults (source_of self.new)) }
+        ensures source_faults { CountsFaults (is_fault result) (S.faults (source_of self.old)) (S.faults (source_of self.new)) }
         ensures reads { ReadOnce S.reads (limit_of self.old - taken self.old)
             (source_of self.old) (drop (length (held self.old)) (held self.new)) (source_of self.new) }
         ensures kept { take (length (held self.old)) (held self.new) ≡ held self.old }

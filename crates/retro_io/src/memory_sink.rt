@@ -1,5 +1,5 @@
 ghost use Rattle.std.specs.Prelude.{◌≡◌, ◌≤◌, ◌<◌, ◌==◌, ◌-◌, ◌||◌, [], true, false, length, take, min, Some, is_ok, is_err, IfOk, MatchResult};
-ghost use Rattle.retro_io.specs.Faults.{Counts, last_count};
+ghost use Rattle.retro_io.specs.Faults.{CountsFaults, last_count};
 ghost use Rattle.retro_io.specs.Memory.{FlushesRoomed, SendsRoomed, WritesRoomed};
 ghost use Rattle.retro_io.specs.Sink.{Appends};
 
@@ -103,7 +103,7 @@ impl Sink for MemorySink {
             (λ _. Some self.new.written ≡ Some self.old.written) }
         ensures flushed { self.new.flushed ≡ false }
         ensures does { WritesRoomed self.old piece.now result self.new }
-        ensures counts { Counts (is_err result) self.old.faults self.new.faults }
+        ensures counts { CountsFaults (is_err result) self.old.faults self.new.faults }
         ensures counted { self.new.faults ≤ last_count }
     {
         let room = self.room as usize - self.bytes.len();
@@ -128,7 +128,7 @@ impl Sink for MemorySink {
         ensures written { Some self.new.written ≡ Some self.old.written }
         ensures flushed { self.new.flushed ≡ is_ok result }
         ensures does { FlushesRoomed self.old result self.new }
-        ensures counts { Counts (is_err result) self.old.faults self.new.faults }
+        ensures counts { CountsFaults (is_err result) self.old.faults self.new.faults }
         ensures counted { self.new.faults ≤ last_count }
     {
         self.flushed = true;

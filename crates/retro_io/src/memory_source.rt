@@ -1,5 +1,5 @@
 ghost use Rattle.std.specs.Prelude.{◌≡◌, ◌≤◌, ◌<◌, [], false, length, take, Some, is_err, IfOk, MatchResult};
-ghost use Rattle.retro_io.specs.Faults.{Counts, last_count};
+ghost use Rattle.retro_io.specs.Faults.{CountsFaults, last_count};
 ghost use Rattle.retro_io.specs.Memory.{ReadsPieced};
 ghost use Rattle.retro_io.specs.Source.{Gives, bytes_given, bytes_left, ended_after, taken_after};
 
@@ -85,7 +85,7 @@ impl Source for MemorySource {
         ensures taken { self.new.stock.taken ≡ taken_after self.old.stock.taken result }
         ensures ended { self.new.stock.ended ≡ ended_after self.old.stock.ended result buffer.new }
         ensures does { ReadsPieced self.old (length buffer.new) (bytes_given result buffer.new) self.new }
-        ensures counts { Counts (is_err result) self.old.faults self.new.faults }
+        ensures counts { CountsFaults (is_err result) self.old.faults self.new.faults }
         ensures counted { self.new.faults ≤ last_count }
     {
         let fails = is_among(self.calls, &self.failing);

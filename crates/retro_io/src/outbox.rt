@@ -1,5 +1,5 @@
 ghost use Rattle.std.specs.Prelude.{◌≡◌, ◌≤◌, ◌<◌, ◌++◌, [], true, false, length, vec_len, vec_capacity, IfOk};
-ghost use Rattle.retro_io.specs.Faults.{Counts, count_after, last_count};
+ghost use Rattle.retro_io.specs.Faults.{CountsFaults, count_after, last_count};
 
 use crate::sink::put_until_fault;
 use crate::{Failed, Sink};
@@ -81,7 +81,7 @@ impl<K: Sink + Drop> Outbox<K> {
 
     /// Notes a fault.
     fn fail(&mut self) -> Failed
-        ensures counts { Counts true self.old.faults self.new.faults }
+        ensures counts { CountsFaults true self.old.faults self.new.faults }
         ensures count { self.new.faults ≡ count_after self.old.faults 1 }
         ensures failed { self.new.failed ≡ true }
         ensures sink { sink_of self.new ≡ sink_of self.old }

@@ -1,5 +1,5 @@
 ghost use Rattle.std.specs.Prelude.{◌≡◌, ℕ, Bool, false, List, Option, ◌≤◌, ◌<◌, length, take, Result, [], is_ok, is_err, IfOk, IfErr, OnErr, OnOk, MatchResult};
-ghost use Rattle.retro_io.specs.Faults.{Counts, last_count};
+ghost use Rattle.retro_io.specs.Faults.{CountsFaults, last_count};
 ghost use Rattle.retro_io.specs.Sink.{Appends, AppendsProperPrefix, HandsAll, HandsAllUntilFault};
 ghost use Rattle.retro_io.specs.declared.source.Failed.{Failed};
 
@@ -40,7 +40,7 @@ pub trait Sink {
             (λ _. written self.new ≡ written self.old) }
         ensures flushed { flushed self.new ≡ false }
         ensures does { writes self.old piece.now result self.new }
-        ensures counts { Counts (is_err result) (faults self.old) (faults self.new) }
+        ensures counts { CountsFaults (is_err result) (faults self.old) (faults self.new) }
         ensures counted { faults self.new ≤ last_count };
 
     /// Lets go on what waits. A sink at which nothing ever waits answers Ok and does nothing.
@@ -49,7 +49,7 @@ pub trait Sink {
         ensures sent { OnOk result (waiting self.new ≡ []) }
         ensures flushed { flushed self.new ≡ flushed self.old }
         ensures does { sends self.old result self.new }
-        ensures counts { Counts (is_err result) (faults self.old) (faults self.new) }
+        ensures counts { CountsFaults (is_err result) (faults self.old) (faults self.new) }
         ensures counted { OnErr result (faults self.new ≤ last_count) };
 
     /// Sees to it that what was written arrives.
@@ -58,7 +58,7 @@ pub trait Sink {
         ensures sent { OnOk result (waiting self.new ≡ []) }
         ensures flushed { flushed self.new ≡ is_ok result }
         ensures does { flushes self.old result self.new }
-        ensures counts { Counts (is_err result) (faults self.old) (faults self.new) }
+        ensures counts { CountsFaults (is_err result) (faults self.old) (faults self.new) }
         ensures counted { faults self.new ≤ last_count };
 }
 
@@ -76,7 +76,7 @@ pub fn put_all<K: Sink>(sink: &mut K, bytes: &[u8]) -> Result<(), WriteFault>
         (λ _. HandsAllUntilFault K.writes bytes.now sink.old sink.new) }
     ensures flushed { 0 < length bytes.now → K.flushed sink.new ≡ false }
     ensures nothing { length bytes.now ≡ 0 → sink.new ≡ sink.old }
-    ensures counts { Counts (is_err result) (K.faults sink.old) (K.faults sink.new) }
+    ensures counts { CountsFaults (is_err result) (K.faults sink.old) (K.faults sink.new) }
 {
     match put_until_fault(sink, bytes) {
         Ok(()) => Ok(()),
@@ -95,7 +95,7 @@ pub(crate) fn put_until_fault<K: Sink>(sink: &mut K, bytes: &[u8]) -> Result<(),
         (λ _. HandsAllUntilFault K.writes bytes.now sink.old sink.new) }
     ensures flushed { 0 < length bytes.now → K.flushed sink.new ≡ false }
     ensures nothing { length bytes.now ≡ 0 → sink.new ≡ sink.old }
-    ensures counts { Counts (is_err result) (K.faults sink.old) (K.faults sink.new) }
+    ensures counts { CountsFaults (is_err result) (K.faults sink.old) (K.faults sink.new) }
 {
     let mut appended = 0;
     while appended < bytes.len() {

@@ -1,5 +1,5 @@
 ghost use Rattle.std.specs.Prelude.{◌≡◌, ℕ, Bool, List, Option, [], ◌≤◌, ◌<◌, length, take, Result, is_err, IfOk, MatchResult};
-ghost use Rattle.retro_io.specs.Faults.{Counts, last_count};
+ghost use Rattle.retro_io.specs.Faults.{CountsFaults, last_count};
 ghost use Rattle.retro_io.specs.Source.{Gives, bytes_given, bytes_left, ended_after, taken_after};
 ghost use Rattle.retro_io.specs.declared.source.Failed.{Failed};
 
@@ -36,6 +36,6 @@ pub trait Source {
         ensures taken { taken self.new ≡ taken_after (taken self.old) result }
         ensures ended { ended self.new ≡ ended_after (ended self.old) result buffer.new }
         ensures does { reads self.old (length buffer.new) (bytes_given result buffer.new) self.new }
-        ensures counts { Counts (is_err result) (faults self.old) (faults self.new) }
+        ensures counts { CountsFaults (is_err result) (faults self.old) (faults self.new) }
         ensures counted { faults self.new ≤ last_count };
 }

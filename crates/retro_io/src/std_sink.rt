@@ -1,6 +1,6 @@
 ghost use Rattle.std.specs.Prelude.{◌≡◌, ◌≤◌, [], true, false, None, IsOk};
 ghost use Rattle.std.specs.Io.KnownBytes.{Keeps, WriteAppends};
-ghost use Rattle.retro_io.specs.Faults.{Counts, count_after, faults_after, last_count};
+ghost use Rattle.retro_io.specs.Faults.{CountsFaults, count_after, faults_after, last_count};
 
 use crate::{Failed, Sink};
 use std::io::Write;
@@ -33,7 +33,7 @@ impl<W: Write> StdSink<W> {
 
     /// Notes a fault.
     fn fail(&mut self) -> Failed
-        ensures counts { Counts true self.old.faults self.new.faults }
+        ensures counts { CountsFaults true self.old.faults self.new.faults }
         ensures count { self.new.faults ≡ count_after self.old.faults 1 }
         ensures writer { writer_of self.new ≡ writer_of self.old }
         ensures flushed { self.new.flushed ≡ self.old.flushed }

@@ -1,5 +1,5 @@
 ghost use Rattle.std.specs.Prelude.{◌≡◌, ◌≤◌, ◌<◌, [], false, length, take, Some, is_err, IfOk, MatchResult};
-ghost use Rattle.retro_io.specs.Faults.{Counts, last_count};
+ghost use Rattle.retro_io.specs.Faults.{CountsFaults, last_count};
 ghost use Rattle.retro_io.specs.Memory.{ReadsWhole};
 ghost use Rattle.retro_io.specs.Source.{Gives, bytes_given, bytes_left, ended_after, taken_after};
 
@@ -57,7 +57,7 @@ impl Source for WholeSource {
         ensures taken { self.new.taken ≡ taken_after self.old.taken result }
         ensures ended { self.new.ended ≡ ended_after self.old.ended result buffer.new }
         ensures does { ReadsWhole self.old (length buffer.new) (bytes_given result buffer.new) self.new }
-        ensures counts { Counts (is_err result) 0 0 }
+        ensures counts { CountsFaults (is_err result) 0 0 }
         ensures counted { 0 ≤ last_count }
     {
         let most = buffer.len().max(1);

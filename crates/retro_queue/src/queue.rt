@@ -7,7 +7,7 @@ ghost use Rattle.retro_base.specs.Visits.{VisitsWithin};
 ghost use Rattle.prefix_trees.specs.Growth.{left_growth, grown};
 
 use prefix_trees::{
-    Line, SignedRows, ask_line, ask_uncounted, failure_with, failure_without, list_line,
+    Sequence, SignedRows, ask_sequence, ask_uncounted, failure_with, failure_without, list_sequence,
 };
 use retro_base::{
     Answer, Change, Kind, Listing, NoMemory, Op, Partial, Question, Retro, Row, Steps, uncounted,
@@ -45,7 +45,7 @@ impl RetroQueue {
         }
     }
 
-    /// The answer to a question about the state at a place, behind so many rows.
+    /// The answer to a question about the state at a place, after so many rows.
     pub fn ask_past<L: Ledger>(
         &self,
         place: u32,
@@ -57,7 +57,7 @@ impl RetroQueue {
         ensures answer { result ≡ answer_of (state_at Queue self.now place) question }
         ensures visits { VisitsWithin 144 (length self.now) steps.old steps.new }
     {
-        ask_line(self, place, question, steps)
+        ask_sequence(self, place, question, steps)
     }
 
     /// How many rows before the place take an item.
@@ -83,7 +83,7 @@ impl RetroQueue {
     }
 }
 
-impl Line for RetroQueue {
+impl Sequence for RetroQueue {
     ghost use Rattle.retro_base.specs.declared.kind.Kind.TheVariants.{Queue};
 
     ghost kind = { Queue };
@@ -151,11 +151,11 @@ impl Partial for RetroQueue {
     }
 
     fn ask_now<L: Ledger>(&self, question: Question, steps: &mut Steps<L>) -> Answer {
-        ask_line(self, self.rows.len(), question, steps)
+        ask_sequence(self, self.rows.len(), question, steps)
     }
 
     fn all_now(&self) -> Result<Listing, NoMemory> {
-        list_line(self, self.rows.len())
+        list_sequence(self, self.rows.len())
     }
 
     fn copy(&self) -> Result<RetroQueue, NoMemory> {
@@ -203,6 +203,6 @@ impl Retro for RetroQueue {
     }
 
     fn all(&mut self, place: u32) -> Result<Listing, NoMemory> {
-        list_line(self, place)
+        list_sequence(self, place)
     }
 }

@@ -1,7 +1,7 @@
 -- Why an item of a stack is found by its depth. The item that lies on d others came when the stack had d items, and
 -- has stayed since: so it is the one of the last row before which there were no more than d.
 --
---     rows     + + + - + - - +        the depths before the rows and behind the last: 0 1 2 3 2 3 2 1 2
+--     rows     + + + - + - - +        the depths before the rows and after the last: 0 1 2 3 2 3 2 1 2
 --     items    a b c   d     e        on top is e, and below it a
 --     depth    0 1 2   2     1        the last place of depth at most 1 is that of e; of depth 0, that of a
 use Rattle.std.proofs.Common.{◌≡◌, ℕ, zero, suc, ◌<◌, ◌≤◌, ℤ, pos, ◌-ℤ◌, ◌<ℤ◌, Bool, List, [], ◌∷◌, length, Option, Some, None, refl, arith, subst}

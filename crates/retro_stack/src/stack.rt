@@ -6,7 +6,7 @@ ghost use Rattle.retro_base.specs.Questions.{suits};
 ghost use Rattle.retro_base.specs.Visits.{VisitsWithin};
 
 use prefix_trees::{
-    Line, SignedRows, ask_line, ask_uncounted, failure_with, failure_without, list_line,
+    Sequence, SignedRows, ask_sequence, ask_uncounted, failure_with, failure_without, list_sequence,
 };
 use retro_base::{
     Answer, Change, Kind, Listing, NoMemory, Op, Partial, Question, Retro, Row, Steps, uncounted,
@@ -44,7 +44,7 @@ impl RetroStack {
         }
     }
 
-    /// The answer to a question about the state at a place, behind so many rows.
+    /// The answer to a question about the state at a place, after so many rows.
     pub fn ask_past<L: Ledger>(
         &self,
         place: u32,
@@ -56,7 +56,7 @@ impl RetroStack {
         ensures answer { result ≡ answer_of (state_at Stack self.now place) question }
         ensures visits { VisitsWithin 144 (length self.now) steps.old steps.new }
     {
-        ask_line(self, place, question, steps)
+        ask_sequence(self, place, question, steps)
     }
 
     /// The same stack once more, with a counter of its own.
@@ -72,7 +72,7 @@ impl RetroStack {
     }
 }
 
-impl Line for RetroStack {
+impl Sequence for RetroStack {
     ghost use Rattle.retro_base.specs.declared.kind.Kind.TheVariants.{Stack};
 
     ghost kind = { Stack };
@@ -140,11 +140,11 @@ impl Partial for RetroStack {
     }
 
     fn ask_now<L: Ledger>(&self, question: Question, steps: &mut Steps<L>) -> Answer {
-        ask_line(self, self.rows.len(), question, steps)
+        ask_sequence(self, self.rows.len(), question, steps)
     }
 
     fn all_now(&self) -> Result<Listing, NoMemory> {
-        list_line(self, self.rows.len())
+        list_sequence(self, self.rows.len())
     }
 
     fn copy(&self) -> Result<RetroStack, NoMemory> {
@@ -192,6 +192,6 @@ impl Retro for RetroStack {
     }
 
     fn all(&mut self, place: u32) -> Result<Listing, NoMemory> {
-        list_line(self, place)
+        list_sequence(self, place)
     }
 }

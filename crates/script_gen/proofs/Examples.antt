@@ -11,8 +11,8 @@ drawn_from_zero = refl
 drawn_from_seven : first_draw 7 ≡ 1059165278
 drawn_from_seven = refl
 
-state_behind_one : next_state 1 ≡ 7806831264735756412
-state_behind_one = refl
+state_after_one : next_state 1 ≡ 7806831264735756412
+state_after_one = refl
 
 queue_from_zero : generated Queue 1 0 ≡ codes "new g queue" ∷ codes "g delete #1" ∷ []
 unfolding generated digits

@@ -50,9 +50,9 @@ line_of kind number state =
     else (if first_draw state % 10 == 8 then AskMain (second_draw state % 1000000)
     else AskSize)))
 
--- the state behind it
-abbrev pub state_behind : Kind → ℕ → ℕ
-state_behind kind state =
+-- the state after it
+abbrev pub state_later : Kind → ℕ → ℕ
+state_later kind state =
     if nat_le (first_draw state % 10) 4 then state_after (adding_draws kind) (state_after 2 state)
     else (if nat_le (first_draw state % 10) 6 then state_after (taking_draws kind) (state_after 2 state)
     else (if nat_le (first_draw state % 10) 8 then state_after 2 state
@@ -77,7 +77,7 @@ line_text kind AskSize = codes "g ask size"
 abbrev pub lines_from : Kind → ℕ → ℕ → ℕ → List (List ℕ)
 lines_from kind zero number state = []
 lines_from kind (suc more) number state =
-    line_text kind (line_of kind number state) ∷ lines_from kind more (number + 1) (state_behind kind state)
+    line_text kind (line_of kind number state) ∷ lines_from kind more (number + 1) (state_later kind state)
 
 -- the word of a kind
 abbrev pub kind_word : Kind → List ℕ

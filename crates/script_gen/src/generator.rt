@@ -31,7 +31,7 @@ impl Model for ScriptGen {
 }
 
 impl ScriptGen {
-    /// The script of a kind with so many lines behind the first one, at most 1,000,000, from a start on.
+    /// The script of a kind with so many lines after the first one, at most 1,000,000, from a start on.
     #[tactic(auto, unfolding(crate::specs::Script::generated))]
     pub fn new(kind: Kind, lines: u32, start: u64) -> ScriptGen
         requires { lines ≤ 1000000 }

@@ -1,6 +1,6 @@
 ghost use Rattle.std.specs.Prelude.{◌≡◌, ◌≤◌, ◌%◌, pos};
 ghost use Rattle.script_gen.specs.Draws.{first_draw, next_state, state_after};
-ghost use Rattle.script_gen.specs.Script.{adding_draws, adding_op, line_of, state_behind, taking_draws, taking_op};
+ghost use Rattle.script_gen.specs.Script.{adding_draws, adding_op, line_of, state_later, taking_draws, taking_op};
 
 use crate::draws::Draws;
 use retro_base::{Kind, Op};
@@ -22,7 +22,7 @@ pub(crate) enum Line {
 pub(crate) fn draw_line(kind: Kind, number: u32, draws: &mut Draws) -> Line
     requires { 1 ≤ number }
     ensures line { result ≡ line_of kind number draws.old.state }
-    ensures state { draws.new.state ≡ state_behind kind draws.old.state }
+    ensures state { draws.new.state ≡ state_later kind draws.old.state }
 {
     match draws.draw() % 10 {
         0..=4 => Line::Insert {

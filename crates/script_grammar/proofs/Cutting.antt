@@ -12,7 +12,7 @@ module _ (p : ℕ → Bool) where
   abbrev parts : List ℕ → List (List ℕ)
   parts xs = filter is_filled (slice_split p xs)
 
-  -- what is behind the dividing bytes at the front
+  -- what is after the dividing bytes at the front
   abbrev after : List ℕ → List ℕ
   after xs = drop (prefix_len p xs) xs
 
@@ -23,7 +23,7 @@ module _ (p : ℕ → Bool) where
   abbrev others : List ℕ → List ℕ
   others xs = drop (position_or_len p xs) xs
 
-  -- the split list has the first part in front, and the parts of what is behind it
+  -- the split list has the first part in front, and the parts of what is after it
   record Cut (xs : List ℕ) : Type 0 where
     rest : List (List ℕ)
     whole : slice_split p xs ≡ first xs ∷ rest
@@ -36,7 +36,7 @@ module _ (p : ℕ → Bool) where
     | inr joins ↦ let c = cut xs in record { rest = c.rest; whole = rw (joins, one-add, c.whole) refl; tail = rw (joins, one-add) c.tail }
   ]
 
-  -- the first part, unless it is empty, and the parts behind it
+  -- the first part, unless it is empty, and the parts after it
   parts_cut : (xs : List ℕ) → parts xs ≡ cond (is_filled (first xs)) (first xs ∷ parts (others xs)) (parts (others xs))
   parts_cut xs = let c = cut xs in rw (c.whole, c.tail) refl
 
@@ -77,7 +77,7 @@ module _ (p : ℕ → Bool) where
         none ∙ sym some
   ]
 
--- the first word of a line, and the bytes behind it
+-- the first word of a line, and the bytes after it
 abbrev pub first_word : List ℕ → List ℕ
 first_word line = take (position_or_len is_space (drop (prefix_len is_space line) line)) (drop (prefix_len is_space line) line)
 
@@ -89,7 +89,7 @@ pub words_cut : (line : List ℕ) → is_filled (first_word line) ≡ true → w
 unfolding words
 words_cut line filled = parts_filled is_space line filled
 
--- a line without one has none, nor has what is behind its spaces
+-- a line without one has none, nor has what is after its spaces
 pub words_none : (line : List ℕ) → is_filled (first_word line) ≡ false → words line ≡ []
 unfolding words
 words_none line empty = parts_empty is_space line empty
@@ -98,14 +98,14 @@ pub words_none_after : (line : List ℕ) → is_filled (first_word line) ≡ fal
 unfolding words
 words_none_after line empty = others_empty is_space line empty
 
--- a word that was cut off a line, and what is behind it, by their places: `&line[start..].split_at(size)`
+-- a word that was cut off a line, and what is after it, by their places: `&line[start..].split_at(size)`
 pub record IsCutOff (line word rest : List ℕ) (start size : ℕ) : Type 0 where
   pub start_is : start ≡ prefix_len is_space line
   pub size_is : size ≡ position_or_len is_space (take (length line - start) (drop start line))
   pub word_is : word ≡ take size (take (length line - start) (drop start line))
   pub rest_is : rest ≡ drop size (take (length line - start) (drop start line))
 
--- they are the first word and what is behind it
+-- they are the first word and what is after it
 cut_off_is : (line word rest : List ℕ) (start size : ℕ) → IsCutOff line word rest start size → (word ≡ first_word line) × (rest ≡ after_first_word line)
 cut_off_is line word rest start size cut =
     let part : take (length line - start) (drop start line) ≡ drop (prefix_len is_space line) line = take_rest line start ∙ ap (λ n. drop n line) cut.start_is in

@@ -17,12 +17,12 @@ answer_text Nothing = codes "= none"
 abbrev pub pair_text : ℤ → ℤ → List ℕ
 pair_text key value = signed_decimal key ++ (codes ":" ++ signed_decimal value)
 
--- ` n` or ` k:v`: an item of a listing, behind a space
+-- ` n` or ` k:v`: an item of a listing, after a space
 abbrev pub item_text : Item → List ℕ
 item_text (contents.Single value) = codes " " ++ signed_decimal value
 item_text (contents.Pair key value) = codes " " ++ pair_text key value
 
--- `= empty`, or `=` and each item behind a space
+-- `= empty`, or `=` and each item after a space
 abbrev pub listing_text : List Item → List ℕ
 listing_text [] = codes "= empty"
 listing_text (item ∷ items) = codes "=" ++ flat_map item_text (item ∷ items)

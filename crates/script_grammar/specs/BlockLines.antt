@@ -18,7 +18,7 @@ abbrev pub are_passed_over : List (List ℕ) → Bool
 are_passed_over [] = true
 are_passed_over (word ∷ rest) = begins_comment word
 
--- `T OP`, behind the number of the row
+-- `T OP`, after the number of the row
 abbrev pub row_with : ℕ → List (List ℕ) → Option Row
 row_with number [] = None
 row_with number (word ∷ rest) =

@@ -34,7 +34,7 @@ abbrev pub kind_named : List (List ℕ) → Option Kind
 kind_named [] = None
 kind_named (word ∷ rest) = option_and_then (λ kind. alone kind rest) (kind_of_word word)
 
--- `new NAME KIND`, behind its first word
+-- `new NAME KIND`, after its first word
 abbrev pub new_of : List (List ℕ) → Option Command
 new_of [] = None
 new_of (word ∷ rest) = option_and_then (λ name. option_map (New name) (kind_named rest)) (name_of word)
@@ -51,12 +51,12 @@ spot_of word place =
     else (if bytes_eq word (codes "after") then option_map After (row_number_of place)
     else None))
 
--- `NAME at T OP`, `NAME before #N OP` and `NAME after #N OP`, behind their second word
+-- `NAME at T OP`, `NAME before #N OP` and `NAME after #N OP`, after their second word
 abbrev pub insert_of : List ℕ → List ℕ → List (List ℕ) → Option Command
 insert_of name word [] = None
 insert_of name word (place ∷ rest) = option_and_then (λ spot. option_map (Insert name spot) (op_of rest)) (spot_of word place)
 
--- `NAME delete #N`, behind its second word
+-- `NAME delete #N`, after its second word
 abbrev pub delete_of : List ℕ → List (List ℕ) → Option Command
 delete_of name [] = None
 delete_of name (word ∷ rest) = option_and_then (λ number. alone (Delete name number) rest) (row_number_of word)
@@ -66,19 +66,19 @@ abbrev pub ask_at : List ℕ → Spot → List (List ℕ) → Option Command
 ask_at name spot [] = None
 ask_at name spot (word ∷ rest) = option_map (Ask name (Then spot)) (query_of word rest)
 
--- `NAME ask at T Q`, `NAME ask before #N Q` and `NAME ask after #N Q`, behind their third word
+-- `NAME ask at T Q`, `NAME ask before #N Q` and `NAME ask after #N Q`, after their third word
 abbrev pub ask_then : List ℕ → List ℕ → List (List ℕ) → Option Command
 ask_then name word [] = None
 ask_then name word (place ∷ rest) = option_and_then (λ spot. ask_at name spot rest) (spot_of word place)
 
--- `NAME ask Q`, or `NAME ask` at a moment, behind the second word
+-- `NAME ask Q`, or `NAME ask` at a moment, after the second word
 abbrev pub ask_of : List ℕ → List (List ℕ) → Option Command
 ask_of name [] = None
 ask_of name (word ∷ rest) =
     if begins_spot word then ask_then name word rest
     else option_map (Ask name Now) (query_of word rest)
 
--- the forms that begin with a name, behind it
+-- the forms that begin with a name, after it
 abbrev pub about : List ℕ → List (List ℕ) → Option Command
 about name [] = None
 about name (word ∷ rest) =
@@ -88,7 +88,7 @@ about name (word ∷ rest) =
     else (if bytes_eq word (codes "redo") then alone (Redo name) rest
     else insert_of name word rest)))
 
--- `save NAME`, behind its first word
+-- `save NAME`, after its first word
 abbrev pub save_of : List (List ℕ) → Option Command
 save_of [] = None
 save_of (word ∷ rest) = option_and_then (λ name. alone (Save name) rest) (name_of word)
@@ -108,7 +108,7 @@ abbrev pub header_kind : List ℕ → List (List ℕ) → Option Command
 header_kind name [] = None
 header_kind name (word ∷ rest) = option_and_then (λ kind. header_end name kind rest) (kind_of_word word)
 
--- `timeline NAME KIND next N`, behind its first word
+-- `timeline NAME KIND next N`, after its first word
 abbrev pub header_of : List (List ℕ) → Option Command
 header_of [] = None
 header_of (word ∷ rest) = option_and_then (λ name. header_kind name rest) (name_of word)

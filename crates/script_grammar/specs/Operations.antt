@@ -32,7 +32,7 @@ unary_op word value =
 abbrev pub binary_op : List ℕ → ℤ → ℤ → Option Op
 binary_op word key value = if bytes_eq word (codes "put") then Some (Put key value) else None
 
--- the operation that a word and the values behind it spell
+-- the operation that a word and the values after it spell
 abbrev pub op_with : List ℕ → Operands → Option Op
 op_with word Bare = bare_op word
 op_with word (Unary value) = unary_op word value

@@ -37,18 +37,18 @@ binary_question word low high =
     else (if bytes_eq word (codes "sum") then Some (Sum low high)
     else None)
 
--- the question that a word and the values behind it spell
+-- the question that a word and the values after it spell
 abbrev pub question_with : List ℕ → Operands → Option Question
 question_with word Bare = bare_question word
 question_with word (Unary key) = unary_question word key
 question_with word (Binary low high) = binary_question word low high
 
--- `nth i`, behind its first word
+-- `nth i`, after its first word
 abbrev pub nth_of : List (List ℕ) → Option Question
 nth_of [] = None
 nth_of (word ∷ rest) = option_and_then (λ index. alone (Nth index) rest) (index_of word)
 
--- the question that a word and those behind it spell
+-- the question that a word and those after it spell
 abbrev pub question_of : List ℕ → List (List ℕ) → Option Question
 question_of word rest =
     if bytes_eq word (codes "nth") then nth_of rest

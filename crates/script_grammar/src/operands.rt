@@ -4,7 +4,7 @@ ghost use Rattle.script_grammar.specs.Operands.{operands_after, operands_of};
 use crate::numbers::read_value;
 use crate::words::Words;
 
-/// The values behind the word of an operation or a question.
+/// The values after the word of an operation or a question.
 #[derive(Clone, Copy, Debug)]
 pub enum Operands {
     /// None.

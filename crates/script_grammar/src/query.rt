@@ -7,7 +7,7 @@ use crate::operands::{Operands, read_operands};
 use crate::words::Words;
 use retro_base::Question;
 
-/// What is asked for by a word and the words left behind it.
+/// What is asked for by a word and the words left after it.
 pub fn read_query(word: &[u8], words: Words) -> Option<Query>
     ensures { result ≡ query_of word.now words.entry }
 {

@@ -11,7 +11,7 @@ pub fn begins_spot(word: &[u8]) -> bool
     word == b"at".as_slice() || word == b"before".as_slice() || word == b"after".as_slice()
 }
 
-/// The spot that a word and the place behind it spell.
+/// The spot that a word and the place after it spell.
 pub fn read_spot(word: &[u8], place: &[u8]) -> Option<Spot>
     ensures { result ≡ spot_of word.now place.now }
 {

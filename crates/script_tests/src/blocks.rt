@@ -4,7 +4,7 @@ use std::process::Abort;
 use std::test::Fail;
 use timeline_file::{BlockError, BlockReader, RowCause, print_block};
 
-/// What a block of a kind with this next number comes to, of which these lines stand behind the header: how
+/// What a block of a kind with this next number comes to, of which these lines stand after the header: how
 /// many rows it has, or why it makes no timeline.
 fn outcome(
     rt: &impl Abort,

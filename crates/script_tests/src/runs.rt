@@ -120,7 +120,7 @@ fn scripts_get_their_answers(rt: HostRuntime) -> Result<(), NoMemory> {
               = 7\nrefused at #2 30\nok #4\nok #3\n= 5\n",
             Status::Refused,
         ),
-        // Steps are undone and made again, until another edit comes.
+        // Steps are undone and redone, until another edit comes.
         (
             b"new s stack\ns at 1 push 1\ns undo\ns redo\ns undo\ns at 2 push 5\ns redo\ns ask all\n",
             b"ok\nok #1\nok\nok\nok\nok #2\nrefused nothing to redo\n= 5\n",

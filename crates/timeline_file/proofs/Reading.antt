@@ -42,7 +42,7 @@ row_line_goes_on : (row : Row) → row.number < next_limit → row.time < 2 ^ 64
 unfolding is_end
 row_line_goes_on row number time = rw (row_words row number time) refl
 
--- a good row, behind these
+-- a good row, after these
 record IsGood (kind : Kind) (rows : List Row) (row : Row) : Type 0 where
   room : length rows < most_rows
   good : cause_of_row kind rows row ≡ None
@@ -54,7 +54,7 @@ unfolding taken
 read_one kind next rows row good least most range =
     rw (row_line_counts row most range.0, row_line_read row least most range, lt-leb most_rows (length rows) good.room, good.good) refl
 
--- What a timeline says of one of its rows, which stands behind some of them and in front of the others.
+-- What a timeline says of one of its rows, which stands after some of them and in front of the others.
 module _ {X : Type 0} (P : X → Type 0) where
   all_middle : (before : List X) (x : X) (after : List X) → AllByRecursion P (before ++ x ∷ after) → P x
   all_middle [] x after all = all.0
@@ -115,7 +115,7 @@ good_at kind next before row after timeline = record {
   ) refl;
 }
 
--- the row lines read back, behind those that were read before
+-- the row lines read back, after those that were read before
 read_from : (kind : Kind) (next : ℕ) (before rows : List Row) → IsTimeline kind (before ++ rows) next → AllByRecursion IsInRange rows
     → taken_all (record { kind = kind; next = next; rows = before; bad = None }) (map row_text rows)
     ≡ record { kind = kind; next = next; rows = before ++ rows; bad = None }

@@ -35,7 +35,7 @@ last_time [] = 0
 last_time (row ∷ []) = row.time
 last_time (row ∷ next ∷ rows) = last_time (next ∷ rows)
 
--- why a row is bad behind these rows, if it is: the first cause that holds
+-- why a row is bad after these rows, if it is: the first cause that holds
 abbrev pub cause_of_row : Kind → List Row → Row → Option RowCause
 cause_of_row kind rows row =
     if not (same_kind (kind_of row.op) kind) then Some causes.Kind
@@ -49,7 +49,7 @@ abbrev pub cause_of : Kind → List Row → Option Row → Option RowCause
 cause_of kind rows None = Some causes.Syntax
 cause_of kind rows (Some row) = cause_of_row kind rows row
 
--- what is wrong with a row line behind these rows, if anything is: there is room for no more, whatever the line is, or the line is bad
+-- what is wrong with a row line after these rows, if anything is: there is room for no more, whatever the line is, or the line is bad
 abbrev pub fault_of : Kind → List Row → Option Row → Option BlockError
 fault_of kind rows line =
     if nat_le most_rows (length rows) then Some errors.Full

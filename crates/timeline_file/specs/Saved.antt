@@ -14,11 +14,11 @@ kind_text Deque = codes "deque"
 kind_text Dict = codes "dict"
 kind_text Pq = codes "pq"
 
--- a text behind a space
+-- a text after a space
 abbrev pub spaced : List ℕ → List ℕ
 spaced text = codes " " ++ text
 
--- `next N`, behind a space
+-- `next N`, after a space
 abbrev pub next_text : ℕ → List ℕ
 next_text next = codes " next " ++ decimal next
 

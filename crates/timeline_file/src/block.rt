@@ -9,7 +9,7 @@ use std::alloc::Global;
 use std::collections::HashSet;
 use std::marker::Model;
 
-/// Why a row line is bad. Of several causes the first one is told.
+/// Why a row line is bad. Of several causes the first one is reported.
 #[derive(Clone, Copy, Debug, PartialEq, Eq)]
 pub enum RowCause {
     /// The line is long, or not of the form `#N T OP`.
@@ -37,7 +37,7 @@ pub enum BlockError {
     Next,
 }
 
-/// What has been read of a block, behind its header. Contracts see it as a block of `specs/Block.antt`.
+/// What has been read of a block, after its header. Contracts see it as a block of `specs/Block.antt`.
 #[derive(Drop)]
 pub struct BlockReader {
     next: u32,
@@ -129,7 +129,7 @@ impl BlockReader {
         Ok(())
     }
 
-    /// Why the row is bad behind the rows so far, if it is.
+    /// Why the row is bad after the rows so far, if it is.
     fn cause_of(&self, row: Row) -> Option<RowCause>
         ensures { result ≡ cause_of_row self.now.kind self.now.rows row }
     {

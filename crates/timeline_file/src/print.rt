@@ -42,7 +42,7 @@ fn print_header(name: &Name, kind: Kind, next: u32, out: &mut Text) -> Result<()
     print_kind_and_next(kind, next, out)
 }
 
-/// Appends what stands in a header behind the name.
+/// Appends what stands in a header after the name.
 fn print_kind_and_next(kind: Kind, next: u32, out: &mut Text) -> Result<(), NoMemory>
     ensures ok { OnOk result (out.new ≡ out.old ++ (spaced (kind_text kind) ++ next_text next)) }
     ensures err { OnErr result (AppendsPrefix out.old out.new (spaced (kind_text kind) ++ next_text next)) }
@@ -104,7 +104,7 @@ fn print_row(row: Row, out: &mut Text) -> Result<(), NoMemory>
     print_time_and_op(row.time, row.op, out)
 }
 
-/// Appends what stands in a row line behind the number.
+/// Appends what stands in a row line after the number.
 fn print_time_and_op(time: u64, op: Op, out: &mut Text) -> Result<(), NoMemory>
     ensures ok { OnOk result (out.new ≡ out.old ++ (spaced (decimal time) ++ spaced (op_text op))) }
     ensures err { OnErr result (AppendsPrefix out.old out.new (spaced (decimal time) ++ spaced (op_text op))) }
@@ -114,7 +114,7 @@ fn print_time_and_op(time: u64, op: Op, out: &mut Text) -> Result<(), NoMemory>
     print_spaced_op(op, out)
 }
 
-/// Appends an operation, behind a space.
+/// Appends an operation, after a space.
 fn print_spaced_op(op: Op, out: &mut Text) -> Result<(), NoMemory>
     ensures ok { OnOk result (out.new ≡ out.old ++ spaced (op_text op)) }
     ensures err { OnErr result (AppendsPrefix out.old out.new (spaced (op_text op))) }

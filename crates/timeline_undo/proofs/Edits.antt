@@ -18,7 +18,7 @@ pub inverse_twice : (edit : Edit) → inverse (inverse edit) ≡ edit
 inverse_twice (add place row) = refl
 inverse_twice (cut place row) = refl
 
--- what is left when one is taken out: those before it where they stood, and those behind it one place earlier
+-- what is left when one is taken out: those before it where they stood, and those after it one place earlier
 pub left_before : {X : Type 0} (xs : List X) (place i : ℕ) (x : X) → i < place → slice_get xs i ≡ Some x → slice_get (remove xs place) i ≡ Some x
 left_before [] place i x before there = absurd (cc)
 left_before (y ∷ ys) zero i x before there = absurd (omega arith)

@@ -33,7 +33,7 @@ pub in_turn_first : (kind : Kind) (next : ℕ) (rows : List Row) (first others :
 in_turn_first kind next rows [] others turn = tt
 in_turn_first kind next rows (edit ∷ first) others turn = (turn.0, in_turn_first kind next (edited rows edit) first others turn.1)
 
--- behind an edit it can be taken back, and then what could be made before it can be made again
+-- after an edit it can be taken back, and then what could be made before it can be redone
 pub in_turn_back : (kind : Kind) (next : ℕ) (rows : List Row) (edit : Edit) (more : List Edit) → IsWithin rows edit
     → IsTimeline kind rows next → StandInTurn kind next rows more → StandInTurn kind next (edited rows edit) (inverse edit ∷ more)
 in_turn_back kind next rows edit more within timeline turn =

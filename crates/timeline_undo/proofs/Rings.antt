@@ -35,7 +35,7 @@ latest_undone-kept n noted =
 pub few_kept : {X : Type 0} (n : ℕ) (xs : List X) → length (keep_last n xs) ≤ n
 few_kept n xs = omega (arith, length-drop (length xs - n) xs)
 
--- the steps of a ring behind one more, and behind one fewer
+-- the steps of a ring after one more, and after one fewer
 pub steps-recorded : (noted : List Noted) (new : Noted) → steps_of (keep_last most_steps (noted ++ new ∷ [])) ≡ newest (steps_of noted ++ (edit_of new ∷ []) ∷ [])
 steps-recorded noted new =
     let all = noted ++ new ∷ [] in

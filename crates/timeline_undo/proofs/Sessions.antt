@@ -1,4 +1,4 @@
--- A session stays one behind each of its calls.
+-- A session stays one after each of its calls.
 use Rattle.std.proofs.Common.{◌≡◌, ℕ, true, false, cond, ◌+◌, ◌-◌, ◌<◌, ◌≤◌, List, [], ◌∷◌, ◌++◌, length, take, drop, slice_get, Option, Some, None, sym, ◌∙◌, ap, subst, arith}
 use Rattle.std.proofs.lemmas.List.{length-append}
 use Rattle.circular_buffer.specs.Buffer.{Buffer, buffer, keep_last}
@@ -16,7 +16,7 @@ use Rattle.retro_base.specs.TimelineLaws.{next_is_fresh, timeline_with, timeline
 use Rattle.std.specs.List.{insert, remove}
 use Rattle.timeline_undo.specs.declared.noted.Noted.{Noted}
 use Rattle.timeline_undo.specs.declared.turn.Turn.{Turn}
-use Rattle.timeline_undo.specs.Session.{edit_told}
+use Rattle.timeline_undo.specs.Session.{edit_reported}
 use Rattle.timeline_undo.specs.Kept.{edit_of, latest, latest_undone, StandInTurn, IsSession}
 use Rattle.timeline_undo.proofs.Edits.{inverse_twice}
 use Rattle.timeline_undo.proofs.InTurn.{in_turn_first, in_turn_back}
@@ -38,7 +38,7 @@ delete_leads kind performed rows next place failing same timeline first none =
     let valid : IsValid kind (remove rows place) = rw same at (sym first ∙ none) in
     timeline_without kind rows next place timeline (replayable_without kind rows place timeline.replayable valid)
 
--- and so does a row that comes behind all others, with a number of its own
+-- and so does a row that comes after all others, with a number of its own
 pub append_leads : (kind : Kind) (rows : List Row) (next place : ℕ) (row : Row) → IsTimeline kind rows next → place ≡ length rows
     → (1 ≤ row.number) × (row.number < next) → IsFresh row.number rows → Fits rows (length rows) row.time → length rows < most_rows → kind_of row.op ≡ kind
     → IsValid kind (insert rows (length rows) row) → IsTimeline kind (insert rows place row) next
@@ -49,7 +49,7 @@ append_leads kind rows next place row timeline end number fresh fits room of_kin
   next_in_range = timeline.next_in_range;
 })
 
--- behind it a session without a history is one still
+-- after it a session without a history is one still
 pub session_appended : (kind : Kind) (old performed rows after : List Row) (next : ℕ) (undo redo : Buffer Noted) → IsSession kind old rows next undo redo
     → undo.items ≡ [] → redo.items ≡ [] → performed ≡ after → IsTimeline kind after next → IsSession kind performed after next undo redo
 session_appended kind old performed rows after next undo redo session no_undo no_redo same timeline = record {
@@ -69,7 +69,7 @@ pub undo_stands : (kind : Kind) (next : ℕ) (rows : List Row) (noted : List Not
 undo_stands kind next rows noted last there turn =
     subst (StandInTurn kind next rows) (ap latest_undone (sym (up_to_newest noted last there)) ∙ latest_undone-more (take (length noted - 1) noted) last) turn
 
--- and the newest edit of the redo ring can be made again
+-- and the newest edit of the redo ring can be redone
 pub redo_stands : (kind : Kind) (next : ℕ) (rows : List Row) (noted : List Noted) (last : Noted) → slice_get noted (length noted - 1) ≡ Some last
     → StandInTurn kind next rows (latest noted) → StandInTurn kind next rows (edit_of last ∷ latest (take (length noted - 1) noted))
 redo_stands kind next rows noted last there turn =
@@ -80,7 +80,7 @@ some_there : (noted : List Noted) (last : Noted) → slice_get noted (length not
 some_there noted last there =
     sym (length-append (take (length noted - 1) noted) (last ∷ [])) ∙ ap length (up_to_newest noted last there)
 
--- behind an accepted edit that was noted
+-- after an accepted edit that was noted
 pub session_noted : (kind : Kind) (performed rows : List Row) (next : ℕ) (undo redo : Buffer Noted) (noted : Noted)
     → undo.capacity ≡ most_steps → redo.capacity ≡ most_steps
     → IsWithin rows (edit_of noted) → performed ≡ edited rows (edit_of noted)
@@ -101,7 +101,7 @@ session_noted kind performed rows next undo redo noted undo_room redo_room withi
       redoable = tt;
     }
 
--- behind an undo
+-- after an undo
 pub session_undone : (kind : Kind) (old performed rows : List Row) (next : ℕ) (undo redo : Buffer Noted) (last : Noted)
     → IsSession kind old rows next undo redo → slice_get undo.items (length undo.items - 1) ≡ Some last
     → performed ≡ edited rows (inverse (edit_of last))
@@ -120,7 +120,7 @@ session_undone kind old performed rows next undo redo last session there same =
           (in_turn_back kind next rows (inverse (edit_of last)) (latest redo.items) turn.0.within session.timeline session.redoable));
     }
 
--- behind a redo
+-- after a redo
 pub session_redone : (kind : Kind) (old performed rows : List Row) (next : ℕ) (undo redo : Buffer Noted) (last : Noted)
     → IsSession kind old rows next undo redo → slice_get redo.items (length redo.items - 1) ≡ Some last
     → performed ≡ edited rows (edit_of last)
@@ -139,7 +139,7 @@ session_redone kind old performed rows next undo redo last session there same =
     }
 
 -- a turn that tells of this row
-pub row_told : (turn : Turn) (place : ℕ) (row : Row) → edit_told turn ≡ cut place row → turn.row ≡ row
-row_told turn place row =
+pub row_reported : (turn : Turn) (place : ℕ) (row : Row) → edit_reported turn ≡ cut place row → turn.row ≡ row
+row_reported turn place row =
     elim turn.added as (λ added. cond added (add turn.place turn.row) (cut turn.place turn.row) ≡ cut place row → turn.row ≡ row)
     [ true ↦ λ e. absurd (cc) | false ↦ λ e. cc ]

@@ -1,4 +1,4 @@
--- What a session keeps, and why each of its steps can be undone or made again.
+-- What a session keeps, and why each of its steps can be undone or redone.
 use Rattle.std.specs.Prelude.{◌≡◌, ℕ, ◌+◌, ◌≤◌, List, [], ◌∷◌, map, reverse, length}
 use Rattle.circular_buffer.specs.Buffer.{Buffer}
 use Rattle.retro_base.specs.declared.kind.Kind.{Kind}
@@ -28,14 +28,14 @@ abbrev pub StandInTurn : Kind → ℕ → List Row → List Edit → Type 0
 StandInTurn kind next rows [] = Unit {0}
 StandInTurn kind next rows (edit ∷ more) = Stands kind next rows edit × StandInTurn kind next (edited rows edit) more
 
--- the edits of a ring, the newest first: those that are made again, and those that undo
+-- the edits of a ring, the newest first: those that are redone, and those that undo
 abbrev pub latest : List Noted → List Edit
 latest noted = reverse (map edit_of noted)
 
 abbrev pub latest_undone : List Noted → List Edit
 latest_undone noted = map inverse (latest noted)
 
--- the structure performs the rows of the timeline; the rings have room, and what they keep can be undone and made again
+-- the structure performs the rows of the timeline; the rings have room, and what they keep can be undone and redone
 pub record IsSession (kind : Kind) (performed rows : List Row) (next : ℕ) (undo redo : Buffer Noted) : Type 0 where
   pub same : performed ≡ rows
   pub timeline : IsTimeline kind rows next

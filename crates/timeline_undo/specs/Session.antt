@@ -21,11 +21,11 @@ pub record SessionState : Type 0 where
 abbrev pub drawn : SessionState → ℕ → Op → Row
 drawn session time op = record { number = session.next; time = time; op = op }
 
--- behind an accepted edit, which is a step of its own
+-- after an accepted edit, which is a step of its own
 abbrev pub with_edit : SessionState → Edit → SessionState
 with_edit session edit = record session { rows = edited session.rows edit; history = recorded (edit ∷ []) session.history }
 
--- behind an accepted insert: the next row draws another number
+-- after an accepted insert: the next row draws another number
 abbrev pub with_insert : SessionState → ℕ → Row → SessionState
 with_insert session place row = record (with_edit session (add place row)) { next = session.next + 1 }
 
@@ -33,7 +33,7 @@ with_insert session place row = record (with_edit session (add place row)) { nex
 abbrev pub with_undo : SessionState → Step → SessionState
 with_undo session step = record session { rows = edited_by session.rows (inverse_step step); history = undone step session.history }
 
--- a step is made again
+-- a step is redone
 abbrev pub with_redo : SessionState → Step → SessionState
 with_redo session step = record session { rows = edited_by session.rows step; history = redone step session.history }
 
@@ -42,11 +42,11 @@ abbrev pub FailsFirst : Kind → List Row → ℕ → ℕ → Type 0
 FailsFirst kind rows number time =
     (index : ℕ) × (row : Row) × (failure kind rows ≡ Some index) × (slice_get rows index ≡ Some row) × (row.number ≡ number) × (row.time ≡ time)
 
--- why an edit does not stand: the first row that could not be performed, or want of memory, where all could
+-- why an edit does not stand: the first row that could not be performed, or out of memory, where all could
 abbrev pub IsCause : Kind → List Row → Edit → EditError → Type 0
 IsCause kind rows edit (Fails number time) = FailsFirst kind (edited rows edit) number time
 IsCause kind rows edit NoMemory = IsAccepted kind rows edit
 
 -- the list edit that a turn tells
-abbrev pub edit_told : Turn → Edit
-edit_told turn = if turn.added then add turn.place turn.row else cut turn.place turn.row
+abbrev pub edit_reported : Turn → Edit
+edit_reported turn = if turn.added then add turn.place turn.row else cut turn.place turn.row

@@ -5,7 +5,7 @@ ghost use Rattle.retro_base.specs.Edits.{add, cut, edited, IsWithin};
 ghost use Rattle.retro_base.specs.MadeEdits.{IsMade};
 ghost use Rattle.retro_base.specs.Timeline.{IsReplayable, TimesNeverFall};
 ghost use Rattle.timeline_undo.specs.Kept.{edit_of};
-ghost use Rattle.timeline_undo.specs.Session.{edit_told};
+ghost use Rattle.timeline_undo.specs.Session.{edit_reported};
 
 use crate::Turn;
 use crate::noted::Noted;
@@ -26,8 +26,8 @@ pub(crate) fn make<R: Retro>(
     ensures kind { R.kind structure.new ≡ R.kind structure.old }
     ensures same { R.rows structure.new ≡ timeline.new }
     ensures rows { IfOk result (λ _. timeline.new ≡ edited timeline.old (edit_of edit)) }
-    ensures told { IfOk result (λ turn. edit_told turn ≡ edit_of edit) }
-    ensures made { IfOk result (λ turn. IsMade (R.kind structure.old) timeline.old (edit_told turn) turn.change) }
+    ensures reported { IfOk result (λ turn. edit_reported turn ≡ edit_of edit) }
+    ensures made { IfOk result (λ turn. IsMade (R.kind structure.old) timeline.old (edit_reported turn) turn.change) }
     ensures err { OnErr result (timeline.new ≡ timeline.old) }
 {
     match edit {

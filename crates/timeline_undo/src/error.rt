@@ -16,7 +16,7 @@ pub enum EditError {
     NoMemory,
 }
 
-/// Why nothing is undone or made again.
+/// Why nothing is undone or redone.
 #[derive(Clone, Copy, Debug, PartialEq, Eq, Error)]
 pub enum UndoError {
     /// There is no step to undo, or none to make again.

@@ -7,7 +7,7 @@
 //! Of its steps a session keeps the last 1,024; it takes the memory for them when it is made.
 //!
 //! What the layer above may rely on: a session is seen as a kind, rows, the number that the next row draws, and a
-//! history (`specs/Session.antt`, `specs/History.antt`); behind every error all is as before; `EditError::Fails` comes
+//! history (`specs/Session.antt`, `specs/History.antt`); after every error all is as before; `EditError::Fails` comes
 //! exactly where the edited rows do not replay, and `UndoError::Nothing` exactly where there is no such step. That an
 //! undo always replays is no test but a fact, which the invariant keeps: every step leads to rows that stood before.
 //!

@@ -32,7 +32,7 @@ pub(crate) fn newest(ring: &HeapCircularBuffer<Noted>) -> Option<Noted>
     ring.back().copied()
 }
 
-/// Notes an accepted edit: it can be undone, and nothing can be made again.
+/// Notes an accepted edit: it can be undone, and nothing can be redone.
 pub(crate) fn note(
     undo: &mut HeapCircularBuffer<Noted>,
     redo: &mut HeapCircularBuffer<Noted>,

@@ -9,7 +9,7 @@ ghost use Rattle.retro_base.specs.Questions.{suits};
 ghost use Rattle.retro_base.specs.Replay.{present, state_at};
 ghost use Rattle.retro_base.specs.Timeline.{IsFresh, IsTimeline};
 ghost use Rattle.timeline_undo.specs.History.{newest_step, no_history};
-ghost use Rattle.timeline_undo.specs.Session.{drawn, edit_told, IsCause, with_edit, with_insert, with_redo, with_undo};
+ghost use Rattle.timeline_undo.specs.Session.{drawn, edit_reported, IsCause, with_edit, with_insert, with_redo, with_undo};
 
 use crate::edit::make;
 use crate::failing::{fails_at, row_after_insert, row_after_remove};
@@ -158,10 +158,10 @@ impl<R: Retro + Drop> Session<R> {
     pub fn cut(&mut self, place: u32) -> Result<Turn, EditError>
         requires { place < length self.old.rows }
         ensures row { IfOk result (λ turn. slice_get self.old.rows place ≡ Some turn.row) }
-        ensures told { IfOk result (λ turn. edit_told turn ≡ cut place turn.row) }
+        ensures reported { IfOk result (λ turn. edit_reported turn ≡ cut place turn.row) }
         ensures accepted { IfOk result (λ turn. IsAccepted self.old.kind self.old.rows (cut place turn.row)) }
         ensures session { IfOk result (λ turn. self.new ≡ with_edit self.old (cut place turn.row)) }
-        ensures made { IfOk result (λ turn. IsMade self.old.kind self.old.rows (edit_told turn) turn.change) }
+        ensures made { IfOk result (λ turn. IsMade self.old.kind self.old.rows (edit_reported turn) turn.change) }
         ensures cause { IfErr result (λ error. IfSome (slice_get self.old.rows place) (λ row. IsCause self.old.kind self.old.rows (cut place row) error)) }
         ensures err { OnErr result (self.new ≡ self.old) }
     {
@@ -177,8 +177,8 @@ impl<R: Retro + Drop> Session<R> {
 
     /// Takes the newest step back. After every error all is as before.
     pub fn undo(&mut self) -> Result<Turn, UndoError>
-        ensures step { IfOk result (λ turn. (step : Step) × (newest_step self.old.history.undo ≡ Some step) × (inverse_step step ≡ edit_told turn ∷ []) × (self.new ≡ with_undo self.old step)) }
-        ensures made { IfOk result (λ turn. IsMade self.old.kind self.old.rows (edit_told turn) turn.change) }
+        ensures step { IfOk result (λ turn. (step : Step) × (newest_step self.old.history.undo ≡ Some step) × (inverse_step step ≡ edit_reported turn ∷ []) × (self.new ≡ with_undo self.old step)) }
+        ensures made { IfOk result (λ turn. IsMade self.old.kind self.old.rows (edit_reported turn) turn.change) }
         ensures nothing { IsErrOf result UndoError.Nothing ↔ (self.old.history.undo ≡ []) }
         ensures err { OnErr result (self.new ≡ self.old) }
     {
@@ -192,8 +192,8 @@ impl<R: Retro + Drop> Session<R> {
 
     /// Makes the step again that was taken back last. After every error all is as before.
     pub fn redo(&mut self) -> Result<Turn, UndoError>
-        ensures step { IfOk result (λ turn. (newest_step self.old.history.redo ≡ Some (edit_told turn ∷ [])) × (self.new ≡ with_redo self.old (edit_told turn ∷ []))) }
-        ensures made { IfOk result (λ turn. IsMade self.old.kind self.old.rows (edit_told turn) turn.change) }
+        ensures step { IfOk result (λ turn. (newest_step self.old.history.redo ≡ Some (edit_reported turn ∷ [])) × (self.new ≡ with_redo self.old (edit_reported turn ∷ []))) }
+        ensures made { IfOk result (λ turn. IsMade self.old.kind self.old.rows (edit_reported turn) turn.change) }
         ensures nothing { IsErrOf result UndoError.Nothing ↔ (self.old.history.redo ≡ []) }
         ensures err { OnErr result (self.new ≡ self.old) }
     {

@@ -12,7 +12,7 @@ const PUT: Op = Op::Put { key: 1, value: 10 };
 
 const DEL: Op = Op::Del { key: 1 };
 
-/// A row on another key, right behind the first one.
+/// A row on another key, right after the first one.
 const OTHER: Op = Op::Put { key: 2, value: 20 };
 
 /// Puts a row in at a label that no row has, where the rows can then all be performed.
@@ -40,7 +40,7 @@ fn rows_beside_an_edit_decide(rt: HostRuntime) -> Result<(), Fail> {
     assert_eq!(rt; index.bad_after_remove(100), Some(200));
     assert_eq!(rt; index.bad_after_remove(101), None);
     assert_eq!(rt; index.bad_after_remove(200), None);
-    for (behind, op, bad) in [
+    for (later, op, bad) in [
         (150, DEL, Some(Bad::Present { label: 200 })),
         (50, DEL, Some(Bad::Inserted)),
         (100, DEL, Some(Bad::Present { label: 200 })),
@@ -51,7 +51,7 @@ fn rows_beside_an_edit_decide(rt: HostRuntime) -> Result<(), Fail> {
         (u64::MAX, PUT, None),
     ] {
         assert!(rt; op.kind() == Kind::Dict);
-        assert_eq!(rt; index.bad_after_insert(behind, op), bad);
+        assert_eq!(rt; index.bad_after_insert(later, op), bad);
     }
     Ok(())
 }

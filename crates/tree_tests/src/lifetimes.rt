@@ -13,7 +13,7 @@ use std::sync::ledger::{Blank, Ledger};
 use std::test::Fail;
 use weighted_tree::Tree;
 
-/// The label behind all labels.
+/// The label after all labels.
 const END: u64 = 1 << 40;
 
 #[derive(Clone, Copy)]

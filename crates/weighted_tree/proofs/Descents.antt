@@ -10,7 +10,7 @@ pub sizes_of : {A : Type 0} (items left right : List A) (item : A) → items ≡
 sizes_of items left right item split = ap length split ∙ length-append left (item ∷ right)
 
 module _ {A M : Type 0} {count : M → ℕ} {unit : M} {join : M → M → M} (laws : MonoidLaws count unit join) (measured : A → M) (items left right : List A) (item : A) (split : items ≡ left ++ item ∷ right) (passed whole : M) (rest : ℕ) where
-  -- the first items, behind what was passed
+  -- the first items, after what was passed
   module _ (value : join passed (measure_of unit join measured (take rest items)) ≡ whole) where
     pub first-left : rest ≤ length left → join passed (measure_of unit join measured (take rest left)) ≡ whole
     first-left within =

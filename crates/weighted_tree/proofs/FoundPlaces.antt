@@ -10,7 +10,7 @@ use Rattle.std.specs.Borrow.{Bor}
 use Rattle.monoid_laws.specs.Laws.{MonoidLaws}
 use Rattle.monoid_laws.specs.Measure.{measure_of}
 use Rattle.weighted_tree.specs.Search.{Tells, IsRising, IsFalling, IsFirstPlace, IsLastPlace, FindsFirst, FindsLast}
-use Rattle.weighted_tree.specs.SearchSteps.{IsTurn, IsSought}
+use Rattle.weighted_tree.specs.SearchSteps.{IsBoundary, IsSought}
 use Rattle.weighted_tree.specs.declared.search.Search.TheVariants.{Found, Open}
 use Rattle.weighted_tree.specs.declared.node.Side.TheVariants.{Right}
 use Rattle.weighted_tree.specs.Sides.{seen_from, join_from}
@@ -24,12 +24,12 @@ module _ (holds : ℕ → Bool) (from to : ℕ) (rising : IsRising holds from to
     | inr none ↦ none
   ]
 
-  first_place : (count : ℕ) → from + count ≤ to → IsTurn (λ k. holds (from + k)) count → IsFirstPlace holds from to (from + count)
-  first_place count within turn = record {
+  first_place : (count : ℕ) → from + count ≤ to → IsBoundary (λ k. holds (from + k)) count → IsFirstPlace holds from to (from + count)
+  first_place count within boundary = record {
     above = omega arith;
     within = within;
-    holds_there = turn.holds_there;
-    not_before = λ earlier above before. fails_before (from + (count - 1)) (omega arith) (turn.not_before (count - 1) (omega arith)) earlier above (omega arith);
+    holds_there = boundary.holds_there;
+    not_before = λ earlier above before. fails_before (from + (count - 1)) (omega arith) (boundary.not_before (count - 1) (omega arith)) earlier above (omega arith);
   }
 
 -- a test that falls
@@ -40,11 +40,11 @@ module _ (holds : ℕ → Bool) (to : ℕ) (falling : IsFalling holds to) where
     | inr none ↦ none
   ]
 
-  last_place : (count : ℕ) → count ≤ to → IsTurn (λ k. holds (to - k)) count → IsLastPlace holds to (to - count)
-  last_place count within turn = record {
+  last_place : (count : ℕ) → count ≤ to → IsBoundary (λ k. holds (to - k)) count → IsLastPlace holds to (to - count)
+  last_place count within boundary = record {
     within = omega arith;
-    holds_there = turn.holds_there;
-    not_after = λ later above below. fails_after (to - (count - 1)) (turn.not_before (count - 1) (omega arith)) later (omega arith) below;
+    holds_there = boundary.holds_there;
+    not_after = λ later above below. fails_after (to - (count - 1)) (boundary.not_before (count - 1) (omega arith)) later (omega arith) below;
   }
 
 -- the items before `to`, from the right: a range, reversed
@@ -80,12 +80,12 @@ module _ {A M F : Type 0} {count : M → ℕ} {unit : M} {join : M → M → M} 
     told_from holds tells place answer above below call = tells (from + place) answer (omega arith) (omega arith) (subst (λ m. FnReturnsAt calls test m answer) (from_same place) call)
 
     pub found-first : (place : ℕ) → IsSought calls test count rising_measures (length items - from) (Found place) → FindsFirst calls test ranges_from from (length items) (Some (from + place))
-    found-first place sought holds tells rising = first_place holds from (length items) rising place (omega (arith, sought.end)) (sought.turn (λ k. holds (from + k)) (told_from holds tells))
+    found-first place sought holds tells rising = first_place holds from (length items) rising place (omega (arith, sought.end)) (sought.boundary (λ k. holds (from + k)) (told_from holds tells))
 
     pub open-first : (measure : M) → IsSought calls test count rising_measures (length items - from) (Open measure) → FindsFirst calls test ranges_from from (length items) None
     open-first measure sought holds tells rising place above below =
         let last : from + (length items - from) ≡ length items = omega arith in
-        fails_before holds from (length items) rising (length items) (omega arith) (ap holds (sym last) ∙ sought.turn (λ k. holds (from + k)) (told_from holds tells)) place above below
+        fails_before holds from (length items) rising (length items) (omega arith) (ap holds (sym last) ∙ sought.boundary (λ k. holds (from + k)) (told_from holds tells)) place above below
 
   -- from the right
   module _ (to from : ℕ) (within : to ≤ length items) (from_is : from ≡ length items - to) where
@@ -105,9 +105,9 @@ module _ {A M F : Type 0} {count : M → ℕ} {unit : M} {join : M → M → M} 
     told_to holds tells place answer above below call = tells (to - place) answer (omega arith) (omega arith) (subst (λ m. FnReturnsAt calls test m answer) (to_same place (omega arith)) call)
 
     pub found-last : (place : ℕ) → IsSought calls test count falling_measures (length items - from) (Found place) → FindsLast calls test ranges_to to (Some (to - place))
-    found-last place sought holds tells falling = last_place holds to falling place (omega (arith, sought.end)) (sought.turn (λ k. holds (to - k)) (told_to holds tells))
+    found-last place sought holds tells falling = last_place holds to falling place (omega (arith, sought.end)) (sought.boundary (λ k. holds (to - k)) (told_to holds tells))
 
     pub open-last : (measure : M) → IsSought calls test count falling_measures (length items - from) (Open measure) → FindsLast calls test ranges_to to None
     open-last measure sought holds tells falling place above below =
         let first : to - (length items - from) ≡ 0 = omega arith in
-        fails_after holds to falling 0 (ap holds (sym first) ∙ sought.turn (λ k. holds (to - k)) (told_to holds tells)) place above below
+        fails_after holds to falling 0 (ap holds (sym first) ∙ sought.boundary (λ k. holds (to - k)) (told_to holds tells)) place above below

@@ -7,4 +7,4 @@ pub mod Middles
 pub mod Partitions
 pub mod Ranges
 pub mod SeenFrom
-pub mod Turns
+pub mod Boundaries

@@ -6,9 +6,9 @@ use Rattle.std.proofs.lemmas.List.{get_or_append_left, get_or-append-add}
 use Rattle.std.specs.List.Sorted.{IsPartitionedBy, IsPartitionPoint}
 
 -- so many items on, the part has the turn of the whole
-pub record HasTurn {A : Type 0} (holds : A → Bool) (whole : List A) (count : ℕ) (part : List A) : Type 0 where
+pub record HasBoundary {A : Type 0} (holds : A → Bool) (whole : List A) (count : ℕ) (part : List A) : Type 0 where
   pub parted : IsPartitionedBy holds part
-  pub turn : (place : ℕ) → place ≤ length part → IsPartitionPoint (λ item. holds item ≡ true) (λ item. holds item ≡ false) part place → IsPartitionPoint (λ item. holds item ≡ true) (λ item. holds item ≡ false) whole (count + place)
+  pub boundary : (place : ℕ) → place ≤ length part → IsPartitionPoint (λ item. holds item ≡ true) (λ item. holds item ≡ false) part place → IsPartitionPoint (λ item. holds item ≡ true) (λ item. holds item ≡ false) whole (count + place)
 
 module _ {A : Type 0} (holds : A → Bool) (left right : List A) (item : A) where
   abbrev items : List A
@@ -43,10 +43,10 @@ module _ {A : Type 0} (holds : A → Bool) (left right : List A) (item : A) wher
       | inr failing ↦ failing
     ]
 
-    pub turn_left : holds item ≡ false → HasTurn holds items 0 left
+    pub turn_left : holds item ≡ false → HasBoundary holds items 0 left
     turn_left fails = record {
       parted = left_parted;
-      turn = λ place within point. (
+      boundary = λ place within point. (
         λ k d above below. ap holds (at_left k d (omega arith)) ∙ point.0 k d above (omega arith),
         λ k d above below. elim (cases_lt k (length left)) [
           | inl before ↦ ap holds (at_left k d before) ∙ point.1 k d (omega arith) before
@@ -55,10 +55,10 @@ module _ {A : Type 0} (holds : A → Bool) (left right : List A) (item : A) wher
       );
     }
 
-    pub turn_right : holds item ≡ true → HasTurn holds items (length left + 1) right
+    pub turn_right : holds item ≡ true → HasBoundary holds items (length left + 1) right
     turn_right holding = record {
       parted = right_parted;
-      turn = λ place within point. (
+      boundary = λ place within point. (
         λ k d above below. elim (cases_lt (length left) k) [
           | inl beyond ↦ ap holds (right_at k d beyond) ∙ point.0 (k - length left - 1) d (omega arith) (omega arith)
           | inr before ↦ parted k (length left) d before (omega (arith, length-append left (item ∷ right))) (ap holds (at_item d) ∙ holding)
@@ -68,17 +68,17 @@ module _ {A : Type 0} (holds : A → Bool) (left right : List A) (item : A) wher
     }
 
 -- one way down after another
-pub turn_after : {A : Type 0} {holds : A → Bool} {whole part inner : List A} {count more : ℕ} → HasTurn holds whole count part → (IsPartitionedBy holds part → HasTurn holds part more inner) → more + length inner ≤ length part → (next : ℕ) → next ≡ count + more → HasTurn holds whole next inner
-turn_after {holds} {whole} {count} {more} outer step within next next_is =
+pub boundary_after : {A : Type 0} {holds : A → Bool} {whole part inner : List A} {count more : ℕ} → HasBoundary holds whole count part → (IsPartitionedBy holds part → HasBoundary holds part more inner) → more + length inner ≤ length part → (next : ℕ) → next ≡ count + more → HasBoundary holds whole next inner
+boundary_after {holds} {whole} {count} {more} outer step within next next_is =
     let inner = step outer.parted in
     record {
       parted = inner.parted;
-      turn = λ place below point. subst (IsPartitionPoint (λ item. holds item ≡ true) (λ item. holds item ≡ false) whole) (let same : count + (more + place) ≡ next + place = omega arith in same) (outer.turn (more + place) (omega arith) (inner.turn place below point));
+      boundary = λ place below point. subst (IsPartitionPoint (λ item. holds item ≡ true) (λ item. holds item ≡ false) whole) (let same : count + (more + place) ≡ next + place = omega arith in same) (outer.boundary (more + place) (omega arith) (inner.boundary place below point));
     }
 
 -- the whole has its own turn
-pub own_turn : {A : Type 0} (holds : A → Bool) (whole : List A) → IsPartitionedBy holds whole → (none : ℕ) → none ≡ 0 → HasTurn holds whole none whole
-own_turn holds whole parted none none_is = record {
+pub own_boundary : {A : Type 0} (holds : A → Bool) (whole : List A) → IsPartitionedBy holds whole → (none : ℕ) → none ≡ 0 → HasBoundary holds whole none whole
+own_boundary holds whole parted none none_is = record {
   parted = parted;
-  turn = λ place within point. subst (IsPartitionPoint (λ item. holds item ≡ true) (λ item. holds item ≡ false) whole) (let same : place ≡ none + place = omega arith in same) point;
+  boundary = λ place within point. subst (IsPartitionPoint (λ item. holds item ≡ true) (λ item. holds item ≡ false) whole) (let same : place ≡ none + place = omega arith in same) point;
 }

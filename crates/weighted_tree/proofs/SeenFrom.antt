@@ -12,7 +12,7 @@ use Rattle.weighted_tree.specs.declared.node.Side.{Side}
 use Rattle.weighted_tree.specs.declared.node.Side.TheVariants.{Left, Right}
 use Rattle.weighted_tree.specs.declared.subtree.Node.{Node}
 use Rattle.weighted_tree.proofs.Ranges.{drop-after}
-use Rattle.weighted_tree.proofs.Turns.{IsParted}
+use Rattle.weighted_tree.proofs.Boundaries.{IsParted}
 
 module _ {M : Type 0} {items : M → ℕ} {unit : M} {join : M → M → M} (laws : MonoidLaws items unit join) where
   -- a monoid is one from each side

@@ -109,7 +109,7 @@ impl<T: Measured> Subtree<T> {
         ensures visits { OneALevel (weight self.now) steps.old steps.new }
     {
         let (mut subtree, mut rest) = (self, self.len() - from);
-        let mut behind = T::Measure::unit();
+        let mut after = T::Measure::unit();
         'down: while rest < subtree.len() {
             let Some(node) = subtree.root(steps) else {
                 unreachable!()
@@ -118,11 +118,11 @@ impl<T: Measured> Subtree<T> {
             if rest <= count {
                 subtree = &node.right;
             } else {
-                behind = node.passed(Side::Right, node.right.passed(Side::Right, behind));
+                after = node.passed(Side::Right, node.right.passed(Side::Right, after));
                 rest = rest - count - 1;
                 subtree = &node.left;
             }
         }
-        subtree.passed(Side::Right, behind)
+        subtree.passed(Side::Right, after)
     }
 }

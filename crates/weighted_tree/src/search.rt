@@ -4,7 +4,7 @@ ghost use Rattle.weighted_tree.specs.Balance.{weight};
 ghost use Rattle.weighted_tree.specs.Levels.{OneALevel};
 ghost use Rattle.weighted_tree.specs.Measures.{passing};
 ghost use Rattle.weighted_tree.specs.Search.{FindsPartition};
-ghost use Rattle.weighted_tree.specs.SearchSteps.{IsSought, IsTurnWithin, VisitsOfSearch};
+ghost use Rattle.weighted_tree.specs.SearchSteps.{IsSought, IsBoundaryWithin, VisitsOfSearch};
 ghost use Rattle.weighted_tree.specs.Sides.{seen_from};
 
 use crate::node::Side;
@@ -23,7 +23,7 @@ pub(crate) enum Search<M> {
 
 impl<T: Measured> Subtree<T> {
     /// How many items after the place `from`, seen from `side`, a test turns true of their measure.
-    pub(crate) fn turn_from<F: Fn(&T::Measure) -> bool, L: Ledger>(
+    pub(crate) fn boundary_from<F: Fn(&T::Measure) -> bool, L: Ledger>(
         &self,
         side: Side,
         from: u32,
@@ -51,7 +51,7 @@ impl<T: Measured> Subtree<T> {
         if from == 0 {
             let all = self.whole();
             return if passes(test, &all) {
-                Search::Found(self.turn_within(side, T::Measure::unit(), test, steps))
+                Search::Found(self.boundary_within(side, T::Measure::unit(), test, steps))
             } else {
                 Search::Open(all)
             };
@@ -59,9 +59,9 @@ impl<T: Measured> Subtree<T> {
         let (near, far) = node.sides(side);
         let place = near.len();
         if from > place {
-            return far.turn_from(side, from - place - 1, test, steps);
+            return far.boundary_from(side, from - place - 1, test, steps);
         }
-        let through = match near.turn_from(side, from, test, steps) {
+        let through = match near.boundary_from(side, from, test, steps) {
             Search::Found(count) => return Search::Found(count),
             Search::Open(through) => through,
         };
@@ -72,7 +72,7 @@ impl<T: Measured> Subtree<T> {
         }
         let all = far.passed(side, next);
         if passes(test, &all) {
-            Search::Found(count + far.turn_within(side, next, test, steps))
+            Search::Found(count + far.boundary_within(side, next, test, steps))
         } else {
             Search::Open(all)
         }
@@ -80,7 +80,7 @@ impl<T: Measured> Subtree<T> {
 
     /// The same from the first item on, where the test holds at the end.
     #[inline(always)]
-    fn turn_within<F: Fn(&T::Measure) -> bool, L: Ledger>(
+    fn boundary_within<F: Fn(&T::Measure) -> bool, L: Ledger>(
         &self,
         side: Side,
         before: T::Measure,
@@ -89,7 +89,7 @@ impl<T: Measured> Subtree<T> {
     ) -> u32
         requires fits { T.Measure.items_of before + length self.now < 2 ^ 32 }
         requires callable { F.IsAlwaysCallable test.now }
-        ensures turn { IsTurnWithin F.Fn test.now
+        ensures boundary { IsBoundaryWithin F.Fn test.now
             (passing side T.Measured T.Measure.Monoid before (seen_from side self.now)) (length self.now) result }
         ensures none_lost { steps.old ≤ steps.new }
         ensures visits { OneALevel (weight self.now) steps.old steps.new }

@@ -130,7 +130,7 @@ impl<T: Measured> Tree<T> {
         ensures some { from < length self.now → steps.old + 1 ≤ steps.new }
         ensures visits { VisitsWithin 12 (length self.now) steps.old steps.new }
     {
-        match self.root.turn_from(Side::Left, from, &test, steps) {
+        match self.root.boundary_from(Side::Left, from, &test, steps) {
             Search::Found(count) => Some(from + count),
             Search::Open(_) => None,
         }
@@ -152,7 +152,7 @@ impl<T: Measured> Tree<T> {
         ensures visits { VisitsWithin 12 (length self.now) steps.old steps.new }
     {
         let from = self.len() - to;
-        match self.root.turn_from(Side::Right, from, &test, steps) {
+        match self.root.boundary_from(Side::Right, from, &test, steps) {
             Search::Found(count) => Some(to - count),
             Search::Open(_) => None,
         }

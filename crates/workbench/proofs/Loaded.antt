@@ -9,7 +9,7 @@ use Rattle.retro_base.specs.declared.row.Row.{Row}
 use Rattle.retro_base.specs.Edits.{Edit, Step, add, edited, edited_by}
 use Rattle.retro_base.specs.MadeEdits.{IsMade}
 use Rattle.retro_base.specs.PrefixLaws.{take_more, taken_below}
-use Rattle.workbench.specs.Told.{evidence_of, evidence_of_step, appends_from, loaded_evidence, noted}
+use Rattle.workbench.specs.Reported.{evidence_of, evidence_of_step, appends_from, loaded_evidence, noted}
 
 -- the evidence of one more edit
 evidence_more : (name : List ℕ) (rows : List Row) (step : Step) (edit : Edit)
@@ -63,11 +63,11 @@ evidence_grows name kind rows index row old new there old_is new_is =
     ∙ ap (λ n. loaded_evidence name kind before ++ noted name kind before (add n row)) (sym (taken_below rows index row there).0)
     ∙ sym (loaded_more name kind before row) ∙ ap (loaded_evidence name kind) (sym (take_more rows index row there))
 
--- a row of a block was put in behind those before it
-pub put_in_behind : (kind session_kind : Kind) (rows session_rows : List Row) (index : ℕ) (row : Row) (edit : Edit) (change told : Change) → slice_get rows index ≡ Some row
-    → session_kind ≡ kind → session_rows ≡ take index rows → edit ≡ add index row → told ≡ change
-    → IsMade session_kind session_rows (add (length session_rows) row) change → IsMade kind (take index rows) edit told
-put_in_behind kind session_kind rows session_rows index row edit change told there same_kind same_rows same_edit same_change made =
+-- a row of a block was put in after those before it
+pub put_in_after : (kind session_kind : Kind) (rows session_rows : List Row) (index : ℕ) (row : Row) (edit : Edit) (change reported : Change) → slice_get rows index ≡ Some row
+    → session_kind ≡ kind → session_rows ≡ take index rows → edit ≡ add index row → reported ≡ change
+    → IsMade session_kind session_rows (add (length session_rows) row) change → IsMade kind (take index rows) edit reported
+put_in_after kind session_kind rows session_rows index row edit change reported there same_kind same_rows same_edit same_change made =
     rw (same_edit, same_change, ← same_kind)
     (subst (λ n. IsMade session_kind (take index rows) (add n row) change) (taken_below rows index row there).0
     (subst (λ rs. IsMade session_kind rs (add (length rs) row) change) same_rows made))

@@ -67,14 +67,14 @@ set_here (y ∷ ys) zero x below here = ap (λ z. z ∷ ys) here
 set_here (y ∷ ys) (suc index) x below here = ap (λ zs. y ∷ zs) (set_here ys index x (omega arith) here)
 
 -- the bench after a question that only reads the timeline that was found
-pub told : {E : Type 0} (result : Result Outcome E) (name : List ℕ) (answer_at : NamedTimeline → Outcome) (bench : List NamedTimeline) (index : ℕ) (named : NamedTimeline)
+pub reported : {E : Type 0} (result : Result Outcome E) (name : List ℕ) (answer_at : NamedTimeline → Outcome) (bench : List NamedTimeline) (index : ℕ) (named : NamedTimeline)
     → Some index ≡ position (is_named name) bench → named ≡ get_or bench index named → IfOk result (λ outcome. outcome ≡ answer_at named)
     → IfOk result (λ outcome. on_named name (λ timeline. unchanged timeline (answer_at timeline)) bench ≡ record { timelines = bench; outcome = outcome })
-told (Ok outcome) name answer_at bench index named at there answer =
+reported (Ok outcome) name answer_at bench index named at there answer =
     let below = (position-Some (is_named name) bench index named (sym at)).0 in
     on_named_found name (λ timeline. unchanged timeline (answer_at timeline)) bench index named (sym at)
     ∙ rw (← there, answer, set_here bench index named below there) refl
-told (Err e) name answer_at bench index named at there answer = tt
+reported (Err e) name answer_at bench index named at there answer = tt
 
 -- the timeline that was found
 found_at : (name : List ℕ) (bench : List NamedTimeline) (index : ℕ) (d : NamedTimeline) → index < length bench

@@ -12,19 +12,19 @@ grown_next block line (Some fault) = refl
 grown_next block (Some row) None = refl
 grown_next block None None = refl
 
-next_if : (b : Bool) (next : ℕ) (x y : Block) → x.next ≡ next → y.next ≡ next → (cond b x y).next ≡ next
-next_if true next x y first second = first
-next_if false next x y first second = second
+chosen_next : (b : Bool) (next : ℕ) (x y : Block) → x.next ≡ next → y.next ≡ next → (cond b x y).next ≡ next
+chosen_next true next x y first second = first
+chosen_next false next x y first second = second
 
-taken_next : (block : Block) (bytes : List ℕ) (long : Bool) → (taken block bytes long).next ≡ block.next
+next_stays_taken : (block : Block) (bytes : List ℕ) (long : Bool) → (taken block bytes long).next ≡ block.next
 unfolding taken
-taken_next block bytes long =
-    next_if (not long && is_passed_over bytes) block.next block (after_row_line block (row_line bytes long)) refl
-    (next_if (is_some block.bad) block.next block (grown block (row_line bytes long) (fault_of block.kind block.rows (row_line bytes long))) refl
+next_stays_taken block bytes long =
+    chosen_next (not long && is_passed_over bytes) block.next block (after_row_line block (row_line bytes long)) refl
+    (chosen_next (is_some block.bad) block.next block (grown block (row_line bytes long) (fault_of block.kind block.rows (row_line bytes long))) refl
     (grown_next block (row_line bytes long) (fault_of block.kind block.rows (row_line bytes long))))
 
 -- the number that is to be drawn next stays in its range
 pub next_stays : {A E : Type 0} (result : Result A E) (old new : Block) (bytes : List ℕ) (long : Bool)
     → OnOk result (new ≡ taken old bytes long) → OnErr result (new ≡ old) → (1 ≤ old.next) × (old.next ≤ next_limit) → (1 ≤ new.next) × (new.next ≤ next_limit)
-next_stays (Ok a) old new bytes long took failed range = rw (took, taken_next old bytes long) range
+next_stays (Ok a) old new bytes long took failed range = rw (took, next_stays_taken old bytes long) range
 next_stays (Err e) old new bytes long took failed range = rw failed range

@@ -7,7 +7,7 @@ use Rattle.script_grammar.specs.BlockLines.{is_end}
 use Rattle.workbench.specs.declared.outcome.Outcome.TheVariants.{Silent, Refused}
 use Rattle.workbench.specs.declared.outcome.Refusal.TheVariants as refusals
 use Rattle.workbench.specs.Bench.{NamedTimeline, OpenBlock, Bench, empty_bench}
-use Rattle.workbench.specs.OwnLines.{name_of_block, names, event_of, block_behind, own_from, close_answers, own_answers_from, answers_from, MeetsNoLimit, OwnLinesAlone}
+use Rattle.workbench.specs.OwnLines.{name_of_block, names, event_of, block_after, own_from, close_answers, own_answers_from, answers_from, MeetsNoLimit, OwnLinesAlone}
 use Rattle.workbench.specs.Reaction.{BenchEffect, leaves, ends, inside, happens, spelled, with_block, with_line, reaction_of, reacts, opened, obeys}
 use Rattle.workbench.proofs.Shares.{share, share_of_block, share_of_bench, share_of_all, own_obeys, own_opened, other_obeys, other_opened, own_closes, other_closes}
 
@@ -63,9 +63,9 @@ module _ (name : List ℕ) where
   other_happens timelines (Some block) line apart =
       other_inside timelines block line (is_long line) apart ∙ ap (λ b. record { timelines = share name timelines; block = b }) (sym (other_block block apart))
 
-  -- the block that is open behind a line has the name that the lines give
+  -- the block that is open after a line has the name that the lines give
   block_named : (timelines : List NamedTimeline) (block : Option OpenBlock) (line : List ℕ)
-      → block_behind (name_of_block block) line ≡ name_of_block (happens timelines block line (is_long line)).bench.block
+      → block_after (name_of_block block) line ≡ name_of_block (happens timelines block line (is_long line)).bench.block
   block_named timelines None line = refl
   block_named timelines (Some block) line =
       elim (not (is_long line) && is_end line) as (λ b. cond b None (Some block.name)
@@ -92,20 +92,20 @@ module _ (name : List ℕ) where
   unfolding own_answers_from own_from answers_from
   alone_from bench block [] is room = rw is (end_answers bench.timelines bench.block room)
   alone_from bench block (line ∷ more) is room =
-      let behind : block_behind block line ≡ name_of_block (reacts bench line).bench.block =
-      ap (λ b. block_behind b line) is ∙ block_named bench.timelines bench.block line in
-      let rest = alone_from (reacts bench line).bench (block_behind block line) more behind room.1 in
+      let after : block_after block line ≡ name_of_block (reacts bench line).bench.block =
+      ap (λ b. block_after b line) is ∙ block_named bench.timelines bench.block line in
+      let rest = alone_from (reacts bench line).bench (block_after block line) more after room.1 in
       elim (names name (event_of block line)) as (λ b. names name (event_of block line) ≡ b
-      → cond b ((reacts bench line).answer ∷ own_answers_from name (block_behind block line) (reacts bench line).bench more) (own_answers_from name (block_behind block line) (reacts bench line).bench more)
-      ≡ answers_from (share_of_bench name bench) (cond b (line ∷ own_from name (block_behind block line) more) (own_from name (block_behind block line) more))) [
+      → cond b ((reacts bench line).answer ∷ own_answers_from name (block_after block line) (reacts bench line).bench more) (own_answers_from name (block_after block line) (reacts bench line).bench more)
+      ≡ answers_from (share_of_bench name bench) (cond b (line ∷ own_from name (block_after block line) more) (own_from name (block_after block line) more))) [
         | true ↦ λ own.
             let same : share_of_all name (happens bench.timelines bench.block line (is_long line))
             ≡ happens (share name bench.timelines) (share_of_block name bench.block) line (is_long line) =
             own_happens bench.timelines bench.block line (subst (λ b. names name (event_of b line) ≡ true) is own) room.0 in
             ap (λ xs. (reacts bench line).answer ∷ xs) rest
-            ∙ ap (λ (e : BenchEffect). (reaction_of e).answer ∷ answers_from e.bench (own_from name (block_behind block line) more)) same
+            ∙ ap (λ (e : BenchEffect). (reaction_of e).answer ∷ answers_from e.bench (own_from name (block_after block line) more)) same
         | false ↦ λ apart.
-            rest ∙ ap (λ b. answers_from b (own_from name (block_behind block line) more))
+            rest ∙ ap (λ b. answers_from b (own_from name (block_after block line) more))
             (other_happens bench.timelines bench.block line (subst (λ b. names name (event_of b line) ≡ false) is apart))
       ] refl
 

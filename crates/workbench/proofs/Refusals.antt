@@ -29,7 +29,7 @@ use Rattle.workbench.specs.Outcome.{is_refusal}
 use Rattle.workbench.specs.Reaction.{Effect, BenchEffect, leaves, if_startable, with_timeline, on_named, obeys, opened, outside, happens, loads, closes, ends, with_line, with_block, without_block}
 use Rattle.workbench.specs.TimelineEffects.{TimelineEffect, refuses, accepted_or_refused, after_edit, edits, tells, new_row, row_named, position_of, inserts_there, inserts_at, cut_of, deletes_by, inserts, deletes, unchanged, answers, undoes_step, undoes, redoes_step, redoes, saves}
 use Rattle.timeline_undo.specs.History.{newest_step}
-use Rattle.workbench.specs.Told.{told}
+use Rattle.workbench.specs.Reported.{reported}
 
 -- the effect leaves the timeline as it was, where it is a refusal
 abbrev Keeps : NamedTimeline → TimelineEffect → Type 0
@@ -47,20 +47,20 @@ keeps_accepted_or_refused : (timeline after : NamedTimeline) (outcome : Outcome)
 keeps_accepted_or_refused timeline after outcome None accepted = λ refused. absurd (not_both (is_refusal outcome) accepted refused)
 keeps_accepted_or_refused timeline after outcome (Some index) accepted = λ refused. refl
 
--- what is told of an accepted step is no refusal
-told_is_no_refusal : (name : List ℕ) (kind : Kind) (rows : List Row) (step : Step) (plain : Outcome) → is_refusal plain ≡ false
-    → is_refusal (told name kind rows step plain) ≡ false
-told_is_no_refusal name Queue rows step plain accepted = accepted
-told_is_no_refusal name Stack rows step plain accepted = accepted
-told_is_no_refusal name Deque rows step plain accepted = accepted
-told_is_no_refusal name Dict rows step plain accepted = accepted
-told_is_no_refusal name Pq rows [] plain accepted = accepted
-told_is_no_refusal name Pq rows (edit ∷ more) plain accepted = refl
+-- what is reported of an accepted step is no refusal
+reported_is_no_refusal : (name : List ℕ) (kind : Kind) (rows : List Row) (step : Step) (plain : Outcome) → is_refusal plain ≡ false
+    → is_refusal (reported name kind rows step plain) ≡ false
+reported_is_no_refusal name Queue rows step plain accepted = accepted
+reported_is_no_refusal name Stack rows step plain accepted = accepted
+reported_is_no_refusal name Deque rows step plain accepted = accepted
+reported_is_no_refusal name Dict rows step plain accepted = accepted
+reported_is_no_refusal name Pq rows [] plain accepted = accepted
+reported_is_no_refusal name Pq rows (edit ∷ more) plain accepted = refl
 
 keeps_edits : (timeline : NamedTimeline) (edit : Edit) (next : ℕ) (outcome : Outcome) → is_refusal outcome ≡ false → Keeps timeline (edits timeline edit next outcome)
 keeps_edits timeline edit next outcome accepted =
     keeps_accepted_or_refused timeline (after_edit timeline edit next) (tells timeline (edit ∷ []) outcome) (failure timeline.kind (edited timeline.rows edit))
-    (told_is_no_refusal timeline.name timeline.kind timeline.rows (edit ∷ []) outcome accepted)
+    (reported_is_no_refusal timeline.name timeline.kind timeline.rows (edit ∷ []) outcome accepted)
 
 keeps_inserts_there : (timeline : NamedTimeline) (op : Op) (position : Position) → Keeps timeline (inserts_there timeline op position)
 keeps_inserts_there timeline op position =
@@ -92,7 +92,7 @@ keeps_deletes timeline number = keeps_deletes_by timeline number (cut_of number 
 keeps_undoes_step : (timeline : NamedTimeline) (step : Option Step) → Keeps timeline (undoes_step timeline step)
 keeps_undoes_step timeline None = λ refused. refl
 keeps_undoes_step timeline (Some step) =
-    λ refused. absurd (not_both _ (told_is_no_refusal timeline.name timeline.kind timeline.rows (inverse_step step) Accepted refl) refused)
+    λ refused. absurd (not_both _ (reported_is_no_refusal timeline.name timeline.kind timeline.rows (inverse_step step) Accepted refl) refused)
 
 keeps_undoes : (timeline : NamedTimeline) → Keeps timeline (undoes timeline)
 unfolding undoes
@@ -101,7 +101,7 @@ keeps_undoes timeline = keeps_undoes_step timeline (newest_step timeline.history
 keeps_redoes_step : (timeline : NamedTimeline) (step : Option Step) → Keeps timeline (redoes_step timeline step)
 keeps_redoes_step timeline None = λ refused. refl
 keeps_redoes_step timeline (Some step) =
-    λ refused. absurd (not_both _ (told_is_no_refusal timeline.name timeline.kind timeline.rows step Accepted refl) refused)
+    λ refused. absurd (not_both _ (reported_is_no_refusal timeline.name timeline.kind timeline.rows step Accepted refl) refused)
 
 keeps_redoes : (timeline : NamedTimeline) → Keeps timeline (redoes timeline)
 unfolding redoes
@@ -171,7 +171,7 @@ refusal_keeps timelines (Ok (Save name)) refused = record {
 }
 refusal_keeps timelines (Ok (Header name kind next)) refused = record { kept = refl; opens_nothing = absurd (not_both false refl refused) }
 
--- the bench behind a refusal
+-- the bench after a refusal
 abbrev KeepsBench : List NamedTimeline → BenchEffect → Type 0
 KeepsBench timelines effect = is_refusal effect.outcome ≡ true → effect.bench ≡ record { timelines = timelines; block = None }
 
@@ -202,15 +202,15 @@ kept_at_end : (timelines : List NamedTimeline) (block : Option OpenBlock) (ended
     → ends timelines block ended ≡ record { bench = after; outcome = outcome } → is_refusal outcome ≡ true → after ≡ record { timelines = timelines; block = None }
 kept_at_end timelines block ended after outcome done refused = rw done at (ends_keeps timelines block ended (rw done refused))
 
--- so it is where the outcome is told by a reply
-pub kept_behind : {E : Type 0} (result : Result Reply E) (bench after : Bench) (bytes : List ℕ) (long : Bool) (outcome : Outcome)
+-- so it is where the outcome is reported by a reply
+pub kept_after : {E : Type 0} (result : Result Reply E) (bench after : Bench) (bytes : List ℕ) (long : Bool) (outcome : Outcome)
     → happens bench.timelines bench.block bytes long ≡ record { bench = after; outcome = outcome }
     → IfOk result (λ reply. reply.refused ≡ is_refusal outcome) → IfOk result (λ reply. reply.refused ≡ true → after ≡ without_block bench)
-kept_behind (Ok reply) bench after bytes long outcome done told = λ refused. kept bench.timelines bench.block bytes long after outcome done (sym told ∙ refused)
-kept_behind (Err e) bench after bytes long outcome done told = tt
+kept_after (Ok reply) bench after bytes long outcome done reported = λ refused. kept bench.timelines bench.block bytes long after outcome done (sym reported ∙ refused)
+kept_after (Err e) bench after bytes long outcome done reported = tt
 
-pub kept_behind_end : {E : Type 0} (result : Result Reply E) (bench after : Bench) (ended : Bool) (outcome : Outcome)
+pub kept_after_end : {E : Type 0} (result : Result Reply E) (bench after : Bench) (ended : Bool) (outcome : Outcome)
     → ends bench.timelines bench.block ended ≡ record { bench = after; outcome = outcome }
     → IfOk result (λ reply. reply.refused ≡ is_refusal outcome) → IfOk result (λ reply. reply.refused ≡ true → after ≡ without_block bench)
-kept_behind_end (Ok reply) bench after ended outcome done told = λ refused. kept_at_end bench.timelines bench.block ended after outcome done (sym told ∙ refused)
-kept_behind_end (Err e) bench after ended outcome done told = tt
+kept_after_end (Ok reply) bench after ended outcome done reported = λ refused. kept_at_end bench.timelines bench.block ended after outcome done (sym reported ∙ refused)
+kept_after_end (Err e) bench after ended outcome done reported = tt

@@ -24,7 +24,7 @@ use Rattle.workbench.specs.declared.outcome.Refusal.TheVariants as refusals
 use Rattle.workbench.specs.Bench.{NamedTimeline, OpenBlock, Bench, fresh, is_named, has_timeline}
 use Rattle.workbench.specs.OwnLines.{name_in, names}
 use Rattle.workbench.specs.Reaction.{Effect, BenchEffect, leaves, if_startable, with_timeline, on_named, obeys, of_block, loads, closes, opened}
-use Rattle.workbench.specs.Told.{loaded}
+use Rattle.workbench.specs.Reported.{loaded}
 use Rattle.workbench.specs.TimelineEffects.{TimelineEffect, unchanged, inserts, deletes, answers, undoes, redoes, saves}
 use Rattle.workbench.proofs.Names.{KeepsName, inserts_keeps_name, deletes_keeps_name, undoes_keeps_name, redoes_keeps_name}
 
@@ -105,7 +105,7 @@ module _ (name : List ℕ) where
   other_comes timelines timeline is =
       filter-append (is_named name) timelines (timeline ∷ []) ∙ ap (λ ts. share name timelines ++ ts) (share-out timeline [] is) ∙ append-nil (share name timelines)
 
-  -- whether a name is free is told by its share
+  -- whether a name is free is reported by its share
   has_share : (timelines : List NamedTimeline) → has_timeline name (share name timelines) ≡ has_timeline name timelines
   has_share timelines = any-filter_same (is_named name) (is_named name) true (λ timeline is. is) timelines
 

@@ -1,4 +1,4 @@
--- A state holds at most one item, pair or entry for each row behind which it stands.
+-- A state holds at most one item, pair or entry for each row after which it stands.
 use Rattle.std.proofs.Common.{◌≡◌, ℕ, suc, ◌+◌, ◌≤◌, ℤ, pos, Bool, true, false, Ordering, List, [], ◌∷◌, length, refl, sym, ◌∙◌, subst, arith, Option, Some, None, Result, Ok, Err, length-append, length-take}
 use Rattle.std.specs.Prelude.{if◌then◌else◌, is_some}
 use Rattle.std.specs.Map.{lookup, remove_entry}
@@ -42,11 +42,11 @@ last_out [] = tt
 last_out (x ∷ xs) = omega (arith, length-take (length xs) (x ∷ xs))
 
 -- whatever an order decides
-by_order : (order : Ordering) (before here behind : List (ℤ × ℤ)) (most : ℕ) → length before ≤ most → length here ≤ most → length behind ≤ most
-    → length (match_ordering order before here behind) ≤ most
-by_order Less before here behind most b h l = b
-by_order Equal before here behind most b h l = h
-by_order Greater before here behind most b h l = l
+by_order : (order : Ordering) (before here after : List (ℤ × ℤ)) (most : ℕ) → length before ≤ most → length here ≤ most → length after ≤ most
+    → length (match_ordering order before here after) ≤ most
+by_order Less before here after most b h l = b
+by_order Equal before here after most b h l = h
+by_order Greater before here after most b h l = l
 
 put_in : (key value : ℤ) (ps : List (ℤ × ℤ)) → length (with_key key value ps) ≤ suc (length ps)
 put_in key value [] = omega arith
@@ -147,13 +147,13 @@ unfolding fold_rows
 run_grows [] state = omega arith
 run_grows (row ∷ rows) state = step_grows state rows (step row state) (perform_grows row.op row.number state) (run_grows rows)
 
-behind : (kind : Kind) (most : ℕ) (outcome : Result State ℕ) → OkAtMost most outcome → size_of (result_unwrap_or outcome (empty kind)) ≤ most
-behind kind most (Ok state) few = few
-behind Queue most (Err index) few = omega arith
-behind Stack most (Err index) few = omega arith
-behind Deque most (Err index) few = omega arith
-behind Dict most (Err index) few = omega arith
-behind Pq most (Err index) few = omega arith
+after : (kind : Kind) (most : ℕ) (outcome : Result State ℕ) → OkAtMost most outcome → size_of (result_unwrap_or outcome (empty kind)) ≤ most
+after kind most (Ok state) few = few
+after Queue most (Err index) few = omega arith
+after Stack most (Err index) few = omega arith
+after Deque most (Err index) few = omega arith
+after Dict most (Err index) few = omega arith
+after Pq most (Err index) few = omega arith
 
 none : (kind : Kind) → size_of (empty kind) ≡ 0
 none Queue = refl
@@ -166,7 +166,7 @@ none Pq = refl
 pub size-le : (kind : Kind) (rows : List Row) → size_of (present kind rows) ≤ length rows
 size-le kind rows =
     let all : size_of (empty kind) + length rows ≡ length rows = omega (arith, none kind) in
-    behind kind (length rows) (run rows (empty kind)) (subst (λ n. OkAtMost n (run rows (empty kind))) all (run_grows rows (empty kind)))
+    after kind (length rows) (run rows (empty kind)) (subst (λ n. OkAtMost n (run rows (empty kind))) all (run_grows rows (empty kind)))
 
 -- what is answered to the question of size
 pub counted : (kind : Kind) (rows : List Row) (answer : Answer) (value : ℤ) → answer ≡ answer_of (present kind rows) Size → answer ≡ Number value

@@ -105,7 +105,7 @@ pub inserts_edits : (t : NamedTimeline) (op : Op) (position : Position) → nat_
     → inserts_there t op position ≡ edits t (add position.place (new_row t position op)) (t.next + 1) (Inserted t.next)
 inserts_edits t op position room number = rw (room, number) refl
 
--- steps that are undone and made again, where there are some
+-- steps that are undone and redone, where there are some
 pub undoes_nothing : (t : NamedTimeline) → t.history.undo ≡ [] → undoes t ≡ refuses t refusals.NothingToUndo
 unfolding undoes
 undoes_nothing t none = rw none refl

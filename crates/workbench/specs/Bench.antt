@@ -10,7 +10,7 @@ use Rattle.timeline_undo.specs.History.{History, no_history}
 use Rattle.timeline_undo.specs.Session.{SessionState}
 use Rattle.timeline_file.specs.Block.{Block}
 
--- a timeline: its name, its kind, its rows, the number that the next row draws, and what can be undone of it and made again
+-- a timeline: its name, its kind, its rows, the number that the next row draws, and what can be undone of it and redone
 pub record NamedTimeline : Type 0 where
   pub name : List ℕ
   pub kind : Kind
@@ -36,7 +36,7 @@ pub record Bench : Type 0 where
 abbrev pub empty_bench : Bench
 empty_bench = record { timelines = []; block = None }
 
--- a bench, and whether it met want of memory
+-- a bench, and whether it met out of memory
 pub record BenchState : Type 0 where
   pub bench : Bench
   pub spent : Bool
@@ -67,6 +67,6 @@ size_of (items xs) = length xs
 size_of (pairs ps) = length ps
 size_of (entries es) = length es
 
--- how many a timeline holds behind all its rows
+-- how many a timeline holds after all its rows
 abbrev pub present_size : NamedTimeline → ℕ
 present_size timeline = size_of (present timeline.kind timeline.rows)

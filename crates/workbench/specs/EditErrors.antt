@@ -7,7 +7,7 @@ use Rattle.workbench.specs.declared.outcome.Outcome.{Outcome}
 use Rattle.workbench.specs.declared.outcome.Outcome.TheVariants.{Refused}
 use Rattle.workbench.specs.declared.outcome.Refusal.TheVariants as refusals
 
--- the row that fails is named; want of memory is no answer
+-- the row that fails is named; out of memory is no answer
 abbrev pub IsRefusedBy : EditError → Result Outcome NoMemory → Type 0
 IsRefusedBy (errors.Fails number time) result = result ≡ Ok (Refused (refusals.At number time))
 IsRefusedBy errors.NoMemory result = (refused : Outcome) → result ≡ Ok refused → ⊥

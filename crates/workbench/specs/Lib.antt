@@ -3,7 +3,7 @@ pub use Rattle.script_grammar.specs.Command
 pub mod Bench
 pub mod EditErrors
 pub mod Outcome
-pub mod Told
+pub mod Reported
 pub mod TimelineEffects
 pub mod Reaction
 pub mod OpenBlocks

@@ -6,7 +6,7 @@ use Rattle.timeline_file.specs.Block.{finished}
 use Rattle.workbench.specs.declared.named_timeline.LoadedTimeline.{LoadedTimeline}
 use Rattle.workbench.specs.Bench.{OpenBlock}
 use Rattle.workbench.specs.Reaction.{of_block}
-use Rattle.workbench.specs.Told.{loaded_evidence}
+use Rattle.workbench.specs.Reported.{loaded_evidence}
 
 -- the timeline of the rows that the block comes to, or what is wrong with it
 abbrev pub ComesToTimeline : OpenBlock → Bool → Result LoadedTimeline BlockError → Type 0

@@ -40,17 +40,17 @@ abbrev pub event_of : Option (List ℕ) → List ℕ → Option (List ℕ)
 event_of (Some name) line = Some name
 event_of None line = name_in (spelled line (is_long line))
 
--- the name of the block that is being read behind the line
-abbrev pub block_behind : Option (List ℕ) → List ℕ → Option (List ℕ)
-block_behind (Some name) line = if (not (is_long line) && is_end line) then None else Some name
-block_behind None line = name_of_block (opened (spelled line (is_long line)))
+-- the name of the block that is being read after the line
+abbrev pub block_after : Option (List ℕ) → List ℕ → Option (List ℕ)
+block_after (Some name) line = if (not (is_long line) && is_end line) then None else Some name
+block_after None line = name_of_block (opened (spelled line (is_long line)))
 
 -- the lines of the events that name a timeline, in order
 unfoldable pub own_from : List ℕ → Option (List ℕ) → List (List ℕ) → List (List ℕ)
 own_from name block [] = []
 own_from name block (line ∷ more) =
-    if names name (event_of block line) then line ∷ own_from name (block_behind block line) more
-    else own_from name (block_behind block line) more
+    if names name (event_of block line) then line ∷ own_from name (block_after block line) more
+    else own_from name (block_after block line) more
 
 abbrev pub own : List ℕ → List (List ℕ) → List (List ℕ)
 own name lines = own_from name None lines
@@ -66,8 +66,8 @@ unfoldable pub own_answers_from : List ℕ → Option (List ℕ) → Bench → L
 own_answers_from name block bench [] = if names name block then (closing bench).answer ∷ [] else []
 own_answers_from name block bench (line ∷ more) =
     if names name (event_of block line)
-    then (reacts bench line).answer ∷ own_answers_from name (block_behind block line) (reacts bench line).bench more
-    else own_answers_from name (block_behind block line) (reacts bench line).bench more
+    then (reacts bench line).answer ∷ own_answers_from name (block_after block line) (reacts bench line).bench more
+    else own_answers_from name (block_after block line) (reacts bench line).bench more
 
 abbrev pub own_answers : List ℕ → List (List ℕ) → List (List ℕ)
 own_answers name lines = own_answers_from name None empty_bench lines

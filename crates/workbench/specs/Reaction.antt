@@ -19,7 +19,7 @@ use Rattle.workbench.specs.declared.outcome.Refusal.TheVariants as refusals
 use Rattle.retro_base.specs.Limits.{most_timelines}
 use Rattle.workbench.specs.Bench.{NamedTimeline, OpenBlock, Bench, fresh, with_rows, is_named, has_timeline}
 use Rattle.workbench.specs.Outcome.{block_refusal, reply_text, is_refusal}
-use Rattle.workbench.specs.Told.{loaded}
+use Rattle.workbench.specs.Reported.{loaded}
 use Rattle.workbench.specs.TimelineEffects.{TimelineEffect, unchanged, inserts, deletes, answers, undoes, redoes, saves}
 
 -- what becomes of the timelines: themselves afterwards, and the outcome
@@ -89,7 +89,7 @@ pub record BenchEffect : Type 0 where
   pub bench : Bench
   pub outcome : Outcome
 
--- an effect on the timelines, behind which this block is being read, if there is one
+-- an effect on the timelines, after which this block is being read, if there is one
 abbrev pub with_block : Option OpenBlock → Effect → BenchEffect
 with_block block effect = record { bench = record { timelines = effect.timelines; block = block }; outcome = effect.outcome }
 
@@ -136,7 +136,7 @@ pub record Reaction : Type 0 where
 abbrev pub reaction_of : BenchEffect → Reaction
 reaction_of effect = record { bench = effect.bench; answer = reply_text effect.outcome; refused = is_refusal effect.outcome }
 
--- the bench behind the close of its block
+-- the bench after the close of its block
 abbrev pub without_block : Bench → Bench
 without_block bench = record { timelines = bench.timelines; block = None }
 

@@ -23,7 +23,7 @@ use Rattle.workbench.specs.declared.outcome.Refusal.{Refusal}
 use Rattle.workbench.specs.declared.outcome.Refusal.TheVariants as refusals
 use Rattle.workbench.specs.declared.position.Position.{Position}
 use Rattle.workbench.specs.Bench.{NamedTimeline}
-use Rattle.workbench.specs.Told.{told}
+use Rattle.workbench.specs.Reported.{reported}
 
 -- the position in front of the row with this number, which has that row's time
 abbrev pub position_before : ℕ → List Row → Option Position
@@ -76,7 +76,7 @@ after_edit timeline edit next =
 
 -- the answer to an accepted step of a timeline
 abbrev pub tells : NamedTimeline → Step → Outcome → Outcome
-tells timeline step plain = told timeline.name timeline.kind timeline.rows step plain
+tells timeline step plain = reported timeline.name timeline.kind timeline.rows step plain
 
 -- what becomes of an edit
 abbrev pub edits : NamedTimeline → Edit → ℕ → Outcome → TimelineEffect
@@ -130,7 +130,7 @@ undoes_step timeline (Some step) = record {
 unfoldable pub undoes : NamedTimeline → TimelineEffect
 undoes timeline = undoes_step timeline (newest_step timeline.history.undo)
 
--- the step that was undone last is made again, if there is one
+-- the step that was undone last is redone, if there is one
 abbrev pub redoes_step : NamedTimeline → Option Step → TimelineEffect
 redoes_step timeline None = refuses timeline refusals.NothingToRedo
 redoes_step timeline (Some step) = record {

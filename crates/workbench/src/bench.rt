@@ -25,7 +25,7 @@ pub struct Reply {
     pub refused: bool,
 }
 
-/// The timelines that a script has made, and the block that is being read. A bench that met want of memory is
+/// The timelines that a script has made, and the block that is being read. A bench that met out of memory is
 /// spent, and takes no more lines.
 #[derive(Drop)]
 pub struct Bench {
@@ -56,7 +56,7 @@ impl Bench {
         }
     }
 
-    /// Whether an earlier call met want of memory.
+    /// Whether an earlier call met out of memory.
     pub fn spent(&self) -> bool
         ensures { result ≡ self.now.spent }
     {

@@ -15,7 +15,7 @@ mod open_block;
 mod outcome;
 mod position;
 mod timelines;
-mod told;
+mod reported;
 
 pub use bench::{Bench, Reply};
 pub use timelines::MAX_TIMELINES;

@@ -5,8 +5,8 @@ ghost use Rattle.retro_base.specs.declared.row.Row.{Row};
 ghost use Rattle.retro_base.specs.Edits.{add};
 ghost use Rattle.retro_base.specs.MadeEdits.{IsMade};
 ghost use Rattle.retro_base.specs.Order.{Fits};
-ghost use Rattle.timeline_undo.specs.Session.{edit_told};
-ghost use Rattle.workbench.specs.Told.{loaded_evidence, told};
+ghost use Rattle.timeline_undo.specs.Session.{edit_reported};
+ghost use Rattle.workbench.specs.Reported.{loaded_evidence, reported};
 ghost use Rattle.retro_base.specs.Questions.{suits};
 ghost use Rattle.retro_base.specs.Replay.{state_at};
 ghost use Rattle.retro_base.specs.Timeline.{IsTimeline};
@@ -19,7 +19,7 @@ ghost use Rattle.workbench.specs.EditErrors.{IsRefusedBy};
 use crate::evidence_lines::EvidenceLines;
 use crate::outcome::{Outcome, Refusal};
 use crate::position::{Position, position_of, row_named};
-use crate::told::{note, told};
+use crate::reported::{note, reported};
 use engine::Engine;
 use order_timeline::Timeline;
 use retro_base::{Change, Kind, MAX_NEXT, MAX_ROWS, Name, NoMemory, Op, Question, Row, Rows};
@@ -200,10 +200,10 @@ impl NamedTimeline {
 
     /// The outcome of an accepted list edit.
     fn tell(&self, turn: Turn, plain: Outcome) -> Outcome
-        ensures { (rows : List Row) → IsMade self.now.kind rows (edit_told turn) turn.change
-            → result ≡ told self.now.name self.now.kind rows (edit_told turn ∷ []) plain }
+        ensures { (rows : List Row) → IsMade self.now.kind rows (edit_reported turn) turn.change
+            → result ≡ reported self.now.name self.now.kind rows (edit_reported turn ∷ []) plain }
     {
-        told(self.alloc, self.name, self.session.kind(), turn, plain)
+        reported(self.alloc, self.name, self.session.kind(), turn, plain)
     }
 
     /// The answer at a moment. The timeline stays as it is, whatever the answer.
@@ -291,7 +291,7 @@ impl NamedTimeline {
 
 /// The list edit that puts a row in.
 fn put_in(place: u32, row: Row, change: Change) -> Turn
-    ensures told { edit_told result ≡ add place row }
+    ensures reported { edit_reported result ≡ add place row }
     ensures change { result.change ≡ change }
 {
     Turn {

@@ -75,7 +75,7 @@ pub enum Refusal {
     At { number: u32, time: u64 },
     /// No step of the timeline can be undone.
     NothingToUndo,
-    /// No step of the timeline can be made again.
+    /// No step of the timeline can be redone.
     NothingToRedo,
     /// The row line of this place is the first bad one of a block.
     RowLine { place: u32, cause: RowCause },

@@ -5,7 +5,7 @@ use Rattle.std.specs.Option.{MatchOption}
 use Rattle.std.proofs.Math.Seq.{take-suc, take-length}
 use Rattle.retro_base.specs.declared.row.Entry.{Entry}
 use Rattle.retro_base.specs.declared.row.Row.{Row}
-use Rattle.retro_base.specs.Better.{comes_behind, better, greater_dead, lesser_survivor}
+use Rattle.retro_base.specs.Better.{comes_after, better, greater_dead, lesser_survivor}
 use Rattle.retro_base.specs.State.{comes_before}
 use Rattle.retro_base.specs.Weights.{added_by}
 use Rattle.retro_base.specs.Bridges.{survivors, is_among}
@@ -29,8 +29,8 @@ before_is_order = record {
   further = λ a b c first second. at_most_trans c b a second first;
 }
 
-pub behind_is_order : IsOrder comes_behind
-behind_is_order = record {
+pub after_is_order : IsOrder comes_after
+after_is_order = record {
   irreflexive = before_irreflexive;
   one_way = λ a b first. before_one_way b a first;
   further = λ a b c first second. at_most_trans a b c first second;
@@ -168,19 +168,19 @@ pub dead_next : (alive : List Entry) (rows : List Row) (index next : ℕ) (row d
 dead_next alive rows index next row d found on within at so_far = dead_by alive rows index next row d found on within at so_far (added_by row) refl
 
 alive_by : (alive : List Entry) (rows : List Row) (index next : ℕ) (row d : Row) (found : Option Entry) → next ≡ index + 1 → index < length rows → row ≡ get_or rows index d
-    → Best comes_behind (Passing (Alive alive) (take index rows)) found → (added_here : Option Entry) → added_by row ≡ added_here
-    → Best comes_behind (Passing (Alive alive) (take next rows)) (lesser_survivor alive found added_here)
+    → Best comes_after (Passing (Alive alive) (take index rows)) found → (added_here : Option Entry) → added_by row ≡ added_here
+    → Best comes_after (Passing (Alive alive) (take next rows)) (lesser_survivor alive found added_here)
 alive_by alive rows index next row d found on within at so_far None adds =
-    best_kept comes_behind (Alive alive) rows index next row d on within at found so_far (λ e is lives. none_some (added_by row) adds is)
+    best_kept comes_after (Alive alive) rows index next row d on within at found so_far (λ e is lives. none_some (added_by row) adds is)
 alive_by alive rows index next row d found on within at so_far (Some x) adds =
-    elim (is_among alive x) as (λ b. is_among alive x ≡ b → Best comes_behind (Passing (Alive alive) (take next rows)) (cond b (Some (better comes_behind found x)) found)) [
-      | true ↦ λ among. best_next comes_behind (Alive alive) rows index next row d on within at found so_far x behind_is_order adds (is_among_in x alive among)
-      | false ↦ λ outside. best_kept comes_behind (Alive alive) rows index next row d on within at found so_far
+    elim (is_among alive x) as (λ b. is_among alive x ≡ b → Best comes_after (Passing (Alive alive) (take next rows)) (cond b (Some (better comes_after found x)) found)) [
+      | true ↦ λ among. best_next comes_after (Alive alive) rows index next row d on within at found so_far x after_is_order adds (is_among_in x alive among)
+      | false ↦ λ outside. best_kept comes_after (Alive alive) rows index next row d on within at found so_far
           (λ e is lives. not_in alive x outside (subst (λ y. In y alive) (some_same (added_by row) is adds) lives))
     ] refl
 
 pub alive_next : (alive : List Entry) (rows : List Row) (index next : ℕ) (row d : Row) (found : Option Entry) → next ≡ index + 1 → index < length rows → row ≡ get_or rows index d
-    → Best comes_behind (Passing (Alive alive) (take index rows)) found → Best comes_behind (Passing (Alive alive) (take next rows)) (lesser_survivor alive found (added_by row))
+    → Best comes_after (Passing (Alive alive) (take index rows)) found → Best comes_after (Passing (Alive alive) (take next rows)) (lesser_survivor alive found (added_by row))
 alive_next alive rows index next row d found on within at so_far = alive_by alive rows index next row d found on within at so_far (added_by row) refl
 
 as_greatest : (rows : List Row) (place : ℕ) (found : Option Entry) → Best comes_before (Passing (Dead (survivors rows)) (drop place rows)) found
@@ -191,7 +191,7 @@ as_greatest rows place (Some g) so_far = record {
   greatest = λ other dead. so_far.here.best other (contains_in _ other dead.0, λ inside. dead.1 (in_contains _ other inside));
 }
 
-as_least : (rows : List Row) (place : ℕ) (found : Option Entry) → Best comes_behind (Passing (Alive (survivors rows)) (take place rows)) found
+as_least : (rows : List Row) (place : ℕ) (found : Option Entry) → Best comes_after (Passing (Alive (survivors rows)) (take place rows)) found
     → MatchOption found ((e : Entry) → ¬ IsSurvivorBefore rows place e) (IsLeast (IsSurvivorBefore rows place))
 as_least rows place None so_far = λ e early. so_far.here e (contains_in _ e early.0, contains_in _ e early.1)
 as_least rows place (Some l) so_far = record {
@@ -200,18 +200,18 @@ as_least rows place (Some l) so_far = record {
 }
 
 -- as the table says it, where all rows were passed
-pub greatest_of_dead : (rows behind : List Row) (alive : List Entry) (place index : ℕ) (found : Option Entry) → behind ≡ drop place rows → alive ≡ survivors rows → index ≡ length behind
-    → Best comes_before (Passing (Dead alive) (take index behind)) found
+pub greatest_of_dead : (rows after : List Row) (alive : List Entry) (place index : ℕ) (found : Option Entry) → after ≡ drop place rows → alive ≡ survivors rows → index ≡ length after
+    → Best comes_before (Passing (Dead alive) (take index after)) found
     → MatchOption found ((e : Entry) → ¬ IsDeadFrom rows place e) (IsGreatest (IsDeadFrom rows place))
-greatest_of_dead rows behind alive place index found is same end so_far =
+greatest_of_dead rows after alive place index found is same end so_far =
     as_greatest rows place found
     (subst (λ a. Best comes_before (Passing (Dead a) (drop place rows)) found) same
-    (subst (λ l. Best comes_before (Passing (Dead alive) l) found) is (best_of_all comes_before (Dead alive) behind index found end so_far)))
+    (subst (λ l. Best comes_before (Passing (Dead alive) l) found) is (best_of_all comes_before (Dead alive) after index found end so_far)))
 
 pub least_of_survivors : (rows before : List Row) (alive : List Entry) (place index : ℕ) (found : Option Entry) → before ≡ take place rows → alive ≡ survivors rows → index ≡ length before
-    → Best comes_behind (Passing (Alive alive) (take index before)) found
+    → Best comes_after (Passing (Alive alive) (take index before)) found
     → MatchOption found ((e : Entry) → ¬ IsSurvivorBefore rows place e) (IsLeast (IsSurvivorBefore rows place))
 least_of_survivors rows before alive place index found is same end so_far =
     as_least rows place found
-    (subst (λ a. Best comes_behind (Passing (Alive a) (take place rows)) found) same
-    (subst (λ l. Best comes_behind (Passing (Alive alive) l) found) is (best_of_all comes_behind (Alive alive) before index found end so_far)))
+    (subst (λ a. Best comes_after (Passing (Alive a) (take place rows)) found) same
+    (subst (λ l. Best comes_after (Passing (Alive alive) l) found) is (best_of_all comes_after (Alive alive) before index found end so_far)))

@@ -1,4 +1,4 @@
--- What the passes find is the change. An edit at the end needs none: the end is a bridge, no entry is added behind it, and the
+-- What the passes find is the change. An edit at the end needs none: the end is a bridge, no entry is added after it, and the
 -- least survivor is the first.
 use Rattle.std.proofs.Common.{◌≡◌, ℕ, ◌+◌, false, true, List, [], ◌∷◌, length, add-one, ◌⊎◌, inl, inr, refl, ap, sym, ◌∙◌, arith, subst, Option, Some, None}
 use Rattle.std.specs.Prelude.{Contains, slice_get}
@@ -39,19 +39,19 @@ greatest_with P found new great =
 
 -- the end is the last bridge up to it and the first from it on
 pub last_at_end : (rows : List Row) → IsLastBridge rows (length rows) (length rows)
-last_at_end rows = record { within = omega arith; bridges = end_is_bridge rows; last = λ other behind within here. absurd (omega arith) }
+last_at_end rows = record { within = omega arith; bridges = end_is_bridge rows; last = λ other after within here. absurd (omega arith) }
 
 pub first_at_end : (rows : List Row) → IsFirstBridge rows (length rows) (length rows)
 first_at_end rows = record { from = omega arith; within = omega arith; bridges = end_is_bridge rows; first = λ other from before here. absurd (omega arith) }
 
-none_behind : (rows : List Row) (e : Entry) → ¬ IsDeadFrom rows (length rows) e
-none_behind rows e dead = let wrong : In e (added []) = subst (λ l. In e (added l)) (drop_all (length rows) rows (omega arith)) (contains_in _ e dead.0) in wrong
+none_after : (rows : List Row) (e : Entry) → ¬ IsDeadFrom rows (length rows) e
+none_after rows e dead = let wrong : In e (added []) = subst (λ l. In e (added l)) (drop_all (length rows) rows (omega arith)) (contains_in _ e dead.0) in wrong
 
 pub gain_at_end : (rows : List Row) (row : Row) (new : Entry) → IsPqEdit rows (add (length rows) row) → added_by row ≡ Some new
     → IsPqChange rows (add (length rows) row) (Gain (length rows) new)
 gain_at_end rows row new possible adds =
     added_entry_changes rows (length rows) row new (length rows) new possible adds (last_at_end rows)
-    (greatest_with (IsDeadFrom rows (length rows)) None new (none_behind rows))
+    (greatest_with (IsDeadFrom rows (length rows)) None new (none_after rows))
 
 first_there : (xs : List Entry) (y : Entry) → slice_get xs 0 ≡ Some y → (rest : List Entry) × (xs ≡ y ∷ rest)
 first_there [] y at = absurd (cc)

@@ -9,6 +9,7 @@ use Rattle.std.proofs.lemmas.List.Sums.{fold-append}
 use Rattle.std.proofs.Math.Seq.{take-suc}
 use Rattle.retro_base.specs.declared.row.Entry.{Entry}
 use Rattle.retro_base.specs.declared.row.Row.{Row}
+use Rattle.retro_base.specs.Limits.{most_rows}
 use Rattle.retro_base.specs.Bridges.{survivors, IsBridge, IsLastBridge, IsFirstBridge}
 use Rattle.retro_base.specs.Weights.{added_by, weight, weight_as, sum_of_weights}
 use Rattle.retro_base.specs.Carried.{IsPqHistory}
@@ -61,11 +62,11 @@ stored_zero bits none = ap (to_z w32) none
 pub stored_other : (bits : ℕ) → Fits w32 bits → (bits ≡ 0 → ⊥) → to_z w32 bits ≢ pos 0
 stored_other bits fits some none = some (sym (of_z-to_z fits) ∙ ap (of_z w32) none)
 
-within_fits : (place : ℕ) (z : ℤ) → negsuc (suc place) ≤ℤ z → z ≤ℤ pos (suc place) → place < 65536 → SFits w32 z
+within_fits : (place : ℕ) (z : ℤ) → negsuc (suc place) ≤ℤ z → z ≤ℤ pos (suc place) → place < most_rows → SFits w32 z
 within_fits place (pos n) low high few = record { sfits = omega (arith, ints) }
 within_fits place (negsuc n) low high few = record { sfits = omega (arith, ints) }
 
-pub sum_fits : (rows : List Row) (place : ℕ) (sum w : ℤ) → Weighed rows place sum → place < 65536 → negsuc 0 ≤ℤ w → w ≤ℤ pos 1 → SFits w32 (sum +ℤ w)
+pub sum_fits : (rows : List Row) (place : ℕ) (sum w : ℤ) → Weighed rows place sum → place < most_rows → negsuc 0 ≤ℤ w → w ≤ℤ pos 1 → SFits w32 (sum +ℤ w)
 sum_fits rows place sum w so_far few low high = within_fits place (sum +ℤ w) (sum_low place sum w so_far.low low) (sum_high place sum w so_far.high high) few
 
 zero_bridges : (rows : List Row) (place : ℕ) (sum : ℤ) → IsPqHistory rows → Weighed rows place sum → sum ≡ pos 0 → IsBridge rows place
@@ -76,20 +77,20 @@ others_do_not rows place sum history so_far some bridge = some (so_far.weighs �
 
 -- back from a place
 pub back_start : (rows : List Row) → IsLastBridge rows 0 0
-back_start rows = record { within = omega arith; bridges = start_is_bridge rows; last = λ other behind within here. absurd (omega arith) }
+back_start rows = record { within = omega arith; bridges = start_is_bridge rows; last = λ other after within here. absurd (omega arith) }
 
 pub back_here : (rows : List Row) (place : ℕ) (sum : ℤ) → IsPqHistory rows → Weighed rows place sum → sum ≡ pos 0 → IsLastBridge rows place place
 back_here rows place sum history so_far none =
-    record { within = omega arith; bridges = zero_bridges rows place sum history so_far none; last = λ other behind within here. absurd (omega arith) }
+    record { within = omega arith; bridges = zero_bridges rows place sum history so_far none; last = λ other after within here. absurd (omega arith) }
 
 pub back_before : (rows : List Row) (place next bridge : ℕ) (sum : ℤ) → IsPqHistory rows → next ≡ place + 1 → Weighed rows next sum → sum ≢ pos 0
     → IsLastBridge rows place bridge → IsLastBridge rows next bridge
 back_before rows place next bridge sum history on so_far some last = record {
   within = let within : bridge ≤ place = last.within in omega arith;
   bridges = last.bridges;
-  last = λ other behind within here. elim (same_or_less other place (let inside : other ≤ next = within in omega arith)) [
+  last = λ other after within here. elim (same_or_less other place (let inside : other ≤ next = within in omega arith)) [
     | inl same ↦ let at : other ≡ next = omega arith in others_do_not rows next sum history so_far some (subst (IsBridge rows) at here)
-    | inr before ↦ last.last other behind before here
+    | inr before ↦ last.last other after before here
   ];
 }
 
@@ -99,8 +100,8 @@ NoneSoFar rows place index = (other : ℕ) → place ≤ other → other < index
 
 pub on_here : (rows : List Row) (place index : ℕ) (sum : ℤ) → IsPqHistory rows → Weighed rows index sum → place ≤ index → index ≤ length rows → sum ≡ pos 0
     → NoneSoFar rows place index → IsFirstBridge rows place index
-on_here rows place index sum history so_far behind within none before =
-    record { from = behind; within = within; bridges = zero_bridges rows index sum history so_far none; first = before }
+on_here rows place index sum history so_far after within none before =
+    record { from = after; within = within; bridges = zero_bridges rows index sum history so_far none; first = before }
 
 pub on_end : (rows : List Row) (place : ℕ) → place ≤ length rows → NoneSoFar rows place (length rows) → IsFirstBridge rows place (length rows)
 on_end rows place within before = record { from = within; within = omega arith; bridges = end_is_bridge rows; first = before }

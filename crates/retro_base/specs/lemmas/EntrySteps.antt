@@ -20,19 +20,19 @@ use Rattle.retro_base.specs.lemmas.bridges.EntryOrder.{before_irreflexive, befor
 use Rattle.retro_base.specs.lemmas.bridges.Entries.{with_first, with_later}
 
 -- what does not come before an entry does not come before a lesser one
-behind_lesser : (y x e : Entry) → comes_before y x ≡ false → comes_before e x ≡ true → comes_before y e ≡ false
-behind_lesser y x e behind lesser = elim (comes_before y e) as (λ b. comes_before y e ≡ b → b ≡ false) [
-  | true ↦ λ before. sym (before_transitive y e x before lesser) ∙ behind
+after_lesser : (y x e : Entry) → comes_before y x ≡ false → comes_before e x ≡ true → comes_before y e ≡ false
+after_lesser y x e after lesser = elim (comes_before y e) as (λ b. comes_before y e ≡ b → b ≡ false) [
+  | true ↦ λ before. sym (before_transitive y e x before lesser) ∙ after
   | false ↦ λ no. refl
 ] refl
 
 -- what stands in front of an entry that comes before another one comes before it too
 front_before : (y x e : Entry) → comes_before y x ≡ false → comes_before y e ≡ true → comes_before x e ≡ true
-front_before y x e behind before = elim (same_or_other x e) [
-  | inl same ↦ let wrong : true ≡ false = sym before ∙ rw same at behind in absurd (cc)
+front_before y x e after before = elim (same_or_other x e) [
+  | inl same ↦ let wrong : true ≡ false = sym before ∙ rw same at after in absurd (cc)
   | inr other ↦ elim (comes_before x e) as (λ b. comes_before x e ≡ b → b ≡ true) [
     | true ↦ λ yes. refl
-    | false ↦ λ no. sym behind ∙ before_transitive y e x before (before_or_after x e other no)
+    | false ↦ λ no. sym after ∙ before_transitive y e x before (before_or_after x e other no)
   ] refl
 ]
 
@@ -62,41 +62,41 @@ none_of e x (y ∷ ys) order lesser =
     rw (not_same e y other) (none_of e x ys order.1 lesser)
 
 not_later : (e x : Entry) (xs : List Entry) → AllByRecursion (λ y. comes_before y x ≡ false) xs → comes_before x e ≡ false → is_among (x ∷ xs) e ≡ same_entry e x
-not_later e x xs order behind = elim (same_entry e x) as (λ b. same_entry e x ≡ b → (b || is_among xs e) ≡ b) [
+not_later e x xs order after = elim (same_entry e x) as (λ b. same_entry e x ≡ b → (b || is_among xs e) ≡ b) [
   | true ↦ λ same. refl
   | false ↦ λ differ.
-      none_of e x xs order (before_or_after x e (λ same. let wrong : true ≡ false = sym (same_entry-refl e) ∙ (rw same at differ) in absurd (cc)) behind)
+      none_of e x xs order (before_or_after x e (λ same. let wrong : true ≡ false = sym (same_entry-refl e) ∙ (rw same at differ) in absurd (cc)) after)
 ] refl
 
 pub found_at : (e : Entry) (xs : List Entry) (i : ℕ) → AreInOrder xs → AllWithin (λ y. comes_before y e ≡ true) xs 0 i
     → AllWithin (λ y. comes_before y e ≡ false) xs i (length xs) → is_it e (slice_get xs i) ≡ is_among xs e
-found_at e [] i order before behind = refl
-found_at e (x ∷ xs) zero order before behind = sym (not_later e x xs order.0 (behind 0 e (omega arith) (omega arith)))
-found_at e (x ∷ xs) (suc i) order before behind =
+found_at e [] i order before after = refl
+found_at e (x ∷ xs) zero order before after = sym (not_later e x xs order.0 (after 0 e (omega arith) (omega arith)))
+found_at e (x ∷ xs) (suc i) order before after =
     let lesser : comes_before x e ≡ true = before 0 e (omega arith) (omega arith) in
     let other : e ≢ x = λ same. let wrong : true ≡ false = sym lesser ∙ (rw same (before_irreflexive x)) in absurd (cc) in
     rw (not_same e x other)
-    (found_at e xs i order.1 (λ k d low high. before (suc k) d (omega arith) (omega arith)) (λ k d low high. behind (suc k) d (omega arith) (omega arith)))
+    (found_at e xs i order.1 (λ k d low high. before (suc k) d (omega arith) (omega arith)) (λ k d low high. after (suc k) d (omega arith) (omega arith)))
 
 -- an entry before which none comes is the first
 none_before : (e : Entry) (xs : List Entry) → AllWithin (λ y. comes_before y e ≡ false) xs 0 (length xs) → with_entry e xs ≡ e ∷ xs
-none_before e [] behind = refl
-none_before e (x ∷ xs) behind = elim (same_or_other x e) [
+none_before e [] after = refl
+none_before e (x ∷ xs) after = elim (same_or_other x e) [
   | inl same ↦
-      let rest : with_entry e xs ≡ e ∷ xs = none_before e xs (λ k d low high. behind (suc k) d (omega arith) (omega arith)) in
+      let rest : with_entry e xs ≡ e ∷ xs = none_before e xs (λ k d low high. after (suc k) d (omega arith) (omega arith)) in
       let later : with_entry e (x ∷ xs) ≡ x ∷ with_entry e xs = with_later e x xs (rw same (before_irreflexive e)) in
       later ∙ ap (λ l. x ∷ l) rest ∙ rw same refl
-  | inr other ↦ with_first e x xs (before_or_after x e other (behind 0 e (omega arith) (omega arith)))
+  | inr other ↦ with_first e x xs (before_or_after x e other (after 0 e (omega arith) (omega arith)))
 ]
 
 -- so it is put in there
 pub put_at : (e : Entry) (xs : List Entry) (i : ℕ) → i ≤ length xs → AllWithin (λ y. comes_before y e ≡ true) xs 0 i
     → AllWithin (λ y. comes_before y e ≡ false) xs i (length xs) → insert xs i e ≡ with_entry e xs
-put_at e xs zero within before behind = sym (none_before e xs behind)
-put_at e [] (suc i) within before behind = absurd (omega arith)
-put_at e (x ∷ xs) (suc i) within before behind =
+put_at e xs zero within before after = sym (none_before e xs after)
+put_at e [] (suc i) within before after = absurd (omega arith)
+put_at e (x ∷ xs) (suc i) within before after =
     let first : comes_before x e ≡ true = before 0 e (omega arith) (omega arith) in
-    let rest : insert xs i e ≡ with_entry e xs = put_at e xs i (omega arith) (λ k d low high. before (suc k) d (omega arith) (omega arith)) (λ k d low high. behind (suc k) d (omega arith) (omega arith)) in
+    let rest : insert xs i e ≡ with_entry e xs = put_at e xs i (omega arith) (λ k d low high. before (suc k) d (omega arith) (omega arith)) (λ k d low high. after (suc k) d (omega arith) (omega arith)) in
     ap (λ l. x ∷ l) rest ∙ sym (with_later e x xs (before_one_way x e first))
 
 all_with_entry : (P : Entry → Type 0) (e : Entry) (xs : List Entry) → P e → AllByRecursion P xs → AllByRecursion P (with_entry e xs)
@@ -110,7 +110,7 @@ all_with_entry P e (x ∷ xs) here all = elim (comes_before e x) as (λ b. AllBy
 pub in_order_with : (e : Entry) (xs : List Entry) → AreInOrder xs → AreInOrder (with_entry e xs)
 in_order_with e [] order = (tt, tt)
 in_order_with e (x ∷ xs) order = elim (comes_before e x) as (λ b. comes_before e x ≡ b → AreInOrder (cond b (e ∷ x ∷ xs) (x ∷ with_entry e xs))) [
-  | true ↦ λ first. ((before_one_way e x first, all_weaker (λ y. comes_before y x ≡ false) (λ y. comes_before y e ≡ false) xs (λ y behind. behind_lesser y x e behind first) order.0), order)
+  | true ↦ λ first. ((before_one_way e x first, all_weaker (λ y. comes_before y x ≡ false) (λ y. comes_before y e ≡ false) xs (λ y after. after_lesser y x e after first) order.0), order)
   | false ↦ λ later. (all_with_entry (λ y. comes_before y x ≡ false) e xs later order.0, in_order_with e xs order.1)
 ] refl
 

@@ -9,7 +9,7 @@ use Rattle.retro_base.specs.declared.op.Op.TheVariants.{Enq}
 use Rattle.retro_base.specs.declared.row.Row.{Row}
 use Rattle.retro_base.specs.Replay.{one_later, fold_rows}
 
--- the outcome of rows that stand behind n more rows
+-- the outcome of rows that stand after n more rows
 abbrev pub later : {S : Type 0} → ℕ → Result S ℕ → Result S ℕ
 later n (Ok state) = Ok state
 later n (Err index) = Err (n + index)
@@ -200,7 +200,7 @@ module _ {S : Type 0} {next_of : Row → S → Option S} {rows : List Row} where
         | Some t ↦ λ goes. refl
       ] refl
 
--- A row put in between: the outcome is that of the rows before it, of the row, or of the rows behind it.
+-- A row put in between: the outcome is that of the rows before it, of the row, or of the rows after it.
 module _ {S : Type 0} (next_of : Row → S → Option S) (before after : List Row) (row : Row) (s : S) where
   pub between_err : (i : ℕ) → fold_rows next_of before s ≡ Err i → fold_rows next_of (before ++ row ∷ after) s ≡ Err i
   between_err i e = fold_rows-append_err next_of before (row ∷ after) s i e

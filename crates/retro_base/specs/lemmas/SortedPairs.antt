@@ -1,4 +1,4 @@
--- The pairs of a dictionary keep their keys rising, and which keys are there behind an operation.
+-- The pairs of a dictionary keep their keys rising, and which keys are there after an operation.
 use Rattle.std.proofs.Common.{◌≡◌, ℤ, Bool, true, false, List, [], ◌∷◌, refl, sym, ap, ◌∙◌, Some, cond, Ordering, Less, Equal, Greater}
 use Rattle.std.specs.List.{AllByRecursion}
 use Rattle.std.specs.List.Sorted.{IsStrictlySortedBy}

@@ -13,7 +13,7 @@ pub mod DeadFirst
 -- two lists of rows that end alike, one with an entry more: what an edit carries along
 pub mod Carried
 pub mod Junctions
-pub mod Behind
+pub mod After
 pub mod Kept
 pub mod Later
 pub mod EditJunctions

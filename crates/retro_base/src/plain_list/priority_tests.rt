@@ -174,12 +174,12 @@ fn of_equal_keys_the_earlier_number_is_the_lesser(rt: HostRuntime) -> Result<(),
 
 #[test]
 fn bridges_part_the_dead(rt: HostRuntime) -> Result<(), Fail> {
-    let behind_a_bridge = [
+    let after_a_bridge = [
         add(0, ins(1, 9), gain(0, 1, 9)),
         add(1, delmin(2), lose(1, 1, 9)),
         add(2, ins(3, 3), gain(2, 3, 3)),
     ];
-    follow_all(&rt, rt.alloc(), &behind_a_bridge)?;
+    follow_all(&rt, rt.alloc(), &after_a_bridge)?;
     let survivor_goes = [
         add(0, ins(1, 4), gain(0, 1, 4)),
         add(1, ins(2, 6), gain(1, 2, 6)),

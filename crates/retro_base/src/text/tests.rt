@@ -2,7 +2,7 @@ use crate::Text;
 use std::test::Fail;
 
 #[test]
-fn numbers_stand_behind_what_was_there(rt: HostRuntime) -> Result<(), Fail> {
+fn numbers_stand_after_what_was_there(rt: HostRuntime) -> Result<(), Fail> {
     let mut text = Text::new(rt.alloc());
     text.push_all(b"#")?;
     text.push_number(0_u32)?;

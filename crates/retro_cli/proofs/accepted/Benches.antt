@@ -7,8 +7,8 @@ use Rattle.retro_base.specs.declared.row.Row.{Row}
 use Rattle.retro_base.specs.Limits.{most_timelines}
 use Rattle.retro_base.specs.Name.{is_name}
 use Rattle.evidence.specs.Laws.{LinesAreShort, PrintedReadsBack}
-use Rattle.evidence_check.specs.Judgement.{Judge, Told}
-use Rattle.evidence_check.specs.Laws.{EditsAreSpelled, EditsAreTold}
+use Rattle.evidence_check.specs.Judgement.{Judge, Reported}
+use Rattle.evidence_check.specs.Laws.{EditsAreSpelled, EditsAreReported}
 use Rattle.script_grammar.specs.declared.command.Command.{Command}
 use Rattle.script_grammar.specs.declared.command.Command.TheVariants.{Nothing, New, Insert, Delete, Ask, Undo, Redo, Save, Header}
 use Rattle.script_grammar.specs.declared.command.LineError.{LineError}
@@ -23,15 +23,15 @@ use Rattle.workbench.specs.Bench.{Bench, NamedTimeline, OpenBlock, has_timeline}
 use Rattle.workbench.specs.Outcome.{block_refusal, evidence_lines, reply_text}
 use Rattle.workbench.specs.Reaction.{BenchEffect, Effect, closes, ends, happens, inside, leaves, loads, obeys, of_block, opened, spelled, with_block, with_line}
 use Rattle.workbench.specs.TimelineEffects.{answers, deletes, inserts, redoes, saves, unchanged, undoes}
-use Rattle.workbench.specs.Told.{appends_from, loaded, loaded_evidence}
+use Rattle.workbench.specs.Reported.{appends_from, loaded, loaded_evidence}
 use Rattle.retro_cli.proofs.accepted.Blocks.{IsGoodBlock, begun_is_good, good_loaded, sound_closed, taken_good}
-use Rattle.retro_cli.proofs.accepted.Effects.{answer_stays, delete_stays, insert_stays, put_same, redo_stays, save_stays, told_rows, undo_stays}
+use Rattle.retro_cli.proofs.accepted.Effects.{answer_stays, delete_stays, insert_stays, put_same, redo_stays, save_stays, reported_rows, undo_stays}
 use Rattle.retro_cli.proofs.accepted.Passing.{accepted_passes, refusal_passes, silent_passes}
 use Rattle.retro_cli.proofs.accepted.Made.{IsSound, appends_made}
 use Rattle.retro_cli.proofs.accepted.Printable.{NamesTimeline}
 use Rattle.retro_cli.proofs.accepted.ReadLines.{Reads, reads-append, reads_nothing}
 use Rattle.retro_cli.proofs.accepted.Spelled.{IsSpelled, command_is_spelled}
-use Rattle.retro_cli.proofs.accepted.Telling.{Agrees, HasTold, agrees_as, is_listed, put, tells_step}
+use Rattle.retro_cli.proofs.accepted.Telling.{Agrees, HasReported, agrees_as, is_listed, put, tells_step}
 use Rattle.retro_cli.proofs.accepted.Timelines.{AreKept, StayKept, comes_kept, left_kept, named_kept, startable_kept, starts_kept}
 
 -- what is wrong with a block names no timeline
@@ -42,13 +42,13 @@ names_none faults.Unfinished = tt
 names_none faults.Next = tt
 
 -- the evidence of the rows of a block
-module _ (truth : EditsAreTold) (spells : EditsAreSpelled) (back : PrintedReadsBack) (short : LinesAreShort) where
-  tells_nothing : (name : List ℕ) (names : List (List ℕ)) (judge : Judge) (by : List ℕ → List Row) → Agrees names by judge.told → by name ≡ [] → HasTold names by name [] judge []
-  tells_nothing name names judge by agrees own = record { behind = judge; reads = reads_nothing judge; agrees = agrees_as names by (put name [] by) judge.told (put_same name by [] own) agrees }
+module _ (truth : EditsAreReported) (spells : EditsAreSpelled) (back : PrintedReadsBack) (short : LinesAreShort) where
+  tells_nothing : (name : List ℕ) (names : List (List ℕ)) (judge : Judge) (by : List ℕ → List Row) → Agrees names by judge.reported → by name ≡ [] → HasReported names by name [] judge []
+  tells_nothing name names judge by agrees own = record { later = judge; reads = reads_nothing judge; agrees = agrees_as names by (put name [] by) judge.reported (put_same name by [] own) agrees }
 
   tells_loaded : (name : List ℕ) (kind : Kind) (next : ℕ) (rows : List Row) (names : List (List ℕ)) → length names ≤ most_timelines → is_name name ≡ true → is_listed name names ≡ true
-      → IsSound kind next rows → (judge : Judge) (by : List ℕ → List Row) → Agrees names by judge.told → by name ≡ []
-      → HasTold names by name (told_rows kind rows) judge (evidence_lines (loaded_evidence name kind rows))
+      → IsSound kind next rows → (judge : Judge) (by : List ℕ → List Row) → Agrees names by judge.reported → by name ≡ []
+      → HasReported names by name (reported_rows kind rows) judge (evidence_lines (loaded_evidence name kind rows))
   tells_loaded name Queue next rows names few named listed sound judge by agrees own = tells_nothing name names judge by agrees own
   tells_loaded name Stack next rows names few named listed sound judge by agrees own = tells_nothing name names judge by agrees own
   tells_loaded name Deque next rows names few named listed sound judge by agrees own = tells_nothing name names judge by agrees own
@@ -56,7 +56,7 @@ module _ (truth : EditsAreTold) (spells : EditsAreSpelled) (back : PrintedReadsB
   tells_loaded name Pq next rows names few named listed sound judge by agrees own =
       tells_step truth spells back short names few name named listed next (appends_from 0 rows) judge by [] rows agrees own (appends_made Pq next [] rows sound)
 
-  loads_kept : (timelines : List NamedTimeline) (unclosed : OpenBlock) (ended : Bool) (judge : Judge) → AreKept timelines judge.told → is_name unclosed.name ≡ true → IsGoodBlock unclosed.block
+  loads_kept : (timelines : List NamedTimeline) (unclosed : OpenBlock) (ended : Bool) (judge : Judge) → AreKept timelines judge.reported → is_name unclosed.name ≡ true → IsGoodBlock unclosed.block
       → has_timeline unclosed.name timelines ≡ false → length timelines < most_timelines
       → (made : Result (List Row) BlockError) → finished unclosed.block ended ≡ made → StayKept (loads timelines unclosed made) judge
   loads_kept timelines unclosed ended judge kept named good free room (Err error) is =
@@ -65,11 +65,11 @@ module _ (truth : EditsAreTold) (spells : EditsAreSpelled) (back : PrintedReadsB
       let sound = sound_closed unclosed.block ended rows good is in
       comes_kept timelines (of_block unclosed rows) (loaded unclosed.name unclosed.block.kind rows) judge kept (good_loaded unclosed rows named good sound) free room
       (λ names few listed by agrees own.
-      let told = tells_loaded unclosed.name unclosed.block.kind unclosed.block.next rows names few named listed sound judge by agrees own in
+      let reported = tells_loaded unclosed.name unclosed.block.kind unclosed.block.next rows names few named listed sound judge by agrees own in
       record {
-        behind = told.behind;
-        reads = reads-append judge judge told.behind (reply_text Accepted) (evidence_lines (loaded_evidence unclosed.name unclosed.block.kind rows)) (accepted_passes judge) told.reads;
-        agrees = told.agrees;
+        later = reported.later;
+        reads = reads-append judge judge reported.later (reply_text Accepted) (evidence_lines (loaded_evidence unclosed.name unclosed.block.kind rows)) (accepted_passes judge) reported.reads;
+        agrees = reported.agrees;
       })
 
   -- The bench.
@@ -77,20 +77,20 @@ module _ (truth : EditsAreTold) (spells : EditsAreSpelled) (back : PrintedReadsB
   IsGoodOpen None = Unit {0}
   IsGoodOpen (Some unclosed) = (is_name unclosed.name ≡ true) × IsGoodBlock unclosed.block
 
-  pub record IsKept (bench : Bench) (told : List Told) : Type 0 where
-    pub timelines : AreKept bench.timelines told
+  pub record IsKept (bench : Bench) (reported : List Reported) : Type 0 where
+    pub timelines : AreKept bench.timelines reported
     pub block : IsGoodOpen bench.block
 
   pub record StaysKept (effect : BenchEffect) (judge : Judge) : Type 0 where
-    pub behind : Judge
-    pub reads : Reads judge (reply_text effect.outcome) behind
-    pub kept : IsKept effect.bench behind.told
+    pub later : Judge
+    pub reads : Reads judge (reply_text effect.outcome) later
+    pub kept : IsKept effect.bench later.reported
 
   with_block_kept : (block : Option OpenBlock) (effect : Effect) (judge : Judge) → IsGoodOpen block → StayKept effect judge → StaysKept (with_block block effect) judge
-  with_block_kept block effect judge good stay = record { behind = stay.behind; reads = stay.reads; kept = record { timelines = stay.kept; block = good } }
+  with_block_kept block effect judge good stay = record { later = stay.later; reads = stay.reads; kept = record { timelines = stay.kept; block = good } }
 
   -- a line outside a block
-  obeys_kept : (timelines : List NamedTimeline) (judge : Judge) (line : Result Command LineError) → AreKept timelines judge.told → IfOk line IsSpelled → StayKept (obeys timelines line) judge
+  obeys_kept : (timelines : List NamedTimeline) (judge : Judge) (line : Result Command LineError) → AreKept timelines judge.reported → IfOk line IsSpelled → StayKept (obeys timelines line) judge
   obeys_kept timelines judge (Err errors.Long) kept is = left_kept timelines judge (Refused refusals.Long) kept (refusal_passes refusals.Long tt)
   obeys_kept timelines judge (Err errors.Syntax) kept is = left_kept timelines judge (Refused refusals.Syntax) kept (refusal_passes refusals.Syntax tt)
   obeys_kept timelines judge (Ok Nothing) kept is = left_kept timelines judge Silent kept silent_passes
@@ -123,14 +123,14 @@ module _ (truth : EditsAreTold) (spells : EditsAreSpelled) (back : PrintedReadsB
   line_spelled bytes true = tt
   line_spelled bytes false = command_is_spelled bytes
 
-  pub ends_kept : (timelines : List NamedTimeline) (judge : Judge) (block : Option OpenBlock) (ended : Bool) → AreKept timelines judge.told → IsGoodOpen block → StaysKept (ends timelines block ended) judge
+  pub ends_kept : (timelines : List NamedTimeline) (judge : Judge) (block : Option OpenBlock) (ended : Bool) → AreKept timelines judge.reported → IsGoodOpen block → StaysKept (ends timelines block ended) judge
   ends_kept timelines judge None ended kept good = with_block_kept None (leaves timelines Silent) judge tt (left_kept timelines judge Silent kept silent_passes)
   ends_kept timelines judge (Some unclosed) ended kept good =
       with_block_kept None (closes timelines unclosed ended) judge tt
       (startable_kept timelines unclosed.name (loads timelines unclosed (finished unclosed.block ended)) judge kept
       (λ free room. loads_kept timelines unclosed ended judge kept good.0 good.1 free room (finished unclosed.block ended) refl))
 
-  inside_kept : (timelines : List NamedTimeline) (judge : Judge) (unclosed : OpenBlock) (bytes : List ℕ) (long : Bool) → AreKept timelines judge.told → IsGoodOpen (Some unclosed)
+  inside_kept : (timelines : List NamedTimeline) (judge : Judge) (unclosed : OpenBlock) (bytes : List ℕ) (long : Bool) → AreKept timelines judge.reported → IsGoodOpen (Some unclosed)
       → StaysKept (inside timelines unclosed bytes long) judge
   inside_kept timelines judge unclosed bytes long kept good =
       elim (not long && is_end bytes) as (λ b. StaysKept (cond b (ends timelines (Some unclosed) true) (with_block (Some (with_line unclosed bytes long)) (leaves timelines Silent))) judge) [
@@ -138,7 +138,7 @@ module _ (truth : EditsAreTold) (spells : EditsAreSpelled) (back : PrintedReadsB
         | false ↦ with_block_kept (Some (with_line unclosed bytes long)) (leaves timelines Silent) judge (good.0, taken_good unclosed.block bytes long good.1) (left_kept timelines judge Silent kept silent_passes)
       ]
 
-  pub happens_kept : (timelines : List NamedTimeline) (judge : Judge) (block : Option OpenBlock) (bytes : List ℕ) (long : Bool) → AreKept timelines judge.told → IsGoodOpen block
+  pub happens_kept : (timelines : List NamedTimeline) (judge : Judge) (block : Option OpenBlock) (bytes : List ℕ) (long : Bool) → AreKept timelines judge.reported → IsGoodOpen block
       → StaysKept (happens timelines block bytes long) judge
   happens_kept timelines judge None bytes long kept good =
       with_block_kept (opened (spelled bytes long)) (obeys timelines (spelled bytes long)) judge (opened_good (spelled bytes long) (line_spelled bytes long))

@@ -41,7 +41,7 @@ begun_is_good kind next least most = record {
   spelled = tt;
 }
 
--- One row more replays where it can be performed behind the others.
+-- One row more replays where it can be performed after the others.
 earlier_goes : {S : Type 0} (r : Result S ℕ) → result_err (one_later r) ≡ None → result_err r ≡ None
 earlier_goes (Ok s) goes = refl
 earlier_goes (Err i) goes = absurd (cc)
@@ -66,9 +66,9 @@ goes_on row (first ∷ rows) s e valid performs =
     elim (step first s) as (λ o. step first s ≡ o → result_err (run (first ∷ rows ++ row ∷ []) s) ≡ None) [
       | None ↦ λ stops. let wrong : ◌≡◌ {A = Option ℕ} (Some 0) None = rw stops at valid in absurd (cc)
       | Some t ↦ λ goes.
-          let behind : is_some (step row (result_unwrap_or (one_later (fold_rows step rows t)) e)) ≡ true = rw goes at performs in
+          let later : is_some (step row (result_unwrap_or (one_later (fold_rows step rows t)) e)) ≡ true = rw goes at performs in
           rw goes (later_goes (fold_rows step (rows ++ row ∷ []) t) (goes_on row rows t e (earlier_goes (fold_rows step rows t) (rw goes at valid))
-          (subst (λ state. is_some (step row state) ≡ true) (same_state (fold_rows step rows t) e) behind)))
+          (subst (λ state. is_some (step row state) ≡ true) (same_state (fold_rows step rows t) e) later)))
     ] refl
 
 -- What a good row is.

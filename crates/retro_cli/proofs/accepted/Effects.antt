@@ -1,4 +1,4 @@
--- What becomes of one timeline at a line: what is answered is told truly, and the timeline stays a good one.
+-- What becomes of one timeline at a line: what is answered is reported truly, and the timeline stays a good one.
 use Rattle.std.proofs.Common.{◌≡◌, ◌≢◌, ℕ, ◌+◌, ◌-◌, ◌<◌, ◌≤◌, true, false, nat_le, cond, List, [], ◌∷◌, ◌++◌, length, slice_get, refl, sym, ap, ◌∙◌, subst, arith, Option, Some, None}
 use Rattle.std.specs.Prelude.{IfSome}
 use Rattle.std.specs.List.{insert}
@@ -19,7 +19,7 @@ use Rattle.retro_base.specs.ReplayableLaws.{replayable_with, replayable_without}
 use Rattle.retro_base.specs.Timeline.{IsFresh}
 use Rattle.evidence.specs.Laws.{LinesAreShort, PrintedReadsBack}
 use Rattle.evidence_check.specs.Judgement.{Judge}
-use Rattle.evidence_check.specs.Laws.{EditsAreSpelled, EditsAreTold}
+use Rattle.evidence_check.specs.Laws.{EditsAreSpelled, EditsAreReported}
 use Rattle.script_grammar.specs.SpellingLaws.{HasValues}
 use Rattle.script_grammar.specs.declared.command.Moment.{Moment}
 use Rattle.script_grammar.specs.declared.command.Query.{Query}
@@ -33,18 +33,18 @@ use Rattle.workbench.specs.declared.position.Position.{Position}
 use Rattle.workbench.specs.Bench.{NamedTimeline}
 use Rattle.workbench.specs.Outcome.{reply_text}
 use Rattle.workbench.specs.TimelineEffects.{TimelineEffect, accepted_or_refused, after_edit, answers, cut_of, deletes, deletes_by, edits, inserts, inserts_at, inserts_there, new_row, position_of, redoes, redoes_step, refusal_at, refuses, row_named, saves, unchanged, undoes, undoes_step}
-use Rattle.workbench.specs.Told.{evidence_of_step, told}
+use Rattle.workbench.specs.Reported.{evidence_of_step, reported}
 use Rattle.retro_cli.proofs.accepted.Leads.{Leads, leads_last, leads_later, leads_more, leads_so}
-use Rattle.retro_cli.proofs.accepted.Made.{IsRanged, IsSound, Makes, MakesStep, TakesBack, leads_to, sound_behind, sound_later, step_back, step_later}
+use Rattle.retro_cli.proofs.accepted.Made.{IsRanged, IsSound, Makes, MakesStep, TakesBack, leads_to, sound_after, sound_later, step_back, step_later}
 use Rattle.retro_cli.proofs.accepted.Printable.{NamesTimeline}
-use Rattle.retro_cli.proofs.accepted.Telling.{Agrees, HasTold, agrees_as, is_listed, put, same_name, tells_step}
+use Rattle.retro_cli.proofs.accepted.Telling.{Agrees, HasReported, agrees_as, is_listed, put, same_name, tells_step}
 use Rattle.retro_cli.proofs.accepted.Passing.{IsPassedOver, accepted_passes, answer_passes, inserted_passes, refusal_passes, saved_passes}
 use Rattle.retro_cli.proofs.accepted.Positions.{IsCutOf, cut_is, position_within, same_kind_is}
 
 -- the rows of which evidence tells
-abbrev pub told_rows : Kind → List Row → List Row
-told_rows Pq rows = rows
-told_rows kind rows = []
+abbrev pub reported_rows : Kind → List Row → List Row
+reported_rows Pq rows = rows
+reported_rows kind rows = []
 
 -- rows that are sound, and steps that lead to them and on from them
 pub record IsGood (timeline : NamedTimeline) : Type 0 where
@@ -60,9 +60,9 @@ pub record IsGood (timeline : NamedTimeline) : Type 0 where
 -- the answer tells what becomes of the timeline
 abbrev TellsOf : NamedTimeline → TimelineEffect → Type 0
 TellsOf timeline effect =
-    (names : List (List ℕ)) → length names ≤ most_timelines → is_listed timeline.name names ≡ true → (judge : Judge) (by : List ℕ → List Row) → Agrees names by judge.told
-    → by timeline.name ≡ told_rows timeline.kind timeline.rows
-    → HasTold names by timeline.name (told_rows effect.timeline.kind effect.timeline.rows) judge (reply_text effect.outcome)
+    (names : List (List ℕ)) → length names ≤ most_timelines → is_listed timeline.name names ≡ true → (judge : Judge) (by : List ℕ → List Row) → Agrees names by judge.reported
+    → by timeline.name ≡ reported_rows timeline.kind timeline.rows
+    → HasReported names by timeline.name (reported_rows effect.timeline.kind effect.timeline.rows) judge (reply_text effect.outcome)
 
 pub record StaysGood (timeline : NamedTimeline) (effect : TimelineEffect) : Type 0 where
   pub same_name : effect.timeline.name ≡ timeline.name
@@ -85,9 +85,9 @@ stays_as_it_was timeline outcome good passes = record {
   same_name = refl;
   good = good;
   tells = λ names few listed judge by agrees own. record {
-    behind = judge;
+    later = judge;
     reads = passes judge;
-    agrees = agrees_as names by (put timeline.name (told_rows timeline.kind timeline.rows) by) judge.told (put_same timeline.name by (told_rows timeline.kind timeline.rows) own) agrees;
+    agrees = agrees_as names by (put timeline.name (reported_rows timeline.kind timeline.rows) by) judge.reported (put_same timeline.name by (reported_rows timeline.kind timeline.rows) own) agrees;
   };
 }
 
@@ -95,28 +95,28 @@ refused_stays : (timeline : NamedTimeline) (refusal : Refusal) → IsGood timeli
 refused_stays timeline refusal good named = stays_as_it_was timeline (Refused refusal) good (refusal_passes refusal named)
 
 -- A step that is made.
-module _ (truth : EditsAreTold) (spells : EditsAreSpelled) (back : PrintedReadsBack) (short : LinesAreShort) where
+module _ (truth : EditsAreReported) (spells : EditsAreSpelled) (back : PrintedReadsBack) (short : LinesAreShort) where
   module _ (names : List (List ℕ)) (few : length names ≤ most_timelines) (name : List ℕ) (named : is_name name ≡ true) (listed : is_listed name names ≡ true) where
-    tells_other : (judge : Judge) (by : List ℕ → List Row) (plain : Outcome) → IsPassedOver plain → Agrees names by judge.told → by name ≡ [] → HasTold names by name [] judge (reply_text plain)
+    tells_other : (judge : Judge) (by : List ℕ → List Row) (plain : Outcome) → IsPassedOver plain → Agrees names by judge.reported → by name ≡ [] → HasReported names by name [] judge (reply_text plain)
     tells_other judge by plain passes agrees own = record {
-      behind = judge;
+      later = judge;
       reads = passes judge;
-      agrees = agrees_as names by (put name [] by) judge.told (put_same name by [] own) agrees;
+      agrees = agrees_as names by (put name [] by) judge.reported (put_same name by [] own) agrees;
     }
 
-    tells_pq : (next : ℕ) (step : Step) (judge : Judge) (by : List ℕ → List Row) (rows after : List Row) (plain : Outcome) → IsPassedOver plain → Agrees names by judge.told → by name ≡ rows
-        → MakesStep Pq next rows step after → HasTold names by name after judge (reply_text (told name Pq rows step plain))
+    tells_pq : (next : ℕ) (step : Step) (judge : Judge) (by : List ℕ → List Row) (rows after : List Row) (plain : Outcome) → IsPassedOver plain → Agrees names by judge.reported → by name ≡ rows
+        → MakesStep Pq next rows step after → HasReported names by name after judge (reply_text (reported name Pq rows step plain))
     unfolding evidence_of_step
     tells_pq next [] judge by rows after plain passes agrees own made = record {
-      behind = judge;
+      later = judge;
       reads = passes judge;
-      agrees = agrees_as names by (put name after by) judge.told (put_same name by after (own ∙ made)) agrees;
+      agrees = agrees_as names by (put name after by) judge.reported (put_same name by after (own ∙ made)) agrees;
     }
     tells_pq next (edit ∷ step) judge by rows after plain passes agrees own made =
         tells_step truth spells back short names few name named listed next (edit ∷ step) judge by rows after agrees own made
 
-    pub tells_made : (kind : Kind) (next : ℕ) (step : Step) (judge : Judge) (by : List ℕ → List Row) (rows after : List Row) (plain : Outcome) → IsPassedOver plain → Agrees names by judge.told
-        → by name ≡ told_rows kind rows → MakesStep kind next rows step after → HasTold names by name (told_rows kind after) judge (reply_text (told name kind rows step plain))
+    pub tells_made : (kind : Kind) (next : ℕ) (step : Step) (judge : Judge) (by : List ℕ → List Row) (rows after : List Row) (plain : Outcome) → IsPassedOver plain → Agrees names by judge.reported
+        → by name ≡ reported_rows kind rows → MakesStep kind next rows step after → HasReported names by name (reported_rows kind after) judge (reply_text (reported name kind rows step plain))
     tells_made Queue next step judge by rows after plain passes agrees own made = tells_other judge by plain passes agrees own
     tells_made Stack next step judge by rows after plain passes agrees own made = tells_other judge by plain passes agrees own
     tells_made Deque next step judge by rows after plain passes agrees own made = tells_other judge by plain passes agrees own
@@ -138,7 +138,7 @@ module _ (truth : EditsAreTold) (spells : EditsAreSpelled) (back : PrintedReadsB
           named = good.named;
           least = omega (arith, good.least, more);
           most = most;
-          sound = made.behind;
+          sound = made.later;
           undo_start = kept.0;
           undo = kept.1;
           redo_start = edited timeline.rows edit;
@@ -150,7 +150,7 @@ module _ (truth : EditsAreTold) (spells : EditsAreSpelled) (back : PrintedReadsB
         → StaysGood timeline (edits timeline edit next plain)
     edit_stays edit next plain passes more most made =
         elim (failure timeline.kind (edited timeline.rows edit)) as (λ o. failure timeline.kind (edited timeline.rows edit) ≡ o
-        → StaysGood timeline (accepted_or_refused timeline (after_edit timeline edit next) (told timeline.name timeline.kind timeline.rows (edit ∷ []) plain) o)) [
+        → StaysGood timeline (accepted_or_refused timeline (after_edit timeline edit next) (reported timeline.name timeline.kind timeline.rows (edit ∷ []) plain) o)) [
           | None ↦ λ valid. record {
             same_name = refl;
             good = good_edited edit next more most (made valid);
@@ -173,7 +173,7 @@ module _ (truth : EditsAreTold) (spells : EditsAreSpelled) (back : PrintedReadsB
           before = before;
           within = within;
           leads = refl;
-          behind = record {
+          later = record {
             replayable = replayable_with timeline.kind timeline.rows position.place row good.sound.replayable room within fresh kind valid;
             ranged = all_with (IsRanged (timeline.next + 1)) timeline.rows position.place row before.ranged (omega arith, (good.least, below), values);
           };
@@ -220,7 +220,7 @@ module _ (truth : EditsAreTold) (spells : EditsAreSpelled) (back : PrintedReadsB
           before = good.sound;
           within = is;
           leads = refl;
-          behind = record {
+          later = record {
             replayable = replayable_without timeline.kind timeline.rows place good.sound.replayable valid;
             ranged = all_without (IsRanged timeline.next) timeline.rows place good.sound.ranged;
           };
@@ -230,11 +230,11 @@ module _ (truth : EditsAreTold) (spells : EditsAreSpelled) (back : PrintedReadsB
     unfolding deletes
     delete_stays number = delete_by number (cut_of number timeline.rows) (cut_is timeline.rows (place_of_row number timeline.rows))
 
-    -- a step that leads to these rows, behind which these steps can be undone and made again
+    -- a step that leads to these rows, after which these steps can be undone and redone
     abbrev stepped : List Row → List Step → List Step → Step → TimelineEffect
     stepped after undo redo step = record {
       timeline = record timeline { rows = after; history = record { undo = undo; redo = redo } };
-      outcome = told timeline.name timeline.kind timeline.rows step Accepted;
+      outcome = reported timeline.name timeline.kind timeline.rows step Accepted;
     }
 
     step_stays : (step : Step) (after : List Row) (undo redo : List Step) → MakesStep timeline.kind timeline.next timeline.rows step after
@@ -246,7 +246,7 @@ module _ (truth : EditsAreTold) (spells : EditsAreSpelled) (back : PrintedReadsB
         named = good.named;
         least = good.least;
         most = good.most;
-        sound = sound_behind timeline.kind timeline.next step timeline.rows after made good.sound;
+        sound = sound_after timeline.kind timeline.next step timeline.rows after made good.sound;
         undo_start = undo_start;
         undo = undoable;
         redo_start = redo_start;
@@ -256,7 +256,7 @@ module _ (truth : EditsAreTold) (spells : EditsAreSpelled) (back : PrintedReadsB
           tells_made names few timeline.name good.named listed timeline.kind timeline.next step judge by timeline.rows after Accepted accepted_passes agrees own made;
     }
 
-    -- a step is undone, and made again
+    -- a step is undone, and redone
     undo_step : (step : Option Step) → newest_step timeline.history.undo ≡ step → StaysGood timeline (undoes_step timeline step)
     undo_step None none = refused_stays timeline refusals.NothingToUndo good tt
     undo_step (Some step) newest =

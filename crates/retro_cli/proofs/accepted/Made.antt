@@ -21,7 +21,7 @@ use Rattle.retro_base.specs.Timeline.{AreOfKind, HaveOwnNumbers, IsReplayable}
 use Rattle.evidence.specs.Evidence.{IsPqOp, IsRowNumber, IsValue}
 use Rattle.evidence_check.specs.Laws.{HasRoom, IsInRange, edit_row}
 use Rattle.script_grammar.specs.SpellingLaws as grammar
-use Rattle.workbench.specs.Told.{appends_from}
+use Rattle.workbench.specs.Reported.{appends_from}
 use Rattle.retro_cli.proofs.accepted.Leads.{Leads, leads_back, leads_so}
 
 -- a row with values of 64 bits and a number that a row can have, below the next one
@@ -37,7 +37,7 @@ pub record Makes (kind : Kind) (next : ℕ) (rows : List Row) (edit : Edit) (aft
   pub before : IsSound kind next rows
   pub within : IsWithin rows edit
   pub leads : edited rows edit ≡ after
-  pub behind : IsSound kind next after
+  pub later : IsSound kind next after
 
 -- a step that is made, and one that was taken back
 abbrev pub MakesStep : Kind → ℕ → List Row → Step → List Row → Type 0
@@ -59,7 +59,7 @@ module _ (kind : Kind) (next later : ℕ) (more : next ≤ later) where
     before = sound_later from made.before;
     within = made.within;
     leads = made.leads;
-    behind = sound_later to made.behind;
+    later = sound_later to made.later;
   }
 
   pub step_later : (from to : List Row) (step : Step) → MakesStep kind next from step to → MakesStep kind later from step to
@@ -68,10 +68,10 @@ module _ (kind : Kind) (next later : ℕ) (more : next ≤ later) where
 -- An edit that was made can be taken back.
 makes_back : (kind : Kind) (next : ℕ) (from to : List Row) (edit : Edit) → Makes kind next from edit to → Makes kind next to (inverse edit) from
 makes_back kind next from to edit made = record {
-  before = made.behind;
+  before = made.later;
   within = subst (λ rows. IsWithin rows (inverse edit)) made.leads (can_go_back from edit made.within);
   leads = subst (λ rows. edited rows (inverse edit) ≡ from) made.leads (there_and_back from edit made.within);
-  behind = made.before;
+  later = made.before;
 }
 
 pub step_back : (kind : Kind) (next : ℕ) (from to : List Row) (step : Step) → MakesStep kind next from step to → MakesStep kind next to (inverse_step step) from
@@ -87,9 +87,9 @@ pub sound_before : (kind : Kind) (next : ℕ) (step : Step) (from to : List Row)
 sound_before kind next [] from to made sound = subst (IsSound kind next) (sym made) sound
 sound_before kind next (edit ∷ step) from to made sound = made.1.before
 
-pub sound_behind : (kind : Kind) (next : ℕ) (step : Step) (from to : List Row) → MakesStep kind next from step to → IsSound kind next from → IsSound kind next to
-sound_behind kind next [] from to made sound = subst (IsSound kind next) made sound
-sound_behind kind next (edit ∷ step) from to made sound = sound_behind kind next step made.0 to made.2 made.1.behind
+pub sound_after : (kind : Kind) (next : ℕ) (step : Step) (from to : List Row) → MakesStep kind next from step to → IsSound kind next from → IsSound kind next to
+sound_after kind next [] from to made sound = subst (IsSound kind next) made sound
+sound_after kind next (edit ∷ step) from to made sound = sound_after kind next step made.0 to made.2 made.1.later
 
 -- An edit of a priority queue that is made can be told.
 value_in_range : (v : ℤ) → grammar.IsValue v → IsValue v
@@ -133,7 +133,7 @@ room_for rows (add place row) within few = omega (arith, length-insert rows plac
 room_for rows (cut place row) within few = tt
 
 -- all that the laws of evidence ask for
-pub record CanBeTold (rows : List Row) (edit : Edit) : Type 0 where
+pub record CanBeReported (rows : List Row) (edit : Edit) : Type 0 where
   pub possible : IsPqEdit rows edit
   pub accepted : IsAccepted Pq rows edit
   pub room : HasRoom rows edit
@@ -141,20 +141,20 @@ pub record CanBeTold (rows : List Row) (edit : Edit) : Type 0 where
   pub rows_range : AllByRecursion IsInRange rows
   pub row_range : IsInRange (edit_row edit)
 
-pub can_be_told : (next : ℕ) (rows after : List Row) (edit : Edit) → Makes Pq next rows edit after → CanBeTold rows edit
-can_be_told next rows after edit made =
-    let behind : IsSound Pq next (edited rows edit) = subst (IsSound Pq next) (sym made.leads) made.behind in
+pub can_be_reported : (next : ℕ) (rows after : List Row) (edit : Edit) → Makes Pq next rows edit after → CanBeReported rows edit
+can_be_reported next rows after edit made =
+    let later : IsSound Pq next (edited rows edit) = subst (IsSound Pq next) (sym made.leads) made.later in
     record {
       possible = record {
         history = record { of_kind = made.before.replayable.of_kind; own_numbers = made.before.replayable.own_numbers; valid = made.before.replayable.valid };
         within = made.within;
-        own_row = adds_own_row rows edit behind.replayable;
+        own_row = adds_own_row rows edit later.replayable;
       };
-      accepted = behind.replayable.valid;
-      room = room_for rows edit made.within behind.replayable.few;
+      accepted = later.replayable.valid;
+      room = room_for rows edit made.within later.replayable.few;
       few = made.before.replayable.few;
       rows_range = all_in_range next rows made.before.replayable.of_kind made.before.ranged;
-      row_range = row_in_range next rows edit made.before made.within behind;
+      row_range = row_in_range next rows edit made.before made.within later;
     }
 
 -- The first of sound rows are sound, so rows can be put in one after another.
@@ -191,7 +191,7 @@ appends_made kind next before (row ∷ more) sound =
         before = sound_front kind next before (row ∷ more) sound;
         within = omega arith;
         leads = insert_end before row;
-        behind = sound_front kind next (before ++ row ∷ []) more (subst (IsSound kind next) (sym same) sound);
+        later = sound_front kind next (before ++ row ∷ []) more (subst (IsSound kind next) (sym same) sound);
       },
       subst (λ n. MakesStep kind next (before ++ row ∷ []) (appends_from n more) (before ++ row ∷ more)) longer
           (subst (MakesStep kind next (before ++ row ∷ []) (appends_from (length (before ++ row ∷ [])) more)) same rest),

@@ -56,9 +56,9 @@ found_within : (rows : List Row) (place : Option ℕ)
 found_within rows None = tt
 found_within rows (Some place) = placed_within rows place (slice_get rows place) refl
 
-not_behind : (n : ℕ) (position : Option Position) → IfSome position (λ p. p.place < n) → IfSome position (λ p. p.place ≤ n)
-not_behind n None within = tt
-not_behind n (Some position) within = omega (arith, within)
+not_after : (n : ℕ) (position : Option Position) → IfSome position (λ p. p.place < n) → IfSome position (λ p. p.place ≤ n)
+not_after n None within = tt
+not_after n (Some position) within = omega (arith, within)
 
 one_further : (n : ℕ) (position : Option Position) → IfSome position (λ p. p.place < n) → IfSome (option_map next_position position) (λ p. p.place ≤ n)
 one_further n None within = tt
@@ -66,7 +66,7 @@ one_further n (Some position) within = omega (arith, within)
 
 pub position_within : (spot : Spot) (rows : List Row) → IfSome (position_of spot rows) (λ p. p.place ≤ length rows)
 position_within (spots.At time) rows = count_by-le-length (λ (row : Row). nat_le row.time time) rows
-position_within (spots.Before number) rows = not_behind (length rows) (position_before number rows) (found_within rows (place_of_row number rows))
+position_within (spots.Before number) rows = not_after (length rows) (position_before number rows) (found_within rows (place_of_row number rows))
 position_within (spots.After number) rows = one_further (length rows) (position_before number rows) (found_within rows (place_of_row number rows))
 
 -- cuts

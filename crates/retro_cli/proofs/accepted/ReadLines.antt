@@ -10,7 +10,7 @@ use Rattle.evidence.specs.declared.evidence.Evidence.{Evidence}
 use Rattle.evidence.specs.Reading.{evidence_of}
 use Rattle.evidence_check.specs.declared.error.CheckError.{CheckError}
 use Rattle.evidence_check.specs.declared.error.CheckError.TheVariants as causes
-use Rattle.evidence_check.specs.Judgement.{Judge, accepted, decided, first_cause, is_evidence_line, judged, judged_evidence, judged_line, judgement, judgement_from, nothing_told, told_after}
+use Rattle.evidence_check.specs.Judgement.{Judge, accepted, decided, first_cause, is_evidence_line, judged, judged_evidence, judged_line, judgement, judgement_from, nothing_reported, reported_after}
 use Rattle.evidence_check.specs.declared.error.CheckError.TheVariants as causes
 use Rattle.evidence_check.specs.JudgementLaws.{judged-other}
 use Rattle.workbench.specs.Outcome.{as_line}
@@ -77,11 +77,11 @@ one_if test = cond test 1 0
 decided_once : (cause : Option CheckError) (judge after : Judge) (e : Evidence) → decided cause judge e ≡ Ok after → after.accepted ≡ judge.accepted + 1
 decided_once (Some cause) judge after e is = absurd (cc)
 decided_once None judge after e is =
-    let same : ◌≡◌ {A = Judge} (record { told = told_after judge.told e; accepted = judge.accepted + 1 }) after = cc in sym (ap (λ (j : Judge). j.accepted) same)
+    let same : ◌≡◌ {A = Judge} (record { reported = reported_after judge.reported e; accepted = judge.accepted + 1 }) after = cc in sym (ap (λ (j : Judge). j.accepted) same)
 
 evidence_once : (spelled : Option Evidence) (judge after : Judge) → judged_evidence judge spelled ≡ Ok after → after.accepted ≡ judge.accepted + 1
 evidence_once None judge after is = absurd (cc)
-evidence_once (Some e) judge after is = decided_once (first_cause judge.told e) judge after e is
+evidence_once (Some e) judge after is = decided_once (first_cause judge.reported e) judge after e is
 
 line_once : (long : Bool) (judge after : Judge) (line : List ℕ) → is_evidence_line line ≡ true → judged_line judge line long ≡ Ok after → after.accepted ≡ judge.accepted + 1
 unfolding judged_line
@@ -107,11 +107,11 @@ all_accepted (line ∷ written) before judge after leads =
     omega (arith, line_counts judge next line leads.1, sum_by-cons (λ l. one_if (is_evidence_line l)) line written) in
     rw leads.1 (all_accepted written (before + 1) next after leads.2 ∙ ap accepted count)
 
-pub accepted_whole : (written : List (List ℕ)) (after : Judge) → Leads Takes nothing_told written after → judgement written ≡ accepted (count_by is_evidence_line written)
-accepted_whole written after leads = all_accepted written 0 nothing_told after leads ∙ ap accepted (omega arith)
+pub accepted_whole : (written : List (List ℕ)) (after : Judge) → Leads Takes nothing_reported written after → judgement written ≡ accepted (count_by is_evidence_line written)
+accepted_whole written after leads = all_accepted written 0 nothing_reported after leads ∙ ap accepted (omega arith)
 
 -- a text that the judge takes whole is accepted
-pub reads_whole : (text : List ℕ) (after : Judge) → Reads nothing_told text after → judgement (lines text) ≡ accepted (count_by is_evidence_line (lines text))
+pub reads_whole : (text : List ℕ) (after : Judge) → Reads nothing_reported text after → judgement (lines text) ≡ accepted (count_by is_evidence_line (lines text))
 reads_whole text after reads =
     let same : lines text ≡ reads.read = ap lines (sym (append-nil text)) ∙ reads.cut [] ∙ append-nil reads.read in
     subst (λ written. judgement written ≡ accepted (count_by is_evidence_line written)) (sym same) (accepted_whole reads.read after reads.taken)

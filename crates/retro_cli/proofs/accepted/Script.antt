@@ -4,8 +4,8 @@ use Rattle.std.specs.List.{concat}
 use Rattle.retro_base.specs.LineLength.{is_long}
 use Rattle.retro_io.specs.Lines.{lines}
 use Rattle.evidence.specs.Laws.{LinesAreShort, PrintedReadsBack}
-use Rattle.evidence_check.specs.Judgement.{Judge, nothing_told}
-use Rattle.evidence_check.specs.Laws.{EditsAreSpelled, EditsAreTold}
+use Rattle.evidence_check.specs.Judgement.{Judge, nothing_reported}
+use Rattle.evidence_check.specs.Laws.{EditsAreSpelled, EditsAreReported}
 use Rattle.workbench.specs.Answers.{bench_after, reactions}
 use Rattle.workbench.specs.Bench.{Bench, empty_bench}
 use Rattle.workbench.specs.Reaction.{Reaction, closing, reacts}
@@ -18,22 +18,22 @@ use Rattle.retro_cli.proofs.accepted.ReadLines.{Reads, reads-append, reads_nothi
 abbrev answers_of : Bench → List (List ℕ) → List ℕ
 answers_of bench script = concat (map (λ (reaction : Reaction). reaction.answer) (reactions bench script))
 
-module _ (truth : EditsAreTold) (spells : EditsAreSpelled) (back : PrintedReadsBack) (short : LinesAreShort) where
-  -- what the judge is behind the answers to some lines
+module _ (truth : EditsAreReported) (spells : EditsAreSpelled) (back : PrintedReadsBack) (short : LinesAreShort) where
+  -- what the judge is after the answers to some lines
   record ReadsAnswers (bench : Bench) (script : List (List ℕ)) (judge : Judge) : Type 0 where
-    behind : Judge
-    reads : Reads judge (answers_of bench script) behind
-    kept : IsKept truth spells back short (bench_after bench script) behind.told
+    later : Judge
+    reads : Reads judge (answers_of bench script) later
+    kept : IsKept truth spells back short (bench_after bench script) later.reported
 
-  reads_answers : (script : List (List ℕ)) (bench : Bench) (judge : Judge) → IsKept truth spells back short bench judge.told → ReadsAnswers bench script judge
+  reads_answers : (script : List (List ℕ)) (bench : Bench) (judge : Judge) → IsKept truth spells back short bench judge.reported → ReadsAnswers bench script judge
   unfolding reactions bench_after
-  reads_answers [] bench judge kept = record { behind = judge; reads = reads_nothing judge; kept = kept }
+  reads_answers [] bench judge kept = record { later = judge; reads = reads_nothing judge; kept = kept }
   reads_answers (line ∷ script) bench judge kept =
       let one : StaysKept truth spells back short _ judge = happens_kept truth spells back short bench.timelines judge bench.block line (is_long line) kept.timelines kept.block in
-      let rest = reads_answers script (reacts bench line).bench one.behind one.kept in
+      let rest = reads_answers script (reacts bench line).bench one.later one.kept in
       record {
-        behind = rest.behind;
-        reads = reads-append judge one.behind rest.behind (reacts bench line).answer (answers_of (reacts bench line).bench script) one.reads rest.reads;
+        later = rest.later;
+        reads = reads-append judge one.later rest.later (reacts bench line).answer (answers_of (reacts bench line).bench script) one.reads rest.reads;
         kept = rest.kept;
       }
 
@@ -46,8 +46,8 @@ module _ (truth : EditsAreTold) (spells : EditsAreSpelled) (back : PrintedReadsB
   pub written_is_accepted : WhatIsWrittenIsAccepted
   written_is_accepted bytes =
       let script : List (List ℕ) = lines bytes in
-      let answered = reads_answers script empty_bench nothing_told nothing_kept in
+      let answered = reads_answers script empty_bench nothing_reported nothing_kept in
       let bench : Bench = bench_after empty_bench script in
-      let closed = ends_kept truth spells back short bench.timelines answered.behind bench.block false answered.kept.timelines answered.kept.block in
-      reads_whole (output bytes) closed.behind
-      (reads-append nothing_told answered.behind closed.behind (answers_to script) (closing bench).answer answered.reads closed.reads)
+      let closed = ends_kept truth spells back short bench.timelines answered.later bench.block false answered.kept.timelines answered.kept.block in
+      reads_whole (output bytes) closed.later
+      (reads-append nothing_reported answered.later closed.later (answers_to script) (closing bench).answer answered.reads closed.reads)

@@ -1,4 +1,4 @@
--- What the judge is told of edits that are made, and what it then knows of each name.
+-- What the judge is reported of edits that are made, and what it then knows of each name.
 use Rattle.std.proofs.Common.{◌≡◌, ℕ, ◌+◌, ◌≤◌, Bool, true, false, ◌&&◌, nat_le, cond, List, [], ◌∷◌, length, refl, sym, ap, ◌∙◌, subst, arith, Option, Some, None, Ok}
 use Rattle.std.specs.Prelude.{is_none, is_some, unwrap_or}
 use Rattle.std.specs.List.{list_any}
@@ -16,13 +16,13 @@ use Rattle.evidence.specs.Evidence.{IsEvidence}
 use Rattle.evidence.specs.Laws.{LinesAreShort, PrintedReadsBack}
 use Rattle.evidence.specs.Spelling.{spelling}
 use Rattle.evidence_check.specs.declared.error.CheckError.TheVariants as causes
-use Rattle.evidence_check.specs.Judgement.{Judge, Told, decided, first_cause, is_named, is_one_too_many, rows_of, told_after, with_rows}
+use Rattle.evidence_check.specs.Judgement.{Judge, Reported, decided, first_cause, is_named, is_one_too_many, rows_of, reported_after, with_rows}
 use Rattle.evidence_check.specs.JudgementLaws.{judged-spelling}
-use Rattle.evidence_check.specs.Laws.{EditsAreSpelled, EditsAreTold, evidence_for, timeless}
+use Rattle.evidence_check.specs.Laws.{EditsAreSpelled, EditsAreReported, evidence_for, timeless}
 use Rattle.evidence_check.specs.Truth.{cause_of, rows_after}
 use Rattle.workbench.specs.Outcome.{evidence_line, evidence_lines}
-use Rattle.workbench.specs.Told.{evidence_of, evidence_of_step}
-use Rattle.retro_cli.proofs.accepted.Made.{Makes, MakesStep, can_be_told}
+use Rattle.workbench.specs.Reported.{evidence_of, evidence_of_step}
+use Rattle.retro_cli.proofs.accepted.Made.{Makes, MakesStep, can_be_reported}
 use Rattle.retro_cli.proofs.accepted.Printable.{spelling_printable}
 use Rattle.retro_cli.proofs.accepted.ReadLines.{Reads, Takes, reads-append, reads_line, reads_nothing}
 
@@ -82,13 +82,13 @@ all_counted (name ∷ names) = omega (arith, all_counted names)
 abbrev pub put : List ℕ → List Row → (List ℕ → List Row) → List ℕ → List Row
 put name rows by other = cond (bytes_eq name other) rows (by other)
 
--- the judge was told these rows of each name, and of no name that is not listed
-pub record Agrees (names : List (List ℕ)) (by : List ℕ → List Row) (told : List Told) : Type 0 where
-  pub same : (name : List ℕ) → unwrap_or (rows_of name told) [] ≡ timeless (by name)
-  pub few : length told ≤ counted (λ name. is_some (rows_of name told)) names
+-- the judge was reported these rows of each name, and of no name that is not listed
+pub record Agrees (names : List (List ℕ)) (by : List ℕ → List Row) (reported : List Reported) : Type 0 where
+  pub same : (name : List ℕ) → unwrap_or (rows_of name reported) [] ≡ timeless (by name)
+  pub few : length reported ≤ counted (λ name. is_some (rows_of name reported)) names
 
-pub agrees_as : (names : List (List ℕ)) (by other : List ℕ → List Row) (told : List Told) → ((name : List ℕ) → by name ≡ other name) → Agrees names by told → Agrees names other told
-agrees_as names by other told as_other agrees = record { same = λ name. agrees.same name ∙ ap timeless (as_other name); few = agrees.few }
+pub agrees_as : (names : List (List ℕ)) (by other : List ℕ → List Row) (reported : List Reported) → ((name : List ℕ) → by name ≡ other name) → Agrees names by reported → Agrees names other reported
+agrees_as names by other reported as_other agrees = record { same = λ name. agrees.same name ∙ ap timeless (as_other name); few = agrees.few }
 
 -- Rows under a name.
 is_some_not_none : {X : Type 0} (o : Option X) → is_none o ≡ false → is_some o ≡ true
@@ -98,72 +98,72 @@ is_some_not_none (Some x) is = refl
 found_once : (name other : List ℕ) (rows first : List Row) (others : Option (List Row)) → cond (bytes_eq name other) (Some rows) others ≡ cond (bytes_eq name other) (Some rows) (cond (bytes_eq name other) (Some first) others)
 found_once name other rows first others = elim (bytes_eq name other) as (λ b. cond b (Some rows) others ≡ cond b (Some rows) (cond b (Some first) others)) [ true ↦ refl | false ↦ refl ]
 
-rows_of-with : (name : List ℕ) (rows : List Row) (told : List Told) (other : List ℕ) → rows_of other (with_rows name rows told) ≡ cond (bytes_eq name other) (Some rows) (rows_of other told)
+rows_of-with : (name : List ℕ) (rows : List Row) (reported : List Reported) (other : List ℕ) → rows_of other (with_rows name rows reported) ≡ cond (bytes_eq name other) (Some rows) (rows_of other reported)
 rows_of-with name rows [] other = refl
-rows_of-with name rows (first ∷ told) other =
-    elim (is_named name first) as (λ b. is_named name first ≡ b → rows_of other (with_rows name rows (first ∷ told)) ≡ cond (bytes_eq name other) (Some rows) (rows_of other (first ∷ told))) [
+rows_of-with name rows (first ∷ reported) other =
+    elim (is_named name first) as (λ b. is_named name first ≡ b → rows_of other (with_rows name rows (first ∷ reported)) ≡ cond (bytes_eq name other) (Some rows) (rows_of other (first ∷ reported))) [
       | true ↦ λ is.
-          rw (is, same_name first.name name is) (found_once name other rows first.rows (rows_of other told))
+          rw (is, same_name first.name name is) (found_once name other rows first.rows (rows_of other reported))
       | false ↦ λ apart.
           rw apart
           (elim (is_named other first) as (λ b. is_named other first ≡ b
-          → cond b (Some first.rows) (rows_of other (with_rows name rows told)) ≡ cond (bytes_eq name other) (Some rows) (cond b (Some first.rows) (rows_of other told))) [
+          → cond b (Some first.rows) (rows_of other (with_rows name rows reported)) ≡ cond (bytes_eq name other) (Some rows) (cond b (Some first.rows) (rows_of other reported))) [
             | true ↦ λ own. rw (other_name first.name name other own apart) refl
-            | false ↦ λ e. rows_of-with name rows told other
+            | false ↦ λ e. rows_of-with name rows reported other
           ] refl)
     ] refl
 
-length-with : (name : List ℕ) (rows : List Row) (told : List Told) → length (with_rows name rows told) ≡ length told + cond (is_none (rows_of name told)) 1 0
+length-with : (name : List ℕ) (rows : List Row) (reported : List Reported) → length (with_rows name rows reported) ≡ length reported + cond (is_none (rows_of name reported)) 1 0
 length-with name rows [] = refl
-length-with name rows (first ∷ told) =
-    elim (is_named name first) as (λ b. is_named name first ≡ b → length (with_rows name rows (first ∷ told)) ≡ length (first ∷ told) + cond (is_none (rows_of name (first ∷ told))) 1 0) [
+length-with name rows (first ∷ reported) =
+    elim (is_named name first) as (λ b. is_named name first ≡ b → length (with_rows name rows (first ∷ reported)) ≡ length (first ∷ reported) + cond (is_none (rows_of name (first ∷ reported))) 1 0) [
       | true ↦ λ is. rw is (omega arith)
-      | false ↦ λ apart. rw apart (omega (arith, length-with name rows told))
+      | false ↦ λ apart. rw apart (omega (arith, length-with name rows reported))
     ] refl
 
--- the names that were told are so still
-still_told : (name : List ℕ) (rows : List Row) (told : List Told) (other : List ℕ) → is_some (rows_of other told) ≡ true → is_some (rows_of other (with_rows name rows told)) ≡ true
-still_told name rows told other is =
-    rw (rows_of-with name rows told other)
-    (elim (bytes_eq name other) as (λ b. is_some (cond b (Some rows) (rows_of other told)) ≡ true) [ true ↦ refl | false ↦ is ])
+-- the names that were reported are so still
+still_reported : (name : List ℕ) (rows : List Row) (reported : List Reported) (other : List ℕ) → is_some (rows_of other reported) ≡ true → is_some (rows_of other (with_rows name rows reported)) ≡ true
+still_reported name rows reported other is =
+    rw (rows_of-with name rows reported other)
+    (elim (bytes_eq name other) as (λ b. is_some (cond b (Some rows) (rows_of other reported)) ≡ true) [ true ↦ refl | false ↦ is ])
 
-now_told : (name : List ℕ) (rows : List Row) (told : List Told) → is_some (rows_of name (with_rows name rows told)) ≡ true
-now_told name rows told = rw (rows_of-with name rows told name, itself name) refl
+now_reported : (name : List ℕ) (rows : List Row) (reported : List Reported) → is_some (rows_of name (with_rows name rows reported)) ≡ true
+now_reported name rows reported = rw (rows_of-with name rows reported name, itself name) refl
 
-few_with : (names : List (List ℕ)) (name : List ℕ) (rows : List Row) (told : List Told) → is_listed name names ≡ true → length told ≤ counted (λ n. is_some (rows_of n told)) names
-    → length (with_rows name rows told) ≤ counted (λ n. is_some (rows_of n (with_rows name rows told))) names
-few_with names name rows told listed few =
-    elim (rows_of name told) as (λ o. rows_of name told ≡ o → length (with_rows name rows told) ≤ counted (λ n. is_some (rows_of n (with_rows name rows told))) names) [
+few_with : (names : List (List ℕ)) (name : List ℕ) (rows : List Row) (reported : List Reported) → is_listed name names ≡ true → length reported ≤ counted (λ n. is_some (rows_of n reported)) names
+    → length (with_rows name rows reported) ≤ counted (λ n. is_some (rows_of n (with_rows name rows reported))) names
+few_with names name rows reported listed few =
+    elim (rows_of name reported) as (λ o. rows_of name reported ≡ o → length (with_rows name rows reported) ≤ counted (λ n. is_some (rows_of n (with_rows name rows reported))) names) [
       | None ↦ λ none.
-          let longer : length (with_rows name rows told) ≡ length told + 1 = length-with name rows told ∙ rw none refl in
-          let out : is_some (rows_of name told) ≡ false = rw none refl in
-          omega (arith, longer, few, one_more (λ n. is_some (rows_of n told)) (λ n. is_some (rows_of n (with_rows name rows told))) (still_told name rows told) name out (now_told name rows told) names listed)
+          let longer : length (with_rows name rows reported) ≡ length reported + 1 = length-with name rows reported ∙ rw none refl in
+          let out : is_some (rows_of name reported) ≡ false = rw none refl in
+          omega (arith, longer, few, one_more (λ n. is_some (rows_of n reported)) (λ n. is_some (rows_of n (with_rows name rows reported))) (still_reported name rows reported) name out (now_reported name rows reported) names listed)
       | Some old ↦ λ some.
-          let as_long : length (with_rows name rows told) ≡ length told + 0 = length-with name rows told ∙ rw some refl in
-          omega (arith, as_long, few, no_fewer (λ n. is_some (rows_of n told)) (λ n. is_some (rows_of n (with_rows name rows told))) (still_told name rows told) names)
+          let as_long : length (with_rows name rows reported) ≡ length reported + 0 = length-with name rows reported ∙ rw some refl in
+          omega (arith, as_long, few, no_fewer (λ n. is_some (rows_of n reported)) (λ n. is_some (rows_of n (with_rows name rows reported))) (still_reported name rows reported) names)
     ] refl
 
-agrees_with : (names : List (List ℕ)) (by : List ℕ → List Row) (told : List Told) (name : List ℕ) (rows : List Row) → is_listed name names ≡ true → Agrees names by told
-    → Agrees names (put name rows by) (with_rows name (timeless rows) told)
-agrees_with names by told name rows listed agrees = record {
+agrees_with : (names : List (List ℕ)) (by : List ℕ → List Row) (reported : List Reported) (name : List ℕ) (rows : List Row) → is_listed name names ≡ true → Agrees names by reported
+    → Agrees names (put name rows by) (with_rows name (timeless rows) reported)
+agrees_with names by reported name rows listed agrees = record {
   same = λ other.
-      rw (rows_of-with name (timeless rows) told other)
-      (elim (bytes_eq name other) as (λ b. unwrap_or (cond b (Some (timeless rows)) (rows_of other told)) [] ≡ timeless (cond b rows (by other))) [
+      rw (rows_of-with name (timeless rows) reported other)
+      (elim (bytes_eq name other) as (λ b. unwrap_or (cond b (Some (timeless rows)) (rows_of other reported)) [] ≡ timeless (cond b rows (by other))) [
         | true ↦ refl
         | false ↦ agrees.same other
       ]);
-  few = few_with names name (timeless rows) told listed agrees.few;
+  few = few_with names name (timeless rows) reported listed agrees.few;
 }
 
 -- there is room for a name that is listed
-has_room : (names : List (List ℕ)) (by : List ℕ → List Row) (told : List Told) (name : List ℕ) → length names ≤ most_timelines → is_listed name names ≡ true → Agrees names by told
-    → is_one_too_many (rows_of name told) told ≡ false
-has_room names by told name few listed agrees =
-    elim (rows_of name told) as (λ o. rows_of name told ≡ o → (is_none o && nat_le most_timelines (length told)) ≡ false) [
+has_room : (names : List (List ℕ)) (by : List ℕ → List Row) (reported : List Reported) (name : List ℕ) → length names ≤ most_timelines → is_listed name names ≡ true → Agrees names by reported
+    → is_one_too_many (rows_of name reported) reported ≡ false
+has_room names by reported name few listed agrees =
+    elim (rows_of name reported) as (λ o. rows_of name reported ≡ o → (is_none o && nat_le most_timelines (length reported)) ≡ false) [
       | None ↦ λ none.
-          let out : is_some (rows_of name told) ≡ false = rw none refl in
-          let fewer = one_more (λ n. is_some (rows_of n told)) (λ n. true) (λ n is. refl) name out refl names listed in
-          lt-leb most_timelines (length told) (omega (arith, fewer, all_counted names, few, agrees.few))
+          let out : is_some (rows_of name reported) ≡ false = rw none refl in
+          let fewer = one_more (λ n. is_some (rows_of n reported)) (λ n. true) (λ n is. refl) name out refl names listed in
+          lt-leb most_timelines (length reported) (omega (arith, fewer, all_counted names, few, agrees.few))
       | Some rows ↦ λ some. refl
     ] refl
 
@@ -176,53 +176,53 @@ same_evidence : (name : List ℕ) (rows : List Row) (edit : Edit) → evidence_f
 same_evidence name rows (add place row) = refl
 same_evidence name rows (cut place row) = refl
 
-none_first : (told : List Told) (name : List ℕ) (e : Evidence) (rows : List Row) → e.name ≡ name → is_one_too_many (rows_of name told) told ≡ false
-    → unwrap_or (rows_of name told) [] ≡ rows → cause_of rows e ≡ None → first_cause told e ≡ None
-none_first told name e rows named room same none =
-    ap (λ n. cond (is_one_too_many (rows_of n told) told) (Some causes.Timelines) (cause_of (unwrap_or (rows_of n told) []) e)) named
-    ∙ ap (λ b. cond b (Some causes.Timelines) (cause_of (unwrap_or (rows_of name told) []) e)) room ∙ ap (λ rs. cause_of rs e) same ∙ none
+none_first : (reported : List Reported) (name : List ℕ) (e : Evidence) (rows : List Row) → e.name ≡ name → is_one_too_many (rows_of name reported) reported ≡ false
+    → unwrap_or (rows_of name reported) [] ≡ rows → cause_of rows e ≡ None → first_cause reported e ≡ None
+none_first reported name e rows named room same none =
+    ap (λ n. cond (is_one_too_many (rows_of n reported) reported) (Some causes.Timelines) (cause_of (unwrap_or (rows_of n reported) []) e)) named
+    ∙ ap (λ b. cond b (Some causes.Timelines) (cause_of (unwrap_or (rows_of name reported) []) e)) room ∙ ap (λ rs. cause_of rs e) same ∙ none
 
-accepted_so : (judge : Judge) (name : List ℕ) (e : Evidence) (rows after : List Row) → e.name ≡ name → is_one_too_many (rows_of name judge.told) judge.told ≡ false
-    → unwrap_or (rows_of name judge.told) [] ≡ timeless rows → cause_of (timeless rows) e ≡ None → rows_after (timeless rows) e ≡ timeless after
-    → decided (first_cause judge.told e) judge e ≡ Ok (record { told = with_rows name (timeless after) judge.told; accepted = judge.accepted + 1 })
-accepted_so judge name e rows after named room same none behind =
-    let no_cause : first_cause judge.told e ≡ None = none_first judge.told name e (timeless rows) named room same none in
-    let told : told_after judge.told e ≡ with_rows name (timeless after) judge.told =
-    ap (λ n. with_rows n (rows_after (unwrap_or (rows_of n judge.told) []) e) judge.told) named
-    ∙ ap (λ rs. with_rows name rs judge.told) (ap (λ rs. rows_after rs e) same ∙ behind) in
-    rw (no_cause, told) refl
+accepted_so : (judge : Judge) (name : List ℕ) (e : Evidence) (rows after : List Row) → e.name ≡ name → is_one_too_many (rows_of name judge.reported) judge.reported ≡ false
+    → unwrap_or (rows_of name judge.reported) [] ≡ timeless rows → cause_of (timeless rows) e ≡ None → rows_after (timeless rows) e ≡ timeless after
+    → decided (first_cause judge.reported e) judge e ≡ Ok (record { reported = with_rows name (timeless after) judge.reported; accepted = judge.accepted + 1 })
+accepted_so judge name e rows after named room same none later =
+    let no_cause : first_cause judge.reported e ≡ None = none_first judge.reported name e (timeless rows) named room same none in
+    let reported : reported_after judge.reported e ≡ with_rows name (timeless after) judge.reported =
+    ap (λ n. with_rows n (rows_after (unwrap_or (rows_of n judge.reported) []) e) judge.reported) named
+    ∙ ap (λ rs. with_rows name rs judge.reported) (ap (λ rs. rows_after rs e) same ∙ later) in
+    rw (no_cause, reported) refl
 
--- what the judge is behind a text that tells of a name, and knows then
-pub record HasTold (names : List (List ℕ)) (by : List ℕ → List Row) (name : List ℕ) (after : List Row) (judge : Judge) (text : List ℕ) : Type 0 where
-  pub behind : Judge
-  pub reads : Reads judge text behind
-  pub agrees : Agrees names (put name after by) behind.told
+-- what the judge is after a text that tells of a name, and knows then
+pub record HasReported (names : List (List ℕ)) (by : List ℕ → List Row) (name : List ℕ) (after : List Row) (judge : Judge) (text : List ℕ) : Type 0 where
+  pub later : Judge
+  pub reads : Reads judge text later
+  pub agrees : Agrees names (put name after by) later.reported
 
-module _ (tells : EditsAreTold) (spells : EditsAreSpelled) (back : PrintedReadsBack) (short : LinesAreShort) where
+module _ (tells : EditsAreReported) (spells : EditsAreSpelled) (back : PrintedReadsBack) (short : LinesAreShort) where
   module _ (names : List (List ℕ)) (few : length names ≤ most_timelines) (name : List ℕ) (named : is_name name ≡ true) (listed : is_listed name names ≡ true) where
-    takes_edit : (next : ℕ) (judge : Judge) (by : List ℕ → List Row) (rows after : List Row) (edit : Edit) → Agrees names by judge.told → by name ≡ rows → Makes Pq next rows edit after
-        → Takes judge (spelling (evidence_of name rows edit)) (record { told = with_rows name (timeless after) judge.told; accepted = judge.accepted + 1 })
+    takes_edit : (next : ℕ) (judge : Judge) (by : List ℕ → List Row) (rows after : List Row) (edit : Edit) → Agrees names by judge.reported → by name ≡ rows → Makes Pq next rows edit after
+        → Takes judge (spelling (evidence_of name rows edit)) (record { reported = with_rows name (timeless after) judge.reported; accepted = judge.accepted + 1 })
     takes_edit next judge by rows after edit agrees own made =
-        let can = can_be_told next rows after edit made in
+        let can = can_be_reported next rows after edit made in
         let is : IsEvidence (evidence_of name rows edit) =
         subst IsEvidence (same_evidence name rows edit) (spells rows edit name can.possible can.accepted can.few named can.rows_range can.row_range) in
         let truth = tells rows edit name can.possible can.accepted can.room in
         let none : cause_of (timeless rows) (evidence_of name rows edit) ≡ None =
         subst (λ e. cause_of (timeless rows) e ≡ None) (same_evidence name rows edit) truth.accepted in
-        let behind : rows_after (timeless rows) (evidence_of name rows edit) ≡ timeless after =
+        let later : rows_after (timeless rows) (evidence_of name rows edit) ≡ timeless after =
         subst (λ e. rows_after (timeless rows) e ≡ timeless (edited rows edit)) (same_evidence name rows edit) truth.after ∙ ap timeless made.leads in
         judged-spelling back short judge (evidence_of name rows edit) is
-        ∙ accepted_so judge name (evidence_of name rows edit) rows after (named_so name rows edit) (has_room names by judge.told name few listed agrees)
-        (agrees.same name ∙ ap timeless own) none behind
+        ∙ accepted_so judge name (evidence_of name rows edit) rows after (named_so name rows edit) (has_room names by judge.reported name few listed agrees)
+        (agrees.same name ∙ ap timeless own) none later
 
     -- and a step
-    pub tells_step : (next : ℕ) (step : Step) (judge : Judge) (by : List ℕ → List Row) (rows after : List Row) → Agrees names by judge.told → by name ≡ rows → MakesStep Pq next rows step after
-        → HasTold names by name after judge (evidence_lines (evidence_of_step name rows step))
+    pub tells_step : (next : ℕ) (step : Step) (judge : Judge) (by : List ℕ → List Row) (rows after : List Row) → Agrees names by judge.reported → by name ≡ rows → MakesStep Pq next rows step after
+        → HasReported names by name after judge (evidence_lines (evidence_of_step name rows step))
     unfolding evidence_of_step
     tells_step next [] judge by rows after agrees own made = record {
-      behind = judge;
+      later = judge;
       reads = reads_nothing judge;
-      agrees = agrees_as names by (put name after by) judge.told
+      agrees = agrees_as names by (put name after by) judge.reported
           (λ other. elim (bytes_eq name other) as (λ b. bytes_eq name other ≡ b → by other ≡ cond b after (by other)) [
             | true ↦ λ is. ap by (sym (same_name name other is)) ∙ own ∙ made
             | false ↦ λ apart. refl
@@ -230,17 +230,17 @@ module _ (tells : EditsAreTold) (spells : EditsAreSpelled) (back : PrintedReadsB
     }
     tells_step next (edit ∷ step) judge by rows after agrees own made =
         let middle : List Row = made.0 in
-        let first : Judge = record { told = with_rows name (timeless middle) judge.told; accepted = judge.accepted + 1 } in
+        let first : Judge = record { reported = with_rows name (timeless middle) judge.reported; accepted = judge.accepted + 1 } in
         let printable = spelling_printable (evidence_of name rows edit) (ap is_name (named_so name rows edit) ∙ named) in
         let one : Reads judge (evidence_line (evidence_of name rows edit)) first =
         reads_line judge first (spelling (evidence_of name rows edit)) printable (takes_edit next judge by rows middle edit agrees own made.1) in
-        let rest : HasTold names (put name middle by) name after first (evidence_lines (evidence_of_step name middle step)) =
-        tells_step next step first (put name middle by) middle after (agrees_with names by judge.told name middle listed agrees) (rw (itself name) refl) made.2 in
-        let others : Reads first (evidence_lines (evidence_of_step name (edited rows edit) step)) rest.behind =
-        subst (λ rs. Reads first (evidence_lines (evidence_of_step name rs step)) rest.behind) (sym made.1.leads) rest.reads in
+        let rest : HasReported names (put name middle by) name after first (evidence_lines (evidence_of_step name middle step)) =
+        tells_step next step first (put name middle by) middle after (agrees_with names by judge.reported name middle listed agrees) (rw (itself name) refl) made.2 in
+        let others : Reads first (evidence_lines (evidence_of_step name (edited rows edit) step)) rest.later =
+        subst (λ rs. Reads first (evidence_lines (evidence_of_step name rs step)) rest.later) (sym made.1.leads) rest.reads in
         record {
-          behind = rest.behind;
-          reads = reads-append judge first rest.behind (evidence_line (evidence_of name rows edit)) (evidence_lines (evidence_of_step name (edited rows edit) step)) one others;
-          agrees = agrees_as names (put name after (put name middle by)) (put name after by) rest.behind.told
+          later = rest.later;
+          reads = reads-append judge first rest.later (evidence_line (evidence_of name rows edit)) (evidence_lines (evidence_of_step name (edited rows edit) step)) one others;
+          agrees = agrees_as names (put name after (put name middle by)) (put name after by) rest.later.reported
               (λ other. elim (bytes_eq name other) as (λ b. cond b after (cond b middle (by other)) ≡ cond b after (by other)) [ true ↦ refl | false ↦ refl ]) rest.agrees;
         }

@@ -1,4 +1,4 @@
--- The timelines of a bench and the judge of what it has written: the judge was told the rows of each priority queue.
+-- The timelines of a bench and the judge of what it has written: the judge was reported the rows of each priority queue.
 use Rattle.std.proofs.Common.{◌≡◌, ◌⊎◌, inl, inr, ℕ, ◌<◌, ◌≤◌, Bool, true, false, ◌||◌, nat_le, cond, List, [], ◌∷◌, ◌++◌, length, map, refl, sym, ap, ◌∙◌, subst, arith, length-append}
 use Rattle.std.specs.Prelude.{is_some}
 use Rattle.std.specs.List.{AllByRecursion}
@@ -11,7 +11,7 @@ use Rattle.retro_base.specs.declared.row.Row.{Row}
 use Rattle.retro_base.specs.Limits.{most_timelines}
 use Rattle.retro_base.specs.Name.{is_name}
 use Rattle.retro_base.specs.Replay.{fold_rows}
-use Rattle.evidence_check.specs.Judgement.{Judge, Told, rows_of}
+use Rattle.evidence_check.specs.Judgement.{Judge, Reported, rows_of}
 use Rattle.workbench.specs.declared.outcome.Outcome.{Outcome}
 use Rattle.workbench.specs.declared.outcome.Outcome.TheVariants.{Accepted, Refused}
 use Rattle.workbench.specs.declared.outcome.Refusal.TheVariants as refusals
@@ -20,10 +20,10 @@ use Rattle.workbench.specs.Outcome.{reply_text}
 use Rattle.workbench.specs.Reaction.{Effect, if_startable, leaves, on_named, with_first, with_timeline}
 use Rattle.workbench.specs.TimelineEffects.{TimelineEffect}
 use Rattle.retro_cli.proofs.accepted.Blocks.{all_then}
-use Rattle.retro_cli.proofs.accepted.Effects.{IsGood, StaysGood, put_same, told_rows}
+use Rattle.retro_cli.proofs.accepted.Effects.{IsGood, StaysGood, put_same, reported_rows}
 use Rattle.retro_cli.proofs.accepted.Passing.{IsPassedOver, accepted_passes, refusal_passes}
 use Rattle.retro_cli.proofs.accepted.ReadLines.{Reads}
-use Rattle.retro_cli.proofs.accepted.Telling.{Agrees, HasTold, agrees_as, counted, is_listed, itself, other_name, put, same_name}
+use Rattle.retro_cli.proofs.accepted.Telling.{Agrees, HasReported, agrees_as, counted, is_listed, itself, other_name, put, same_name}
 
 -- the names of the timelines, and the rows of each name of which evidence tells
 abbrev pub names_of : List NamedTimeline → List (List ℕ)
@@ -31,22 +31,22 @@ names_of timelines = map (λ (timeline : NamedTimeline). timeline.name) timeline
 
 abbrev pub rows_by_name : List NamedTimeline → List ℕ → List Row
 rows_by_name [] name = []
-rows_by_name (first ∷ timelines) name = cond (is_named name first) (told_rows first.kind first.rows) (rows_by_name timelines name)
+rows_by_name (first ∷ timelines) name = cond (is_named name first) (reported_rows first.kind first.rows) (rows_by_name timelines name)
 
--- all timelines are good ones, and the judge was told of them
-pub record AreKept (timelines : List NamedTimeline) (told : List Told) : Type 0 where
+-- all timelines are good ones, and the judge was reported of them
+pub record AreKept (timelines : List NamedTimeline) (reported : List Reported) : Type 0 where
   pub few : length timelines ≤ most_timelines
   pub good : AllByRecursion IsGood timelines
-  pub agrees : Agrees (names_of timelines) (rows_by_name timelines) told
+  pub agrees : Agrees (names_of timelines) (rows_by_name timelines) reported
 
--- the answer is read, and behind it the judge was told of the timelines as they are then
+-- the answer is read, and after it the judge was reported of the timelines as they are then
 pub record StayKept (effect : Effect) (judge : Judge) : Type 0 where
-  pub behind : Judge
-  pub reads : Reads judge (reply_text effect.outcome) behind
-  pub kept : AreKept effect.timelines behind.told
+  pub later : Judge
+  pub reads : Reads judge (reply_text effect.outcome) later
+  pub kept : AreKept effect.timelines later.reported
 
-pub left_kept : (timelines : List NamedTimeline) (judge : Judge) (outcome : Outcome) → AreKept timelines judge.told → IsPassedOver outcome → StayKept (leaves timelines outcome) judge
-left_kept timelines judge outcome kept passes = record { behind = judge; reads = passes judge; kept = kept }
+pub left_kept : (timelines : List NamedTimeline) (judge : Judge) (outcome : Outcome) → AreKept timelines judge.reported → IsPassedOver outcome → StayKept (leaves timelines outcome) judge
+left_kept timelines judge outcome kept passes = record { later = judge; reads = passes judge; kept = kept }
 
 pub few_names : (timelines : List NamedTimeline) → length timelines ≤ most_timelines → length (names_of timelines) ≤ most_timelines
 few_names timelines few = omega (arith, length-map timelines (λ (timeline : NamedTimeline). timeline.name), few)
@@ -57,12 +57,12 @@ record IsFound (name : List ℕ) (effect : NamedTimeline → TimelineEffect) (ti
   stays : StaysGood timeline (effect timeline)
   name_is : timeline.name ≡ name
   listed : is_listed timeline.name (names_of timelines) ≡ true
-  own : rows_by_name timelines timeline.name ≡ told_rows timeline.kind timeline.rows
+  own : rows_by_name timelines timeline.name ≡ reported_rows timeline.kind timeline.rows
   outcome : made.outcome ≡ (effect timeline).outcome
   as_many : length made.timelines ≡ length timelines
   good : AllByRecursion IsGood made.timelines
   names : names_of made.timelines ≡ names_of timelines
-  rows : (other : List ℕ) → rows_by_name made.timelines other ≡ put timeline.name (told_rows (effect timeline).timeline.kind (effect timeline).timeline.rows) (rows_by_name timelines) other
+  rows : (other : List ℕ) → rows_by_name made.timelines other ≡ put timeline.name (reported_rows (effect timeline).timeline.kind (effect timeline).timeline.rows) (rows_by_name timelines) other
 
 abbrev Finds : List ℕ → (NamedTimeline → TimelineEffect) → List NamedTimeline → Effect → Type 0
 Finds name effect timelines made = (made ≡ leaves timelines (Refused (refusals.NoTimeline name))) ⊎ IsFound name effect timelines made
@@ -85,13 +85,13 @@ module _ (name : List ℕ) (effect : NamedTimeline → TimelineEffect) where
     good = (stays.good, good.1);
     names = ap (λ n. n ∷ names_of timelines) stays.same_name;
     rows = λ other.
-        ap (λ n. cond (bytes_eq n other) (told_rows (effect first).timeline.kind (effect first).timeline.rows) (rows_by_name timelines other)) stays.same_name
-        ∙ chosen_once (bytes_eq first.name other) (told_rows (effect first).timeline.kind (effect first).timeline.rows) (told_rows first.kind first.rows) (rows_by_name timelines other);
+        ap (λ n. cond (bytes_eq n other) (reported_rows (effect first).timeline.kind (effect first).timeline.rows) (rows_by_name timelines other)) stays.same_name
+        ∙ chosen_once (bytes_eq first.name other) (reported_rows (effect first).timeline.kind (effect first).timeline.rows) (reported_rows first.kind first.rows) (rows_by_name timelines other);
   }
 
-  found_behind : (first : NamedTimeline) (timelines : List NamedTimeline) (made : Effect) → IsGood first → bytes_eq first.name name ≡ false → IsFound name effect timelines made
+  found_after : (first : NamedTimeline) (timelines : List NamedTimeline) (made : Effect) → IsGood first → bytes_eq first.name name ≡ false → IsFound name effect timelines made
       → IsFound name effect (first ∷ timelines) (with_first first made)
-  found_behind first timelines made good apart found =
+  found_after first timelines made good apart found =
       let out : bytes_eq first.name found.timeline.name ≡ false = ap (λ n. bytes_eq first.name n) found.name_is ∙ apart in
       record {
         timeline = found.timeline;
@@ -105,9 +105,9 @@ module _ (name : List ℕ) (effect : NamedTimeline → TimelineEffect) where
         names = ap (λ ns. first.name ∷ ns) found.names;
         rows = λ other.
             elim (bytes_eq first.name other) as (λ b. bytes_eq first.name other ≡ b
-            → cond b (told_rows first.kind first.rows) (rows_by_name made.timelines other)
-            ≡ cond (bytes_eq found.timeline.name other) (told_rows (effect found.timeline).timeline.kind (effect found.timeline).timeline.rows)
-            (cond b (told_rows first.kind first.rows) (rows_by_name timelines other))) [
+            → cond b (reported_rows first.kind first.rows) (rows_by_name made.timelines other)
+            ≡ cond (bytes_eq found.timeline.name other) (reported_rows (effect found.timeline).timeline.kind (effect found.timeline).timeline.rows)
+            (cond b (reported_rows first.kind first.rows) (rows_by_name timelines other))) [
               | true ↦ λ own. rw (other_name first.name found.timeline.name other own out) refl
               | false ↦ λ e. found.rows other
             ] refl;
@@ -123,25 +123,25 @@ module _ (name : List ℕ) (effect : NamedTimeline → TimelineEffect) where
         | true ↦ λ is. inr (found_first first timelines good (each first good.0) (same_name first.name name is))
         | false ↦ λ apart. elim (finds each timelines good.1) [
           | inl none ↦ inl (ap (with_first first) none)
-          | inr found ↦ inr (found_behind first timelines (on_named name effect timelines) good.0 apart found)
+          | inr found ↦ inr (found_after first timelines (on_named name effect timelines) good.0 apart found)
         ]
       ] refl
 
-  found_kept : (timelines : List NamedTimeline) (made : Effect) (judge : Judge) → AreKept timelines judge.told → IsFound name effect timelines made → StayKept made judge
+  found_kept : (timelines : List NamedTimeline) (made : Effect) (judge : Judge) → AreKept timelines judge.reported → IsFound name effect timelines made → StayKept made judge
   found_kept timelines made judge kept found =
-      let told = found.stays.tells (names_of timelines) (few_names timelines kept.few) found.listed judge (rows_by_name timelines) kept.agrees found.own in
+      let reported = found.stays.tells (names_of timelines) (few_names timelines kept.few) found.listed judge (rows_by_name timelines) kept.agrees found.own in
       record {
-        behind = told.behind;
-        reads = subst (λ outcome. Reads judge (reply_text outcome) told.behind) (sym found.outcome) told.reads;
+        later = reported.later;
+        reads = subst (λ outcome. Reads judge (reply_text outcome) reported.later) (sym found.outcome) reported.reads;
         kept = record {
           few = omega (arith, found.as_many, kept.few);
           good = found.good;
-          agrees = subst (λ names. Agrees names (rows_by_name made.timelines) told.behind.told) (sym found.names)
-              (agrees_as (names_of timelines) _ (rows_by_name made.timelines) told.behind.told (λ other. sym (found.rows other)) told.agrees);
+          agrees = subst (λ names. Agrees names (rows_by_name made.timelines) reported.later.reported) (sym found.names)
+              (agrees_as (names_of timelines) _ (rows_by_name made.timelines) reported.later.reported (λ other. sym (found.rows other)) reported.agrees);
         };
       }
 
-  pub named_kept : is_name name ≡ true → ((timeline : NamedTimeline) → IsGood timeline → StaysGood timeline (effect timeline)) → (timelines : List NamedTimeline) (judge : Judge) → AreKept timelines judge.told
+  pub named_kept : is_name name ≡ true → ((timeline : NamedTimeline) → IsGood timeline → StaysGood timeline (effect timeline)) → (timelines : List NamedTimeline) (judge : Judge) → AreKept timelines judge.reported
       → StayKept (on_named name effect timelines) judge
   named_kept named each timelines judge kept =
       elim (finds each timelines kept.good) [
@@ -149,23 +149,23 @@ module _ (name : List ℕ) (effect : NamedTimeline → TimelineEffect) where
         | inr found ↦ found_kept timelines (on_named name effect timelines) judge kept found
       ]
 
--- One more timeline, behind all others.
+-- One more timeline, after all others.
 none_there : (name : List ℕ) (timelines : List NamedTimeline) → has_timeline name timelines ≡ false → rows_by_name timelines name ≡ []
 none_there name [] free = refl
 none_there name (first ∷ timelines) free =
     let parts = or_parts (is_named name first) (has_timeline name timelines) free in
     rw (parts.0) (none_there name timelines parts.1)
 
-rows_behind : (timelines : List NamedTimeline) (last : NamedTimeline) → has_timeline last.name timelines ≡ false → (other : List ℕ)
-    → rows_by_name (timelines ++ last ∷ []) other ≡ put last.name (told_rows last.kind last.rows) (rows_by_name timelines) other
-rows_behind [] last free other = refl
-rows_behind (first ∷ timelines) last free other =
+later_rows : (timelines : List NamedTimeline) (last : NamedTimeline) → has_timeline last.name timelines ≡ false → (other : List ℕ)
+    → rows_by_name (timelines ++ last ∷ []) other ≡ put last.name (reported_rows last.kind last.rows) (rows_by_name timelines) other
+later_rows [] last free other = refl
+later_rows (first ∷ timelines) last free other =
     let parts = or_parts (is_named last.name first) (has_timeline last.name timelines) free in
     elim (bytes_eq first.name other) as (λ b. bytes_eq first.name other ≡ b
-    → cond b (told_rows first.kind first.rows) (rows_by_name (timelines ++ last ∷ []) other)
-    ≡ cond (bytes_eq last.name other) (told_rows last.kind last.rows) (cond b (told_rows first.kind first.rows) (rows_by_name timelines other))) [
+    → cond b (reported_rows first.kind first.rows) (rows_by_name (timelines ++ last ∷ []) other)
+    ≡ cond (bytes_eq last.name other) (reported_rows last.kind last.rows) (cond b (reported_rows first.kind first.rows) (rows_by_name timelines other))) [
       | true ↦ λ own. rw (other_name first.name last.name other own parts.0) refl
-      | false ↦ λ e. rows_behind timelines last parts.1 other
+      | false ↦ λ e. later_rows timelines last parts.1 other
     ] refl
 
 more_counted : (test : List ℕ → Bool) (names more : List (List ℕ)) → counted test names ≤ counted test (names ++ more)
@@ -176,36 +176,36 @@ last_listed : (names : List (List ℕ)) (name : List ℕ) → is_listed name (na
 last_listed [] name = rw (itself name) refl
 last_listed (first ∷ names) name = elim (bytes_eq first name) as (λ b. (b || is_listed name (names ++ name ∷ [])) ≡ true) [ true ↦ refl | false ↦ last_listed names name ]
 
--- the answer tells of the new timeline, whose name nobody has told of
+-- the answer tells of the new timeline, whose name nobody has reported of
 abbrev pub TellsOfNew : NamedTimeline → Outcome → Judge → Type 0
 TellsOfNew timeline outcome judge =
-    (names : List (List ℕ)) → length names ≤ most_timelines → is_listed timeline.name names ≡ true → (by : List ℕ → List Row) → Agrees names by judge.told → by timeline.name ≡ []
-    → HasTold names by timeline.name (told_rows timeline.kind timeline.rows) judge (reply_text outcome)
+    (names : List (List ℕ)) → length names ≤ most_timelines → is_listed timeline.name names ≡ true → (by : List ℕ → List Row) → Agrees names by judge.reported → by timeline.name ≡ []
+    → HasReported names by timeline.name (reported_rows timeline.kind timeline.rows) judge (reply_text outcome)
 
-pub comes_kept : (timelines : List NamedTimeline) (last : NamedTimeline) (outcome : Outcome) (judge : Judge) → AreKept timelines judge.told → IsGood last → has_timeline last.name timelines ≡ false
+pub comes_kept : (timelines : List NamedTimeline) (last : NamedTimeline) (outcome : Outcome) (judge : Judge) → AreKept timelines judge.reported → IsGood last → has_timeline last.name timelines ≡ false
     → length timelines < most_timelines → TellsOfNew last outcome judge → StayKept (with_timeline timelines last outcome) judge
 comes_kept timelines last outcome judge kept good free room tells =
     let all = timelines ++ last ∷ [] in
     let names : names_of all ≡ names_of timelines ++ last.name ∷ [] = map-append (λ (timeline : NamedTimeline). timeline.name) timelines (last ∷ []) in
     let many : length all ≤ most_timelines = omega (arith, length-append timelines (last ∷ []), room) in
     let listed : is_listed last.name (names_of all) ≡ true = subst (λ ns. is_listed last.name ns ≡ true) (sym names) (last_listed (names_of timelines) last.name) in
-    let agrees : Agrees (names_of all) (rows_by_name timelines) judge.told =
-    subst (λ ns. Agrees ns (rows_by_name timelines) judge.told) (sym names) (record {
+    let agrees : Agrees (names_of all) (rows_by_name timelines) judge.reported =
+    subst (λ ns. Agrees ns (rows_by_name timelines) judge.reported) (sym names) (record {
       same = kept.agrees.same;
-      few = omega (arith, kept.agrees.few, more_counted (λ name. is_some (rows_of name judge.told)) (names_of timelines) (last.name ∷ []));
+      few = omega (arith, kept.agrees.few, more_counted (λ name. is_some (rows_of name judge.reported)) (names_of timelines) (last.name ∷ []));
     }) in
-    let told = tells (names_of all) (few_names all many) listed (rows_by_name timelines) agrees (none_there last.name timelines free) in
+    let reported = tells (names_of all) (few_names all many) listed (rows_by_name timelines) agrees (none_there last.name timelines free) in
     record {
-      behind = told.behind;
-      reads = told.reads;
+      later = reported.later;
+      reads = reported.reads;
       kept = record {
         few = many;
         good = all_then IsGood timelines last kept.good good;
-        agrees = agrees_as (names_of all) _ (rows_by_name all) told.behind.told (λ other. sym (rows_behind timelines last free other)) told.agrees;
+        agrees = agrees_as (names_of all) _ (rows_by_name all) reported.later.reported (λ other. sym (later_rows timelines last free other)) reported.agrees;
       };
     }
 
-pub startable_kept : (timelines : List NamedTimeline) (name : List ℕ) (effect : Effect) (judge : Judge) → AreKept timelines judge.told
+pub startable_kept : (timelines : List NamedTimeline) (name : List ℕ) (effect : Effect) (judge : Judge) → AreKept timelines judge.reported
     → (has_timeline name timelines ≡ false → length timelines < most_timelines → StayKept effect judge) → StayKept (if_startable timelines name effect) judge
 startable_kept timelines name effect judge kept starts =
     elim (has_timeline name timelines) as (λ b. has_timeline name timelines ≡ b
@@ -219,7 +219,7 @@ startable_kept timelines name effect judge kept starts =
     ] refl
 
 -- a timeline without rows
-nothing_to_tell : (kind : Kind) → told_rows kind [] ≡ []
+nothing_to_tell : (kind : Kind) → reported_rows kind [] ≡ []
 nothing_to_tell Queue = refl
 nothing_to_tell Stack = refl
 nothing_to_tell Deque = refl
@@ -239,13 +239,13 @@ fresh_is_good name kind named = record {
   redo = refl;
 }
 
-pub starts_kept : (timelines : List NamedTimeline) (name : List ℕ) (kind : Kind) (judge : Judge) → AreKept timelines judge.told → is_name name ≡ true
+pub starts_kept : (timelines : List NamedTimeline) (name : List ℕ) (kind : Kind) (judge : Judge) → AreKept timelines judge.reported → is_name name ≡ true
     → StayKept (if_startable timelines name (with_timeline timelines (fresh name kind) Accepted)) judge
 starts_kept timelines name kind judge kept named =
     startable_kept timelines name (with_timeline timelines (fresh name kind) Accepted) judge kept
     (λ free room. comes_kept timelines (fresh name kind) Accepted judge kept (fresh_is_good name kind named) free room
     (λ names few listed by agrees own. record {
-      behind = judge;
+      later = judge;
       reads = accepted_passes judge;
-      agrees = agrees_as names by (put name (told_rows kind []) by) judge.told (put_same name by (told_rows kind []) (own ∙ sym (nothing_to_tell kind))) agrees;
+      agrees = agrees_as names by (put name (reported_rows kind []) by) judge.reported (put_same name by (reported_rows kind []) (own ∙ sym (nothing_to_tell kind))) agrees;
     }))

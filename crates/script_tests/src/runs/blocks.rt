@@ -96,7 +96,7 @@ fn blocks_are_read_and_saved(rt: HostRuntime) -> Result<(), NoMemory> {
 }
 
 /// One row more than a timeline may have: the block is refused, and makes no timeline.
-/// A block of a queue with so many row lines, and the lines behind it.
+/// A block of a queue with so many row lines, and the lines after it.
 fn long_block(alloc: Global, rows: u32, after: &[u8]) -> Result<Text, NoMemory> {
     let mut script = Text::new(alloc);
     script.push_all(b"timeline q queue next ")?;

@@ -21,7 +21,7 @@ enum Forgery {
     LeftOut,
     /// It stands there twice.
     Doubled,
-    /// This line stands behind the last one.
+    /// This line stands after the last one.
     Appended(&'static [u8]),
     /// Each line ends with a carriage return and a line feed.
     WithReturns,
@@ -68,7 +68,7 @@ fn forged(out: &mut Text, at: usize, forgery: Forgery) -> Result<(), NoMemory> {
 fn forged_files_are_found_out(rt: HostRuntime) -> Result<(), NoMemory> {
     let cases: [(usize, Forgery, &[u8]); 24] = [
         (0, Forgery::WithReturns, b"accepted 3\n"),
-        // Another place, number, row or change is told.
+        // Another place, number, row or change is reported.
         (
             4,
             Forgery::Replaced(b"edit p cut 0 #3 ins 2 bridge 0 gain #1 4"),
@@ -217,7 +217,7 @@ fn other_files_are_judged(rt: HostRuntime) -> Result<(), NoMemory> {
             b"edit p add 0 #1 ins 04 bridge 0 gain #1 4\n",
             b"refused line 1 syntax\n",
         ),
-        // The word alone is no evidence, and with a space behind it is some.
+        // The word alone is no evidence, and with a space after it is some.
         (b"edit\n", b"accepted 0\n"),
         (b"edit ", b"refused line 1 syntax\n"),
         // One timeline too many, whatever else its line says.

@@ -43,7 +43,7 @@ fn priority_queues_tell_their_evidence(rt: HostRuntime) -> Result<(), NoMemory> 
               edit p add 0 #3 ins 2 bridge 0 gain #1 4\nedit p cut 2 #2 delmin bridge 0 gain #3 2\n",
             Status::Done,
         ),
-        // Each row of a block is told as one that comes behind those before it.
+        // Each row of a block is reported as one that comes after those before it.
         (
             b"timeline p pq next 4\n#3 5 ins 2\n#1 10 ins 4\n#2 20 delmin\nend\n",
             b"ok\nedit p add 0 #3 ins 2 bridge 0 gain #3 2\nedit p add 1 #1 ins 4 bridge 1 gain #1 4\n\

@@ -2,7 +2,7 @@ use Rattle.std.proofs.Common.{◌≡◌, length, sym, ◌∙◌, arith}
 use Rattle.std.proofs.lemmas.List.{length-map}
 use Rattle.retro_base.specs.lemmas.bridges.EntryOrder.{before_one_way}
 use Rattle.bridge_pq.specs.MarkedRows.{rows_of}
-use Rattle.bridge_pq.proofs.FoundTurns.{gain-new, gain-greater, gain-dead, greatest-at}
+use Rattle.bridge_pq.proofs.FoundFlips.{gain-new, gain-greater, gain-dead, greatest-at}
 use Rattle.bridge_pq.proofs.RowExtremes.{adds-within}
 use Rattle.bridge_pq.proofs.changes.gained_with.Goals as goal
 

@@ -1,5 +1,5 @@
 use Rattle.bridge_pq.specs.MarkedRows.{rows_of}
-use Rattle.bridge_pq.proofs.FoundTurns.{gain-without, dead-without, greatest-at}
+use Rattle.bridge_pq.proofs.FoundFlips.{gain-without, dead-without, greatest-at}
 use Rattle.bridge_pq.proofs.changes.gained_without.Goals as goal
 
 pub unreachable-requires : goal.unreachable-requires

@@ -1,7 +1,7 @@
 use Rattle.std.proofs.Common.{◌≡◌, length, arith}
 use Rattle.std.proofs.lemmas.List.{length-map}
 use Rattle.bridge_pq.specs.MarkedRows.{rows_of}
-use Rattle.bridge_pq.proofs.FoundTurns.{loss-with, some-with, least-at}
+use Rattle.bridge_pq.proofs.FoundFlips.{loss-with, some-with, least-at}
 use Rattle.bridge_pq.proofs.RowExtremes.{adds-within}
 use Rattle.bridge_pq.proofs.changes.lost_with.Goals as goal
 

@@ -2,7 +2,7 @@ use Rattle.std.proofs.Common.{◌≡◌, length, arith, refl}
 use Rattle.std.proofs.lemmas.List.{length-map}
 use Rattle.std.proofs.lemmas.Option.{slice_get_within}
 use Rattle.bridge_pq.specs.MarkedRows.{rows_of}
-use Rattle.bridge_pq.proofs.FoundTurns.{loss-without, some-without, least-at}
+use Rattle.bridge_pq.proofs.FoundFlips.{loss-without, some-without, least-at}
 use Rattle.bridge_pq.proofs.changes.lost_without.Goals as goal
 
 pub overflow_add-place : goal.overflow_add-place

@@ -5,23 +5,23 @@ use Rattle.retro_base.specs.Bridges.{survivors}
 use Rattle.retro_base.specs.VisitsLaws.{visits-add, visits-longer}
 use Rattle.bridge_pq.specs.MarkedRows.{rows_of}
 use Rattle.bridge_pq.proofs.Costs.{visits-more}
-use Rattle.bridge_pq.proofs.Edited.{cut-within, cut-taking, turn-within, turn-few, turn-among, turn-done}
+use Rattle.bridge_pq.proofs.Edited.{cut-within, cut-taking, flip_marks-within, flip_marks-few, flip_marks-among, flip_marks-done}
 use Rattle.bridge_pq.proofs.edit.remove_taking.Goals as goal
 
-pub turn-requires-clause-within : goal.turn-requires-clause-within
-turn-requires-clause-within g c = turn-within (remove (rows_of c.args.rows.now) c.args.place) (survivors (rows_of c.args.rows.now)) c.remove.new.self c.args.entries.now (cut-taking c.args.rows.now c.args.entries.now c.requires.bridged c.args.place c.args.row c.requires.there c.requires.replays c.requires.takes c.remove.new.self c.remove.ensures.items) c.gained_without-turned.result.place c.gained_without-turned.result.entry c.gained_without-turned.ensures.turns.there
+pub flip_marks-requires-clause-within : goal.flip_marks-requires-clause-within
+flip_marks-requires-clause-within g c = flip_marks-within (remove (rows_of c.args.rows.now) c.args.place) (survivors (rows_of c.args.rows.now)) c.remove.new.self c.args.entries.now (cut-taking c.args.rows.now c.args.entries.now c.requires.bridged c.args.place c.args.row c.requires.there c.requires.replays c.requires.takes c.remove.new.self c.remove.ensures.items) c.gained_without-turned.result.place c.gained_without-turned.result.entry c.gained_without-turned.ensures.flips.there
 
-pub turn-requires-clause-few : goal.turn-requires-clause-few
-turn-requires-clause-few g c = turn-few (remove (rows_of c.args.rows.now) c.args.place) (survivors (rows_of c.args.rows.now)) c.remove.new.self c.args.entries.now (cut-taking c.args.rows.now c.args.entries.now c.requires.bridged c.args.place c.args.row c.requires.there c.requires.replays c.requires.takes c.remove.new.self c.remove.ensures.items) c.gained_without-turned.result.place c.gained_without-turned.result.entry c.gained_without-turned.ensures.turns.there
+pub flip_marks-requires-clause-few : goal.flip_marks-requires-clause-few
+flip_marks-requires-clause-few g c = flip_marks-few (remove (rows_of c.args.rows.now) c.args.place) (survivors (rows_of c.args.rows.now)) c.remove.new.self c.args.entries.now (cut-taking c.args.rows.now c.args.entries.now c.requires.bridged c.args.place c.args.row c.requires.there c.requires.replays c.requires.takes c.remove.new.self c.remove.ensures.items) c.gained_without-turned.result.place c.gained_without-turned.result.entry c.gained_without-turned.ensures.flips.there
 
-pub turn-requires-clause-among : goal.turn-requires-clause-among
-turn-requires-clause-among g c = turn-among (remove (rows_of c.args.rows.now) c.args.place) (survivors (rows_of c.args.rows.now)) c.remove.new.self c.args.entries.now (cut-taking c.args.rows.now c.args.entries.now c.requires.bridged c.args.place c.args.row c.requires.there c.requires.replays c.requires.takes c.remove.new.self c.remove.ensures.items) c.gained_without-turned.result.place c.gained_without-turned.result.entry c.gained_without-turned.ensures.turns.there
+pub flip_marks-requires-clause-among : goal.flip_marks-requires-clause-among
+flip_marks-requires-clause-among g c = flip_marks-among (remove (rows_of c.args.rows.now) c.args.place) (survivors (rows_of c.args.rows.now)) c.remove.new.self c.args.entries.now (cut-taking c.args.rows.now c.args.entries.now c.requires.bridged c.args.place c.args.row c.requires.there c.requires.replays c.requires.takes c.remove.new.self c.remove.ensures.items) c.gained_without-turned.result.place c.gained_without-turned.result.entry c.gained_without-turned.ensures.flips.there
 
 pub returns-clause-bridged : goal.returns-clause-bridged
-returns-clause-bridged g c = (turn-done (remove (rows_of c.args.rows.now) c.args.place) (survivors (rows_of c.args.rows.now)) c.remove.new.self c.args.entries.now (cut-taking c.args.rows.now c.args.entries.now c.requires.bridged c.args.place c.args.row c.requires.there c.requires.replays c.requires.takes c.remove.new.self c.remove.ensures.items) c.gained_without-turned.result.place c.gained_without-turned.result.entry c.gained_without-turned.ensures.turns.there c.gained_without-turned.result.survives c.gained_without-turned.ensures.turns.marks c.turn.new.rows c.turn.new.entries c.turn.ensures.rows c.turn.ensures.entries).0
+returns-clause-bridged g c = (flip_marks-done (remove (rows_of c.args.rows.now) c.args.place) (survivors (rows_of c.args.rows.now)) c.remove.new.self c.args.entries.now (cut-taking c.args.rows.now c.args.entries.now c.requires.bridged c.args.place c.args.row c.requires.there c.requires.replays c.requires.takes c.remove.new.self c.remove.ensures.items) c.gained_without-turned.result.place c.gained_without-turned.result.entry c.gained_without-turned.ensures.flips.there c.gained_without-turned.result.survives c.gained_without-turned.ensures.flips.marks c.flip_marks.new.rows c.flip_marks.new.entries c.flip_marks.ensures.rows c.flip_marks.ensures.entries).0
 
 pub returns-clause-rows : goal.returns-clause-rows
-returns-clause-rows g c = (turn-done (remove (rows_of c.args.rows.now) c.args.place) (survivors (rows_of c.args.rows.now)) c.remove.new.self c.args.entries.now (cut-taking c.args.rows.now c.args.entries.now c.requires.bridged c.args.place c.args.row c.requires.there c.requires.replays c.requires.takes c.remove.new.self c.remove.ensures.items) c.gained_without-turned.result.place c.gained_without-turned.result.entry c.gained_without-turned.ensures.turns.there c.gained_without-turned.result.survives c.gained_without-turned.ensures.turns.marks c.turn.new.rows c.turn.new.entries c.turn.ensures.rows c.turn.ensures.entries).1
+returns-clause-rows g c = (flip_marks-done (remove (rows_of c.args.rows.now) c.args.place) (survivors (rows_of c.args.rows.now)) c.remove.new.self c.args.entries.now (cut-taking c.args.rows.now c.args.entries.now c.requires.bridged c.args.place c.args.row c.requires.there c.requires.replays c.requires.takes c.remove.new.self c.remove.ensures.items) c.gained_without-turned.result.place c.gained_without-turned.result.entry c.gained_without-turned.ensures.flips.there c.gained_without-turned.result.survives c.gained_without-turned.ensures.flips.marks c.flip_marks.new.rows c.flip_marks.new.entries c.flip_marks.ensures.rows c.flip_marks.ensures.entries).1
 
 pub returns-clause-visits : goal.returns-clause-visits
 returns-clause-visits g c =
@@ -29,4 +29,4 @@ returns-clause-visits g c =
     visits-more 108 24 (length c.args.rows.now) _ _
     (visits-add 60 48 (length c.args.rows.now) _ _ _
     (visits-add 48 12 (length c.args.rows.now) _ _ _ c.gained_without-turned.ensures.visits c.remove.ensures.visits)
-    (visits-longer 48 (length c.remove.new.self) _ _ _ shorter c.turn.ensures.visits))
+    (visits-longer 48 (length c.remove.new.self) _ _ _ shorter c.flip_marks.ensures.visits))

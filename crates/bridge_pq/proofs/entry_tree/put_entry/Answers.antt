@@ -9,7 +9,7 @@ pub returns-clause-ok : goal.returns-clause-ok
 returns-clause-ok g c =
     subst (λ l. OnOk c.insert.result (c.insert.new.self ≡ l))
     (put-at (record { entry = c.args.entry; present = false }) c.args.entries.now c.place_of-place.result (λ inside. c.requires.absent (in_contains _ c.args.entry inside))
-    c.place_of-place.ensures.within c.place_of-place.ensures.before c.place_of-place.ensures.behind)
+    c.place_of-place.ensures.within c.place_of-place.ensures.before c.place_of-place.ensures.after)
     c.insert.ensures.ok
 
 pub returns-clause-visits : goal.returns-clause-visits

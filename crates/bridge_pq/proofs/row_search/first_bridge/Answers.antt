@@ -1,6 +1,6 @@
 use Rattle.std.proofs.Common.{arith, Fits, w32, rules}
 use Rattle.bridge_pq.proofs.Edited.{rows-length}
-use Rattle.bridge_pq.proofs.FoundBridges.{lowest-behind, next-bridge}
+use Rattle.bridge_pq.proofs.FoundBridges.{lowest-after, next-bridge}
 use Rattle.bridge_pq.proofs.row_search.first_bridge.Goals as goal
 
 pub overflow_add-result : goal.overflow_add-result
@@ -9,7 +9,7 @@ overflow_add-result g c =
     let few : Fits w32 c.len.result = search rules in
     omega (
       arith,
-      lowest-behind items c.args.place c.len.result c.before_lowest.result c.measure-range.result c.requires.within c.len.ensures c.measure-range.ensures.value c.before_lowest.ensures,
+      lowest-after items c.args.place c.len.result c.before_lowest.result c.measure-range.result c.requires.within c.len.ensures c.measure-range.ensures.value c.before_lowest.ensures,
       (next-bridge items c.requires.history c.requires.marked c.args.place c.requires.within).within,
       rows-length items,
       few,
@@ -19,5 +19,5 @@ overflow_add-result g c =
 pub returns-clause-bridge : goal.returns-clause-bridge
 returns-clause-bridge g c =
     let items = c.args.rows.now in
-    rw (lowest-behind items c.args.place c.len.result c.before_lowest.result c.measure-range.result c.requires.within c.len.ensures c.measure-range.ensures.value c.before_lowest.ensures)
+    rw (lowest-after items c.args.place c.len.result c.before_lowest.result c.measure-range.result c.requires.within c.len.ensures c.measure-range.ensures.value c.before_lowest.ensures)
     (next-bridge items c.requires.history c.requires.marked c.args.place c.requires.within)

@@ -13,14 +13,14 @@ pub returns-then-dead-eq0-clause-bridge : goal.returns-then-dead-eq0-clause-brid
 returns-then-dead-eq0-clause-bridge c =
     first_found c.args.rows.now c.args.place c.loop-index.index c.loop-index.dead (omega arith) c.loop-index.invariant.0 c.if-dead-eq0.true (c.loop-index.invariant.1 c.if-place-index.true)
 
-pub dead_behind-dead-requires-clause-held : goal.dead_behind-dead-requires-clause-held
-dead_behind-dead-requires-clause-held c =
+pub dead_after-dead-requires-clause-held : goal.dead_after-dead-requires-clause-held
+dead_after-dead-requires-clause-held c =
     held_there c.weights_count_the_dead.ensures.count c.args.rows.now c.requires.kept c.loop-index.index c.loop-index.dead (omega arith) c.loop-index.invariant.0
 
 pub loop-index-preserved : goal.loop-index-preserved
 loop-index-preserved c =
-    let counted : Counted c.args.rows.now (c.loop-index.index + 1) c.dead_behind-dead.result =
-    rw c.dead_behind-dead.ensures (next_there c.weights_count_the_dead.ensures.count c.args.rows.now c.requires.kept c.loop-index.index c.loop-index.dead (omega arith) c.loop-index.invariant.0) in (
+    let counted : Counted c.args.rows.now (c.loop-index.index + 1) c.dead_after-dead.result =
+    rw c.dead_after-dead.ensures (next_there c.weights_count_the_dead.ensures.count c.args.rows.now c.requires.kept c.loop-index.index c.loop-index.dead (omega arith) c.loop-index.invariant.0) in (
       counted,
       elim c.else-place-index.branch [
         | else-place-index-via-then-place-index+else-dead-eq0 w ↦ λ reached.

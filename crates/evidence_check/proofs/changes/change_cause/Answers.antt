@@ -1,6 +1,6 @@
 use Rattle.std.proofs.Common.{ap, ◌∙◌}
 use Rattle.evidence_check.specs.Marks.{cause_against, rows_of}
-use Rattle.evidence_check.specs.Truth.{told_edit}
+use Rattle.evidence_check.specs.Truth.{reported_edit}
 use Rattle.evidence_check.proofs.ChangeCauses.{cause_read}
 use Rattle.evidence_check.proofs.ChangesRead.{Laws, right}
 use Rattle.evidence_check.proofs.changes.change_cause.Goals as goal
@@ -20,4 +20,4 @@ returns c =
       of_pq = c.one_change_is_named.ensures.of_pq;
     } in
     c.cause_against.ensures ∙ ap (cause_against e.change) c.marked_change.ensures
-    ∙ cause_read (rows_of c.args.rows.now) (told_edit e) e.change _ (right laws c.args.rows.now c.requires.kept e.added e.place e.number e.op c.requires.evidence.op c.requires.possible)
+    ∙ cause_read (rows_of c.args.rows.now) (reported_edit e) e.change _ (right laws c.args.rows.now c.requires.kept e.added e.place e.number e.op c.requires.evidence.op c.requires.possible)

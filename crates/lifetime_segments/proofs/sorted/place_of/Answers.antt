@@ -1,6 +1,6 @@
 use Rattle.std.proofs.Common.{◌+◌, ◌-◌, ◌/◌, ◌≤◌, suc, sym, ◌∙◌, arith}
 use Rattle.lifetime_segments.specs.Ordered.{place_in}
-use Rattle.lifetime_segments.proofs.Places.{place-within, place-above, place-not_behind}
+use Rattle.lifetime_segments.proofs.Places.{place-within, place-above, place-not_after}
 use Rattle.lifetime_segments.proofs.sorted.place_of.Goals as goal
 
 pub loop-low-init : goal.loop-low-init
@@ -18,4 +18,4 @@ loop-low-preserved-then-before g c =
 pub loop-low-preserved : goal.loop-low-preserved
 loop-low-preserved g c =
     let middle = c.loop-low.low + (c.loop-low.high - c.loop-low.low) / 2 in
-    (c.loop-low.invariant.0, place-not_behind g.O.Order.stands_before c.args.item.now c.get.result c.args.items.now middle c.get.ensures.item (sym c.before-in-loop-low.ensures ∙ c.if-before.false), omega arith)
+    (c.loop-low.invariant.0, place-not_after g.O.Order.stands_before c.args.item.now c.get.result c.args.items.now middle c.get.ensures.item (sym c.before-in-loop-low.ensures ∙ c.if-before.false), omega arith)

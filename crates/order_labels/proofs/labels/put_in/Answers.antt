@@ -1,25 +1,25 @@
 use Rattle.std.proofs.Common.{Some, length, slice_get, ap, sym, subst, ◌∙◌, arith}
 use Rattle.order_labels.specs.Labels.{AreApart, label_limit, least_gap}
-use Rattle.order_labels.specs.ApartLaws.{gap_at, behind_within}
+use Rattle.order_labels.specs.ApartLaws.{gap_at, after_within}
 use Rattle.order_labels.specs.SpreadLaws.{spread-wide}
 use Rattle.order_labels.proofs.Rule.{read_back, length-spread_with, length-with}
 use Rattle.order_labels.proofs.labels.put_in.Goals as goal
 
-pub overflow_sub-behind : goal.overflow_sub-behind
-overflow_sub-behind g c = omega (arith, gap_at 1 0 label_limit c.args.rows.now c.args.place c.requires.within c.requires.labels.rising, c.label_before-before.ensures, c.label_behind-behind.ensures)
+pub overflow_sub-after : goal.overflow_sub-after
+overflow_sub-after g c = omega (arith, gap_at 1 0 label_limit c.args.rows.now c.args.place c.requires.within c.requires.labels.rising, c.label_before-before.ensures, c.label_after-after.ensures)
 
 pub overflow_add-label : goal.overflow_add-label
 overflow_add-label g c =
     omega (
       arith,
       gap_at 1 0 label_limit c.args.rows.now c.args.place c.requires.within c.requires.labels.rising,
-      behind_within 1 0 label_limit c.args.rows.now c.args.place c.requires.labels.rising,
+      after_within 1 0 label_limit c.args.rows.now c.args.place c.requires.labels.rising,
       c.label_before-before.ensures,
-      c.label_behind-behind.ensures,
+      c.label_after-after.ensures,
     )
 
-pub returns-then-behind-before-ge2-clause-label : goal.returns-then-behind-before-ge2-clause-label
-returns-then-behind-before-ge2-clause-label g c =
+pub returns-then-after-before-ge2-clause-label : goal.returns-then-after-before-ge2-clause-label
+returns-then-after-before-ge2-clause-label g c =
     ap (λ rows. slice_get rows c.args.place) c.in_ok-insert.ensures.ok ∙ read_back c.args.rows.now c.args.place c.new.result c.requires.within ∙ ap Some c.new.ensures
 
 pub get-requires : goal.get-requires

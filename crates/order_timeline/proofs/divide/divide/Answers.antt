@@ -1,7 +1,7 @@
 use Rattle.std.proofs.Common.{◌≡◌, ◌+◌, ◌/◌, Some, slice_set, sym, ap, ◌∙◌, subst, arith}
 use Rattle.std.specs.List.{insert, remove}
 use Rattle.order_timeline.specs.Runs.{IsInRuns}
-use Rattle.order_timeline.proofs.InRuns.{all_rows, ok_from, divided, rows_of_divided, start_of_divided, in_runs_behind}
+use Rattle.order_timeline.proofs.InRuns.{all_rows, ok_from, divided, rows_of_divided, start_of_divided, in_runs_after}
 use Rattle.retro_base.specs.EditedLists.{remove-insert}
 use Rattle.order_timeline.proofs.Totals.{run_within}
 use Rattle.order_timeline.proofs.divide.divide.Goals as goal
@@ -43,6 +43,6 @@ returns-in-Ok g c =
     let more : c.replace.new.self ≡ divided c.args.runs.now c.args.run c.rows-count.result (c.rows-count.result / 2) =
     c.replace.ensures.items ∙ ap (λ item. slice_set c.insert.new.self c.args.run item) c.new-in-Ok.ensures ∙ ap (λ runs. slice_set runs c.args.run (c.rows-count.result / 2)) (put ∙ ap (insert c.args.runs.now (c.args.run + 1)) c.new.ensures) in
     let long = c.get.ensures.item ∙ ap Some (sym c.rows-count.ensures) in
-    in_runs_behind c.args.rows.now c.args.runs.now c.replace.new.self c.args.names.now c.insert-2.new.self c.args.numbers.now c.write_run.new.numbers c.args.run c.rows-count.result (c.rows-count.result / 2) c.in-Ok.name c.start_of-from.result
+    in_runs_after c.args.rows.now c.args.runs.now c.replace.new.self c.args.names.now c.insert-2.new.self c.args.numbers.now c.write_run.new.numbers c.args.run c.rows-count.result (c.rows-count.result / 2) c.in-Ok.name c.start_of-from.result
     c.requires.in_runs c.requires.there long (omega arith) more c.in-Ok.ensures.ok
     (c.start_of-from.ensures ∙ start_of_divided c.args.runs.now c.replace.new.self c.args.run c.rows-count.result (c.rows-count.result / 2) long more) c.write_run.ensures

@@ -3,7 +3,7 @@ use Rattle.std.specs.List.{slice_range}
 use Rattle.monoid_laws.specs.Measure.{measure_of}
 use Rattle.order_timeline.specs.Totals.{no_total, one_total, joined_total}
 use Rattle.order_timeline.specs.Runs.{IsInRun}
-use Rattle.order_timeline.proofs.Totals.{ends_behind, ends-rise, run-found, run-there, total-range}
+use Rattle.order_timeline.proofs.Totals.{ends_after, ends-rise, run-found, run-there, total-range}
 use Rattle.order_timeline.proofs.runs.run_of.Goals as goal
 
 found : (g : _) (c : goal.In-Some g) → (1 ≤ c.in-Some.count) × IsInRun c.args.runs.now (c.in-Some.count - 1) c.args.place
@@ -11,10 +11,10 @@ found g c =
     let runs = c.args.runs.now in
     let place = c.args.place in
     run-found place runs c.first_place.result c.in-Some.count
-    (c.first_place.ensures.first (ends_behind place runs)
+    (c.first_place.ensures.first (ends_after place runs)
     (λ index answer above within call.
-    let told : answer ≡ nat_lt place (measure_of no_total joined_total one_total (slice_range runs 0 index)).rows = search rules in
-    told ∙ ap (nat_lt place) (total-range runs index))
+    let reported : answer ≡ nat_lt place (measure_of no_total joined_total one_total (slice_range runs 0 index)).rows = search rules in
+    reported ∙ ap (nat_lt place) (total-range runs index))
     (ends-rise place runs 0 (length runs))) c.in-Some.is
 
 pub overflow_sub-result : goal.overflow_sub-result
@@ -28,8 +28,8 @@ returns-in-None g c =
     let runs = c.args.runs.now in
     let place = c.args.place in
     absurd (run-there place runs c.first_place.result c.requires
-    (c.first_place.ensures.first (ends_behind place runs)
+    (c.first_place.ensures.first (ends_after place runs)
     (λ index answer above within call.
-    let told : answer ≡ nat_lt place (measure_of no_total joined_total one_total (slice_range runs 0 index)).rows = search rules in
-    told ∙ ap (nat_lt place) (total-range runs index))
+    let reported : answer ≡ nat_lt place (measure_of no_total joined_total one_total (slice_range runs 0 index)).rows = search rules in
+    reported ∙ ap (nat_lt place) (total-range runs index))
     (ends-rise place runs 0 (length runs))) c.in-None.is)

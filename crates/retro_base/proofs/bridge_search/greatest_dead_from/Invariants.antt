@@ -4,4 +4,4 @@ use Rattle.retro_base.proofs.bridges.BestSoFar.{Best, Passing, Dead}
 use Rattle.retro_base.proofs.bridge_search.greatest_dead_from.Given as goal
 
 abbrev pub invariant-loop-row : goal.invariant-loop-row
-invariant-loop-row l = Best comes_before (Passing (Dead l.fn.alive) (take l.row-index l.behind)) l.greatest
+invariant-loop-row l = Best comes_before (Passing (Dead l.fn.alive) (take l.row-index l.after)) l.greatest

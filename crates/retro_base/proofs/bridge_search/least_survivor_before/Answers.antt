@@ -1,11 +1,11 @@
 use Rattle.std.proofs.Common.{refl, arith}
-use Rattle.retro_base.specs.Better.{comes_behind}
+use Rattle.retro_base.specs.Better.{comes_after}
 use Rattle.retro_base.specs.lemmas.Folds.{no_row}
 use Rattle.retro_base.proofs.bridges.BestSoFar.{Alive, best_start, alive_next, least_of_survivors}
 use Rattle.retro_base.proofs.bridge_search.least_survivor_before.Goals as goal
 
 pub loop-row-init : goal.loop-row-init
-loop-row-init c = best_start comes_behind (Alive c.args.alive.now) c.split_at.result.0.now
+loop-row-init c = best_start comes_after (Alive c.args.alive.now) c.split_at.result.0.now
 
 pub loop-row-preserved : goal.loop-row-preserved
 loop-row-preserved c =

@@ -10,7 +10,7 @@ use Rattle.retro_base.specs.lemmas.bridges.EntryOrder.{before_irreflexive, befor
 use Rattle.retro_base.specs.lemmas.bridges.Entries.{In, Above, first_once, with_in, in_with, with_first, with_later, with_above, with_swapped}
 use Rattle.retro_base.specs.lemmas.bridges.Moves.{Leads, Adds, Ready, ready_added, ready_taken}
 
--- no entry of these comes behind this one
+-- no entry of these comes after this one
 abbrev pub AtMost : Entry → Entry → Type 0
 AtMost x y = comes_before y x ≡ false
 
@@ -75,9 +75,9 @@ carried_exchanged c x moves held end above before next = record {
 -- another entry is taken, with the carried one and without it
 carried_on : (c x : Entry) (moves : List (Option Entry)) (held end : List Entry) → comes_before c x ≡ false → comes_before x c ≡ true
     → Carried c moves held end → Carried c (None ∷ moves) (x ∷ held) end
-carried_on c x moves held end behind after next = record {
+carried_on c x moves held end later after next = record {
   last = next.last;
-  leads = subst (λ l. Leads (None ∷ moves) l (with_entry next.last end)) (sym (with_later c x held behind)) next.leads;
+  leads = subst (λ l. Leads (None ∷ moves) l (with_entry next.last end)) (sym (with_later c x held later)) next.leads;
   absent = next.absent;
   least = next.least;
   greatest = λ y origin died. elim origin [
@@ -113,6 +113,6 @@ carried (None ∷ moves) c (x ∷ held) end ready absent never leads =
     elim (comes_before c x) as (λ t. comes_before c x ≡ t → Carried c (None ∷ moves) (x ∷ held) end) [
       | true ↦ λ before. carried_exchanged c x moves held end ready.rising.0 before
           (carried moves x held end (ready_taken x moves held ready) (first_once x held ready.rising.0) (ready.apart x (inl refl)) leads)
-      | false ↦ λ behind. carried_on c x moves held end behind (before_or_after c x (λ same. absent (inl same)) behind)
+      | false ↦ λ later. carried_on c x moves held end later (before_or_after c x (λ same. absent (inl same)) later)
           (carried moves c held end (ready_taken x moves held ready) (λ inside. absent (inr inside)) never leads)
     ] refl

@@ -1,4 +1,4 @@
--- Behind a bridge and up to the next one each dead entry that is taken leaves a greater dead one behind: it was the least of
+-- After a bridge and up to the next one each dead entry that is taken leaves a greater dead one after: it was the least of
 -- all, and places that are no bridges hold a dead entry.
 --
 --     bridge | add 4 | add 6 | take 4 | place      4 is dead, and the dead 6 is greater and still held
@@ -11,9 +11,9 @@ use Rattle.retro_base.specs.lemmas.bridges.Entries.{In, above_in, with_in}
 use Rattle.retro_base.specs.lemmas.bridges.Moves.{Leads, Adds, Ready, ready_added, ready_taken}
 use Rattle.retro_base.specs.lemmas.bridges.Carried.{AtMost, at_most_further}
 
--- no bridge behind the first place, up to so many moves
-abbrev pub NoneBehind : ℕ → List (Option Entry) → List Entry → List Entry → Type 0
-NoneBehind n moves held alive = (k : ℕ) (next : List Entry) → k < n → Leads (take (suc k) moves) held next → ¬ AllIn alive next
+-- no bridge after the first place, up to so many moves
+abbrev pub NoneAfter : ℕ → List (Option Entry) → List Entry → List Entry → Type 0
+NoneAfter n moves held alive = (k : ℕ) (next : List Entry) → k < n → Leads (take (suc k) moves) held next → ¬ AllIn alive next
 
 -- a dead entry that is held at the end, and is no less than this one
 pub record Outlives (x : Entry) (end alive : List Entry) : Type 0 where
@@ -23,7 +23,7 @@ pub record Outlives (x : Entry) (end alive : List Entry) : Type 0 where
   pub no_less : AtMost x later
 
 pub outlived : (n : ℕ) (moves : List (Option Entry)) (held end alive : List Entry) (x : Entry) → Ready held moves → Leads (take n moves) held end
-    → NoneBehind n moves held alive → In x held ⊎ Adds x (take n moves) → ¬ In x alive → Outlives x end alive
+    → NoneAfter n moves held alive → In x held ⊎ Adds x (take n moves) → ¬ In x alive → Outlives x end alive
 outlived zero moves held end alive x ready leads none origin died = elim origin [
   | inl there ↦ record { later = x; held_there = subst (In x) leads there; dead = died; no_less = before_irreflexive x }
   | inr added ↦ absurd added
@@ -41,7 +41,7 @@ outlived (suc n) (Some e ∷ moves) held end alive x ready leads none origin die
 outlived (suc n) (None ∷ moves) [] end alive x ready leads none origin died = absurd leads
 outlived (suc n) (None ∷ moves) (y ∷ held) end alive x ready leads none origin died =
     let prepared = ready_taken y moves held ready in
-    let further : NoneBehind n moves held alive = λ k next less way. none (suc k) next (omega arith) way in
+    let further : NoneAfter n moves held alive = λ k next less way. none (suc k) next (omega arith) way in
     let rest = some_dead alive held (none zero held (omega arith) refl) in
     let greater = outlived n moves held end alive rest.0 prepared leads further (inl rest.1) rest.2 in
     elim origin [
@@ -52,7 +52,7 @@ outlived (suc n) (None ∷ moves) (y ∷ held) end alive x ready leads none orig
           dead = greater.dead;
           no_less = subst (λ z. AtMost z greater.later) (sym first) (at_most_further y rest.0 greater.later (above_in y rest.0 held ready.rising.0 rest.1) greater.no_less);
         }
-        | inr behind ↦ outlived n moves held end alive x prepared leads further (inl behind) died
+        | inr after ↦ outlived n moves held end alive x prepared leads further (inl after) died
       ]
       | inr added ↦ outlived n moves held end alive x prepared leads further (inr added) died
     ]

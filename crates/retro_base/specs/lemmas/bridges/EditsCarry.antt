@@ -1,4 +1,4 @@
--- What an edit carries: behind an edit that gives the new states have one entry more, and behind any other accepted edit
+-- What an edit carries: after an edit that gives the new states have one entry more, and after any other accepted edit
 -- the old states have one more.
 use Rattle.std.proofs.Common.{◌≡◌, ℕ, suc, ◌+◌, ◌≤◌, Bool, true, false, List, [], length, length-append, drop, arith, inl, inr, refl, ap, sym, subst, Some}
 use Rattle.std.specs.Prelude.{slice_get}
@@ -12,10 +12,10 @@ use Rattle.retro_base.specs.Changes.{Joins}
 use Rattle.retro_base.specs.Carried.{IsPqEdit, gives, Differ, Carries, ChangesBy, old_start, new_start}
 use Rattle.retro_base.specs.lemmas.bridges.Bridging.{all_in, bridge_all}
 use Rattle.retro_base.specs.lemmas.bridges.Histories.{valid_leads, never_both, moves_of}
-use Rattle.retro_base.specs.lemmas.bridges.Behind.{carried_behind, one_more_behind, carried_to_end, one_more_survives, rich_valid}
+use Rattle.retro_base.specs.lemmas.bridges.After.{carried_after, one_more_after, carried_to_end, one_more_survives, rich_valid}
 use Rattle.retro_base.specs.lemmas.bridges.Entries.{In, with_in}
-use Rattle.retro_base.specs.lemmas.bridges.Kept.{kept_behind}
-use Rattle.retro_base.specs.lemmas.bridges.Later.{adding_later, row_behind, one_joins, junction_later}
+use Rattle.retro_base.specs.lemmas.bridges.Kept.{kept_after}
+use Rattle.retro_base.specs.lemmas.bridges.Later.{adding_later, row_after, one_joins, junction_later}
 use Rattle.retro_base.specs.lemmas.bridges.EditJunctions.{Taking, giving, taking}
 
 pub giving_accepted : (rows : List Row) (edit : Edit) → IsPqEdit rows edit → gives edit ≡ true → IsAccepted Pq rows edit
@@ -34,13 +34,13 @@ one_carried_by : (rows : List Row) (edit : Edit) (more : ℕ) → IsPqEdit rows 
     → (entry : Entry) × Differ b entry (entries_at rows (old_start edit + more)) (entries_at (edited rows edit) (new_start edit + more))
 one_carried_by rows edit more possible accepted true gain =
     let g = giving rows edit possible gain in (
-      (carried_behind g.entry g.held g.after rows (edited rows edit) (old_start edit) (new_start edit) g.junction possible.history.valid more).last,
-      one_more_behind g.entry g.held g.after rows (edited rows edit) (old_start edit) (new_start edit) g.junction possible.history.valid more,
+      (carried_after g.entry g.held g.after rows (edited rows edit) (old_start edit) (new_start edit) g.junction possible.history.valid more).last,
+      one_more_after g.entry g.held g.after rows (edited rows edit) (old_start edit) (new_start edit) g.junction possible.history.valid more,
     )
 one_carried_by rows edit more possible accepted false loss =
     let t = accepted_taking rows edit possible accepted loss in (
-      (carried_behind t.entry t.held t.after (edited rows edit) rows (new_start edit) (old_start edit) t.junction accepted more).last,
-      one_more_behind t.entry t.held t.after (edited rows edit) rows (new_start edit) (old_start edit) t.junction accepted more,
+      (carried_after t.entry t.held t.after (edited rows edit) rows (new_start edit) (old_start edit) t.junction accepted more).last,
+      one_more_after t.entry t.held t.after (edited rows edit) rows (new_start edit) (old_start edit) t.junction accepted more,
     )
 
 pub one_carried : (rows : List Row) (edit : Edit) (more : ℕ) → IsPqEdit rows edit → IsAccepted Pq rows edit → (entry : Entry) × Carries rows edit more entry
@@ -71,12 +71,12 @@ adding_by rows edit more row added entry possible accepted at adds true gain joi
     let g = giving rows edit possible gain in
     let j = g.junction in
     adding_later g.entry g.held g.after rows (edited rows edit) (old_start edit) (new_start edit) j possible.history.valid more row added entry
-    (row_behind rows j.poor_front g.after (old_start edit) more row j.poor_is j.poor_length at) adds join
+    (row_after rows j.poor_front g.after (old_start edit) more row j.poor_is j.poor_length at) adds join
 adding_by rows edit more row added entry possible accepted at adds false loss join =
     let t = accepted_taking rows edit possible accepted loss in
     let j = t.junction in
     adding_later t.entry t.held t.after (edited rows edit) rows (new_start edit) (old_start edit) j accepted more row added entry
-    (row_behind rows j.rich_front t.after (old_start edit) more row j.rich_is j.rich_length at) adds join
+    (row_after rows j.rich_front t.after (old_start edit) more row j.rich_is j.rich_length at) adds join
 
 pub adding_carries_on : (rows : List Row) (edit : Edit) (more : ℕ) (row : Row) (added entry : Entry) → IsPqEdit rows edit → IsAccepted Pq rows edit
     → slice_get rows (old_start edit + more) ≡ Some row → added_by row ≡ Some added
@@ -93,12 +93,12 @@ missing_by rows edit more further entry possible accepted loss within bridge joi
     let t = accepted_taking rows edit possible accepted loss in
     let j = t.junction in
     let inside : more ≤ length t.after = omega (arith, within, ap length j.rich_is, length-append j.rich_front t.after, j.rich_length) in
-    let there = carried_behind t.entry t.held t.after (edited rows edit) rows (new_start edit) (old_start edit) j accepted more in
-    let joined = one_more_behind t.entry t.held t.after (edited rows edit) rows (new_start edit) (old_start edit) j accepted more in
+    let there = carried_after t.entry t.held t.after (edited rows edit) rows (new_start edit) (old_start edit) j accepted more in
+    let joined = one_more_after t.entry t.held t.after (edited rows edit) rows (new_start edit) (old_start edit) j accepted more in
     let same : there.last ≡ entry = sym (one_joins entry there.last _ _ join joined.joined) in
     let lives : In there.last (survivors rows) = all_in (survivors rows) (entries_at rows (old_start edit + more)) there.last (bridge_all (survivors rows) (entries_at rows (old_start edit + more)) bridge)
     (subst (In there.last) (sym joined.joined) (with_in there.last there.last (entries_at (edited rows edit) (new_start edit + more)) (inl refl))) in
-    let kept = kept_behind there.last _ (drop more t.after) (edited rows edit) rows (new_start edit + more) (old_start edit + more)
+    let kept = kept_after there.last _ (drop more t.after) (edited rows edit) rows (new_start edit + more) (old_start edit + more)
     (junction_later t.entry t.held t.after (edited rows edit) rows (new_start edit) (old_start edit) j accepted more inside) possible.history.valid lives further in
     let new_at : new_start edit + more + further ≡ new_start edit + (more + further) = omega arith in
     let old_at : old_start edit + more + further ≡ old_start edit + (more + further) = omega arith in

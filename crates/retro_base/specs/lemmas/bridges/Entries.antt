@@ -37,7 +37,7 @@ in_contains (y ∷ ys) x h = elim h [
   | inr inside ↦ let k = in_contains ys x inside in (suc k.0, omega (arith, k.1), k.2)
 ]
 
--- the entries of a list come behind this one
+-- the entries of a list come after this one
 abbrev pub Above : Entry → List Entry → Type 0
 Above x ys = AllByRecursion (λ y. comes_before x y ≡ true) ys
 
@@ -93,34 +93,34 @@ pub rising_with : (e : Entry) (xs : List Entry) → Rising xs → ¬ In e xs →
 rising_with e [] rising absent = (tt, tt)
 rising_with e (x ∷ xs) rising absent = elim (comes_before e x) as (λ b. comes_before e x ≡ b → Rising (cond b (e ∷ x ∷ xs) (x ∷ with_entry e xs))) [
   | true ↦ λ before. ((before, above_further e x xs before rising.0), rising)
-  | false ↦ λ behind. (above_with x e xs rising.0 (before_or_after e x (λ same. absent (inl same)) behind), rising_with e xs rising.1 (λ inside. absent (inr inside)))
+  | false ↦ λ after. (above_with x e xs rising.0 (before_or_after e x (λ same. absent (inl same)) after), rising_with e xs rising.1 (λ inside. absent (inr inside)))
 ] refl
 
--- an entry before all of them comes first, and one behind the first comes later
+-- an entry before all of them comes first, and one after the first comes later
 pub with_first : (e x : Entry) (xs : List Entry) → comes_before e x ≡ true → with_entry e (x ∷ xs) ≡ e ∷ x ∷ xs
 with_first e x xs before = rw before refl
 
 pub with_later : (e x : Entry) (xs : List Entry) → comes_before e x ≡ false → with_entry e (x ∷ xs) ≡ x ∷ with_entry e xs
-with_later e x xs behind = rw behind refl
+with_later e x xs after = rw after refl
 
 pub with_above : (e : Entry) (xs : List Entry) → Above e xs → with_entry e xs ≡ e ∷ xs
 with_above e [] above = refl
 with_above e (x ∷ xs) above = with_first e x xs above.0
 
--- what is behind a later entry is behind an earlier one
+-- what is after a later entry is after an earlier one
 not_before : (a b x : Entry) → comes_before a x ≡ true → comes_before b x ≡ false → comes_before b a ≡ false
 not_before a b x first later = elim (comes_before b a) as (λ t. comes_before b a ≡ t → t ≡ false) [
   | true ↦ λ before. sym (before_transitive b a x before first) ∙ later
-  | false ↦ λ behind. refl
+  | false ↦ λ after. refl
 ] refl
 
--- two more entries can come in either order: both before the first of the others, both behind it, or on its two sides
+-- two more entries can come in either order: both before the first of the others, both after it, or on its two sides
 swapped_before : (a b x : Entry) (xs : List Entry) → a ≢ b → comes_before a x ≡ true → comes_before b x ≡ true
     → with_entry a (b ∷ x ∷ xs) ≡ with_entry b (a ∷ x ∷ xs)
 swapped_before a b x xs other a_first b_first = elim (comes_before a b) as (λ t. comes_before a b ≡ t → with_entry a (b ∷ x ∷ xs) ≡ with_entry b (a ∷ x ∷ xs)) [
   | true ↦ λ first. with_first a b (x ∷ xs) first ∙ sym (with_later b a (x ∷ xs) (before_one_way a b first) ∙ ap (λ l. a ∷ l) (with_first b x xs b_first))
-  | false ↦ λ behind. with_later a b (x ∷ xs) behind ∙ ap (λ l. b ∷ l) (with_first a x xs a_first)
-      ∙ sym (with_first b a (x ∷ xs) (before_or_after a b other behind))
+  | false ↦ λ after. with_later a b (x ∷ xs) after ∙ ap (λ l. b ∷ l) (with_first a x xs a_first)
+      ∙ sym (with_first b a (x ∷ xs) (before_or_after a b other after))
 ] refl
 
 swapped_across : (a b x : Entry) (xs : List Entry) → comes_before a x ≡ true → comes_before b x ≡ false
@@ -144,6 +144,6 @@ swapped_by a b x xs other rest false false a_later b_later =
 pub with_swapped : (a b : Entry) (xs : List Entry) → a ≢ b → with_entry a (with_entry b xs) ≡ with_entry b (with_entry a xs)
 with_swapped a b [] other = elim (comes_before a b) as (λ t. comes_before a b ≡ t → with_entry a (b ∷ []) ≡ with_entry b (a ∷ [])) [
   | true ↦ λ first. with_first a b [] first ∙ sym (with_later b a [] (before_one_way a b first))
-  | false ↦ λ behind. with_later a b [] behind ∙ sym (with_first b a [] (before_or_after a b other behind))
+  | false ↦ λ after. with_later a b [] after ∙ sym (with_first b a [] (before_or_after a b other after))
 ] refl
 with_swapped a b (x ∷ xs) other = swapped_by a b x xs other (with_swapped a b xs other) (comes_before a x) (comes_before b x) refl refl

@@ -28,7 +28,7 @@ pair_one_way : (k : ℤ) (m : ℕ) (l : ℤ) (n : ℕ) → pair_before k m l n �
 pair_one_way k m l n first = grind (arith, ints, nat_tests)
 
 pair_or_after : (k : ℤ) (m : ℕ) (l : ℤ) (n : ℕ) → (int_eq k l && (m == n)) ≡ false → pair_before k m l n ≡ false → pair_before l n k m ≡ true
-pair_or_after k m l n other behind = grind (arith, ints, nat_tests)
+pair_or_after k m l n other after = grind (arith, ints, nat_tests)
 
 pub before_irreflexive : (a : Entry) → comes_before a a ≡ false
 before_irreflexive a = pair_irreflexive a.key a.number
@@ -67,4 +67,4 @@ not_same a b other = elim (same_entry a b) as (λ s. same_entry a b ≡ s → s 
 ] refl
 
 pub before_or_after : (a b : Entry) → a ≢ b → comes_before a b ≡ false → comes_before b a ≡ true
-before_or_after a b other behind = pair_or_after a.key a.number b.key b.number (not_same a b other) behind
+before_or_after a b other after = pair_or_after a.key a.number b.key b.number (not_same a b other) after

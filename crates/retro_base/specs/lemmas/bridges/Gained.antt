@@ -1,4 +1,4 @@
--- What is gained: of the entries that are taken behind the edit, and of the one that comes in, the greatest is left over. No
+-- What is gained: of the entries that are taken after the edit, and of the one that comes in, the greatest is left over. No
 -- dead entry is held at the last bridge before it, and those that were taken between are outlived by a greater dead one.
 --
 --     bridge ... place | taken entries ...      gained: the greatest dead entry from the bridge on
@@ -19,13 +19,13 @@ use Rattle.retro_base.specs.lemmas.bridges.Added.{added_adds, adds_added}
 use Rattle.retro_base.specs.lemmas.bridges.Entries.{In, contains_in, in_contains}
 use Rattle.retro_base.specs.lemmas.bridges.Moves.{Leads, Adds, came_from, adds_first, adds_second, adds_both}
 use Rattle.retro_base.specs.lemmas.bridges.Histories.{moves_of, history_at}
-use Rattle.retro_base.specs.lemmas.bridges.Behind.{behind, entries_behind, moves_split, carried_to_end, one_more_survives}
+use Rattle.retro_base.specs.lemmas.bridges.After.{after_front, entries_after, moves_split, carried_to_end, one_more_survives}
 use Rattle.retro_base.specs.lemmas.bridges.Carried.{AtMost}
-use Rattle.retro_base.specs.lemmas.bridges.Chain.{NoneBehind, outlived, at_most_trans, at_most_both}
+use Rattle.retro_base.specs.lemmas.bridges.Chain.{NoneAfter, outlived, at_most_trans, at_most_both}
 use Rattle.retro_base.specs.lemmas.bridges.Later.{one_joins, row_at}
 use Rattle.retro_base.specs.lemmas.bridges.EditJunctions.{join_added_entry, join_cut_take, cut_take_holds}
 
--- between a bridge and a place behind it
+-- between a bridge and a place after it
 pub record Between (rows : List Row) (bridge place : ℕ) : Type 0 where
   pub up_to : Leads (moves_of (take (place - bridge) (drop bridge rows))) (entries_at rows bridge) (entries_at rows place)
   pub split : moves_of (drop bridge rows) ≡ moves_of (take (place - bridge) (drop bridge rows)) ++ moves_of (drop place rows)
@@ -42,7 +42,7 @@ front_of rows place within = omega (arith, length-take place rows)
 
 pub between : (rows : List Row) (bridge place : ℕ) → IsPqHistory rows → bridge ≤ place → place ≤ length rows → Between rows bridge place
 between rows bridge place history before within =
-    let parts = behind rows (take bridge rows) (drop bridge rows) bridge (place - bridge) (entries_at rows bridge) (sym (take-append-drop bridge rows))
+    let parts = after_front rows (take bridge rows) (drop bridge rows) bridge (place - bridge) (entries_at rows bridge) (sym (take-append-drop bridge rows))
     (front_of rows bridge (omega arith)) history.of_kind history.valid (history_at rows bridge history).first in
     let there : bridge + (place - bridge) ≡ place = omega arith in
     record {
@@ -53,17 +53,17 @@ between rows bridge place history before within =
 
 -- no place between is a bridge
 none_between : (rows : List Row) (bridge place : ℕ) → IsPqHistory rows → place ≤ length rows → IsLastBridge rows place bridge
-    → NoneBehind (place - bridge) (moves_of (drop bridge rows)) (entries_at rows bridge) (survivors rows)
+    → NoneAfter (place - bridge) (moves_of (drop bridge rows)) (entries_at rows bridge) (survivors rows)
 none_between rows bridge place history within last = λ k next less way all.
     let before : bridge ≤ place = last.within in
     let there : entries_at rows (bridge + suc k) ≡ next =
-    entries_behind rows (take bridge rows) (drop bridge rows) bridge (suc k) (entries_at rows bridge) next (sym (take-append-drop bridge rows))
+    entries_after rows (take bridge rows) (drop bridge rows) bridge (suc k) (entries_at rows bridge) next (sym (take-append-drop bridge rows))
     (front_of rows bridge (omega arith)) history.of_kind (history_at rows bridge history).first
     (subst (λ l. Leads l (entries_at rows bridge) next) (take-map added_by (suc k) (drop bridge rows)) way) in
     last.last (bridge + suc k) (omega arith) (omega arith)
     (all_bridge (survivors rows) (entries_at rows (bridge + suc k)) (subst (AllIn (survivors rows)) (sym there) all))
 
--- what is dead and held at the place, or added behind it, was added from the bridge on
+-- what is dead and held at the place, or added after it, was added from the bridge on
 pub dead_from : (rows : List Row) (bridge place : ℕ) (x : Entry) → IsPqHistory rows → bridge ≤ place → place ≤ length rows → IsBridge rows bridge
     → In x (entries_at rows place) ⊎ Adds x (moves_of (drop place rows)) → ¬ In x (survivors rows) → IsDeadFrom rows bridge x
 dead_from rows bridge place x history before within is_bridge origin died =
@@ -78,7 +78,7 @@ dead_from rows bridge place x history before within is_bridge origin died =
     ] in
     (in_contains _ x (adds_added (drop bridge rows) x (subst (Adds x) (sym b.split) adds)), λ inside. died (contains_in _ x inside))
 
--- what is no less than all the dead that are held at the place or added behind it is no less than the dead from the bridge on
+-- what is no less than all the dead that are held at the place or added after it is no less than the dead from the bridge on
 pub bound_from : (rows : List Row) (bridge place : ℕ) (last x : Entry) → IsPqHistory rows → place ≤ length rows → IsLastBridge rows place bridge
     → ((y : Entry) → In y (entries_at rows place) ⊎ Adds y (moves_of (drop place rows)) → ¬ In y (survivors rows) → AtMost y last)
     → IsDeadFrom rows bridge x → AtMost x last

@@ -18,7 +18,7 @@ use Rattle.retro_base.specs.lemmas.bridges.Entries.{In, first_once, with_above}
 use Rattle.retro_base.specs.lemmas.bridges.Moves.{Leads, Adds, Ready, leads_both, came_from, new_here}
 use Rattle.retro_base.specs.lemmas.bridges.Histories.{moves_of, moves_append, added_number, fresh_adds, history_parts}
 
--- a row between other rows: what is held before it, and what its move and the ones behind it can count on
+-- a row between other rows: what is held before it, and what its move and the ones after it can count on
 pub record Seam (before : List Row) (row : Row) (after : List Row) : Type 0 where
   pub first : Leads (moves_of before) [] (survivors before)
   pub ready : Ready (survivors before) (moves_of (row ∷ after))

@@ -15,7 +15,7 @@ use Rattle.retro_base.specs.lemmas.bridges.Entries.{In, with_in, in_with, with_f
 use Rattle.retro_base.specs.lemmas.bridges.Moves.{Leads, Adds, Ready, ready_added, ready_taken, ready_with, taken_for_good, came_from, leads_both, adds_second}
 use Rattle.retro_base.specs.lemmas.bridges.Histories.{moves_of, moves_append, leads_survivors, leads_valid}
 use Rattle.retro_base.specs.lemmas.bridges.Junctions.{Junction}
-use Rattle.retro_base.specs.lemmas.bridges.Behind.{Behind, behind, all_behind, entries_behind, moves_split, joins, ready_up_to}
+use Rattle.retro_base.specs.lemmas.bridges.After.{After, after_front, all_after, entries_after, moves_split, joins, ready_up_to}
 
 -- the same moves without the entry, and what they lead to
 pub record Without (c : Entry) (moves : List (Option Entry)) (held end : List Entry) : Type 0 where
@@ -31,8 +31,8 @@ kept_taken : (c x : Entry) (moves : List (Option Entry)) (held end : List Entry)
 kept_taken c x moves held end true before ready absent leads lives rest =
     let first = with_first c x held before in
     absurd (taken_for_good c moves (x ∷ held) end (subst (λ l. Ready l (None ∷ moves)) first ready) (subst (λ l. Leads (None ∷ moves) l end) first leads) lives)
-kept_taken c x moves held end false behind ready absent leads lives rest =
-    let later = with_later c x held behind in
+kept_taken c x moves held end false beyond ready absent leads lives rest =
+    let later = with_later c x held beyond in
     let less = rest (ready_taken x moves (with_entry c held) (subst (λ l. Ready l (None ∷ moves)) later ready)) (subst (λ l. Leads (None ∷ moves) l end) later leads) in
     record { less = less.less; leads = less.leads; one_more = less.one_more; absent = less.absent }
 
@@ -60,7 +60,7 @@ module _ (entry : Entry) (held : List Entry) (after poor rich : List Row) (poor_
   without_to_end : Without entry (moves_of after) held (survivors rich)
   without_to_end =
       kept (moves_of after) entry held (survivors rich) rich_ready j.absent
-      (all_behind rich j.rich_front after (with_entry entry held) j.rich_is j.rich_kind valid j.rich_leads) lives
+      (all_after rich j.rich_front after (with_entry entry held) j.rich_is j.rich_kind valid j.rich_leads) lives
 
   poor_to_end : Leads (moves_of poor) [] without_to_end.less
   poor_to_end =
@@ -77,21 +77,21 @@ module _ (entry : Entry) (held : List Entry) (after poor rich : List Row) (poor_
       joins entry (survivors poor) (survivors rich) (subst (λ l. ¬ In entry l) (sym same) without_to_end.absent)
       (without_to_end.one_more ∙ ap (with_entry entry) (sym same))
 
-  rich_behind : (further : ℕ) → Behind rich after rich_place further (with_entry entry held)
-  rich_behind further = behind rich j.rich_front after rich_place further (with_entry entry held) j.rich_is j.rich_length j.rich_kind valid j.rich_leads
+  rich_after : (further : ℕ) → After rich after rich_place further (with_entry entry held)
+  rich_after further = after_front rich j.rich_front after rich_place further (with_entry entry held) j.rich_is j.rich_length j.rich_kind valid j.rich_leads
 
   -- it is held until then
   still_held : (further : ℕ) → In entry (entries_at rich (rich_place + further))
   still_held further =
-      elim (came_from entry (moves_of (drop further after)) (entries_at rich (rich_place + further)) (survivors rich) (rich_behind further).on lives) [
+      elim (came_from entry (moves_of (drop further after)) (entries_at rich (rich_place + further)) (survivors rich) (rich_after further).on lives) [
         | inl there ↦ there
         | inr added ↦ absurd (j.never (subst (Adds entry) (sym (moves_split further after))
             (adds_second entry (moves_of (take further after)) (moves_of (drop further after)) added)))
       ]
 
-  pub kept_behind : (further : ℕ) → Joins entry (entries_at poor (poor_place + further)) (entries_at rich (rich_place + further))
-  kept_behind further =
+  pub kept_after : (further : ℕ) → Joins entry (entries_at poor (poor_place + further)) (entries_at rich (rich_place + further))
+  kept_after further =
       let less = kept (moves_of (take further after)) entry held (entries_at rich (rich_place + further))
-      (ready_up_to further after (with_entry entry held) rich_ready) j.absent (rich_behind further).up_to (still_held further) in
-      let same = entries_behind poor j.poor_front after poor_place further held less.less j.poor_is j.poor_length j.poor_kind j.poor_leads less.leads in
+      (ready_up_to further after (with_entry entry held) rich_ready) j.absent (rich_after further).up_to (still_held further) in
+      let same = entries_after poor j.poor_front after poor_place further held less.less j.poor_is j.poor_length j.poor_kind j.poor_leads less.leads in
       joins entry _ _ (subst (λ l. ¬ In entry l) (sym same) less.absent) (less.one_more ∙ ap (with_entry entry) (sym same))

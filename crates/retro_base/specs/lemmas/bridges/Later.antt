@@ -1,4 +1,4 @@
--- A junction moves on: so many rows behind it the same two lists join again, and the richer one holds the carried entry more.
+-- A junction moves on: so many rows after it the same two lists join again, and the richer one holds the carried entry more.
 -- A row that adds leaves the carried entry as it is.
 --
 --     held and c | take ...    and then    rest and d | ...
@@ -20,7 +20,7 @@ use Rattle.retro_base.specs.lemmas.bridges.Moves.{Leads, Adds, Ready, ready_with
 use Rattle.retro_base.specs.lemmas.bridges.Histories.{moves_of, moves_append}
 use Rattle.retro_base.specs.lemmas.bridges.Junctions.{Junction}
 use Rattle.retro_base.specs.lemmas.bridges.Carried.{Carried}
-use Rattle.retro_base.specs.lemmas.bridges.Behind.{moves_split, carried_behind, one_more_behind, poor_behind}
+use Rattle.retro_base.specs.lemmas.bridges.After.{moves_split, carried_after, one_more_after, poor_after}
 
 -- the entry more is one alone
 pub one_joins : (x y : Entry) (less more : List Entry) → Joins x less more → more ≡ with_entry y less → x ≡ y
@@ -51,9 +51,9 @@ leads_later : (front after : List Row) (more : ℕ) (held next : List Entry) →
 leads_later front after more held next first on =
     subst (λ l. Leads l [] next) (sym (moves_append front (take more after))) (leads_both (moves_of front) (moves_of (take more after)) [] held next first on)
 
-pub ready_behind : (after : List Row) (more : ℕ) (held next : List Entry) → Ready held (moves_of after) → Leads (moves_of (take more after)) held next
+pub ready_after : (after : List Row) (more : ℕ) (held next : List Entry) → Ready held (moves_of after) → Leads (moves_of (take more after)) held next
     → Ready next (moves_of (drop more after))
-ready_behind after more held next ready on =
+ready_after after more held next ready on =
     ready_later (moves_of (take more after)) (moves_of (drop more after)) held next (subst (Ready held) (moves_split more after) ready) on
 
 -- by any entries that the two lists lead to
@@ -62,7 +62,7 @@ pub junction_between : (entry : Entry) (held : List Entry) (after poor rich : Li
     → Leads (moves_of (take more after)) held next → Leads (moves_of (take more after)) (with_entry entry held) (with_entry last next) → ¬ In last next
     → Junction last next (drop more after) poor rich (poor_place + more) (rich_place + more)
 junction_between entry held after poor rich poor_place rich_place j more within last next poor_on rich_on absent =
-    let ready = ready_behind after more (with_entry entry held) (with_entry last next) (ready_with entry (moves_of after) held j.ready j.absent j.never) rich_on in
+    let ready = ready_after after more (with_entry entry held) (with_entry last next) (ready_with entry (moves_of after) held j.ready j.absent j.never) rich_on in
     record {
       poor_front = j.poor_front ++ take more after;
       rich_front = j.rich_front ++ take more after;
@@ -74,7 +74,7 @@ junction_between entry held after poor rich poor_place rich_place j more within 
       rich_leads = leads_later j.rich_front after more (with_entry entry held) (with_entry last next) j.rich_leads rich_on;
       poor_kind = j.poor_kind;
       rich_kind = j.rich_kind;
-      ready = ready_behind after more held next j.ready poor_on;
+      ready = ready_after after more held next j.ready poor_on;
       absent = absent;
       never = ready.apart last (with_in last last next (inl refl));
     }
@@ -82,12 +82,12 @@ junction_between entry held after poor rich poor_place rich_place j more within 
 module _ (entry : Entry) (held : List Entry) (after poor rich : List Row) (poor_place rich_place : ℕ)
     (j : Junction entry held after poor rich poor_place rich_place) (valid : IsValid Pq poor) (more : ℕ) (within : more ≤ length after) where
   abbrev pub carried_there : Carried entry (moves_of (take more after)) held (entries_at poor (poor_place + more))
-  carried_there = carried_behind entry held after poor rich poor_place rich_place j valid more
+  carried_there = carried_after entry held after poor rich poor_place rich_place j valid more
 
   pub junction_later : Junction carried_there.last (entries_at poor (poor_place + more)) (drop more after) poor rich (poor_place + more) (rich_place + more)
   junction_later =
       junction_between entry held after poor rich poor_place rich_place j more within carried_there.last (entries_at poor (poor_place + more))
-      (poor_behind entry held after poor rich poor_place rich_place j valid more).up_to carried_there.leads carried_there.absent
+      (poor_after entry held after poor rich poor_place rich_place j valid more).up_to carried_there.leads carried_there.absent
 
 -- one row that adds
 same_carried : (c e : Entry) (moves : List (Option Entry)) (held next : List Entry) → moves ≡ Some e ∷ [] → Leads moves held next
@@ -109,12 +109,12 @@ pub adding_on : (entry : Entry) (held : List Entry) (after poor rich : List Row)
 adding_on entry held after poor rich poor_place rich_place j valid row e rest next adds =
     let one : moves_of (take (suc zero) after) ≡ Some e ∷ [] = rw (next, adds) refl in
     let same = same_carried entry e (moves_of (take (suc zero) after)) held (entries_at poor (poor_place + suc zero)) one
-    (poor_behind entry held after poor rich poor_place rich_place j valid (suc zero)).up_to
-    (carried_behind entry held after poor rich poor_place rich_place j valid (suc zero)) in
+    (poor_after entry held after poor rich poor_place rich_place j valid (suc zero)).up_to
+    (carried_after entry held after poor rich poor_place rich_place j valid (suc zero)) in
     subst (λ x. Joins x (entries_at poor (poor_place + suc zero)) (entries_at rich (rich_place + suc zero))) same
-    (one_more_behind entry held after poor rich poor_place rich_place j valid (suc zero))
+    (one_more_after entry held after poor rich poor_place rich_place j valid (suc zero))
 
--- at a place further behind
+-- at a place further after
 pub adding_later : (entry : Entry) (held : List Entry) (after poor rich : List Row) (poor_place rich_place : ℕ)
     → Junction entry held after poor rich poor_place rich_place → IsValid Pq poor → (more : ℕ) (row : Row) (e carried : Entry)
     → slice_get after more ≡ Some row → added_by row ≡ Some e
@@ -124,7 +124,7 @@ adding_later entry held after poor rich poor_place rich_place j valid more row e
     let inside : more < length after = slice_get_within after more row at in
     let within : more ≤ length after = omega arith in
     let there = carried_there entry held after poor rich poor_place rich_place j valid more within in
-    let joined = one_more_behind entry held after poor rich poor_place rich_place j valid more in
+    let joined = one_more_after entry held after poor rich poor_place rich_place j valid more in
     let same : there.last ≡ carried = sym (one_joins carried there.last _ _ join joined.joined) in
     let next = adding_on there.last _ (drop more after) poor rich (poor_place + more) (rich_place + more)
     (junction_later entry held after poor rich poor_place rich_place j valid more within) valid row e (drop (suc more) after) (row_at after more row at) adds in
@@ -134,13 +134,13 @@ adding_later entry held after poor rich poor_place rich_place j valid more row e
     (subst (λ n. Joins there.last (entries_at poor (poor_place + suc more)) (entries_at rich n)) rich_at
     (subst (λ n. Joins there.last (entries_at poor n) (entries_at rich (rich_place + more + suc zero))) poor_at next))
 
--- a row of one of the lists behind the place
-get_behind : (front after : List Row) (more index : ℕ) → index ≡ length front + more → slice_get (front ++ after) index ≡ slice_get after more
-get_behind [] after more index at = ap (slice_get after) (at ∙ zero-add more)
-get_behind (r ∷ front) after more zero at = absurd (omega arith)
-get_behind (r ∷ front) after more (suc index) at = get_behind front after more index (omega arith)
+-- a row of one of the lists after the place
+get_after : (front after : List Row) (more index : ℕ) → index ≡ length front + more → slice_get (front ++ after) index ≡ slice_get after more
+get_after [] after more index at = ap (slice_get after) (at ∙ zero-add more)
+get_after (r ∷ front) after more zero at = absurd (omega arith)
+get_after (r ∷ front) after more (suc index) at = get_after front after more index (omega arith)
 
-pub row_behind : (rows front after : List Row) (place more : ℕ) (row : Row) → rows ≡ front ++ after → length front ≡ place
+pub row_after : (rows front after : List Row) (place more : ℕ) (row : Row) → rows ≡ front ++ after → length front ≡ place
     → slice_get rows (place + more) ≡ Some row → slice_get after more ≡ Some row
-row_behind rows front after place more row is same at =
-    sym (get_behind front after more (place + more) (omega arith)) ∙ ap (λ l. slice_get l (place + more)) (sym is) ∙ at
+row_after rows front after place more row is same at =
+    sym (get_after front after more (place + more) (omega arith)) ∙ ap (λ l. slice_get l (place + more)) (sym is) ∙ at

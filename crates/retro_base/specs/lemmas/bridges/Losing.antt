@@ -17,9 +17,9 @@ use Rattle.retro_base.specs.lemmas.bridges.Entries.{In, first_once, with_above}
 use Rattle.retro_base.specs.lemmas.bridges.Moves.{Leads, FailsAt, Ready, ready_with, fails_later}
 use Rattle.retro_base.specs.lemmas.bridges.Histories.{moves_of, moves_append, moves_length, fails_run}
 use Rattle.retro_base.specs.lemmas.bridges.Junctions.{Junction}
-use Rattle.retro_base.specs.lemmas.bridges.Behind.{behind, all_behind, entries_behind}
+use Rattle.retro_base.specs.lemmas.bridges.After.{after_front, all_after, entries_after}
 use Rattle.retro_base.specs.lemmas.bridges.Kept.{poor_valid, kept_to_end}
-use Rattle.retro_base.specs.lemmas.bridges.Later.{junction_between, ready_behind}
+use Rattle.retro_base.specs.lemmas.bridges.Later.{junction_between, ready_after}
 use Rattle.retro_base.specs.lemmas.bridges.Lost.{Missing, lost}
 
 -- the rows without it: they replay whole and miss the least entry of the bridge, or the bridge holds none and they fail
@@ -46,7 +46,7 @@ module _ (entry : Entry) (held : List Entry) (after poor rich : List Row) (poor_
   at_bridge : Leads (moves_of (take (bridge - rich_place) after)) (with_entry entry held) (entries_at rich bridge)
   at_bridge =
       subst (λ n. Leads (moves_of (take (bridge - rich_place) after)) (with_entry entry held) (entries_at rich n)) there
-      (behind rich j.rich_front after rich_place (bridge - rich_place) (with_entry entry held) j.rich_is j.rich_length j.rich_kind valid j.rich_leads).up_to
+      (after_front rich j.rich_front after rich_place (bridge - rich_place) (with_entry entry held) j.rich_is j.rich_length j.rich_kind valid j.rich_leads).up_to
 
   within : bridge - rich_place ≤ length after
   within =
@@ -58,14 +58,14 @@ module _ (entry : Entry) (held : List Entry) (after poor rich : List Row) (poor_
     ready = j.ready;
     absent = j.absent;
     never = j.never;
-    on = all_behind rich j.rich_front after (with_entry entry held) j.rich_is j.rich_kind valid j.rich_leads;
+    on = all_after rich j.rich_front after (with_entry entry held) j.rich_is j.rich_kind valid j.rich_leads;
     died = died;
     up_to = subst (λ l. Leads l (with_entry entry held) (entries_at rich bridge)) (sym (take-map added_by (bridge - rich_place) after)) at_bridge;
     bridge = bridge_all (survivors rich) (entries_at rich bridge) first.bridges;
     none = λ k next less way all.
         let before : rich_place ≤ bridge = first.from in
         let here : entries_at rich (rich_place + k) ≡ next =
-        entries_behind rich j.rich_front after rich_place k (with_entry entry held) next j.rich_is j.rich_length j.rich_kind j.rich_leads
+        entries_after rich j.rich_front after rich_place k (with_entry entry held) next j.rich_is j.rich_length j.rich_kind j.rich_leads
         (subst (λ l. Leads l (with_entry entry held) next) (take-map added_by k after) way) in
         first.first (rich_place + k) (omega arith) (omega arith)
         (all_bridge (survivors rich) (entries_at rich (rich_place + k)) (subst (AllIn (survivors rich)) (sym here) all));
@@ -77,7 +77,7 @@ module _ (entry : Entry) (held : List Entry) (after poor rich : List Row) (poor_
   least_missing y rest holds poor_on =
       let rich_on : Leads (moves_of (take (bridge - rich_place) after)) (with_entry entry held) (y ∷ rest) =
       subst (Leads (moves_of (take (bridge - rich_place) after)) (with_entry entry held)) holds at_bridge in
-      let ready : Ready (y ∷ rest) (moves_of (drop (bridge - rich_place) after)) = ready_behind after (bridge - rich_place) (with_entry entry held) (y ∷ rest) rich_ready rich_on in
+      let ready : Ready (y ∷ rest) (moves_of (drop (bridge - rich_place) after)) = ready_after after (bridge - rich_place) (with_entry entry held) (y ∷ rest) rich_ready rich_on in
       let further = junction_between entry held after poor rich poor_place rich_place j (bridge - rich_place) within y rest poor_on
       (subst (Leads (moves_of (take (bridge - rich_place) after)) (with_entry entry held)) (sym (with_above y rest ready.rising.0)) rich_on)
       (first_once y rest ready.rising.0) in

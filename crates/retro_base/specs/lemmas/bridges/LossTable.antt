@@ -100,14 +100,14 @@ table_line rows edit bridge index history is_bridge losing = elim losing [
 ]
 
 not_further : (b p : ℕ) → p ≤ b → ¬ (p < b) → b ≡ p
-not_further b p from behind = omega arith
+not_further b p from after = omega arith
 
 -- a place that is a bridge is the first one from it on
 bridge_here : (rows : List Row) (place bridge : ℕ) → IsFirstBridge rows place bridge → IsBridge rows place → bridge ≡ place
 bridge_here rows place bridge first here =
     let from : place ≤ bridge = first.from in
-    let not_behind : ¬ (place < bridge) = λ behind. first.first place (omega arith) behind here in
-    not_further bridge place from not_behind
+    let not_after : ¬ (place < bridge) = λ after. first.first place (omega arith) after here in
+    not_further bridge place from not_after
 
 pub cut_dead_loses : (rows : List Row) (place : ℕ) (row : Row) (entry : Entry) (bridge : ℕ) → IsPqEdit rows (cut place row) → added_by row ≡ Some entry
     → ¬ Contains (survivors rows) entry → IsFirstBridge rows (suc place) bridge → LosesAt rows (cut place row) bridge (bridge - 2)

@@ -29,7 +29,7 @@ first_dead x moves held alive ready leads some lives =
 abbrev pub NoneBefore : ℕ → List (Option Entry) → List Entry → List Entry → Type 0
 NoneBefore n moves held alive = (k : ℕ) (next : List Entry) → k < n → Leads (take k moves) held next → ¬ AllIn alive next
 
--- behind so many moves nothing is left and the last of them failed, or the first entry is missing
+-- after so many moves nothing is left and the last of them failed, or the first entry is missing
 abbrev pub Lost : ℕ → List (Option Entry) → List Entry → List Entry → Type 0
 Lost n moves held end = ((i : ℕ) × (suc i ≡ n) × (end ≡ []) × FailsAt moves held i) ⊎ ((y : Entry) × (rest : List Entry) × (end ≡ y ∷ rest) × Leads (take n moves) held rest)
 
@@ -75,8 +75,8 @@ missing_added n e moves c held end alive m =
 -- another entry is taken
 missing_taken : (n : ℕ) (x : Entry) (moves : List (Option Entry)) (c : Entry) (held end alive : List Entry) → comes_before c x ≡ false
     → Missing (suc n) (None ∷ moves) c (x ∷ held) end alive → Missing n moves c held end alive
-missing_taken n x moves c held end alive behind m =
-    let later : with_entry c (x ∷ held) ≡ x ∷ with_entry c held = with_later c x held behind in
+missing_taken n x moves c held end alive after m =
+    let later : with_entry c (x ∷ held) ≡ x ∷ with_entry c held = with_later c x held after in
     record {
       ready = ready_taken x moves held m.ready;
       absent = λ inside. m.absent (inr inside);
@@ -109,7 +109,7 @@ missing_exchanged n x moves c held end alive before m =
           (subst (λ l. Leads (take (suc k) (None ∷ moves)) l next) (sym first) (subst (λ l. Leads (take k moves) l next) above way));
     }
 
--- the last of so many moves: the bridge is right behind it
+-- the last of so many moves: the bridge is right after it
 last_taken : (x : Entry) (moves : List (Option Entry)) (c : Entry) (held end alive : List Entry) → comes_before c x ≡ true
     → Missing (suc zero) (None ∷ moves) c (x ∷ held) end alive → Lost (suc zero) (None ∷ moves) (x ∷ held) end
 last_taken x moves c held end alive before m =
@@ -128,9 +128,9 @@ lost (suc n) (Some e ∷ moves) c held end alive m =
 lost (suc n) (None ∷ moves) c [] end alive m = nothing_left n moves c end alive m
 lost (suc zero) (None ∷ moves) c (x ∷ held) end alive m = elim (comes_before c x) as (λ b. comes_before c x ≡ b → Lost (suc zero) (None ∷ moves) (x ∷ held) end) [
   | true ↦ λ before. last_taken x moves c held end alive before m
-  | false ↦ λ behind. lost_later_taken zero x moves held end (lost zero moves c held end alive (missing_taken zero x moves c held end alive behind m))
+  | false ↦ λ after. lost_later_taken zero x moves held end (lost zero moves c held end alive (missing_taken zero x moves c held end alive after m))
 ] refl
 lost (suc (suc n)) (None ∷ moves) c (x ∷ held) end alive m = elim (comes_before c x) as (λ b. comes_before c x ≡ b → Lost (suc (suc n)) (None ∷ moves) (x ∷ held) end) [
   | true ↦ λ before. lost_later_taken (suc n) x moves held end (lost (suc n) moves x held end alive (missing_exchanged n x moves c held end alive before m))
-  | false ↦ λ behind. lost_later_taken (suc n) x moves held end (lost (suc n) moves c held end alive (missing_taken (suc n) x moves c held end alive behind m))
+  | false ↦ λ after. lost_later_taken (suc n) x moves held end (lost (suc n) moves c held end alive (missing_taken (suc n) x moves c held end alive after m))
 ] refl

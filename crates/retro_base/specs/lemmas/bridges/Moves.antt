@@ -85,7 +85,7 @@ leads_parts (Some e ∷ a) b held end leads = leads_parts a b (with_entry e held
 leads_parts (None ∷ a) b [] end leads = absurd leads
 leads_parts (None ∷ a) b (x ∷ held) end leads = leads_parts a b held end leads
 
--- moves that fail behind others fail so much later
+-- moves that fail after others fail so much later
 pub fails_later : (a b : List (Option Entry)) (held middle : List Entry) (n index : ℕ) → Leads a held middle → FailsAt b middle n
     → index ≡ length a + n → FailsAt (a ++ b) held index
 fails_later [] b held middle n index first fails at = subst (FailsAt b held) (sym (at ∙ zero-add n)) (subst (λ l. FailsAt b l n) (sym first) fails)

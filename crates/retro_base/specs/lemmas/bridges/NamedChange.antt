@@ -37,7 +37,7 @@ added_looks_on (Del k) number place of_kind takes = absurd (cc)
 added_looks_on (Ins k) number place of_kind takes = absurd (none_some _ takes refl)
 added_looks_on DelMin number place of_kind takes = refl
 
--- a row that adds and is cut looks behind it where its entry is dead, and nowhere where it survives
+-- a row that adds and is cut looks after it where its entry is dead, and nowhere where it survives
 cut_looks : (rows : List Row) (op : Op) (number place : ℕ) (entry : Entry) → added_as op number ≡ Some entry
     → sought_for_cut rows op number place ≡ cond (survives rows entry) nowhere (on_from (suc place))
 cut_looks rows (Enq v) number place entry adds = absurd (none_some _ refl adds)

@@ -1,5 +1,5 @@
 -- The stated bridge is found by looking at one place after another: place 0 is a bridge, where nothing is held, and so is the
--- place behind all rows, where the survivors are held.
+-- place after all rows, where the survivors are held.
 use Rattle.std.proofs.Common.{◌≡◌, ℕ, zero, suc, ◌+◌, ◌-◌, ◌<◌, ◌≤◌, true, false, List, [], ◌∷◌, length, cond, ◌⊎◌, inl, inr, refl, ap, sym, ◌∙◌, arith, subst, Option, Some, None}
 use Rattle.std.specs.Prelude.{Contains}
 use Rattle.std.specs.List.{AllByRecursion}
@@ -46,16 +46,16 @@ last_further : (rows : List Row) (place : ℕ) (bridge : ℕ) → is_bridge rows
 last_further rows place bridge fails last = record {
   within = let within : bridge ≤ place = last.within in omega arith;
   bridges = last.bridges;
-  last = λ other behind within here. elim (same_or_less other place within) [
+  last = λ other after within here. elim (same_or_less other place within) [
     | inl same ↦ no_bridge rows (suc place) fails (subst (IsBridge rows) same here)
-    | inr before ↦ last.last other behind before here
+    | inr before ↦ last.last other after before here
   ];
 }
 
 pub last_found : (rows : List Row) (place : ℕ) → IsLastBridge rows place (last_bridge rows place)
-last_found rows zero = record { within = omega arith; bridges = start_is_bridge rows; last = λ other behind within here. absurd (omega arith) }
+last_found rows zero = record { within = omega arith; bridges = start_is_bridge rows; last = λ other after within here. absurd (omega arith) }
 last_found rows (suc place) = elim (is_bridge rows (suc place)) as (λ b. is_bridge rows (suc place) ≡ b → IsLastBridge rows (suc place) (cond b (suc place) (last_bridge rows place))) [
-  | true ↦ λ passes. record { within = omega arith; bridges = passes_bridge rows (suc place) passes; last = λ other behind within here. absurd (omega arith) }
+  | true ↦ λ passes. record { within = omega arith; bridges = passes_bridge rows (suc place) passes; last = λ other after within here. absurd (omega arith) }
   | false ↦ λ fails. last_further rows place (last_bridge rows place) fails (last_found rows place)
 ] refl
 
@@ -67,7 +67,7 @@ first_nearer rows place bridge fails first = record {
   bridges = first.bridges;
   first = λ other from before here. elim (same_or_more other place from) [
     | inl same ↦ no_bridge rows place fails (subst (IsBridge rows) same here)
-    | inr behind ↦ first.first other behind before here
+    | inr after ↦ first.first other after before here
   ];
 }
 

@@ -1,12 +1,12 @@
 -- What was counted, and what the lines left come to, is what all lines come to.
 use Rattle.std.proofs.Common.{◌≡◌, false, length}
-use Rattle.retro_cli.proofs.Summing.{Counts}
+use Rattle.retro_cli.proofs.Summing.{CountsFaults}
 use Rattle.retro_cli.proofs.generated.count_refusals.Given as goal
 
 abbrev pub invariant-loop-line : goal.invariant-loop-line
 invariant-loop-line l = record {
   unspent : l.bench.spent ≡ false;
-  counts : Counts l.fn.bench.bench l.bench.bench l.fn.generator l.generator l.refused;
+  counts : CountsFaults l.fn.bench.bench l.bench.bench l.fn.generator l.generator l.refused;
 }
 
 abbrev pub decreases-loop-line : goal.decreases-loop-line

@@ -10,7 +10,7 @@ add-requires-2 c =
     record {
       can = record {
         rises = c.requires.can.before;
-        within = omega (arith, c.requires.can.behind_it, c.requires.can.within);
+        within = omega (arith, c.requires.can.after_it, c.requires.can.within);
         room = rw put (omega (arith, length-all_put (placed_at c.args.label c.args.put.now) c.args.next c.args.segments.now, c.requires.can.room));
       };
     }

@@ -1,6 +1,7 @@
 -- The size of what a session holds is a number of 32 bits.
 use Rattle.std.proofs.Common.{◌≤◌, rules, arith}
 use Rattle.std.proofs.lemmas.Int.{to_z-of_z}
+use Rattle.retro_base.specs.Limits.{most_rows}
 use Rattle.retro_base.specs.Replay.{present}
 use Rattle.workbench.specs.Bench.{size_of}
 use Rattle.workbench.proofs.Sizes.{counted, is_number, size-le}
@@ -10,7 +11,7 @@ pub overflow_cast-result : goal.overflow_cast-result
 overflow_cast-result c =
     let value = counted c.args.session.now.kind c.args.session.now.rows c.ask_now.result c.in-Number.value c.ask_now.ensures c.in-Number.is in
     let few = size-le c.args.session.now.kind c.args.session.now.rows in
-    let small : size_of (present c.args.session.now.kind c.args.session.now.rows) ≤ 65536 =
+    let small : size_of (present c.args.session.now.kind c.args.session.now.rows) ≤ most_rows =
     omega (arith, few, c.timeline.ensures.timeline.replayable.few) in
     rw value (search (rules, to_z-of_z, small))
 

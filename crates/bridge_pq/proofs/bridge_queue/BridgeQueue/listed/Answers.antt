@@ -6,7 +6,7 @@ use Rattle.retro_base.specs.Replay.{present}
 use Rattle.retro_base.specs.declared.kind.Kind.TheVariants.{Pq}
 use Rattle.retro_base.specs.Limits.{most_rows}
 use Rattle.bridge_pq.proofs.Edited.{few-entries, few-rows}
-use Rattle.bridge_pq.proofs.Present.{keys_in, keys-told, keys-room, keys-pushed, keys-passed, keys-whole}
+use Rattle.bridge_pq.proofs.Present.{keys_in, keys-reported, keys-room, keys-pushed, keys-passed, keys-whole}
 use Rattle.bridge_pq.proofs.bridge_queue.BridgeQueue.listed.Goals.{then-item+in_ok-push, else-item}
 use Rattle.bridge_pq.proofs.bridge_queue.BridgeQueue.listed.Goals as goal
 
@@ -31,5 +31,5 @@ loop-place-preserved g c = elim c.if-item.branch [
 pub returns : goal.returns
 returns g c =
     keys-whole c.self.inside.entries c.loop-place.listing c.loop-place.place c.loop-place.invariant (omega (arith, c.loop-place-test.false, c.len-place-end.ensures))
-    ∙ sym (keys-told c.self.inside.rows c.self.inside.entries c.self.invariant)
+    ∙ sym (keys-reported c.self.inside.rows c.self.inside.entries c.self.invariant)
     ∙ ap (λ l. content (present Pq l)) c.self.view_is

@@ -14,9 +14,9 @@ use Rattle.bridge_pq.proofs.bridge_queue.BridgeQueuePartial.ask_now.Goals as goa
 
 pub returns-in-Size-clause-answer : goal.returns-in-Size-clause-answer
 returns-in-Size-clause-answer g c =
-    let told : answer_of (present Pq c.args.self.now) Size ≡ Number c.size_of_present.result =
+    let reported : answer_of (present Pq c.args.self.now) Size ≡ Number c.size_of_present.result =
     subst (λ l. answer_of (present Pq l) Size ≡ Number c.size_of_present.result) c.self.view_is (size-answer c.self.inside.rows c.self.inside.entries c.self.invariant ∙ ap (λ n. Number n) (sym c.size_of_present.ensures.size)) in
-    rw c.in-Size.is (search (rules, to_z-of_z, told, sym))
+    rw c.in-Size.is (search (rules, to_z-of_z, reported, sym))
 
 pub returns-in-Size-clause-visits : goal.returns-in-Size-clause-visits
 returns-in-Size-clause-visits g c = visits-longer 144 (length c.self.inside.entries) (length c.args.self.now) _ _ (subst (λ l. length c.self.inside.entries ≤ length l) c.self.view_is (entries-few c.self.inside.rows c.self.inside.entries c.self.invariant)) (visits-more 12 132 (length c.self.inside.entries) _ _ c.size_of_present.ensures.visits)

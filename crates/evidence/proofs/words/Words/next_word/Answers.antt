@@ -12,7 +12,7 @@ returns c =
       back_is = c.split_at.ensures.back;
     } in
     let held : words c.in_ok-line.line.now ≡ c.args.self.now = rw c.in_ok-line.was at c.self.view_is in
-    elim c.if-behind-lt1.branch [
+    elim c.if-after-lt1.branch [
       | in-empty w ↦ rw w.self-is (sym held ∙ cut_last _ _ _ _ cut w.in-empty.len_below)
       | in-len1-up w ↦ rw w.self-is (sym held ∙ cut_then _ _ _ _ cut w.in-len1-up.len_at_least)
     ]

@@ -9,37 +9,37 @@ use Rattle.evidence_check.proofs.checker.Checker.tell_first.Goals as goal
 pub returns-then-as_slice-ge-MAX_TIMELINES-clause-cause : goal.returns-then-as_slice-ge-MAX_TIMELINES-clause-cause
 returns-then-as_slice-ge-MAX_TIMELINES-clause-cause c =
     inr (rw (← c.self.view_is)
-    (one_too_many c.self.inside.told.items c.args.evidence.now (rw (← c.self.view_is) at c.requires.fresh) (omega (arith, ap length c.as_slice.ensures.value))))
+    (one_too_many c.self.inside.reported.items c.args.evidence.now (rw (← c.self.view_is) at c.requires.fresh) (omega (arith, ap length c.as_slice.ensures.value))))
 
 pub returns-in_err-take-clause-cause : goal.returns-in_err-take-clause-cause
 returns-in_err-take-clause-cause c =
-    let anew : first_cause c.args.self.now.told c.args.evidence.now ≡ cause_of [] c.args.evidence.now =
+    let anew : first_cause c.args.self.now.reported c.args.evidence.now ≡ cause_of [] c.args.evidence.now =
     rw (← c.self.view_is)
-    (cause_anew c.self.inside.told.items c.args.evidence.now (rw (← c.self.view_is) at c.requires.fresh) (omega (arith, ap length c.as_slice.ensures.value))) in
+    (cause_anew c.self.inside.reported.items c.args.evidence.now (rw (← c.self.view_is) at c.requires.fresh) (omega (arith, ap length c.as_slice.ensures.value))) in
     let cause : ((c.in_err-take.field-0.0 ≡ NoMemory) × (cause_of [] c.args.evidence.now ≡ None)) ⊎ (cause_of [] c.args.evidence.now ≡ Some c.in_err-take.field-0.0) =
-    rw c.new-told.ensures at c.in_err-take.ensures.cause in
+    rw c.new-reported.ensures at c.in_err-take.ensures.cause in
     rw anew (search rules)
 
 pub returns-clause-truth : goal.returns-clause-truth
 returns-clause-truth c =
     rw (
       ← c.self.view_is,
-      cause_anew c.self.inside.told.items c.args.evidence.now (rw (← c.self.view_is) at c.requires.fresh) (omega (arith, ap length c.as_slice.ensures.value)),
+      cause_anew c.self.inside.reported.items c.args.evidence.now (rw (← c.self.view_is) at c.requires.fresh) (omega (arith, ap length c.as_slice.ensures.value)),
     )
-    (rw c.new-told.ensures at c.in_ok-take.ensures.ok)
+    (rw c.new-reported.ensures at c.in_ok-take.ensures.ok)
 
-pub returns-clause-told : goal.returns-clause-told
-returns-clause-told c =
+pub returns-clause-reported : goal.returns-clause-reported
+returns-clause-reported c =
     rw (← c.self.view_is)
-    (judge_anew c.self.inside.told.items c.args.evidence.now (rw (← c.self.view_is) at c.requires.fresh) c.take.new.self c.push.new.self.items c.self.inside.accepted
-    c.in_ok-push.ensures.items (rw c.new-told.ensures at c.in_ok-take.ensures.rows))
+    (judge_anew c.self.inside.reported.items c.args.evidence.now (rw (← c.self.view_is) at c.requires.fresh) c.take.new.self c.push.new.self.items c.self.inside.accepted
+    c.in_ok-push.ensures.items (rw c.new-reported.ensures at c.in_ok-take.ensures.rows))
 
 pub returns-in_err-push-clause-cause : goal.returns-in_err-push-clause-cause
 returns-in_err-push-clause-cause c =
-    let truth : first_cause c.args.self.now.told c.args.evidence.now ≡ None =
+    let truth : first_cause c.args.self.now.reported c.args.evidence.now ≡ None =
     rw (
       ← c.self.view_is,
-      cause_anew c.self.inside.told.items c.args.evidence.now (rw (← c.self.view_is) at c.requires.fresh) (omega (arith, ap length c.as_slice.ensures.value)),
+      cause_anew c.self.inside.reported.items c.args.evidence.now (rw (← c.self.view_is) at c.requires.fresh) (omega (arith, ap length c.as_slice.ensures.value)),
     )
-    (rw c.new-told.ensures at c.in_ok-take.ensures.ok) in
+    (rw c.new-reported.ensures at c.in_ok-take.ensures.ok) in
     rw truth (search rules)

@@ -12,6 +12,6 @@ returns-clause-first g c =
     let items = c.self.inside.signs in
     rw (← c.self.view_is) (c.first_place.ensures.first (has_more_marks items (pos c.args.k))
     (λ place answer above within call.
-    let told : answer ≡ lt_z (pos c.args.k) (end_of (walks_of (slice_range items 0 place)).1) = search rules in
-    told ∙ ap (lt_z (pos c.args.k)) (marks-is items place))
+    let reported : answer ≡ lt_z (pos c.args.k) (end_of (walks_of (slice_range items 0 place)).1) = search rules in
+    reported ∙ ap (lt_z (pos c.args.k)) (marks-is items place))
     (more-rises items c.args.k _))

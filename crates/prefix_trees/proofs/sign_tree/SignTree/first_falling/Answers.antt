@@ -16,8 +16,8 @@ returns-clause-first g c =
     let start : c.prefix.result ≡ prefix items from = c.prefix.ensures.sum ∙ ap (λ xs. prefix xs from) (sym c.self.view_is) in
     rw (← c.self.view_is) (c.first_place.ensures.first (falls_to items from value)
     (λ place answer above within call.
-    let told : answer ≡ le_z (c.prefix.result +ℤ lowest_of (walks_of (slice_range items from place)).0) value = search rules in
-    told
+    let reported : answer ≡ le_z (c.prefix.result +ℤ lowest_of (walks_of (slice_range items from place)).0) value = search rules in
+    reported
     ∙ ap (λ s. le_z (s +ℤ lowest_of (walks_of (slice_range items from place)).0) value) start
     ∙ ap (λ w. le_z (prefix items from +ℤ lowest_of w) value) (range-walk items from place))
     (λ place later above order within holds. reaches-rises (signs_of items) from value place later above order holds))

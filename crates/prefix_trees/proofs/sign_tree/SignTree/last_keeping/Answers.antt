@@ -16,8 +16,8 @@ returns-clause-last g c =
     let end : c.prefix.result ≡ prefix items to = c.prefix.ensures.sum ∙ ap (λ xs. prefix xs to) (sym c.self.view_is) in
     rw (← c.self.view_is) (c.last_place.ensures.last (keeps_at items to value)
     (λ place answer above within call.
-    let told : answer ≡ le_z (c.prefix.result -ℤ height_of (walks_of (slice_range items place to)).0) value = search rules in
-    told
+    let reported : answer ≡ le_z (c.prefix.result -ℤ height_of (walks_of (slice_range items place to)).0) value = search rules in
+    reported
     ∙ ap (λ s. le_z (s -ℤ height_of (walks_of (slice_range items place to)).0) value) end
     ∙ ap (λ w. le_z (prefix items to -ℤ height_of w) value) (range-walk items place to))
     (λ place earlier order within holds. keeps-falls (signs_of items) to value place earlier order within holds))

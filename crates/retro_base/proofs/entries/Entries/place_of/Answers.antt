@@ -8,6 +8,6 @@ pub returns-clause-before : goal.returns-clause-before
 returns-clause-before c = rw (← c.self.view_is)
     (IsPartitionPoint-from_clause (λ y. comes_before y c.args.entry) _ _ c.partition_point.ensures.partitioned (partitioned _ _ c.self.invariant) (λ a r q k. search rules)).0
 
-pub returns-clause-behind : goal.returns-clause-behind
-returns-clause-behind c = rw (← c.self.view_is)
+pub returns-clause-after : goal.returns-clause-after
+returns-clause-after c = rw (← c.self.view_is)
     (IsPartitionPoint-from_clause (λ y. comes_before y c.args.entry) _ _ c.partition_point.ensures.partitioned (partitioned _ _ c.self.invariant) (λ a r q k. search rules)).1

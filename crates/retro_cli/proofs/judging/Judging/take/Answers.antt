@@ -1,4 +1,4 @@
--- No more is accepted than was read, and want of memory hides no refusal.
+-- No more is accepted than was read, and out of memory hides no refusal.
 use Rattle.std.proofs.Common.{arith, sym, ◌∙◌}
 use Rattle.retro_cli.proofs.Judged.{accepts_one, unrefused}
 use Rattle.retro_cli.proofs.Unhidden.{unhidden}

@@ -11,7 +11,7 @@ use Rattle.retro_base.specs.Visits.{VisitsWithin}
 use Rattle.retro_base.specs.VisitsLaws.{visits-add, visits-one_longer}
 use Rattle.retro_base.specs.EditedLists.{remove-insert}
 use Rattle.prefix_trees.specs.Growth.{left_growth}
-use Rattle.retro_deque.specs.Kept.{IsKept}
+use Rattle.retro_deque.specs.Kept.{RepresentsRows}
 use Rattle.retro_deque.proofs.KeptEdits.{kept_with, kept_same}
 use Rattle.retro_deque.proofs.deque.RetroDequePartial.insert.Goals as goal
 
@@ -39,7 +39,7 @@ pub returns-in-Ok-clause-replayable : goal.returns-in-Ok-clause-replayable
 returns-in-Ok-clause-replayable g c =
     let rows = c.self.inside.rows in
     let placed : c.insert.new.self ≡ insert rows c.args.place c.args.row = search rules in
-    let kept : IsKept c.insert.new.self c.put_in.new.lefts c.put_in.new.rights =
+    let kept : RepresentsRows c.insert.new.self c.put_in.new.lefts c.put_in.new.rights =
     kept_with rows c.self.inside.lefts c.self.inside.rights c.self.invariant c.insert.new.self c.put_in.new.lefts c.put_in.new.rights c.args.place c.args.row
     (subst (λ l. length l < most_rows) (sym c.self.view_is) c.requires.room)
     (subst (λ l. c.args.place ≤ length l) (sym c.self.view_is) c.requires.within)

@@ -13,5 +13,5 @@ returns-clause-first c = λ row same.
     let within : c.args.place ≤ length c.self.inside.rows = search rules in
     c.place_of_bad.ensures
     ∙ fails-with c.self.inside.rows c.self.inside.labels c.self.inside.index c.self.inside.segments c.self.invariant c.args.place
-    c.args.op row same within c.label_before-behind.result c.label_before-behind.ensures c.bad_after_insert.result c.bad_after_insert.ensures.bad c.bad_after_insert.ensures.good
+    c.args.op row same within c.label_before-after.result c.label_before-after.ensures c.bad_after_insert.result c.bad_after_insert.ensures.bad c.bad_after_insert.ensures.good
     ∙ ap (λ rows. failure Dict (insert rows c.args.place row)) c.self.view_is

@@ -1,6 +1,6 @@
 use Rattle.std.proofs.Common.{refl, ◌∙◌}
 use Rattle.timeline_undo.proofs.Rings.{steps-recorded}
-use Rattle.timeline_undo.proofs.Sessions.{delete_leads, row_told, session_noted}
+use Rattle.timeline_undo.proofs.Sessions.{delete_leads, row_reported, session_noted}
 use Rattle.timeline_undo.proofs.session.Session.cut.Goals as goal
 
 pub make-requires-clause-in_order : goal.make-requires-clause-in_order
@@ -21,5 +21,5 @@ invariant_of-self-2 g c =
 
 pub returns-clause-session : goal.returns-clause-session
 returns-clause-session g c =
-    rw (← c.self.view_is, row_told c.in_ok-turn.turn _ _ c.in_ok-turn.ensures.told, c.in_ok-turn.ensures.kind, c.in_ok-turn.ensures.rows, c.note.ensures.undo, c.note.ensures.redo, c.self.invariant.undo_room)
+    rw (← c.self.view_is, row_reported c.in_ok-turn.turn _ _ c.in_ok-turn.ensures.reported, c.in_ok-turn.ensures.kind, c.in_ok-turn.ensures.rows, c.note.ensures.undo, c.note.ensures.redo, c.self.invariant.undo_room)
     (rw (steps-recorded c.self.inside.undo.items _) refl)

@@ -26,7 +26,7 @@ invariant_of-self-2 g c =
 
 pub returns-clause-step : goal.returns-clause-step
 returns-clause-step g c = (
-  rw (← c.self.view_is, c.in_ok-turn.ensures.told) (steps-newest c.self.inside.redo.items _ (sym c.newest.ensures ∙ c.in-Some.is)),
-  rw (← c.self.view_is, c.in_ok-turn.ensures.told, c.in_ok-turn.ensures.kind, c.in_ok-turn.ensures.rows, c.pass_on.ensures.from, c.pass_on.ensures.to)
+  rw (← c.self.view_is, c.in_ok-turn.ensures.reported) (steps-newest c.self.inside.redo.items _ (sym c.newest.ensures ∙ c.in-Some.is)),
+  rw (← c.self.view_is, c.in_ok-turn.ensures.reported, c.in_ok-turn.ensures.kind, c.in_ok-turn.ensures.rows, c.pass_on.ensures.from, c.pass_on.ensures.to)
       (rw (steps-older c.self.inside.redo.items, steps-more c.self.inside.undo.items _) refl),
 )

@@ -30,7 +30,7 @@ pub returns-clause-step : goal.returns-clause-step
 returns-clause-step g c = (
   edit_of c.in-Some.noted ∷ [],
   rw (← c.self.view_is) (steps-newest c.self.inside.undo.items _ (sym c.newest.ensures ∙ c.in-Some.is)),
-  ap (λ e. e ∷ []) (sym (c.in_ok-turn.ensures.told ∙ c.inverse.ensures)),
+  ap (λ e. e ∷ []) (sym (c.in_ok-turn.ensures.reported ∙ c.inverse.ensures)),
   rw (← c.self.view_is, c.in_ok-turn.ensures.kind, c.in_ok-turn.ensures.rows, c.pass_on.ensures.from, c.pass_on.ensures.to, c.inverse.ensures)
       (rw (steps-older c.self.inside.undo.items, steps-more c.self.inside.redo.items _) refl),
 )

@@ -2,12 +2,12 @@ use Rattle.std.proofs.Common.{◌+◌, ◌∙◌, sym, subst, arith, length}
 use Rattle.std.specs.List.Sorted.{IsPartitionedBy}
 use Rattle.weighted_tree.proofs.Descents.{sizes_of}
 use Rattle.weighted_tree.proofs.Levels.{one_left, one_right}
-use Rattle.weighted_tree.proofs.Partitions.{HasTurn, own_turn, turn_left, turn_right, turn_after}
+use Rattle.weighted_tree.proofs.Partitions.{HasBoundary, own_boundary, turn_left, turn_right, boundary_after}
 use Rattle.weighted_tree.proofs.subtree.Subtree.partition_point.Goals as goal
 
 pub down-init : goal.down-init
 down-init g c = record {
-  turn = λ holds tells parted. own_turn holds c.args.self.now parted _ (omega arith);
+  boundary = λ holds tells parted. own_boundary holds c.args.self.now parted _ (omega arith);
   some_left = omega arith;
   within = omega arith;
   none_lost = omega arith;
@@ -21,7 +21,7 @@ down-preserved-then-passes g c =
     let root = c.in-Some.ensures.0 in
     let sizes = sizes_of c.down.subtree.now node.left node.right node.item root.items_are in
     record {
-      turn = λ holds tells parted. turn_after (c.down.invariant.turn holds tells parted) (λ part. subst (λ items. HasTurn holds items (length node.left + 1) node.right) (sym root.items_are) (turn_right holds node.left node.right node.item (subst (IsPartitionedBy holds) root.items_are part) (sym (tells node.item _ c.passes.ensures) ∙ c.if-passes.true))) (omega arith) _ (omega arith);
+      boundary = λ holds tells parted. boundary_after (c.down.invariant.boundary holds tells parted) (λ part. subst (λ items. HasBoundary holds items (length node.left + 1) node.right) (sym root.items_are) (turn_right holds node.left node.right node.item (subst (IsPartitionedBy holds) root.items_are part) (sym (tells node.item _ c.passes.ensures) ∙ c.if-passes.true))) (omega arith) _ (omega arith);
       some_left = omega arith;
       within = omega arith;
       none_lost = omega (arith, c.in-Some.ensures.1);
@@ -35,7 +35,7 @@ down-preserved g c =
     let root = c.in-Some.ensures.0 in
     let sizes = sizes_of c.down.subtree.now node.left node.right node.item root.items_are in
     record {
-      turn = λ holds tells parted. turn_after (c.down.invariant.turn holds tells parted) (λ part. subst (λ items. HasTurn holds items 0 node.left) (sym root.items_are) (turn_left holds node.left node.right node.item (subst (IsPartitionedBy holds) root.items_are part) (sym (tells node.item _ c.passes.ensures) ∙ c.if-passes.false))) (omega arith) _ (omega arith);
+      boundary = λ holds tells parted. boundary_after (c.down.invariant.boundary holds tells parted) (λ part. subst (λ items. HasBoundary holds items 0 node.left) (sym root.items_are) (turn_left holds node.left node.right node.item (subst (IsPartitionedBy holds) root.items_are part) (sym (tells node.item _ c.passes.ensures) ∙ c.if-passes.false))) (omega arith) _ (omega arith);
       some_left = omega arith;
       within = omega arith;
       none_lost = omega (arith, c.in-Some.ensures.1);

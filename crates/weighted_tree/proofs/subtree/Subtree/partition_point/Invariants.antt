@@ -3,13 +3,13 @@ use Rattle.std.specs.List.Sorted.{IsPartitionedBy}
 use Rattle.weighted_tree.specs.Balance.{weight}
 use Rattle.weighted_tree.specs.Levels.{OneALevel}
 use Rattle.weighted_tree.specs.Search.{TellsItems}
-use Rattle.weighted_tree.proofs.Partitions.{HasTurn}
+use Rattle.weighted_tree.proofs.Partitions.{HasBoundary}
 use Rattle.weighted_tree.proofs.subtree.Subtree.partition_point.Given as goal
 
 -- the turn of the subtree is that of the whole
 abbrev pub invariant-down : goal.invariant-down
 invariant-down g l = record {
-  turn : (holds : g.row.T.Denot → Bool) → TellsItems g.F.Fn l.test holds → IsPartitionedBy holds l.self → HasTurn holds l.self (l.end - length l.subtree) l.subtree;
+  boundary : (holds : g.row.T.Denot → Bool) → TellsItems g.F.Fn l.test holds → IsPartitionedBy holds l.self → HasBoundary holds l.self (l.end - length l.subtree) l.subtree;
   some_left : length l.subtree ≤ l.end;
   within : l.end ≤ length l.self;
   none_lost : l.initial.steps ≤ l.steps;

@@ -16,9 +16,9 @@ returns-clause-first g c =
 pub returns-in-Found-clause-visits : goal.returns-in-Found-clause-visits
 returns-in-Found-clause-visits g c =
     let same = ap length c.self.view_is in
-    few-by_levels _ _ _ _ (omega arith) c.turn_from.ensures.none_lost c.in-Found.ensures.visits
+    few-by_levels _ _ _ _ (omega arith) c.boundary_from.ensures.none_lost c.in-Found.ensures.visits
 
 pub returns-clause-visits : goal.returns-clause-visits
 returns-clause-visits g c =
     let same = ap length c.self.view_is in
-    few-by_levels _ _ _ _ (omega arith) c.turn_from.ensures.none_lost (few_of_one _ _ _ c.in-Open.ensures.visits)
+    few-by_levels _ _ _ _ (omega arith) c.boundary_from.ensures.none_lost (few_of_one _ _ _ c.in-Open.ensures.visits)

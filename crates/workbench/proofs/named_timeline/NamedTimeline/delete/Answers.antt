@@ -15,7 +15,7 @@ returns-in-Ok-clause-ok c =
     let there = rw c.timeline.ensures.rows at (sym c.place_of.ensures.place ∙ c.in-Some.is) in
     let t = named c.self.inside.name c.self.inside.session in
     let done = c.in-Ok.ensures in
-    rw (← c.self.view_is, c.tell.ensures c.self.inside.session.rows (rw done.session done.made), done.told, done.session)
+    rw (← c.self.view_is, c.tell.ensures c.self.inside.session.rows (rw done.session done.made), done.reported, done.session)
     (deletes_there t c.args.number c.in-Some.place _ there done.row ∙ edits_accepted t (cut c.in-Some.place _) t.next Accepted done.accepted)
 
 pub returns-in-Err-clause-ok : goal.returns-in-Err-clause-ok

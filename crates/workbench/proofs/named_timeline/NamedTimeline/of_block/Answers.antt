@@ -1,7 +1,7 @@
 use Rattle.std.proofs.Common.{rules, refl, ap, take}
 use Rattle.retro_base.specs.PrefixLaws.{comes_next, take_more}
 use Rattle.timeline_undo.specs.Session.{SessionState}
-use Rattle.workbench.proofs.Loaded.{evidence_grows, loaded_none, put_in_behind}
+use Rattle.workbench.proofs.Loaded.{evidence_grows, loaded_none, put_in_after}
 use Rattle.workbench.proofs.named_timeline.NamedTimeline.of_block.Goals as goal
 
 pub append-requires-clause-fresh : goal.append-requires-clause-fresh
@@ -28,10 +28,10 @@ loop-index-preserved c =
     let index = c.loop-index.index in
     let row = c.row-row.result in
     let kept = c.loop-index.invariant.session in
-    let made = put_in_behind c.args.kind _ rows _ index row _ _ c.put_in.result.change c.row-row.ensures (ap (λ (s : SessionState). s.kind) kept)
-    (ap (λ (s : SessionState). s.rows) kept) c.put_in.ensures.told c.put_in.ensures.change c.in_ok-change.ensures.made in
+    let made = put_in_after c.args.kind _ rows _ index row _ _ c.put_in.result.change c.row-row.ensures (ap (λ (s : SessionState). s.kind) kept)
+    (ap (λ (s : SessionState). s.rows) kept) c.put_in.ensures.reported c.put_in.ensures.change c.in_ok-change.ensures.made in
     record {
       session = rw (c.in_ok-change.ensures.session, kept) (rw (take_more rows index row c.row-row.ensures) refl);
       evidence = evidence_grows c.args.name c.args.kind rows index row _ _ c.row-row.ensures c.loop-index.invariant.evidence
-          (rw c.put_in.ensures.told at (c.in_ok-note.ensures (take index rows) made));
+          (rw c.put_in.ensures.reported at (c.in_ok-note.ensures (take index rows) made));
     }

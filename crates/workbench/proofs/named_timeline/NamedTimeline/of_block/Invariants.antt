@@ -1,7 +1,7 @@
 use Rattle.std.proofs.Common.{◌≡◌, take}
 use Rattle.timeline_undo.specs.History.{no_history}
 use Rattle.timeline_undo.specs.Session.{SessionState}
-use Rattle.workbench.specs.Told.{loaded_evidence}
+use Rattle.workbench.specs.Reported.{loaded_evidence}
 use Rattle.workbench.proofs.named_timeline.NamedTimeline.of_block.Given as goal
 
 abbrev pub invariant-loop-index : goal.invariant-loop-index

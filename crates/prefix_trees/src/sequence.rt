@@ -1,0 +1,172 @@
+ghost use Rattle.std.specs.Prelude.{◌≡◌, ◌+◌, ◌<◌, ◌≤◌, ℤ, pos, ◌<ℤ◌, List, length, slice_get, true, Some, IfSome, IfOk};
+ghost use Rattle.std.specs.List.{insert, remove};
+ghost use Rattle.retro_base.specs.declared.kind.Kind.{Kind};
+ghost use Rattle.retro_base.specs.declared.row.Row.{Row};
+ghost use Rattle.retro_base.specs.Kind.{kind_of};
+ghost use Rattle.retro_base.specs.Replay.{failure, state_at};
+ghost use Rattle.retro_base.specs.Answers.{answer_of, content};
+ghost use Rattle.retro_base.specs.Timeline.{IsReplayable};
+ghost use Rattle.retro_base.specs.Visits.{VisitsWithin};
+ghost use Rattle.prefix_trees.specs.Growth.{IsLine, grown, sign_of};
+ghost use Rattle.prefix_trees.specs.FailureLaws.{LineAt};
+ghost use Rattle.prefix_trees.specs.FoundLaws.{FindsWriter};
+
+use crate::asked::{Asked, asked_of};
+use crate::signed_rows::SignedRows;
+use retro_base::{Answer, Item, Listing, NoMemory, Op, Question, Steps};
+use std::marker::Brand;
+use std::sync::ledger::{Blank, Ledger};
+
+/// A structure whose state is a line of items, and which finds the row that wrote an item. What is asked of such a structure follows: the functions of this module.
+pub trait Sequence {
+    /// The kind of the structure.
+    ghost kind: { Kind };
+
+    /// The rows, the earliest first.
+    ghost rows: { Self → List Row };
+
+    /// The rows with their signs.
+    fn rows(&self) -> &SignedRows
+        ensures rows { result.now ≡ rows self.now }
+        ensures replayable { IsReplayable kind (rows self.now) };
+
+    /// The place of the row that wrote the item at an index from the left, after the first so many
+    /// rows.
+    fn written_by<L: Ledger>(&self, place: u32, index: u32, steps: &mut Steps<L>) -> Option<u32>
+        requires within { place ≤ length (rows self.now) }
+        requires there { pos index <ℤ grown sign_of (rows self.now) place }
+        ensures writer { FindsWriter kind (rows self.now) place index result }
+        ensures visits { VisitsWithin 96 (length (rows self.now)) steps.old steps.new };
+
+    /// Its state is a line of items.
+    ghost is_line: { IsLine kind };
+}
+
+/// How many items there are after the first so many rows.
+pub fn size_at<S: Sequence, L: Ledger>(structure: &S, place: u32, steps: &mut Steps<L>) -> u32
+    requires { place ≤ length (S.rows structure.now) }
+    ensures size { pos result ≡ grown sign_of (S.rows structure.now) place }
+    ensures few { result ≤ length (S.rows structure.now) }
+    ensures replayable { IsReplayable S.kind (S.rows structure.now) }
+    ensures visits { VisitsWithin 12 (length (S.rows structure.now)) steps.old steps.new }
+{
+    structure.rows().size_at(place, steps) as u32
+}
+
+/// The item at an index from the left, after the first so many rows.
+fn item_at<S: Sequence, L: Ledger>(structure: &S, place: u32, index: u32, steps: &mut Steps<L>) -> i64
+    requires within { place ≤ length (S.rows structure.now) }
+    requires there { pos index <ℤ grown sign_of (S.rows structure.now) place }
+    ensures item { (line : List ℤ)
+        → LineAt S.kind (S.rows structure.now) place line → slice_get line index ≡ Some result }
+    ensures visits { VisitsWithin 108 (length (S.rows structure.now)) steps.old steps.new }
+{
+    let rows = structure.rows();
+    let written = structure.written_by(place, index, steps);
+    rows.value_at(written.unwrap(), steps)
+}
+
+/// The answer to a question about the state after the first so many rows.
+pub fn ask_sequence<S: Sequence, L: Ledger>(
+    structure: &S,
+    place: u32,
+    question: Question,
+    steps: &mut Steps<L>,
+) -> Answer
+    requires { place ≤ length (S.rows structure.now) }
+    ensures answer { result ≡ answer_of (state_at S.kind (S.rows structure.now) place) question }
+    ensures visits { VisitsWithin 120 (length (S.rows structure.now)) steps.old steps.new }
+{
+    let size = size_at(structure, place, steps);
+    match asked_of(question, size) {
+        Asked::Size => Answer::Number {
+            value: i128::from(size),
+        },
+        Asked::Item { index } => Answer::Number {
+            value: i128::from(item_at(structure, place, index, steps)),
+        },
+        Asked::Nothing => Answer::Nothing,
+    }
+}
+
+/// The answer to a question about the state after the first so many rows, with a counter of its own.
+pub fn ask_uncounted<S: Sequence>(structure: &S, place: u32, question: Question) -> Answer
+    requires { place ≤ length (S.rows structure.now) }
+    ensures { result ≡ answer_of (state_at S.kind (S.rows structure.now) place) question }
+{
+    answer_at::<S, Brand>(structure, place, question, Blank::new(1))
+}
+
+fn answer_at<S: Sequence, L: Ledger>(
+    structure: &S,
+    place: u32,
+    question: Question,
+    blank: Blank,
+) -> Answer
+    requires within { place ≤ length (S.rows structure.now) }
+    requires name { blank.name ≡ L.name }
+    requires parts { blank.parts ≡ L.parts }
+    requires shared { 0 < blank.parts }
+    ensures { result ≡ answer_of (state_at S.kind (S.rows structure.now) place) question }
+{
+    let mut steps = Steps::<L>::new(blank);
+    ask_sequence(structure, place, question, &mut steps)
+}
+
+/// The whole content after the first so many rows.
+pub fn list_sequence<S: Sequence>(structure: &S, place: u32) -> Result<Listing, NoMemory>
+    requires { place ≤ length (S.rows structure.now) }
+    ensures { IfOk result (λ listing. listing ≡ content (state_at S.kind (S.rows structure.now) place)) }
+{
+    listed::<S, Brand>(structure, place, Blank::new(1))
+}
+
+/// The same, with a counter of its own.
+fn listed<S: Sequence, L: Ledger>(structure: &S, place: u32, blank: Blank) -> Result<Listing, NoMemory>
+    requires within { place ≤ length (S.rows structure.now) }
+    requires name { blank.name ≡ L.name }
+    requires parts { blank.parts ≡ L.parts }
+    requires shared { 0 < blank.parts }
+    ensures { IfOk result (λ listing. listing ≡ content (state_at S.kind (S.rows structure.now) place)) }
+{
+    let mut steps = Steps::<L>::new(blank);
+    let size = size_at(structure, place, &mut steps);
+    let mut listing = Listing::new(structure.rows().alloc());
+    for index in 0..size {
+        let value = item_at(structure, place, index, &mut steps);
+        listing.push(Item::Single { value })?;
+    }
+    Ok(listing)
+}
+
+/// The index of the first row that could not be performed, were a row with this operation put in at the
+/// place; none where all rows could.
+pub fn failure_with<S: Sequence, L: Ledger>(
+    structure: &S,
+    place: u32,
+    op: Op,
+    steps: &mut Steps<L>,
+) -> Option<u32>
+    requires within { place ≤ length (S.rows structure.now) }
+    requires of_kind { kind_of op ≡ S.kind }
+    ensures first { (row : Row) → row.op ≡ op → result ≡ failure S.kind (insert (S.rows structure.now) place row) }
+    ensures index { IfSome result (λ index. index ≤ length (S.rows structure.now)) }
+    ensures visits { VisitsWithin 24 (length (S.rows structure.now)) steps.old steps.new }
+{
+    structure.rows().failure_after_insert(place, op, steps)
+}
+
+/// The index of the first row that could not be performed, were the row at the place taken out; none
+/// where all rows could.
+pub fn failure_without<S: Sequence, L: Ledger>(
+    structure: &S,
+    place: u32,
+    steps: &mut Steps<L>,
+) -> Option<u32>
+    requires { place < length (S.rows structure.now) }
+    ensures first { result ≡ failure S.kind (remove (S.rows structure.now) place) }
+    ensures index { IfSome result (λ index. index + 1 < length (S.rows structure.now)) }
+    ensures visits { VisitsWithin 36 (length (S.rows structure.now)) steps.old steps.new }
+{
+    structure.rows().failure_after_remove(place, steps)
+}

@@ -1,0 +1,59 @@
+ghost use Rattle.std.specs.Prelude.{◌≡◌, List, [], ◌∷◌, ◌++◌, OnOk};
+ghost use Rattle.retro_base.specs.declared.row.Row.{Row};
+ghost use Rattle.retro_base.specs.MadeEdits.{IsMade};
+ghost use Rattle.timeline_undo.specs.Session.{edit_reported};
+ghost use Rattle.workbench.specs.Reported.{evidence_with, noted, reported};
+
+use crate::evidence_lines::EvidenceLines;
+use crate::outcome::Outcome;
+use evidence::Evidence;
+use retro_base::laws::one_change_is_named;
+use retro_base::{Kind, Name, NoMemory};
+use std::alloc::Global;
+use timeline_undo::Turn;
+
+/// The outcome of an accepted list edit: of a priority queue its evidence, and of the other kinds this one.
+pub(crate) fn reported(alloc: Global, name: Name, kind: Kind, turn: Turn, plain: Outcome) -> Outcome
+    ensures { (rows : List Row) → IsMade kind rows (edit_reported turn) turn.change
+        → result ≡ reported name kind rows (edit_reported turn ∷ []) plain }
+{
+    one_change_is_named();
+    match kind {
+        Kind::Pq => Outcome::Changed {
+            first: evidence_of(name, turn),
+            more: EvidenceLines::new(alloc),
+        },
+        _ => plain,
+    }
+}
+
+/// Notes the evidence of a list edit, where it is one of a priority queue.
+pub(crate) fn note(
+    evidence: &mut EvidenceLines,
+    name: Name,
+    kind: Kind,
+    turn: Turn,
+) -> Result<(), NoMemory>
+    ensures { (rows : List Row) → IsMade kind rows (edit_reported turn) turn.change
+        → OnOk result (evidence.new ≡ evidence.old ++ noted name kind rows (edit_reported turn)) }
+{
+    one_change_is_named();
+    match kind {
+        Kind::Pq => evidence.push(evidence_of(name, turn)),
+        _ => Ok(()),
+    }
+}
+
+/// The evidence of a list edit.
+fn evidence_of(name: Name, turn: Turn) -> Evidence
+    ensures { result ≡ evidence_with name (edit_reported turn) turn.change }
+{
+    Evidence {
+        name,
+        added: turn.added,
+        place: turn.place,
+        number: turn.row.number,
+        op: turn.row.op,
+        change: turn.change,
+    }
+}
