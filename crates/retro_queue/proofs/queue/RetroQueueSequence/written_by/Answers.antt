@@ -3,7 +3,7 @@ use Rattle.retro_base.specs.declared.kind.Kind.TheVariants.{Queue}
 use Rattle.retro_base.specs.Timeline.{IsReplayable}
 use Rattle.prefix_trees.specs.EditLaws.{signs_and_marks}
 use Rattle.retro_queue.specs.FrontLaws.{number-le, found-by_counts}
-use Rattle.retro_queue.proofs.queue.RetroQueueLine.written_by.Goals as goal
+use Rattle.retro_queue.proofs.queue.RetroQueueSequence.written_by.Goals as goal
 
 pub overflow_add-number : goal.overflow_add-number
 overflow_add-number g c =

@@ -4,7 +4,7 @@ use Rattle.retro_base.specs.Timeline.{IsReplayable}
 use Rattle.prefix_trees.specs.Growth.{sign_of, grown}
 use Rattle.prefix_trees.specs.EditLaws.{signs_and_marks}
 use Rattle.retro_stack.specs.TopLaws.{found-by_depth}
-use Rattle.retro_stack.proofs.stack.RetroStackLine.written_by.Goals as goal
+use Rattle.retro_stack.proofs.stack.RetroStackSequence.written_by.Goals as goal
 
 pub returns-clause-writer : goal.returns-clause-writer
 returns-clause-writer g c =

@@ -5,7 +5,7 @@ use Rattle.prefix_trees.specs.Growth.{left_growth, grown}
 use Rattle.prefix_trees.specs.Prefixes.{prefix}
 use Rattle.prefix_trees.specs.FoundLaws.{FindsWriter}
 use Rattle.retro_deque.specs.EndLaws.{prefix-growths, left-bounded, found-by_ends}
-use Rattle.retro_deque.proofs.deque.RetroDequeLine.written_by.Goals as goal
+use Rattle.retro_deque.proofs.deque.RetroDequeSequence.written_by.Goals as goal
 
 pub overflow_sub-position : goal.overflow_sub-position
 overflow_sub-position g c =
