@@ -25,6 +25,7 @@ pub mod BridgeTable
 pub mod BridgeTableLaws
 pub mod ChangeLaws
 pub mod ChangeTableLaws
+pub mod GivingLaws
 pub mod Counting
 pub mod EntriesInOrder
 pub mod Better

@@ -8,6 +8,8 @@ pub mod SortedPairs
 pub mod CountedEntries
 pub mod CountedKeys
 pub mod Counted
+-- rows that add, put in anywhere, and rows that take, taken out
+pub mod GivingEdits
 -- rows that replay
 pub mod Replayable
 -- entries of a priority queue, and its bridges

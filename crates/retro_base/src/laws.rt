@@ -2,6 +2,7 @@ ghost use Rattle.retro_base.specs.BridgeLaws.{WeightsCountTheDead, SumsAreNeverN
 ghost use Rattle.retro_base.specs.CarriedLaws.{GivingIsAccepted, OneIsCarried, PresentsDifferByOne, AddingCarriesOn, MissingStaysFromBridge};
 ghost use Rattle.retro_base.specs.BridgeTableLaws.{AddedEntryGains, CutTakeGains, AddedTakeLoses, CutDeadLoses, CutSurvivorLoses};
 ghost use Rattle.retro_base.specs.ChangeTableLaws.{AddedEntryChanges, CutTakeChanges, AddedTakeChanges, CutDeadChanges, CutSurvivorChanges, CutTakeLeavesDead};
+ghost use Rattle.retro_base.specs.GivingLaws.{AddingRowReplays, TakingRowCanGo};
 ghost use Rattle.retro_base.specs.ChangeLaws.{OneBridgeIsStated, OneChangeOfPq, OneChangeOfOthers};
 
 /// A law: the weights up to a place count the entries that are held there and do not survive. So the
@@ -65,4 +66,11 @@ pub fn table_names_the_change()
     ensures cut_dead { CutDeadChanges }
     ensures cut_survivor { CutSurvivorChanges }
     ensures some_dead { CutTakeLeavesDead }
+{}
+
+/// A law: rows that replay whole still do once a row that adds is put in anywhere, or one that takes is taken out,
+/// whatever their kind.
+pub fn giving_rows_replay()
+    ensures adding { AddingRowReplays }
+    ensures taking { TakingRowCanGo }
 {}

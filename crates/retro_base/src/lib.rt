@@ -14,7 +14,7 @@
 //!   `PlainList`, `PerformedRows`.
 //! - The calls of `Partial` with a counter of their own: `uncounted`.
 //! - Texts: `Name`, `Text`, `print_op`. Costs: `Steps`. Memory: `NoMemory`.
-//! - Laws on the bridges of a priority queue: the functions of the module `laws`, which have no body.
+//! - Laws on the bridges of a priority queue, and on edits that give: the functions of the module `laws`, which have no body.
 //! - Limits: `MAX_ROWS`, `MAX_NEXT`, which are those of `specs/Limits.antt`.
 #![tactic(auto)]
 

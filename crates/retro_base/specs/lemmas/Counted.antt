@@ -1,11 +1,12 @@
 -- Counting finds the first row of an edited history that cannot be performed.
-use Rattle.std.proofs.Common.{◌≡◌, ℕ, ℤ, zero, suc, ◌≤◌, List, [], ◌∷◌, ◌++◌, length, map, take, drop, refl, ap, arith, Some, Ok, ◌+◌}
+use Rattle.std.proofs.Common.{◌≡◌, ℕ, ℤ, zero, suc, ◌≤◌, List, [], ◌∷◌, ◌++◌, length, map, take, drop, refl, ap, sym, ◌∙◌, arith, Some, None, Ok, ◌+◌}
 use Rattle.std.specs.List.{insert, remove, slice_get, AllByRecursion}
 use Rattle.std.specs.Result.{result_err}
 use Rattle.std.proofs.lemmas.List.{take-append-drop, length-map}
 use Rattle.retro_base.specs.declared.counting.Quantity.TheVariants.{Key}
 use Rattle.retro_base.specs.declared.kind.Kind.{Kind}
 use Rattle.retro_base.specs.declared.kind.Kind.TheVariants.{Queue, Stack, Deque, Dict, Pq}
+use Rattle.retro_base.specs.declared.op.Op.{Op}
 use Rattle.retro_base.specs.declared.row.Row.{Row}
 use Rattle.retro_base.specs.declared.question.Item.TheVariants as contents
 use Rattle.retro_base.specs.Kind.{kind_of}
@@ -26,12 +27,12 @@ all_lines kind [] line all = tt
 all_lines kind (row ∷ rows) line all = (rw all.0 line, all_lines kind rows line all.1)
 
 -- the rows around one that stands at a place
-around : (rows : List Row) (place : ℕ) (row : Row) → slice_get rows place ≡ Some row → rows ≡ take place rows ++ row ∷ drop (suc place) rows
+pub around : (rows : List Row) (place : ℕ) (row : Row) → slice_get rows place ≡ Some row → rows ≡ take place rows ++ row ∷ drop (suc place) rows
 around [] place row at = absurd (cc)
 around (first ∷ rows) zero row at = let same : first ≡ row = cc in ap (λ r. r ∷ rows) same
 around (first ∷ rows) (suc place) row at = ap (λ rs. first ∷ rs) (around rows place row at)
 
-of_kind_at : (kind : Kind) (rows : List Row) (place : ℕ) (row : Row) → AreOfKind kind rows → slice_get rows place ≡ Some row → kind_of row.op ≡ kind
+pub of_kind_at : (kind : Kind) (rows : List Row) (place : ℕ) (row : Row) → AreOfKind kind rows → slice_get rows place ≡ Some row → kind_of row.op ≡ kind
 of_kind_at kind [] place row all at = absurd (cc)
 of_kind_at kind (first ∷ rows) zero row all at = let same : first ≡ row = cc in rw same at all.0
 of_kind_at kind (first ∷ rows) (suc place) row all at = of_kind_at kind rows place row all.1 at
@@ -138,3 +139,17 @@ content_few Stack rows state all e = line_content rows state (line_few rows stat
 content_few Deque rows state all e = line_content rows state (line_few rows state (all_lines Deque rows tt all) e)
 content_few Dict rows state all e = pairs_content rows state (pairs_few rows [] state all sorted_nil e)
 content_few Pq rows state all e = entries_content rows state (pq_few rows state all e)
+
+line_counts : (kind : Kind) (rows : List Row) (op : Op) → IsLine kind → AreOfKind kind rows → result_err (run rows (items [])) ≡ None → kind_of op ≡ kind
+    → result_err (counted (quantity_of op) rows 0) ≡ None
+line_counts kind rows op line all valid here =
+    rw (line_quantity op (rw here line)) (sym (line_failure rows (all_lines kind rows line all)) ∙ valid)
+
+-- where all rows can be performed, nothing that decides on an edit falls short
+pub all_count : (kind : Kind) (rows : List Row) (op : Op) → AreOfKind kind rows → IsValid kind rows → kind_of op ≡ kind
+    → result_err (counted (quantity_of op) rows 0) ≡ None
+all_count Queue rows op all valid here = line_counts Queue rows op tt all valid here
+all_count Stack rows op all valid here = line_counts Stack rows op tt all valid here
+all_count Deque rows op all valid here = line_counts Deque rows op tt all valid here
+all_count Dict rows op all valid here = let key = key_of_row op here in rw key.1 (all_keys rows [] all sorted_nil valid key.0)
+all_count Pq rows op all valid here = rw (pq_quantity op here) (sym (pq_failure rows all) ∙ valid)
