@@ -1,5 +1,6 @@
 pub mod Limits
 pub mod Kind
+pub mod Values
 pub mod Name
 pub mod State
 pub mod Replay

@@ -10,6 +10,8 @@ pub mod CountedKeys
 pub mod Counted
 -- rows that add, put in anywhere, and rows that take, taken out
 pub mod GivingEdits
+-- rows with other values
+pub mod ValuedRows
 -- rows that replay
 pub mod Replayable
 -- entries of a priority queue, and its bridges

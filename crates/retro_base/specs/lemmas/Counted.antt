@@ -22,7 +22,7 @@ use Rattle.retro_base.specs.lemmas.CountedKeys.{all_keys, one_key, passed_in, pa
 use Rattle.retro_base.specs.OrderLaws.{all_with, all_without}
 use Rattle.retro_base.specs.lemmas.SortedPairs.{sorted_nil}
 
-all_lines : (kind : Kind) (rows : List Row) → IsLine kind → AreOfKind kind rows → AllByRecursion (λ row. IsLine (kind_of row.op)) rows
+pub all_lines : (kind : Kind) (rows : List Row) → IsLine kind → AreOfKind kind rows → AllByRecursion (λ row. IsLine (kind_of row.op)) rows
 all_lines kind [] line all = tt
 all_lines kind (row ∷ rows) line all = (rw all.0 line, all_lines kind rows line all.1)
 
