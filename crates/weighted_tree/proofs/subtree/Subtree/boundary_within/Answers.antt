@@ -16,8 +16,8 @@ down-preserved-then-passes g c =
       levels = λ after below. c.down.invariant.levels after (one_near root _ _ c.in-Some.ensures.1 after below);
     }
 
-pub returns-then-passes-2-clause-turn : goal.returns-then-passes-2-clause-turn
-returns-then-passes-2-clause-turn g c =
+pub returns-then-passes-2-clause-boundary : goal.returns-then-passes-2-clause-boundary
+returns-then-passes-2-clause-boundary g c =
     let laws = laws_from g.met.T.Measure.Monoid.laws c.args.side in
     let root = c.sides.ensures _ c.in-Some.ensures.0 in
     let fails = near_refused laws g.T.Measured.measured c.down.passed (parted root) g.F.Fn c.args.test.now _ _ c.passed-through.ensures.value c.passes.ensures c.if-passes.false in
@@ -39,8 +39,8 @@ down-preserved g c =
       levels = λ after below. c.down.invariant.levels after (one_far root _ _ c.in-Some.ensures.1 after below);
     }
 
-pub returns-clause-turn : goal.returns-clause-turn
-returns-clause-turn g c = c.down.invariant.boundary 0 _ (omega arith) (none_within g.F.Fn c.args.test.now _ _ (ap length c.in_default.ensures.0))
+pub returns-clause-boundary : goal.returns-clause-boundary
+returns-clause-boundary g c = c.down.invariant.boundary 0 _ (omega arith) (none_within g.F.Fn c.args.test.now _ _ (ap length c.in_default.ensures.0))
 
 pub returns-clause-visits : goal.returns-clause-visits
 returns-clause-visits g c = c.down.invariant.levels _ (λ levels within. omega (arith, c.in_default.ensures.1))
