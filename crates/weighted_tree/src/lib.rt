@@ -29,6 +29,7 @@
 //! The proofs rest on the laws of the monoid alone. What the layer above may rely on: the clauses of
 //! `Tree`, in the words of lists; `measure_in` of specs/Measures.antt and std's `slice_range` for what a
 //! range measures; `FindsFirst`, `FindsLast` and `FindsPartition` of specs/Search.antt for the searches;
+//! specs/PartitionLaws.antt for what `partition_point` says of a list along which a test turns false once;
 //! `VisitsWithin` of `retro_base` for the cost.
 #![tactic(auto)]
 
