@@ -6,6 +6,7 @@ pub mod NodesFall
 pub mod Opened
 pub mod Partitioned
 pub mod PartitionLaws
+pub mod Reads
 pub mod Search
 pub mod SearchSteps
 pub mod Sides

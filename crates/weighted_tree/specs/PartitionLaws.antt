@@ -1,5 +1,5 @@
 -- What the place at which a test turns false says of a list: the elements before it pass, and the others fail.
-use Rattle.std.proofs.Common.{◌≡◌, ℕ, zero, suc, ◌≤◌, ◌<◌, Bool, true, false, not, cond, List, [], ◌∷◌, length, take, drop, get_or, refl, sym, ap, ◌∙◌, arith}
+use Rattle.std.proofs.Common.{◌≡◌, ℕ, zero, suc, ◌≤◌, ◌<◌, Bool, true, false, not, cond, List, [], ◌∷◌, ◌++◌, length, take, drop, get_or, refl, sym, ap, ◌∙◌, arith}
 use Rattle.std.specs.Fn.{Shared}
 use Rattle.std.specs.Borrow.{Bor}
 use Rattle.std.specs.List.{AllByRecursion, filter}
@@ -56,6 +56,16 @@ module _ {A : Type 0} (test : A → Bool) where
         back = rw passing rest.back;
         counted = rw passing (ap suc rest.counted);
       }
+
+  -- a list along which the test turns false once is the elements that pass, and then the others
+  pub joined : (xs : List A) → IsPartitioned test xs → filter test xs ++ filter (λ x. not (test x)) xs ≡ xs
+  joined [] parted = refl
+  joined (x ∷ xs) parted = elim (test x) as (λ b. test x ≡ b → cond b (x ∷ filter test xs) (filter test xs) ++ cond (not b) (x ∷ filter (λ y. not (test y)) xs) (filter (λ y. not (test y)) xs) ≡ x ∷ xs) [
+    | true ↦ λ passing. ap (λ ys. x ∷ ys) (joined xs parted.1)
+    | false ↦ λ failing.
+        let rest = divides xs 0 (omega arith) (λ k d from to. absurd (omega arith), λ k d from to. fails_at xs k d (parted.0 failing) to) in
+        ap (λ ys. ys ++ x ∷ filter (λ y. not (test y)) xs) (sym rest.front) ∙ ap (λ ys. x ∷ ys) (sym rest.back)
+  ] refl
 
   -- what a search finds, whatever the closure is that tells the test
   module _ {F : Type 0} (calls : Shared F (Bor A × Unit {0}) Bool) (closure : F) (xs : List A) (count : ℕ) (found : FindsPartition calls closure xs count) (tells : TellsItems calls closure test) (parted : IsPartitioned test xs) where
