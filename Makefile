@@ -7,7 +7,7 @@
 #   make unit     runs the tests of the crates by a trial build, within a few minutes, and proves nothing
 #   make fmt      lays all sources out
 #   make install  puts it into bin below PREFIX, which is /usr/local where none is named
-#   make test     the gate: every proof, every edit that must fail, every test, every example, and of the built program
+#   make test     the gate: every proof, every must-fail edit, every test, every example, and of the built program
 #                 its streams and half a million questions about the past; needs Python 3
 #   make bench    times the program on generated scripts of each kind, on a million questions beside a plain
 #                 program where rustc is there, on whole timelines as text, and on evidence; needs Python 3

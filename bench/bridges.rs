@@ -41,7 +41,7 @@ trait Item: Copy {
     type Measure: Copy;
     const NONE: Self::Measure;
     fn measure(&self) -> Self::Measure;
-    /// What a range of `before` items and the range behind it amount to.
+    /// What a range of `before` items and the range after it amount to.
     fn join(one: Self::Measure, before: u32, other: Self::Measure) -> Self::Measure;
 }
 
@@ -396,7 +396,7 @@ impl Link<MarkedRow> {
         behind.map(|place| before + 1 + place)
     }
 
-    /// The last such place up to `to`; `end` is the sum behind this subtree.
+    /// The last such place up to `to`; `end` is the sum after this subtree.
     fn last_zero(&self, to: u32, end: i64, steps: &mut impl Steps) -> Option<u32> {
         if end - i64::from(self.measure.rises) > 0 {
             return None;
@@ -492,7 +492,7 @@ impl Trees {
         self.rows.size
     }
 
-    /// Whether a survivor stands before a place: then one stands before each bridge behind it.
+    /// Whether a survivor stands before a place: then one stands before each bridge after it.
     fn survives_before(&self, place: u32, steps: &mut impl Steps) -> bool {
         self.rows.before(place, steps).alive.is_some()
     }
@@ -710,7 +710,7 @@ fn visits(pattern: &str, rows: u32, more: u32) {
     println!("{} most {most:.1}", all / u64::from(more.max(1)));
 }
 
-/// The heap behind these rows, in which the first of equal keys is the least.
+/// The heap after these rows, in which the first of equal keys is the least.
 fn replay(heap: &mut BinaryHeap<Reverse<Entry>>, rows: &[Row]) {
     for row in rows {
         match row.added() {

@@ -5,8 +5,8 @@
 
 KIND is queue, stack, deque or dict. The script has LINES lines, and the same three words always give the
 same script. About one line in forty is refused; every other one is accepted. That is known beforehand,
-without a replay: a row that takes something out stands behind a row of its own that puts something in,
-and a row that puts something in is deleted only while no such row stands behind it.
+without a replay: a row that takes something out stands after a row of its own that puts something in,
+and a row that puts something in is deleted only while no such row stands after it.
 """
 
 import random
@@ -32,8 +32,8 @@ class Timeline:
         self.kind = kind
         self.draw = draw
         self.following = 1
-        self.free = []  # rows that put something in, with no taking row behind them
-        self.pairs = []  # a row that puts something in, and the row behind it that takes something out
+        self.free = []  # rows that put something in, with no taking row after them
+        self.pairs = []  # a row that puts something in, and the row after it that takes something out
 
     def row(self, time, key):
         self.following += 1

@@ -94,7 +94,7 @@ impl<T: Item> Link<T> {
         }
     }
 
-    /// The same behind what was passed before, where the test holds at the end.
+    /// The same after what was passed before, where the test holds at the end.
     fn turn_within(&self, before: u64, test: &impl Fn(u64) -> bool) -> u32 {
         let Some(node) = &self.node else { return 0 };
         let through = T::join(before, node.left.measure);

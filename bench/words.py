@@ -4,7 +4,7 @@
     python3 bench/words.py [PROGRAM]
 
 PROGRAM is build/retro where none is named. The script that `gen` sums up is generated here once more, for each kind, and
-answered by `run`: the summary has to be that of its answers. And a timeline of 65,536 rows is told to `check`, which has to
+answered by `run`: the summary has to be that of its answers. And a timeline of 131,072 rows is handed to `check`, which has to
 accept it, and to refuse one row more. Words of no form are given to it as the system hands them on: each of them has to end
 with status 2, and with nothing written.
 """
@@ -14,7 +14,7 @@ import subprocess
 import sys
 
 LINES = 2_000
-ROWS = 65_536
+ROWS = 131_072
 ROOT = os.path.dirname(os.path.dirname(os.path.abspath(__file__)))
 QUESTIONS = {"queue": "front", "stack": "top", "deque": "left", "dict": "succ 50", "pq": "min"}
 
@@ -93,9 +93,9 @@ def summary_of(program, kind, start):
     lines = list(script(kind, start))
     answers = answered(program, ["run"], "\n".join(lines) + "\n")[0].splitlines()
     refused = sum(answer.startswith("refused") for answer in answers)
-    behind = answered(program, ["run"], "\n".join(lines + ["g ask size", "save g"]) + "\n")[0].splitlines()[len(answers):]
-    size = int(behind[0].removeprefix("= "))
-    rows = sum(line.startswith("#") for line in behind)
+    after = answered(program, ["run"], "\n".join(lines + ["g ask size", "save g"]) + "\n")[0].splitlines()[len(answers):]
+    size = int(after[0].removeprefix("= "))
+    rows = sum(line.startswith("#") for line in after)
     return "lines %d accepted %d refused %d rows %d size %d\n" % (len(lines), len(lines) - refused, refused, rows, size)
 
 
@@ -109,10 +109,10 @@ def main():
             if found != wanted:
                 print("gen %s %d %d: %r in place of %r" % (kind, LINES, start, found, wanted))
                 failed += 1
-    told = "".join("edit p add %d #%d ins 1 bridge %d gain #%d 1\n" % (i, i + 1, i, i + 1) for i in range(ROWS + 1))
+    evidence = "".join("edit p add %d #%d ins 1 bridge %d gain #%d 1\n" % (i, i + 1, i, i + 1) for i in range(ROWS + 1))
     for given, wanted in (
-        (told[: told.rindex("edit")], ("accepted %d\n" % ROWS, 0)),
-        (told, ("refused line %d full\n" % (ROWS + 1), 1)),
+        (evidence[: evidence.rindex("edit")], ("accepted %d\n" % ROWS, 0)),
+        (evidence, ("refused line %d full\n" % (ROWS + 1), 1)),
     ):
         found = answered(program, ["check"], given)
         if found != wanted:

@@ -127,7 +127,7 @@ impl KeyIndex {
         last.is_some_and(|row| matches!(row.op, Op::Put { .. }))
     }
 
-    /// The first row that fails once a row is put in behind all rows up to a label.
+    /// The first row that fails once a row is put in after all rows up to a label.
     pub fn bad_after_insert(&self, behind: u64, op: Op) -> Option<Bad> {
         let Op::Del { key } = op else { return None };
         if !KeyIndex::is_there(self.last_up_to(key, behind)) {

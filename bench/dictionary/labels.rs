@@ -78,7 +78,7 @@ impl Labels {
         self.behind(place) - self.before(place) >= 2
     }
 
-    /// The label of a new row: the middle of its neighbours, at the end a round one little behind the last, or all rows are
+    /// The label of a new row: the middle of its neighbours, at the end a round one little after the last, or all rows are
     /// relabelled.
     pub fn insert(&mut self, place: u32) -> u64 {
         let (before, behind) = (self.before(place), self.behind(place));

@@ -204,7 +204,7 @@ impl Past for Dictionary {
         }
     }
 
-    /// One pair after another, each by a search from behind the key before it.
+    /// One pair after another, each by a search from after the key before it.
     fn all(&self, place: u32) -> Vec<KeyPair> {
         let (mut pairs, mut low) = (Vec::new(), Some(i64::MIN));
         while let Some(from) = low {

@@ -115,9 +115,9 @@ fn long_block(alloc: Global, rows: u32, after: &[u8]) -> Result<Text, NoMemory> 
 #[test]
 fn a_block_has_as_many_rows_as_a_timeline(rt: HostRuntime) -> Result<(), NoMemory> {
     let blocks: [(u32, &[u8], &[u8]); 2] = [
-        (65536, b"q at 1 enq 0\n", b"ok\nrefused full\n"),
+        (131072, b"q at 1 enq 0\n", b"ok\nrefused full\n"),
         (
-            65537,
+            131073,
             b"q ask size\n",
             b"refused full\nrefused no timeline q\n",
         ),

@@ -11,16 +11,16 @@ place_with-requires g c =
     let same : length (rows_of c.args.rows.now) ≡ length c.args.rows.now = simp length-map in
     omega (arith, same, adds-within (rows_of c.args.rows.now) c.in-Some.dead c.entry_at-entry.result c.entry_at-entry.ensures.entry)
 
-pub returns-then-comes_before-clause-turns : goal.returns-then-comes_before-clause-turns
-returns-then-comes_before-clause-turns g c =
+pub returns-then-comes_before-clause-flips : goal.returns-then-comes_before-clause-flips
+returns-then-comes_before-clause-flips g c =
     rw c.place_with.ensures (gain-dead (rows_of c.args.rows.now) c.args.place c.args.row c.args.new c.last_bridge-bridge.result c.requires.possible c.requires.adds c.last_bridge-bridge.ensures.bridge
     c.entry_at-entry.result c.in-Some.dead (greatest-at _ c.in-Some.dead _ _ c.in-Some.ensures.dead c.entry_at-entry.ensures.entry) c.entry_at-entry.ensures.entry
     (sym c.comes_before.ensures ∙ c.if-comes_before.true) (before_one_way c.args.new c.entry_at-entry.result (sym c.comes_before.ensures ∙ c.if-comes_before.true)))
 
-pub returns-else-comes_before-clause-turns : goal.returns-else-comes_before-clause-turns
-returns-else-comes_before-clause-turns g c = gain-greater (rows_of c.args.rows.now) c.args.place c.args.row c.args.new c.last_bridge-bridge.result c.requires.possible c.requires.adds c.last_bridge-bridge.ensures.bridge
+pub returns-else-comes_before-clause-flips : goal.returns-else-comes_before-clause-flips
+returns-else-comes_before-clause-flips g c = gain-greater (rows_of c.args.rows.now) c.args.place c.args.row c.args.new c.last_bridge-bridge.result c.requires.possible c.requires.adds c.last_bridge-bridge.ensures.bridge
     c.entry_at-entry.result (greatest-at _ c.in-Some.dead _ _ c.in-Some.ensures.dead c.entry_at-entry.ensures.entry) (sym c.comes_before.ensures ∙ c.if-comes_before.false)
 
-pub returns-in_default-clause-turns : goal.returns-in_default-clause-turns
-returns-in_default-clause-turns g c = gain-new (rows_of c.args.rows.now) c.args.place c.args.row c.args.new c.last_bridge-bridge.result c.requires.possible c.requires.adds c.last_bridge-bridge.ensures.bridge
+pub returns-in_default-clause-flips : goal.returns-in_default-clause-flips
+returns-in_default-clause-flips g c = gain-new (rows_of c.args.rows.now) c.args.place c.args.row c.args.new c.last_bridge-bridge.result c.requires.possible c.requires.adds c.last_bridge-bridge.ensures.bridge
     c.in_default.ensures.dead

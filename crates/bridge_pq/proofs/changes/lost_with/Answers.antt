@@ -14,7 +14,7 @@ place_with-requires g c =
     let same : length (rows_of c.args.rows.now) ≡ length c.args.rows.now = simp length-map in
     omega (arith, same, adds-within (rows_of c.args.rows.now) c.in-Some.least c.entry_at-entry.result c.entry_at-entry.ensures.entry)
 
-pub returns-clause-turns : goal.returns-clause-turns
-returns-clause-turns g c =
+pub returns-clause-flips : goal.returns-clause-flips
+returns-clause-flips g c =
     rw c.place_with.ensures (loss-with (rows_of c.args.rows.now) c.args.place c.args.row c.first_bridge-bridge.result c.in-Some.least c.entry_at-entry.result c.requires.possible c.requires.takes
     c.first_bridge-bridge.ensures.bridge c.entry_at-entry.ensures.entry (least-at _ c.in-Some.least _ _ c.in-Some.ensures.survivor c.entry_at-entry.ensures.entry))

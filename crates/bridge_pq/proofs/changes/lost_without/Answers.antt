@@ -19,7 +19,7 @@ pub unreachable-requires : goal.unreachable-requires
 unreachable-requires g c = some-without (rows_of c.args.rows.now) c.args.place _ c.args.row c.args.own c.first_bridge-bridge.result refl c.requires.possible c.requires.accepted c.requires.adds c.requires.dead
     c.first_bridge-bridge.ensures.bridge c.in_default.ensures.survivor
 
-pub returns-clause-turns : goal.returns-clause-turns
-returns-clause-turns g c =
+pub returns-clause-flips : goal.returns-clause-flips
+returns-clause-flips g c =
     rw c.place_without.ensures (loss-without (rows_of c.args.rows.now) c.args.place _ c.args.row c.args.own c.first_bridge-bridge.result c.in-Some.least c.entry_at-entry.result refl c.requires.possible c.requires.adds
     c.requires.dead c.first_bridge-bridge.ensures.bridge c.entry_at-entry.ensures.entry (least-at _ c.in-Some.least _ _ c.in-Some.ensures.survivor c.entry_at-entry.ensures.entry))

@@ -21,26 +21,26 @@ returns-in_err-put_row_with_entry-clause-visits g c =
     let same : c.args.rows.now ≡ c.put_row_with_entry.new.rows = sym c.in_err-put_row_with_entry.ensures.err.0 in
     visits-more 120 24 (length c.put_row_with_entry.new.rows) _ _
     (visits-add 48 72 (length c.put_row_with_entry.new.rows) _ _ _
-    (subst (λ rows. VisitsWithin 48 (length rows) c.args.steps.now c.gained_with-turned.new.steps) same c.gained_with-turned.ensures.visits)
+    (subst (λ rows. VisitsWithin 48 (length rows) c.args.steps.now c.gained_with-flip.new.steps) same c.gained_with-flip.ensures.visits)
     c.put_row_with_entry.ensures.visits)
 
 pub flip_marks-requires-clause-within : goal.flip_marks-requires-clause-within
-flip_marks-requires-clause-within g c = flip_marks-within (insert (rows_of c.args.rows.now) c.args.place c.args.row) (survivors (rows_of c.args.rows.now)) c.put_row_with_entry.new.rows c.put_row_with_entry.new.entries (put-adding c.args.rows.now c.args.entries.now c.requires.bridged c.args.place c.args.row c.requires.within c.requires.room c.requires.fresh c.requires.of_kind c.requires.replays c.args.new c.requires.adds c.put_row_with_entry.new.rows c.put_row_with_entry.new.entries c.in_ok-put_row_with_entry.ensures.rows c.in_ok-put_row_with_entry.ensures.entries) c.gained_with-turned.result.place c.gained_with-turned.result.entry c.gained_with-turned.ensures.flips.there
+flip_marks-requires-clause-within g c = flip_marks-within (insert (rows_of c.args.rows.now) c.args.place c.args.row) (survivors (rows_of c.args.rows.now)) c.put_row_with_entry.new.rows c.put_row_with_entry.new.entries (put-adding c.args.rows.now c.args.entries.now c.requires.bridged c.args.place c.args.row c.requires.within c.requires.room c.requires.fresh c.requires.of_kind c.requires.replays c.args.new c.requires.adds c.put_row_with_entry.new.rows c.put_row_with_entry.new.entries c.in_ok-put_row_with_entry.ensures.rows c.in_ok-put_row_with_entry.ensures.entries) c.gained_with-flip.result.place c.gained_with-flip.result.entry c.gained_with-flip.ensures.flips.there
 
 pub flip_marks-requires-clause-few : goal.flip_marks-requires-clause-few
-flip_marks-requires-clause-few g c = flip_marks-few (insert (rows_of c.args.rows.now) c.args.place c.args.row) (survivors (rows_of c.args.rows.now)) c.put_row_with_entry.new.rows c.put_row_with_entry.new.entries (put-adding c.args.rows.now c.args.entries.now c.requires.bridged c.args.place c.args.row c.requires.within c.requires.room c.requires.fresh c.requires.of_kind c.requires.replays c.args.new c.requires.adds c.put_row_with_entry.new.rows c.put_row_with_entry.new.entries c.in_ok-put_row_with_entry.ensures.rows c.in_ok-put_row_with_entry.ensures.entries) c.gained_with-turned.result.place c.gained_with-turned.result.entry c.gained_with-turned.ensures.flips.there
+flip_marks-requires-clause-few g c = flip_marks-few (insert (rows_of c.args.rows.now) c.args.place c.args.row) (survivors (rows_of c.args.rows.now)) c.put_row_with_entry.new.rows c.put_row_with_entry.new.entries (put-adding c.args.rows.now c.args.entries.now c.requires.bridged c.args.place c.args.row c.requires.within c.requires.room c.requires.fresh c.requires.of_kind c.requires.replays c.args.new c.requires.adds c.put_row_with_entry.new.rows c.put_row_with_entry.new.entries c.in_ok-put_row_with_entry.ensures.rows c.in_ok-put_row_with_entry.ensures.entries) c.gained_with-flip.result.place c.gained_with-flip.result.entry c.gained_with-flip.ensures.flips.there
 
 pub flip_marks-requires-clause-rise : goal.flip_marks-requires-clause-rise
 flip_marks-requires-clause-rise g c = (put-adding c.args.rows.now c.args.entries.now c.requires.bridged c.args.place c.args.row c.requires.within c.requires.room c.requires.fresh c.requires.of_kind c.requires.replays c.args.new c.requires.adds c.put_row_with_entry.new.rows c.put_row_with_entry.new.entries c.in_ok-put_row_with_entry.ensures.rows c.in_ok-put_row_with_entry.ensures.entries).holds.rise
 
 pub flip_marks-requires-clause-among : goal.flip_marks-requires-clause-among
-flip_marks-requires-clause-among g c = flip_marks-among (insert (rows_of c.args.rows.now) c.args.place c.args.row) (survivors (rows_of c.args.rows.now)) c.put_row_with_entry.new.rows c.put_row_with_entry.new.entries (put-adding c.args.rows.now c.args.entries.now c.requires.bridged c.args.place c.args.row c.requires.within c.requires.room c.requires.fresh c.requires.of_kind c.requires.replays c.args.new c.requires.adds c.put_row_with_entry.new.rows c.put_row_with_entry.new.entries c.in_ok-put_row_with_entry.ensures.rows c.in_ok-put_row_with_entry.ensures.entries) c.gained_with-turned.result.place c.gained_with-turned.result.entry c.gained_with-turned.ensures.flips.there
+flip_marks-requires-clause-among g c = flip_marks-among (insert (rows_of c.args.rows.now) c.args.place c.args.row) (survivors (rows_of c.args.rows.now)) c.put_row_with_entry.new.rows c.put_row_with_entry.new.entries (put-adding c.args.rows.now c.args.entries.now c.requires.bridged c.args.place c.args.row c.requires.within c.requires.room c.requires.fresh c.requires.of_kind c.requires.replays c.args.new c.requires.adds c.put_row_with_entry.new.rows c.put_row_with_entry.new.entries c.in_ok-put_row_with_entry.ensures.rows c.in_ok-put_row_with_entry.ensures.entries) c.gained_with-flip.result.place c.gained_with-flip.result.entry c.gained_with-flip.ensures.flips.there
 
 pub returns-clause-bridged : goal.returns-clause-bridged
-returns-clause-bridged g c = (flip_marks-done (insert (rows_of c.args.rows.now) c.args.place c.args.row) (survivors (rows_of c.args.rows.now)) c.put_row_with_entry.new.rows c.put_row_with_entry.new.entries (put-adding c.args.rows.now c.args.entries.now c.requires.bridged c.args.place c.args.row c.requires.within c.requires.room c.requires.fresh c.requires.of_kind c.requires.replays c.args.new c.requires.adds c.put_row_with_entry.new.rows c.put_row_with_entry.new.entries c.in_ok-put_row_with_entry.ensures.rows c.in_ok-put_row_with_entry.ensures.entries) c.gained_with-turned.result.place c.gained_with-turned.result.entry c.gained_with-turned.ensures.flips.there c.gained_with-turned.result.survives c.gained_with-turned.ensures.flips.marks c.flip_marks.new.rows c.flip_marks.new.entries c.flip_marks.ensures.rows c.flip_marks.ensures.entries).0
+returns-clause-bridged g c = (flip_marks-done (insert (rows_of c.args.rows.now) c.args.place c.args.row) (survivors (rows_of c.args.rows.now)) c.put_row_with_entry.new.rows c.put_row_with_entry.new.entries (put-adding c.args.rows.now c.args.entries.now c.requires.bridged c.args.place c.args.row c.requires.within c.requires.room c.requires.fresh c.requires.of_kind c.requires.replays c.args.new c.requires.adds c.put_row_with_entry.new.rows c.put_row_with_entry.new.entries c.in_ok-put_row_with_entry.ensures.rows c.in_ok-put_row_with_entry.ensures.entries) c.gained_with-flip.result.place c.gained_with-flip.result.entry c.gained_with-flip.ensures.flips.there c.gained_with-flip.result.survives c.gained_with-flip.ensures.flips.marks c.flip_marks.new.rows c.flip_marks.new.entries c.flip_marks.ensures.rows c.flip_marks.ensures.entries).0
 
 pub returns-clause-rows : goal.returns-clause-rows
-returns-clause-rows g c = (flip_marks-done (insert (rows_of c.args.rows.now) c.args.place c.args.row) (survivors (rows_of c.args.rows.now)) c.put_row_with_entry.new.rows c.put_row_with_entry.new.entries (put-adding c.args.rows.now c.args.entries.now c.requires.bridged c.args.place c.args.row c.requires.within c.requires.room c.requires.fresh c.requires.of_kind c.requires.replays c.args.new c.requires.adds c.put_row_with_entry.new.rows c.put_row_with_entry.new.entries c.in_ok-put_row_with_entry.ensures.rows c.in_ok-put_row_with_entry.ensures.entries) c.gained_with-turned.result.place c.gained_with-turned.result.entry c.gained_with-turned.ensures.flips.there c.gained_with-turned.result.survives c.gained_with-turned.ensures.flips.marks c.flip_marks.new.rows c.flip_marks.new.entries c.flip_marks.ensures.rows c.flip_marks.ensures.entries).1
+returns-clause-rows g c = (flip_marks-done (insert (rows_of c.args.rows.now) c.args.place c.args.row) (survivors (rows_of c.args.rows.now)) c.put_row_with_entry.new.rows c.put_row_with_entry.new.entries (put-adding c.args.rows.now c.args.entries.now c.requires.bridged c.args.place c.args.row c.requires.within c.requires.room c.requires.fresh c.requires.of_kind c.requires.replays c.args.new c.requires.adds c.put_row_with_entry.new.rows c.put_row_with_entry.new.entries c.in_ok-put_row_with_entry.ensures.rows c.in_ok-put_row_with_entry.ensures.entries) c.gained_with-flip.result.place c.gained_with-flip.result.entry c.gained_with-flip.ensures.flips.there c.gained_with-flip.result.survives c.gained_with-flip.ensures.flips.marks c.flip_marks.new.rows c.flip_marks.new.entries c.flip_marks.ensures.rows c.flip_marks.ensures.entries).1
 
 pub returns-clause-visits : goal.returns-clause-visits
 returns-clause-visits g c =
@@ -50,6 +50,6 @@ returns-clause-visits g c =
     visits-more 132 12 (length c.flip_marks.new.rows) _ _
     (visits-add 84 48 (length c.flip_marks.new.rows) _ _ _
     (visits-add 48 36 (length c.flip_marks.new.rows) _ _ _
-    (visits-longer 48 (length c.args.rows.now) _ _ _ (omega (arith, flip)) c.gained_with-turned.ensures.visits)
+    (visits-longer 48 (length c.args.rows.now) _ _ _ (omega (arith, flip)) c.gained_with-flip.ensures.visits)
     (visits-longer 36 (length put) _ _ _ (omega (arith, flip, longer)) c.in_ok-put_row_with_entry.ensures.ok_visits))
     (visits-longer 48 (length put) _ _ _ (omega (arith, flip, longer)) c.flip_marks.ensures.visits))

@@ -15,23 +15,23 @@ returns-in_err-put_row-clause-visits g c =
     let same : c.args.rows.now ≡ c.put_row.new.rows = sym c.in_err-put_row.ensures.err in
     visits-more 60 84 (length c.put_row.new.rows) _ _
     (visits-add 48 12 (length c.put_row.new.rows) _ _ _
-    (subst (λ rows. VisitsWithin 48 (length rows) c.args.steps.now c.lost_with-turned.new.steps) same c.lost_with-turned.ensures.visits)
+    (subst (λ rows. VisitsWithin 48 (length rows) c.args.steps.now c.lost_with-flip.new.steps) same c.lost_with-flip.ensures.visits)
     c.put_row.ensures.visits)
 
 pub flip_marks-requires-clause-within : goal.flip_marks-requires-clause-within
-flip_marks-requires-clause-within g c = flip_marks-within (insert (rows_of c.args.rows.now) c.args.place c.args.row) (survivors (rows_of c.args.rows.now)) c.put_row.new.rows c.args.entries.now (put-taking c.args.rows.now c.args.entries.now c.requires.bridged c.args.place c.args.row c.requires.within c.requires.room c.requires.fresh c.requires.of_kind c.requires.replays c.requires.takes c.put_row.new.rows c.in_ok-put_row.ensures.ok) c.lost_with-turned.result.place c.lost_with-turned.result.entry c.lost_with-turned.ensures.flips.there
+flip_marks-requires-clause-within g c = flip_marks-within (insert (rows_of c.args.rows.now) c.args.place c.args.row) (survivors (rows_of c.args.rows.now)) c.put_row.new.rows c.args.entries.now (put-taking c.args.rows.now c.args.entries.now c.requires.bridged c.args.place c.args.row c.requires.within c.requires.room c.requires.fresh c.requires.of_kind c.requires.replays c.requires.takes c.put_row.new.rows c.in_ok-put_row.ensures.ok) c.lost_with-flip.result.place c.lost_with-flip.result.entry c.lost_with-flip.ensures.flips.there
 
 pub flip_marks-requires-clause-few : goal.flip_marks-requires-clause-few
-flip_marks-requires-clause-few g c = flip_marks-few (insert (rows_of c.args.rows.now) c.args.place c.args.row) (survivors (rows_of c.args.rows.now)) c.put_row.new.rows c.args.entries.now (put-taking c.args.rows.now c.args.entries.now c.requires.bridged c.args.place c.args.row c.requires.within c.requires.room c.requires.fresh c.requires.of_kind c.requires.replays c.requires.takes c.put_row.new.rows c.in_ok-put_row.ensures.ok) c.lost_with-turned.result.place c.lost_with-turned.result.entry c.lost_with-turned.ensures.flips.there
+flip_marks-requires-clause-few g c = flip_marks-few (insert (rows_of c.args.rows.now) c.args.place c.args.row) (survivors (rows_of c.args.rows.now)) c.put_row.new.rows c.args.entries.now (put-taking c.args.rows.now c.args.entries.now c.requires.bridged c.args.place c.args.row c.requires.within c.requires.room c.requires.fresh c.requires.of_kind c.requires.replays c.requires.takes c.put_row.new.rows c.in_ok-put_row.ensures.ok) c.lost_with-flip.result.place c.lost_with-flip.result.entry c.lost_with-flip.ensures.flips.there
 
 pub flip_marks-requires-clause-among : goal.flip_marks-requires-clause-among
-flip_marks-requires-clause-among g c = flip_marks-among (insert (rows_of c.args.rows.now) c.args.place c.args.row) (survivors (rows_of c.args.rows.now)) c.put_row.new.rows c.args.entries.now (put-taking c.args.rows.now c.args.entries.now c.requires.bridged c.args.place c.args.row c.requires.within c.requires.room c.requires.fresh c.requires.of_kind c.requires.replays c.requires.takes c.put_row.new.rows c.in_ok-put_row.ensures.ok) c.lost_with-turned.result.place c.lost_with-turned.result.entry c.lost_with-turned.ensures.flips.there
+flip_marks-requires-clause-among g c = flip_marks-among (insert (rows_of c.args.rows.now) c.args.place c.args.row) (survivors (rows_of c.args.rows.now)) c.put_row.new.rows c.args.entries.now (put-taking c.args.rows.now c.args.entries.now c.requires.bridged c.args.place c.args.row c.requires.within c.requires.room c.requires.fresh c.requires.of_kind c.requires.replays c.requires.takes c.put_row.new.rows c.in_ok-put_row.ensures.ok) c.lost_with-flip.result.place c.lost_with-flip.result.entry c.lost_with-flip.ensures.flips.there
 
 pub returns-clause-bridged : goal.returns-clause-bridged
-returns-clause-bridged g c = (flip_marks-done (insert (rows_of c.args.rows.now) c.args.place c.args.row) (survivors (rows_of c.args.rows.now)) c.put_row.new.rows c.args.entries.now (put-taking c.args.rows.now c.args.entries.now c.requires.bridged c.args.place c.args.row c.requires.within c.requires.room c.requires.fresh c.requires.of_kind c.requires.replays c.requires.takes c.put_row.new.rows c.in_ok-put_row.ensures.ok) c.lost_with-turned.result.place c.lost_with-turned.result.entry c.lost_with-turned.ensures.flips.there c.lost_with-turned.result.survives c.lost_with-turned.ensures.flips.marks c.flip_marks.new.rows c.flip_marks.new.entries c.flip_marks.ensures.rows c.flip_marks.ensures.entries).0
+returns-clause-bridged g c = (flip_marks-done (insert (rows_of c.args.rows.now) c.args.place c.args.row) (survivors (rows_of c.args.rows.now)) c.put_row.new.rows c.args.entries.now (put-taking c.args.rows.now c.args.entries.now c.requires.bridged c.args.place c.args.row c.requires.within c.requires.room c.requires.fresh c.requires.of_kind c.requires.replays c.requires.takes c.put_row.new.rows c.in_ok-put_row.ensures.ok) c.lost_with-flip.result.place c.lost_with-flip.result.entry c.lost_with-flip.ensures.flips.there c.lost_with-flip.result.survives c.lost_with-flip.ensures.flips.marks c.flip_marks.new.rows c.flip_marks.new.entries c.flip_marks.ensures.rows c.flip_marks.ensures.entries).0
 
 pub returns-clause-rows : goal.returns-clause-rows
-returns-clause-rows g c = (flip_marks-done (insert (rows_of c.args.rows.now) c.args.place c.args.row) (survivors (rows_of c.args.rows.now)) c.put_row.new.rows c.args.entries.now (put-taking c.args.rows.now c.args.entries.now c.requires.bridged c.args.place c.args.row c.requires.within c.requires.room c.requires.fresh c.requires.of_kind c.requires.replays c.requires.takes c.put_row.new.rows c.in_ok-put_row.ensures.ok) c.lost_with-turned.result.place c.lost_with-turned.result.entry c.lost_with-turned.ensures.flips.there c.lost_with-turned.result.survives c.lost_with-turned.ensures.flips.marks c.flip_marks.new.rows c.flip_marks.new.entries c.flip_marks.ensures.rows c.flip_marks.ensures.entries).1
+returns-clause-rows g c = (flip_marks-done (insert (rows_of c.args.rows.now) c.args.place c.args.row) (survivors (rows_of c.args.rows.now)) c.put_row.new.rows c.args.entries.now (put-taking c.args.rows.now c.args.entries.now c.requires.bridged c.args.place c.args.row c.requires.within c.requires.room c.requires.fresh c.requires.of_kind c.requires.replays c.requires.takes c.put_row.new.rows c.in_ok-put_row.ensures.ok) c.lost_with-flip.result.place c.lost_with-flip.result.entry c.lost_with-flip.ensures.flips.there c.lost_with-flip.result.survives c.lost_with-flip.ensures.flips.marks c.flip_marks.new.rows c.flip_marks.new.entries c.flip_marks.ensures.rows c.flip_marks.ensures.entries).1
 
 pub returns-clause-visits : goal.returns-clause-visits
 returns-clause-visits g c =
@@ -41,6 +41,6 @@ returns-clause-visits g c =
     visits-more 108 36 (length c.flip_marks.new.rows) _ _
     (visits-add 60 48 (length c.flip_marks.new.rows) _ _ _
     (visits-add 48 12 (length c.flip_marks.new.rows) _ _ _
-    (visits-longer 48 (length c.args.rows.now) _ _ _ (omega (arith, flip)) c.lost_with-turned.ensures.visits)
+    (visits-longer 48 (length c.args.rows.now) _ _ _ (omega (arith, flip)) c.lost_with-flip.ensures.visits)
     (visits-longer 12 (length put) _ _ _ (omega (arith, flip, longer)) c.put_row.ensures.visits))
     (visits-longer 48 (length put) _ _ _ (omega (arith, flip, longer)) c.flip_marks.ensures.visits))
