@@ -5,8 +5,9 @@ use Rattle.std.specs.List.{AllByRecursion, filter}
 use Rattle.std.proofs.lemmas.Int.{ints}
 use Rattle.std.proofs.lemmas.Bool.Decides.{nat_tests}
 use Rattle.retro_base.specs.OrderLaws.{all_weaker}
+use Rattle.weighted_tree.specs.Partitioned.{IsPartitioned}
 use Rattle.key_index.specs.KeyRows.{KeyRow, LabelsRise, key_of}
-use Rattle.key_index.specs.Ordered.{AreByKey, IsPartitioned, pair_before, pair_up_to, stands_before, reaches}
+use Rattle.key_index.specs.Ordered.{AreByKey, pair_before, pair_up_to, stands_before, reaches}
 use Rattle.key_index.specs.declared.search.Bound.TheVariants.{Label, Key}
 use Rattle.key_index.proofs.Lists.{all_filter, all-append, all_front, all_after}
 

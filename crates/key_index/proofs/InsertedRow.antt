@@ -10,13 +10,13 @@ use Rattle.retro_base.specs.declared.kind.Kind.TheVariants.{Dict}
 use Rattle.retro_base.specs.declared.op.Op.{Op}
 use Rattle.retro_base.specs.declared.op.Op.TheVariants.{Enq, Deq, Push, Pop, PushL, PushR, PopL, PopR, Put, Del, Ins, DelMin}
 use Rattle.retro_base.specs.Kind.{kind_of}
+use Rattle.weighted_tree.specs.PartitionLaws.{joined}
 use Rattle.key_index.specs.declared.key_index.Bad.{Bad}
 use Rattle.key_index.specs.declared.key_index.Bad.TheVariants.{Inserted, Present}
 use Rattle.key_index.specs.KeyRows.{KeyRow, LabelsRise, AreKeyRows, is_on, last_of, first_after, up_to, behind, with_row, named, bad_with, Replays}
 use Rattle.key_index.specs.Beside.{takes_out, is_there, taken_at}
 use Rattle.key_index.specs.Ordered.{reaches}
 use Rattle.key_index.specs.declared.search.Bound.TheVariants.{Label}
-use Rattle.key_index.proofs.Counted.{take_count, drop_count}
 use Rattle.key_index.proofs.InOrder.{label_falls}
 use Rattle.key_index.proofs.Neighbours.{lt_is_not_le}
 use Rattle.key_index.proofs.Lists.{filter_either, all-append, all_filter, filter-same, first_of, find_is}
@@ -120,11 +120,8 @@ module _ (label : ℕ) (rows : List KeyRow) (dict : AreDict rows) (whole : fails
 -- rows in two parts are all rows
 pub parted : (label : ℕ) (rows : List KeyRow) → LabelsRise rows → up_to label rows ++ behind label rows ≡ rows
 parted label rows rise =
-    let falls = label_falls label rows rise in
-    let n = length (up_to label rows) in
-    ap (λ front. front ++ behind label rows) (sym (take_count (reaches (Label label)) rows falls))
-    ∙ ap (λ back. take n rows ++ back) (filter-same (λ row. nat_lt label row.0) (λ row. not (nat_le row.0 label)) (λ row. lt_is_not_le label row.0) rows ∙ sym (drop_count (reaches (Label label)) rows falls))
-    ∙ take-append-drop n rows
+    ap (λ back. up_to label rows ++ back) (filter-same (λ row. nat_lt label row.0) (λ row. not (nat_le row.0 label)) (λ row. lt_is_not_le label row.0) rows)
+    ∙ joined (reaches (Label label)) rows (label_falls label rows rise)
 
 pub replays_in_parts : (label : ℕ) (rows : List KeyRow) → AreKeyRows rows → Replays rows → fails nothing (up_to label rows ++ behind label rows) ≡ None
 replays_in_parts label rows keyed valid = ap (fails nothing) (parted label rows keyed.rising) ∙ sym (failure_is rows keyed.of_dict) ∙ valid

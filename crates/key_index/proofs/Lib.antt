@@ -1,5 +1,4 @@
 pub mod Lists
-pub mod Counted
 pub mod InOrder
 pub mod Neighbours
 pub mod Labelled

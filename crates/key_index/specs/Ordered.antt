@@ -1,5 +1,5 @@
 -- Rows in the order of their keys, and of their labels on each key.
-use Rattle.std.specs.Prelude.{◌≡◌, ℕ, ℤ, Bool, true, false, ◌&&◌, ◌||◌, int_lt, nat_lt, nat_le, List, [], ◌∷◌, length}
+use Rattle.std.specs.Prelude.{◌≡◌, ℕ, ℤ, Bool, true, ◌&&◌, ◌||◌, int_lt, nat_lt, nat_le, List, [], ◌∷◌, length}
 use Rattle.std.specs.List.{AllByRecursion, filter}
 use Rattle.std.specs.Ordering.{int_eq}
 use Rattle.key_index.specs.KeyRows.{KeyRow, AreKeyRows, key_of, is_on}
@@ -31,8 +31,3 @@ pair_up_to k l key limit = int_lt k key || (int_eq k key && nat_le l limit)
 abbrev pub reaches : Bound → KeyRow → Bool
 reaches (Label limit) row = nat_le row.0 limit
 reaches (Key key limit) row = pair_up_to (key_of row.1) row.0 key limit
-
--- after an element that fails the test all fail it
-abbrev pub IsPartitioned : {A : Type 0} → (A → Bool) → List A → Type 0
-IsPartitioned test [] = Unit {0}
-IsPartitioned test (x ∷ xs) = (test x ≡ false → AllByRecursion (λ later. test later ≡ false) xs) × IsPartitioned test xs

@@ -6,8 +6,8 @@
 //! row fails first, and nothing is performed again.
 //!
 //! [`KeyIndex`] is a list of rows by their labels, which rise: numbers that say which row comes first, and leave room
-//! in between (`order_labels`). It keeps them in two trees, by label and by key and label; both are read by the last
-//! row of a range.
+//! in between (`order_labels`). It keeps them in two trees, by label and by key and label, and finds a place in either
+//! by one way down.
 //!
 //! | Call | Cost, with n rows |
 //! |---|---|
@@ -20,14 +20,13 @@
 //! What the layer above may rely on: the definitions of specs/KeyRows.antt, over plain lists.
 //!
 //! - `key_index`: the type and its calls. `labels`: the labels before and after a relabelling.
-//! - `row`, `last`: what stands in the trees, and what they measure. `search`: how many rows stand up to a bound.
+//! - `row`: what stands in the trees. `search`: how many rows stand up to a bound.
 //! - `trees`: what the calls do to the trees. `beside`: what the rows beside an edit say.
 #![tactic(auto)]
 
 mod beside;
 mod key_index;
 mod labels;
-mod last;
 mod row;
 mod search;
 mod trees;

@@ -1,8 +1,7 @@
 ghost use Rattle.std.specs.Prelude.{◌≡◌};
 ghost use Rattle.key_index.specs.KeyRows.{key_of};
 
-use crate::last::Last;
-use monoid_laws::Measured;
+use monoid_laws::{Count, Measured};
 use retro_base::Op;
 use std::marker::Model;
 
@@ -57,15 +56,14 @@ pub(crate) fn key_of(op: Op) -> i64
 
 impl Measured for KeyRow {
     ghost use Rattle.std.specs.Prelude.{refl};
-    ghost use Rattle.key_index.specs.Last.{one_row};
 
-    type Measure = Last;
+    type Measure = Count;
 
-    ghost measured = { one_row };
+    ghost measured = { λ row. 1 };
 
     ghost single = { λ row. refl };
 
-    fn measure(&self) -> Last {
-        Last::single(self.label, self.op)
+    fn measure(&self) -> Count {
+        Count::single()
     }
 }

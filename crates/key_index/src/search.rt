@@ -1,9 +1,8 @@
-ghost use Rattle.std.specs.Prelude.{◌≡◌, ◌≤◌, length, take, drop, not, false};
+ghost use Rattle.std.specs.Prelude.{◌≡◌, ◌≤◌, length, take, drop, not};
 ghost use Rattle.std.specs.List.{filter};
-ghost use Rattle.std.specs.Option.{option_map_or};
-ghost use Rattle.key_index.specs.Ordered.{reaches, IsPartitioned};
+ghost use Rattle.weighted_tree.specs.Partitioned.{IsPartitioned};
+ghost use Rattle.key_index.specs.Ordered.{reaches};
 
-use crate::last::Last;
 use crate::row::{KeyRow, key_of};
 use retro_base::{Op, Steps};
 use std::sync::ledger::Ledger;
@@ -37,18 +36,5 @@ pub(crate) fn count_up_to<L: Ledger>(rows: &Tree<KeyRow>, bound: Bound, steps: &
     ensures back { drop result rows.now ≡ filter (λ row. not (reaches bound row)) rows.now }
     ensures within { result ≤ length rows.now }
 {
-    match rows.first_place(0, |last: &Last| is_past(bound, last), steps) {
-        Some(place) => place - 1,
-        None => rows.len(),
-    }
-}
-
-/// Whether the last row of a range stands past the bound.
-fn is_past(bound: Bound, last: &Last) -> bool
-    ensures { result ≡ option_map_or (λ row. not (reaches bound row)) last.now.row false }
-{
-    match last.row() {
-        Some((label, op)) => !reaches(bound, label, op),
-        None => false,
-    }
+    rows.partition_point(|row: &KeyRow| reaches(bound, row.label(), row.op()), steps)
 }

@@ -1,7 +1,9 @@
 -- The place of an element among those in their order.
-use Rattle.std.proofs.Common.{◌≡◌, ℕ, zero, suc, ◌≤◌, ◌<◌, Some, slice_get, Bool, true, false, cond, not, List, [], ◌∷◌, length, refl, ap, ◌∙◌, arith}
+use Rattle.std.proofs.Common.{◌≡◌, ℕ, zero, suc, ◌≤◌, ◌<◌, Some, slice_get, Bool, true, false, cond, not, List, [], ◌∷◌, length, refl, sym, ap, ◌∙◌, arith}
 use Rattle.std.specs.List.{insert, remove}
-use Rattle.retro_base.specs.OrderLaws.{all_at}
+use Rattle.std.specs.List.Sorted.{IsPartitionPoint}
+use Rattle.retro_base.specs.OrderLaws.{all_weaker}
+use Rattle.weighted_tree.specs.Partitioned.{IsPartitioned}
 use Rattle.lifetime_segments.specs.Ordered.{IsOrder, AreInOrder, put_in, is_in, without, place_in}
 use Rattle.lifetime_segments.specs.OrderedLaws.{between}
 
@@ -52,21 +54,24 @@ is_in-at before x y (z ∷ zs) there = elim (before z x) as (λ b. slice_get (z 
   | false ↦ λ there. let same : z ≡ y = cc in ap (λ w. not (before x w)) same
 ] there
 
--- at and after its place no element stands before it
-pub place-not_after : {A : Type 0} (before : A → A → Bool) (x y : A) (xs : List A) (index : ℕ) → slice_get xs index ≡ Some y → before y x ≡ false → place_in before x xs ≤ index
-place-not_after before x y [] index there here = omega arith
-place-not_after before x y (z ∷ zs) zero there here = let same : z ≡ y = cc in let passed : before z x ≡ false = ap (λ w. before w x) same ∙ here in rw passed (omega arith)
-place-not_after before x y (z ∷ zs) (suc index) there here = elim (before z x) as (λ b. cond b (suc (place_in before x zs)) 0 ≤ suc index) [
-  | true ↦ let below = place-not_after before x y zs index there here in omega arith
-  | false ↦ omega arith
-]
+-- where the elements stop to stand before it
+pub place-point : {A : Type 0} (before : A → A → Bool) (x : A) (xs : List A) (count : ℕ) → count ≤ length xs → IsPartitionPoint (λ y. before y x ≡ true) (λ y. before y x ≡ false) xs count → count ≡ place_in before x xs
+place-point before x [] zero within point = refl
+place-point before x [] (suc count) within point = absurd (omega arith)
+place-point before x (y ∷ ys) zero within point = let here : before y x ≡ false = point.1 0 y (omega arith) (omega arith) in rw here refl
+place-point before x (y ∷ ys) (suc count) within point =
+    let past : before y x ≡ true = point.0 0 y (omega arith) (omega arith) in
+    rw past (ap suc (place-point before x ys count (omega arith) (λ k d from to. point.0 (suc k) d (omega arith) (omega arith), λ k d from to. point.1 (suc k) d (omega arith) (omega arith))))
 
+-- in an order they stop at one place
 module _ {A : Type 0} {before : A → A → Bool} (order : IsOrder before) where
-  -- before its place all elements stand before it
-  pub place-above : (x y : A) (xs : List A) (index : ℕ) → AreInOrder before xs → slice_get xs index ≡ Some y → before y x ≡ true → suc index ≤ place_in before x xs
-  place-above x y [] index ordered there past = absurd (cc)
-  place-above x y (z ∷ zs) zero ordered there past = let same : z ≡ y = cc in let passed : before z x ≡ true = ap (λ w. before w x) same ∙ past in rw passed (omega arith)
-  place-above x y (z ∷ zs) (suc index) ordered there past =
-      let passed : before z x ≡ true = between order x z y past (all_at (λ later. before later z ≡ false) zs index y ordered.0 there) in
-      let below : suc index ≤ place_in before x zs = place-above x y zs index ordered.1 there past in
-      rw passed (omega arith)
+  not_past : (x y z : A) → before y x ≡ false → before z y ≡ false → before z x ≡ false
+  not_past x y z here later = elim (before z x) as (λ b. before z x ≡ b → b ≡ false) [
+    | true ↦ λ near. sym (between order x y z near later) ∙ here
+    | false ↦ λ _. refl
+  ] refl
+
+  pub place-parted : (x : A) (xs : List A) → AreInOrder before xs → IsPartitioned (λ y. before y x) xs
+  place-parted x [] ordered = tt
+  place-parted x (y ∷ ys) ordered =
+      (λ here. all_weaker (λ z. before z y ≡ false) (λ z. before z x ≡ false) ys (λ z later. not_past x y z here later) ordered.0, place-parted x ys ordered.1)

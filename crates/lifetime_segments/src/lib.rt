@@ -14,7 +14,7 @@
 //! | Call | Cost, with n lifetimes |
 //! |---|---|
 //! | `new` | constant |
-//! | `add`, `take` | a search of log² n in each of at most 80 nodes |
+//! | `add`, `take` | a search of log n in each of at most 80 nodes |
 //! | `ask` | one `ask` in each of at most 41 nodes, and as many of `combine` |
 //!
 //! `add` takes memory for a node of each span and for one of each tree, and leaves all as it was where there is none; no

@@ -69,17 +69,7 @@ pub(crate) fn place_of<O: Order, L: Ledger>(
     requires ordered { AreInOrder O.stands_before items.now }
     ensures { result ≡ place_in O.stands_before item.now items.now }
 {
-    let mut low = 0;
-    let mut high = items.len();
-    while low < high {
-        let middle = low + (high - low) / 2;
-        if O::before(&items.get(middle, steps), item) {
-            low = middle + 1;
-        } else {
-            high = middle;
-        }
-    }
-    low
+    items.partition_point(|other: &O::Item| O::before(other, item), steps)
 }
 
 /// Puts an item in at its place.

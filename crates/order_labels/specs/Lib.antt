@@ -1,9 +1,8 @@
 pub use Rattle.retro_base.specs.Limits
 pub mod Labels
 pub mod LabelLaws
-pub mod Highest
-pub mod HighestLaws
 pub mod Order
+pub mod CountLaws
 pub mod ApartLaws
 pub mod PowerLaws
 pub mod SpreadLaws

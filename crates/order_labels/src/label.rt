@@ -1,7 +1,6 @@
 ghost use Rattle.std.specs.Prelude.{◌≡◌};
 
-use crate::Highest;
-use monoid_laws::Measured;
+use monoid_laws::{Count, Measured};
 use std::marker::Model;
 
 /// The label of a row, as it stands in the tree.
@@ -36,15 +35,14 @@ impl Label {
 
 impl Measured for Label {
     ghost use Rattle.std.specs.Prelude.{refl};
-    ghost use Rattle.order_labels.specs.Highest.{one_number};
 
-    type Measure = Highest;
+    type Measure = Count;
 
-    ghost measured = { one_number };
+    ghost measured = { λ label. 1 };
 
     ghost single = { λ label. refl };
 
-    fn measure(&self) -> Highest {
-        Highest::single(self.number)
+    fn measure(&self) -> Count {
+        Count::single()
     }
 }

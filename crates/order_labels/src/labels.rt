@@ -4,7 +4,6 @@ ghost use Rattle.order_labels.specs.Labels.{AreApart, AreLabels, has_room, inser
 ghost use Rattle.retro_base.specs.Limits.{most_rows};
 
 use crate::label::Label;
-use crate::search::count_up_to;
 use crate::spread::{LIMIT, spread};
 use retro_base::{NoMemory, Steps};
 use std::alloc::Global;
@@ -213,7 +212,7 @@ fn find<L: Ledger>(rows: &Tree<Label>, label: u64, blank: Blank) -> Option<u32>
     ensures within { IfSome result (λ place. place < length rows.now) }
 {
     let mut steps = Steps::<L>::new(blank);
-    let count = count_up_to(rows, label, &mut steps);
+    let count = rows.partition_point(|row: &Label| row.number() <= label, &mut steps);
     if count == 0 {
         return None;
     }

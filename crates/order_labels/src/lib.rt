@@ -19,21 +19,16 @@
 //!
 //! What the layer above may rely on: the rule of specs/Labels.antt, which says what the labels are after every insertion;
 //! specs/LabelLaws.antt, which says of a rule that many insertions lie between two relabellings; the law that it is so of
-//! the middle, and specs/RareLaws.antt for whoever proves it of another rule. `Highest` and `count_up_to` serve any tree
+//! the middle, and specs/RareLaws.antt for whoever proves it of another rule; specs/CountLaws.antt for a search of any tree
 //! whose items never fall in some number, as rows do in their time.
 //!
 //! - `labels`: the type and its calls. `spread`: how all rows are relabelled. `laws`: how far, and how often.
-//! - `highest`: the greatest number of a range. `search`: how many items have a number up to some limit.
 #![tactic(auto)]
 
-mod highest;
 mod label;
 mod labels;
 pub mod laws;
-mod search;
 mod spread;
 
-pub use highest::Highest;
 pub use labels::{Fresh, Labels};
-pub use search::count_up_to;
 pub use spread::{gap_of, greatest_power};

@@ -1,7 +1,9 @@
 -- Rows stay in order where one comes whose time fits, and where one goes.
-use Rattle.std.proofs.Common.{◌≡◌, ℕ, ◌<◌, ◌≤◌, List, length, sym, ap, ◌∙◌, subst, arith}
+use Rattle.std.proofs.Common.{◌≡◌, ℕ, ◌+◌, ◌<◌, ◌≤◌, List, ◌++◌, map, take, drop, length, sym, ap, ◌∙◌, subst, arith}
 use Rattle.std.specs.List.{insert, remove}
+use Rattle.std.proofs.lemmas.List.{map-id, length-take-le}
 use Rattle.std.proofs.lemmas.List.Edits.{length-insert, length-remove}
+use Rattle.weighted_tree.specs.Reads.{overwritten}
 use Rattle.retro_base.specs.declared.row.Row.{Row}
 use Rattle.retro_base.specs.Limits.{most_rows}
 use Rattle.retro_base.specs.Order.{Fits}
@@ -29,3 +31,9 @@ pub ordered_more : (rows more : List Row) (place : ℕ) (row item : Row) → ite
     → IsFresh row.number rows → Fits rows place row.time → IsOrdered more
 ordered_more rows more place row item same is ordered within room fresh fits =
     subst IsOrdered (sym (is ∙ ap (insert rows place) same)) (ordered_with rows place row ordered within room fresh fits)
+
+-- rows that were written as they are
+pub read_is : (rows former new : List Row) (count : ℕ) → count ≤ length rows → new ≡ overwritten former 0 (map (λ (row : Row). row) (take count rows)) → new ≡ take count rows ++ drop count former
+read_is rows former new count within is =
+    is ∙ ap (λ rs. rs ++ drop (0 + length rs) former) (map-id (take count rows))
+    ∙ ap (λ n. take count rows ++ drop n former) (let all : 0 + length (take count rows) ≡ count = omega (arith, length-take-le count rows within) in all)

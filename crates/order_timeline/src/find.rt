@@ -1,4 +1,5 @@
-ghost use Rattle.std.specs.Prelude.{◌≡◌, ◌<◌, ◌≤◌, length, slice_get, Some};
+ghost use Rattle.std.specs.Prelude.{◌≡◌, ◌-◌, ◌<◌, ◌≤◌, ◌++◌, min, take, drop, length, slice_get, Some};
+ghost use Rattle.retro_base.specs.Limits.{most_rows};
 ghost use Rattle.order_timeline.specs.Runs.{RepresentsRows, IsNotBefore};
 ghost use Rattle.retro_base.specs.Places.{place_of_row, place_of_time};
 ghost use Rattle.retro_base.specs.Timeline.{TimesNeverFall};
@@ -8,7 +9,6 @@ use crate::numbers::Numbers;
 use crate::run::Run;
 use crate::runs::start_of;
 use crate::timed_row::TimedRow;
-use order_labels::count_up_to;
 use retro_base::{Row, Steps};
 use std::sync::ledger::{Blank, Ledger};
 use weighted_tree::Tree;
@@ -35,7 +35,26 @@ pub(crate) fn rows_up_to<L: Ledger>(rows: &Tree<TimedRow>, time: u64, blank: Bla
     ensures within { result ≤ length rows.now }
 {
     let mut steps = Steps::<L>::new(blank);
-    count_up_to(rows, time, &mut steps)
+    rows.partition_point(|timed: &TimedRow| timed.row().time <= time, &mut steps)
+}
+
+/// Copies the rows from a place on into a slice, as many as fit or are there, and gives their number.
+pub(crate) fn read_from<L: Ledger>(
+    rows: &Tree<TimedRow>,
+    from: u32,
+    copies: &mut [Row],
+    blank: Blank,
+) -> u32
+    requires name { blank.name ≡ L.name }
+    requires parts { blank.parts ≡ L.parts }
+    requires shared { 0 < blank.parts }
+    requires within { from ≤ length rows.now }
+    requires few { length rows.now ≤ most_rows }
+    ensures count { result ≡ min (length rows.now - from) (length copies.old) }
+    ensures rows { copies.new ≡ take result (drop from rows.now) ++ drop result copies.old }
+{
+    let mut steps = Steps::<L>::new(blank);
+    rows.read(from, |timed: &TimedRow| timed.row(), copies, &mut steps) as u32
 }
 
 /// The place of the row with this number, where there is one.

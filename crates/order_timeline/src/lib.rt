@@ -5,7 +5,7 @@
 //! a time is the number of rows up to it; a row is named by its number, which it keeps wherever it stands. What the
 //! rows do is no matter here: they are performed by a structure of the kind.
 //!
-//! The rows stand in a balanced tree, where a place is found by counting and a time by the greatest time of a range. To
+//! The rows stand in a balanced tree, where a place is found by counting and a time by one way down. To
 //! find a number they are divided into runs of at most 32 neighbours. A map has the name of each number's run, which the run
 //! keeps; a table has the label of each name, which may change; the label gives the place of the run, and the row is looked
 //! for among those of the run. So a label is wanted only where a run is divided, and a relabelling, which a list of labels
@@ -16,6 +16,7 @@
 //! |---|---|
 //! | `len` | constant |
 //! | `row_at`, `place_at`, `place_of`, `remove` | log n |
+//! | `read_rows` | log n, and one visit for each row that it copies |
 //! | `insert` | log n, and as much for each run where the runs are relabelled |
 //!
 //! - `timeline`: the type and its calls. `edit`: a row comes or goes. `find`: rows, times and numbers.

@@ -1,11 +1,10 @@
 ghost use Rattle.std.specs.Prelude.{◌≡◌};
 
-use monoid_laws::Measured;
-use order_labels::Highest;
+use monoid_laws::{Count, Measured};
 use retro_base::Row;
 use std::marker::Model;
 
-/// A row, as it stands in the tree: in the order of its time.
+/// A row, as it stands in the tree.
 #[derive(Clone, Copy)]
 pub(crate) struct TimedRow {
     row: Row,
@@ -37,15 +36,14 @@ impl TimedRow {
 
 impl Measured for TimedRow {
     ghost use Rattle.std.specs.Prelude.{refl};
-    ghost use Rattle.order_labels.specs.Highest.{one_number};
 
-    type Measure = Highest;
+    type Measure = Count;
 
-    ghost measured = { λ row. one_number row.time };
+    ghost measured = { λ row. 1 };
 
     ghost single = { λ row. refl };
 
-    fn measure(&self) -> Highest {
-        Highest::single(self.row.time)
+    fn measure(&self) -> Count {
+        Count::single()
     }
 }

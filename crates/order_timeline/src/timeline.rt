@@ -1,4 +1,4 @@
-ghost use Rattle.std.specs.Prelude.{◌≡◌, ◌<◌, ◌≤◌, [], length, slice_get, Some, IfSome, OnOk, OnErr};
+ghost use Rattle.std.specs.Prelude.{◌≡◌, ◌-◌, ◌<◌, ◌≤◌, [], ◌++◌, min, take, drop, length, slice_get, Some, IfSome, OnOk, OnErr};
 ghost use Rattle.std.specs.List.{insert, remove};
 ghost use Rattle.retro_base.specs.Limits.{most_rows};
 ghost use Rattle.retro_base.specs.Order.{Fits};
@@ -7,7 +7,7 @@ ghost use Rattle.retro_base.specs.Timeline.{IsFresh};
 ghost use Rattle.order_timeline.specs.Rows.{IsOrdered};
 
 use crate::edit::{put_in, take_out};
-use crate::find::{place_of, read, rows_up_to};
+use crate::find::{place_of, read, read_from, rows_up_to};
 use crate::names::Names;
 use crate::numbers::Numbers;
 use crate::run::Run;
@@ -67,6 +67,15 @@ impl Timeline {
         ensures { slice_get self.now place ≡ Some result }
     {
         read::<Brand>(&self.rows, place, Blank::new(1))
+    }
+
+    /// Copies the rows from a place on into a slice, as many as fit or are there, and gives their number.
+    pub fn read_rows(&self, from: u32, rows: &mut [Row]) -> u32
+        requires { from ≤ length self.now }
+        ensures count { result ≡ min (length self.now - from) (length rows.old) }
+        ensures rows { rows.new ≡ take result (drop from self.now) ++ drop result rows.old }
+    {
+        read_from::<Brand>(&self.rows, from, rows, Blank::new(1))
     }
 
     /// The place of a time: how many rows stand up to it.

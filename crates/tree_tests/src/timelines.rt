@@ -41,6 +41,16 @@ fn rows_are_found_by_place_time_and_number(rt: HostRuntime) -> Result<(), Fail> 
     for (number, place) in [(0, None), (1, Some(0)), (2, Some(1)), (7, None)] {
         assert_eq!(rt; timeline.place_of(number), place);
     }
+    for (from, count, copies) in [
+        (0, 2, [FIRST, SECOND]),
+        (1, 1, [SECOND, SECOND]),
+        (2, 0, [SECOND, SECOND]),
+    ] {
+        assert!(rt; from <= timeline.len());
+        let mut rows = [SECOND; 2];
+        assert_eq!(rt; timeline.read_rows(from, &mut rows), count);
+        assert_eq!(rt; rows, copies);
+    }
     assert_eq!(rt; timeline.remove(0), FIRST);
     assert_eq!(rt; timeline.len(), 1);
     assert_eq!(rt; timeline.place_of(2), Some(0));

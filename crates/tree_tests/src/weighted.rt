@@ -80,6 +80,39 @@ fn asked<L: Ledger>(
     assert_eq!(rt; items(copy, steps), [5, -2, 7]);
 }
 
+/// What a read from a place on writes over four nines, of which it may write the first `room`, and how many it says.
+fn read_over_nines<L: Ledger>(
+    rt: &impl Abort,
+    tree: &Tree<Amount>,
+    from: u32,
+    room: usize,
+    steps: &mut Steps<L>,
+) -> (usize, [i64; 4]) {
+    assert!(rt; from <= tree.len() && room <= 4);
+    let mut copies = [9; 4];
+    let count = tree.read(
+        from,
+        |amount: &Amount| amount.value,
+        &mut copies[..room],
+        steps,
+    );
+    (count, copies)
+}
+
+fn reads<L: Ledger>(rt: &impl Abort, tree: &Tree<Amount>, steps: &mut Steps<L>) {
+    for (from, room, read) in [
+        (0, 4, (3, [5, -2, 7, 9])),
+        (0, 2, (2, [5, -2, 9, 9])),
+        (1, 4, (2, [-2, 7, 9, 9])),
+        (1, 1, (1, [-2, 9, 9, 9])),
+        (2, 2, (1, [7, 9, 9, 9])),
+        (3, 4, (0, [9, 9, 9, 9])),
+        (0, 0, (0, [9, 9, 9, 9])),
+    ] {
+        assert_eq!(rt; read_over_nines(rt, tree, from, room, steps), read);
+    }
+}
+
 fn edited<L: Ledger>(rt: &impl Abort, tree: &mut Tree<Amount>, steps: &mut Steps<L>) {
     assert_eq!(rt; tree.len(), 3);
     assert_eq!(rt; tree.remove(1, steps).value, -2);
@@ -99,6 +132,7 @@ fn answers<L: Ledger>(rt: &impl Abort, alloc: Global, blank: Blank)
     let mut tree = five_and_seven(rt, alloc, &mut steps);
     let copy = tree.copy(&mut steps).expect(rt, "memory");
     asked(rt, &tree, &copy, &mut steps);
+    reads(rt, &tree, &mut steps);
     edited(rt, &mut tree, &mut steps);
 }
 

@@ -7,4 +7,5 @@ pub mod Middles
 pub mod Partitions
 pub mod Ranges
 pub mod SeenFrom
+pub mod WrittenItems
 pub mod Boundaries

@@ -4,6 +4,9 @@ pub mod Measures
 pub mod Nodes
 pub mod NodesFall
 pub mod Opened
+pub mod Partitioned
+pub mod PartitionLaws
+pub mod Reads
 pub mod Search
 pub mod SearchSteps
 pub mod Sides

@@ -18,6 +18,7 @@
 //! |---|---|
 //! | `new`, `len` | none |
 //! | `get`, `insert`, `remove`, `replace`, `measure`, `first_place`, `last_place`, `partition_point` | at most 12 d |
+//! | `read` | at most 12 d, and one more for each item that it reads |
 //! | `copy` | each once |
 //!
 //! A link holds its node closed: each way to open it, be it to read it, to change it or to take it apart,
@@ -29,6 +30,8 @@
 //! The proofs rest on the laws of the monoid alone. What the layer above may rely on: the clauses of
 //! `Tree`, in the words of lists; `measure_in` of specs/Measures.antt and std's `slice_range` for what a
 //! range measures; `FindsFirst`, `FindsLast` and `FindsPartition` of specs/Search.antt for the searches;
+//! specs/PartitionLaws.antt for what `partition_point` says of a list along which a test turns false once; `Writes` of
+//! specs/Reads.antt for what `read` writes;
 //! `VisitsWithin` of `retro_base` for the cost.
 #![tactic(auto)]
 
@@ -41,5 +44,6 @@ mod read;
 mod search;
 mod subtree;
 mod tree;
+mod walk;
 
 pub use tree::Tree;

@@ -1,7 +1,8 @@
-ghost use Rattle.std.specs.Prelude.{◌≡◌, ◌+◌, ◌^◌, ◌<◌, ◌≤◌, [], length, slice_get, slice_set, Some, IfSome, IfOk, OnOk, OnErr};
+ghost use Rattle.std.specs.Prelude.{◌≡◌, ◌+◌, ◌-◌, ◌^◌, ◌<◌, ◌≤◌, [], min, length, take, drop, slice_get, slice_set, Some, IfSome, IfOk, OnOk, OnErr};
 ghost use Rattle.std.specs.List.{insert, remove, slice_range};
 ghost use Rattle.weighted_tree.specs.Measures.{measure_in, from_place, up_to_place};
 ghost use Rattle.retro_base.specs.Visits.{VisitsWithin};
+ghost use Rattle.weighted_tree.specs.Reads.{Writes};
 ghost use Rattle.weighted_tree.specs.Search.{FindsFirst, FindsLast, FindsPartition};
 
 use crate::node::Side;
@@ -59,6 +60,23 @@ impl<T: Measured> Tree<T> {
         ensures visits { VisitsWithin 12 (length self.now) steps.old steps.new }
     {
         self.root.item_at(place, steps)
+    }
+
+    /// Writes what `shown` makes of the items from a place on into a slice, as many as fit or are there, and gives their number.
+    pub fn read<U: Copy, F: Fn(&T) -> U, L: Ledger>(
+        &self,
+        from: u32,
+        shown: F,
+        items: &mut [U],
+        steps: &mut Steps<L>,
+    ) -> usize
+        requires within { from ≤ length self.now }
+        requires callable { F.IsAlwaysCallable shown }
+        ensures count { result ≡ min (length self.now - from) (length items.old) }
+        ensures items { Writes F.Fn shown (take result (drop from self.now)) 0 items.old items.new }
+        ensures visits { VisitsWithin 12 (length self.now) (steps.old + result) steps.new }
+    {
+        self.root.read(from, &shown, items, 0, steps)
     }
 
     /// Puts an item in at a place; those from there on move one place on.

@@ -1,0 +1,60 @@
+ghost use Rattle.std.specs.Prelude.{◌≡◌, ◌+◌, ◌-◌, ◌<◌, ◌≤◌, min, take, drop, length};
+ghost use Rattle.std.specs.Fn.{FnReturnsAt};
+ghost use Rattle.weighted_tree.specs.Balance.{weight};
+ghost use Rattle.weighted_tree.specs.Reads.{Writes, VisitsOfRead};
+
+use crate::subtree::Subtree;
+use monoid_laws::Measured;
+use retro_base::Steps;
+use std::sync::ledger::Ledger;
+
+impl<T: Measured> Subtree<T> {
+    /// Writes what `shown` makes of the items from `from` on into a slice after its first `filled`, as many as fit or are
+    /// there, and gives where they end.
+    pub(crate) fn read<U: Copy, F: Fn(&T) -> U, L: Ledger>(
+        &self,
+        from: u32,
+        shown: &F,
+        items: &mut [U],
+        filled: usize,
+        steps: &mut Steps<L>,
+    ) -> usize
+        requires within { from ≤ length self.now }
+        requires room { filled ≤ length items.old }
+        requires callable { F.IsAlwaysCallable shown.now }
+        ensures end { result ≡ filled + min (length self.now - from) (length items.old - filled) }
+        ensures size { length items.new ≡ length items.old }
+        ensures items { Writes F.Fn shown.now (take (result - filled) (drop from self.now)) filled items.old items.new }
+        ensures each { steps.old + (result - filled) ≤ steps.new }
+        ensures visits { VisitsOfRead (weight self.now) from (length self.now - from - (result - filled))
+            (steps.old + (result - filled)) steps.new }
+    {
+        if from == self.len() || filled == items.len() {
+            return filled;
+        }
+        let Some(node) = self.root(steps) else {
+            return filled;
+        };
+        let before = node.left.len();
+        if from > before {
+            return node
+                .right
+                .read(from - before - 1, shown, items, filled, steps);
+        }
+        let end = node.left.read(from, shown, items, filled, steps);
+        if end == items.len() {
+            return end;
+        }
+        items[end] = show(shown, &node.item);
+        node.right.read(0, shown, items, end + 1, steps)
+    }
+}
+
+/// What the closure makes of an item.
+#[inline(always)]
+fn show<T, U, F: Fn(&T) -> U>(shown: &F, item: &T) -> U
+    requires { F.IsAlwaysCallable shown.now }
+    ensures { FnReturnsAt F.Fn shown.now item.now result }
+{
+    shown(item)
+}
