@@ -48,10 +48,10 @@ pub record Laws : Type 0 where
   pub of_pq : OneChangeOfPq
 
 -- the order turned round
-turned_on : (a b c : Entry) → is_greater a b ≡ false → is_greater b c ≡ false → is_greater a c ≡ false
+pub turned_on : (a b c : Entry) → is_greater a b ≡ false → is_greater b c ≡ false → is_greater a c ≡ false
 turned_on a b c first second = passed_on c b a second first
 
-turned_way : (a b : Entry) → is_greater a b ≡ true → is_greater b a ≡ false
+pub turned_way : (a b : Entry) → is_greater a b ≡ true → is_greater b a ≡ false
 turned_way a b first = one_way b a first
 
 module _ (laws : Laws) (marked : List MarkedRow) (kept : MarksSurvivors marked) where

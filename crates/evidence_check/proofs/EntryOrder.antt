@@ -35,7 +35,7 @@ pub both_true : (a b : Bool) → (a && b) ≡ true → (a ≡ true) × (b ≡ tr
 both_true true b h = (refl, h)
 both_true false b h = absurd (cc)
 
-entry_of_parts : (k l : ℤ) (m n : ℕ) → k ≡ l → m ≡ n → ◌≡◌ {A = Entry} (record { key = k; number = m }) (record { key = l; number = n })
+pub entry_of_parts : (k l : ℤ) (m n : ℕ) → k ≡ l → m ≡ n → ◌≡◌ {A = Entry} (record { key = k; number = m }) (record { key = l; number = n })
 entry_of_parts k l m n key number = rw (key, number) refl
 
 pub same_is : (a b : Entry) → same_entry a b ≡ true → a ≡ b

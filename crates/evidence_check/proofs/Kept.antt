@@ -41,11 +41,11 @@ nothing_kept = record {
   marks = tt;
 }
 
-all_map : {X : Type 0} (P Q : X → Type 0) (f : X → X) (xs : List X) → ((x : X) → P x → Q (f x)) → AllByRecursion P xs → AllByRecursion Q (map f xs)
+pub all_map : {X : Type 0} (P Q : X → Type 0) (f : X → X) (xs : List X) → ((x : X) → P x → Q (f x)) → AllByRecursion P xs → AllByRecursion Q (map f xs)
 all_map P Q f [] each all = tt
 all_map P Q f (x ∷ xs) each all = (each x all.0, all_map P Q f xs each all.1)
 
-other_way : (a b : Entry) → same_entry a b ≡ false → same_entry b a ≡ false
+pub other_way : (a b : Entry) → same_entry a b ≡ false → same_entry b a ≡ false
 other_way a b other = elim (same_entry b a) as (λ t. same_entry b a ≡ t → t ≡ false) [
   | true ↦ λ same. let wrong : true ≡ false = sym (is_itself a) ∙ ap (same_entry a) (sym (same_is b a same)) ∙ other in absurd (cc)
   | false ↦ λ differs. refl
@@ -88,7 +88,7 @@ row_marked entry alive row = elim (adds entry row) as (λ b. adds entry row ≡ 
   | false ↦ λ miss. rw miss refl
 ] refl
 
-rows_marked : (entry : Entry) (alive : Bool) (rows : List MarkedRow) → rows_of (map (with_mark entry alive) rows) ≡ rows_of rows
+pub rows_marked : (entry : Entry) (alive : Bool) (rows : List MarkedRow) → rows_of (map (with_mark entry alive) rows) ≡ rows_of rows
 rows_marked entry alive [] = refl
 rows_marked entry alive (row ∷ rows) = rw (row_marked entry alive row, rows_marked entry alive rows) refl
 
@@ -97,7 +97,7 @@ rows_changed Plain rows = refl
 rows_changed (Gain bridge entry) rows = rows_marked entry true rows
 rows_changed (Lose bridge entry) rows = rows_marked entry false rows
 
-rows_edited : (added : Bool) (marked : List MarkedRow) (place : ℕ) (row : MarkedRow) → rows_of (edited_rows marked added place row) ≡ edited (rows_of marked) (edit_with added place (row_of row))
+pub rows_edited : (added : Bool) (marked : List MarkedRow) (place : ℕ) (row : MarkedRow) → rows_of (edited_rows marked added place row) ≡ edited (rows_of marked) (edit_with added place (row_of row))
 rows_edited true marked place row = insert_rows place marked row
 rows_edited false marked place row = remove_rows place marked
 

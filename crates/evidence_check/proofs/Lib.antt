@@ -17,4 +17,8 @@ pub mod TrueEvidence
 pub mod Timeless
 pub mod EditsReported
 pub mod EditsSpelled
+pub mod Pairs
+pub mod Beside
+pub mod Least
+pub mod KeptBeside
 mod Examples

@@ -34,7 +34,7 @@ is_fresh number (first ∷ others) none =
     (λ same. let wrong : true ≡ false = sym ((Decides-eqb first.number number).1 same) ∙ parts.0 in absurd (cc), is_fresh number others parts.1)
 
 -- the test does not fail of the row that stands there
-holds_at : (test : Row → Bool) (o : Option Row) → option_map_or (λ row. not (test row)) o true ≡ false → (row : Row) × (o ≡ Some row) × (test row ≡ true)
+pub holds_at : (test : Row → Bool) (o : Option Row) → option_map_or (λ row. not (test row)) o true ≡ false → (row : Row) × (o ≡ Some row) × (test row ≡ true)
 holds_at test None fails = absurd (cc)
 holds_at test (Some row) fails = (row, refl, not_false (test row) fails)
   where

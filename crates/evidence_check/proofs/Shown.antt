@@ -13,7 +13,7 @@ use Rattle.evidence_check.proofs.Members.{In, contains_in, in_contains, absent_a
 use Rattle.evidence_check.proofs.Marking.{take_rows, drop_rows}
 
 -- one entry more, where there is one
-in_more : (o : Option Entry) (xs : List Entry) (e : Entry) → (o ≡ Some e) ⊎ In e xs → In e (cons_option o xs)
+pub in_more : (o : Option Entry) (xs : List Entry) (e : Entry) → (o ≡ Some e) ⊎ In e xs → In e (cons_option o xs)
 in_more None xs e inside = elim inside [ inl here ↦ absurd (cc) | inr further ↦ further ]
 in_more (Some x) xs e inside = elim inside [ inl here ↦ inl (let same : e ≡ x = cc in same) | inr further ↦ inr further ]
 
@@ -59,14 +59,14 @@ module _ (survive : List Entry) (e : Entry) where
     | inr further ↦ inr (shown_dead others marks.1 further among)
   ]
 
-  alive_shown : (marked : List MarkedRow) → AllByRecursion (IsMarked survive) marked → Shown alive_entry marked e → In e (added (rows_of marked)) × (is_among survive e ≡ true)
+  pub alive_shown : (marked : List MarkedRow) → AllByRecursion (IsMarked survive) marked → Shown alive_entry marked e → In e (added (rows_of marked)) × (is_among survive e ≡ true)
   alive_shown [] marks shown = absurd shown
   alive_shown (first ∷ others) marks shown = elim shown [
     | inl here ↦ let reported = alive_reported survive first.alive (entry_of first) e marks.0 here in (in_more (entry_of first) (added (rows_of others)) e (inl reported.entry), reported.among)
     | inr further ↦ let rest = alive_shown others marks.1 further in (in_more (entry_of first) (added (rows_of others)) e (inr rest.0), rest.1)
   ]
 
-  shown_alive : (marked : List MarkedRow) → AllByRecursion (IsMarked survive) marked → In e (added (rows_of marked)) → is_among survive e ≡ true → Shown alive_entry marked e
+  pub shown_alive : (marked : List MarkedRow) → AllByRecursion (IsMarked survive) marked → In e (added (rows_of marked)) → is_among survive e ≡ true → Shown alive_entry marked e
   shown_alive [] marks inside among = absurd inside
   shown_alive (first ∷ others) marks inside among = elim (more_in (entry_of first) (added (rows_of others)) e inside) [
     | inl here ↦ inl (reported_alive survive first.alive (entry_of first) e marks.0 here among)

@@ -1,5 +1,5 @@
 -- How many dead entries are held, row by row: the marks are the weights.
-use Rattle.std.proofs.Common.{◌≡◌, ◌≢◌, ℕ, zero, suc, ◌+◌, ◌-◌, ◌<◌, ◌≤◌, pos, Bool, true, false, not, ◌&&◌, cond, List, [], ◌∷◌, length, take, refl, sym, ap, ◌∙◌, zero-add, add-one, get_or, arith, Option, Some, None}
+use Rattle.std.proofs.Common.{◌≡◌, ◌≢◌, ℕ, zero, suc, ◌+◌, ◌-◌, ◌<◌, ◌≤◌, pos, Bool, true, false, not, ◌&&◌, cond, List, [], ◌∷◌, length, take, refl, sym, ap, ◌∙◌, zero-add, get_or, arith, Option, Some, None, IsSome, inl, inr}
 use Rattle.std.specs.Prelude.{◌==◌, ◌+ℤ◌, slice_get, count_by}
 use Rattle.std.specs.Option.{option_map_or}
 use Rattle.std.specs.List.{AllByRecursion, fold, list_all}
@@ -7,16 +7,22 @@ use Rattle.std.proofs.lemmas.Bool.{ne_eqb}
 use Rattle.std.proofs.lemmas.Int.{ints}
 use Rattle.std.proofs.lemmas.List.Sums.{sum_by-cons}
 use Rattle.std.proofs.lemmas.Option.{slice_get-map, slice_get-get_or}
+use Rattle.std.specs.Result.{result_unwrap_or}
+use Rattle.std.proofs.lemmas.List.{take_all}
+use Rattle.retro_base.specs.declared.kind.Kind.TheVariants.{Pq}
 use Rattle.retro_base.specs.declared.op.Op.TheVariants.{Enq}
+use Rattle.retro_base.specs.Replay.{run}
+use Rattle.retro_base.specs.State.{empty}
 use Rattle.retro_base.specs.declared.row.Entry.{Entry}
 use Rattle.retro_base.specs.declared.row.Row.{Row}
 use Rattle.retro_base.specs.BridgeLaws.{WeightsCountTheDead}
-use Rattle.retro_base.specs.Bridges.{entries_at, is_among, is_bridge, survivors, last_bridge, first_bridge, first_bridge_among}
+use Rattle.retro_base.specs.Bridges.{entries_at, entries_of, is_among, is_bridge, survivors, last_bridge, first_bridge, first_bridge_among}
 use Rattle.retro_base.specs.Carried.{IsPqHistory}
 use Rattle.retro_base.specs.Weights.{dead_at, sum_of_weights, weight, weight_as}
 use Rattle.evidence_check.specs.declared.marked_row.MarkedRow.{MarkedRow}
 use Rattle.evidence_check.proofs.Marking.{length_rows}
-use Rattle.evidence_check.specs.Marks.{MarksSurvivors, IsMarked, dead_after, dead_by, entry_of, row_of, rows_of}
+use Rattle.evidence_check.proofs.Members.{In, in_is_among}
+use Rattle.evidence_check.specs.Marks.{MarksSurvivors, IsMarked, dead_before, dead_by, dead_entry, entry_of, row_of, rows_of}
 
 -- a fold over one element more
 fold_take : {A B : Type 0} (f : B → A → B) (start : B) (xs : List A) (i : ℕ) (x : A) → slice_get xs i ≡ Some x
@@ -38,29 +44,27 @@ history marked kept = record {
   valid = kept.replayable.valid;
 }
 
-at_most_one_more : (dead : ℕ) (alive : Bool) (o : Option Entry) (index : ℕ) → dead ≤ index → dead_by dead alive o ≤ suc index
-at_most_one_more dead alive None index few = omega arith
-at_most_one_more dead true (Some e) index few = omega arith
-at_most_one_more dead false (Some e) index few = omega arith
-
--- the dead after a row, by the weight that its mark says
+-- the dead in front of a row, by the weight that its mark says
 pub record Weighed (before after : ℕ) (alive : Bool) (o : Option Entry) : Type 0 where
-  pub later : after ≡ dead_by before alive o
-  pub held : o ≡ None → 1 ≤ before
+  pub earlier : before ≡ dead_by after alive o
+  pub held : IsSome (cond alive None o) → 1 ≤ after
+  pub more : after ≤ suc before
 
 weighed : (survive : List Entry) (before after : ℕ) (alive : Bool) (o : Option Entry) → alive ≡ option_map_or (is_among survive) o false
     → pos after ≡ pos before +ℤ weight_as survive o → Weighed before after alive o
-weighed survive before after alive None mark sum = record { later = omega (arith, ints); held = λ none. omega (arith, ints) }
+weighed survive before after alive None mark sum =
+    let unmarked : alive ≡ false = mark in
+    record { earlier = omega (arith, ints); held = λ some. absurd (let wrong : false ≡ true = rw unmarked at some in cc); more = omega (arith, ints) }
 weighed survive before after alive (Some e) mark sum =
     elim (is_among survive e) as (λ b. is_among survive e ≡ b → Weighed before after alive (Some e)) [
       | true ↦ λ among.
           let marks : alive ≡ true = mark ∙ among in
           let sums : pos after ≡ pos before +ℤ pos 0 = rw among at sum in
-          record { later = rw marks (omega (arith, ints)); held = λ none. absurd (cc) }
+          record { earlier = rw marks (omega (arith, ints)); held = λ some. absurd (let wrong : false ≡ true = rw marks at some in cc); more = omega (arith, ints) }
       | false ↦ λ dead.
           let marks : alive ≡ false = mark ∙ dead in
           let sums : pos after ≡ pos before +ℤ pos 1 = rw dead at sum in
-          record { later = rw marks (omega (arith, ints)); held = λ none. absurd (cc) }
+          record { earlier = rw marks (omega (arith, ints)); held = λ some. omega (arith, ints); more = omega (arith, ints) }
     ] refl
 
 module _ (count : WeightsCountTheDead) (marked : List MarkedRow) (kept : MarksSurvivors marked) where
@@ -85,21 +89,6 @@ module _ (count : WeightsCountTheDead) (marked : List MarkedRow) (kept : MarksSu
 pub record Counted (marked : List MarkedRow) (index dead : ℕ) : Type 0 where
   pub count : dead ≡ dead_at (rows_of marked) index
   pub few : dead ≤ index
-
-module _ (count : WeightsCountTheDead) (marked : List MarkedRow) (kept : MarksSurvivors marked) where
-  pub counted_start : Counted marked 0 0
-  counted_start = record { count = sym (dead_at_start count marked kept); few = omega arith }
-
-  module _ (index dead : ℕ) (row : MarkedRow) (there : slice_get marked index ≡ Some row) (counted : Counted marked index dead) where
-    -- a row that takes finds an entry
-    pub counted_held : entry_of row ≡ None → 1 ≤ dead
-    counted_held takes = rw counted.count ((step count marked kept index row there).held takes)
-
-    pub counted_next : Counted marked (suc index) (dead_after dead row)
-    counted_next = record {
-      count = ap (λ d. dead_after d row) counted.count ∙ sym (step count marked kept index row there).later;
-      few = at_most_one_more dead row.alive (entry_of row) index counted.few;
-    }
 
 -- a place is a bridge where no dead entry is held
 counts_none : (b all : Bool) (n : ℕ) → all ≡ (n == 0) → (b && all) ≡ (cond (not b) 1 0 + n == 0)
@@ -142,48 +131,69 @@ first_at_end rows = ap (λ n. first_bridge_among n rows (length rows)) (let none
 abbrev pub no_row : MarkedRow
 no_row = record { number = 0; op = Enq (pos 0); alive = false }
 
--- the walks, one row further
-module _ (law : WeightsCountTheDead) (marked : List MarkedRow) (kept : MarksSurvivors marked) (index dead : ℕ) (within : index < length marked) where
-  abbrev row : MarkedRow
-  row = get_or marked index no_row
+-- after all rows nothing dead is held
+none_counted : (all held : List Entry) → ((e : Entry) → In e held → is_among all e ≡ true) → count_by (λ e. not (is_among all e)) held ≡ 0
+none_counted all [] each = refl
+none_counted all (e ∷ held) each =
+    let one_more : count_by (λ x. not (is_among all x)) (e ∷ held) ≡ cond (not (is_among all e)) 1 0 + count_by (λ x. not (is_among all x)) held =
+    sum_by-cons (λ x. cond (not (is_among all x)) 1 0) e held in
+    one_more ∙ rw (each e (inl refl), none_counted all held (λ x further. each x (inr further))) refl
 
-  pub held_there : Counted marked index dead → entry_of (get_or marked index no_row) ≡ None → 1 ≤ dead
-  held_there counted = counted_held law marked kept index dead row (slice_get-get_or marked index no_row within) counted
+dead_at_end : (rows : List Row) → dead_at rows (length rows) ≡ 0
+dead_at_end rows =
+    let whole : entries_at rows (length rows) ≡ survivors rows =
+    ap (λ first. entries_of (result_unwrap_or (run first (empty Pq)) (empty Pq))) (take_all (length rows) rows (omega arith)) in
+    ap (λ held. count_by (λ entry. not (is_among (survivors rows) entry)) held) whole ∙ none_counted (survivors rows) (survivors rows) (λ e inside. in_is_among e (survivors rows) inside)
 
-  pub next_there : Counted marked index dead → Counted marked (index + 1) (dead_after dead (get_or marked index no_row))
-  next_there counted = rw add-one (counted_next law marked kept index dead row (slice_get-get_or marked index no_row within) counted)
+-- the walks, one row back
+module _ (law : WeightsCountTheDead) (marked : List MarkedRow) (kept : MarksSurvivors marked) where
+  few_at : (index : ℕ) → index ≤ length marked → dead_at (rows_of marked) index ≤ index
+  few_at zero within = omega (arith, dead_at_start law marked kept)
+  few_at (suc index) within =
+      let before = few_at index (omega arith) in
+      let next = (step law marked kept index (get_or marked index no_row) (slice_get-get_or marked index no_row (omega arith))).more in
+      omega (arith, before, next)
 
--- the last bridge so far
-pub last_moved : (marked : List MarkedRow) (index dead : ℕ) → Counted marked (index + 1) dead → dead ≡ 0 → index + 1 ≡ last_bridge (rows_of marked) (index + 1)
-last_moved marked index dead counted none =
-    let is : is_bridge (rows_of marked) (suc index) ≡ true = ap (is_bridge (rows_of marked)) (sym (add-one index)) ∙ counted_bridge marked (index + 1) dead counted ∙ ap (λ n. n == 0) none in
-    rw add-one (sym (last_here (rows_of marked) index is))
+  pub counted_end : Counted marked (length marked) 0
+  counted_end = record { count = sym (ap (dead_at (rows_of marked)) (sym (length_rows marked)) ∙ dead_at_end (rows_of marked)); few = omega arith }
 
-pub last_stays : (marked : List MarkedRow) (index dead bridge : ℕ) → Counted marked (index + 1) dead → dead ≢ 0 → bridge ≡ last_bridge (rows_of marked) index
-    → bridge ≡ last_bridge (rows_of marked) (index + 1)
-last_stays marked index dead bridge counted some so_far =
-    let is : is_bridge (rows_of marked) (suc index) ≡ false = ap (is_bridge (rows_of marked)) (sym (add-one index)) ∙ counted_bridge marked (index + 1) dead counted ∙ ne_eqb dead 0 some in
-    rw add-one (so_far ∙ sym (last_before (rows_of marked) index is))
+  module _ (index after dead : ℕ) (next : suc index ≡ after) (within : index < length marked) (counted : Counted marked after dead) where
+    counted_there : dead ≡ dead_at (rows_of marked) (suc index)
+    counted_there = counted.count ∙ ap (dead_at (rows_of marked)) (sym next)
 
--- the first bridge from a place on, which the walk has passed or not
-pub first_found : (marked : List MarkedRow) (place index dead : ℕ) → index < length marked → Counted marked index dead → dead ≡ 0
-    → first_bridge (rows_of marked) place ≡ first_bridge (rows_of marked) index → index ≡ first_bridge (rows_of marked) place
-first_found marked place index dead within counted none same =
-    let is : is_bridge (rows_of marked) index ≡ true = counted_bridge marked index dead counted ∙ ap (λ n. n == 0) none in
-    sym (same ∙ first_here (rows_of marked) index (omega (arith, length_rows marked)) is)
+    pub held_there : IsSome (dead_entry (get_or marked index no_row)) → 1 ≤ dead
+    held_there some = rw counted_there ((step law marked kept index (get_or marked index no_row) (slice_get-get_or marked index no_row within)).held some)
 
-pub first_later : (marked : List MarkedRow) (place index dead : ℕ) → index < length marked → Counted marked index dead → dead ≢ 0
-    → first_bridge (rows_of marked) place ≡ first_bridge (rows_of marked) index → first_bridge (rows_of marked) place ≡ first_bridge (rows_of marked) (index + 1)
-first_later marked place index dead within counted some same =
-    let is : is_bridge (rows_of marked) index ≡ false = counted_bridge marked index dead counted ∙ ne_eqb dead 0 some in
-    rw add-one (same ∙ first_after (rows_of marked) index (omega (arith, length_rows marked)) is)
+    pub next_there : Counted marked index (dead_before dead (get_or marked index no_row))
+    next_there =
+        let row : MarkedRow = get_or marked index no_row in
+        let same : dead_before dead row ≡ dead_at (rows_of marked) index =
+        ap (λ d. dead_before d row) counted_there ∙ sym (step law marked kept index row (slice_get-get_or marked index no_row within)).earlier in
+        record { count = same; few = rw same (few_at index (omega arith)) }
 
-pub first_starts : (marked : List MarkedRow) (place index : ℕ) → place ≡ index → first_bridge (rows_of marked) place ≡ first_bridge (rows_of marked) index
-first_starts marked place index same = ap (first_bridge (rows_of marked)) same
+-- the last bridge up to a place, which the walk has come to or not
+module _ (marked : List MarkedRow) (index after dead place : ℕ) (next : suc index ≡ after) (counted : Counted marked after dead) where
+  bridge_there : is_bridge (rows_of marked) (suc index) ≡ (dead == 0)
+  bridge_there = ap (is_bridge (rows_of marked)) next ∙ counted_bridge marked after dead counted
 
-pub first_ends : (marked : List MarkedRow) (place index : ℕ) → index ≡ length marked → first_bridge (rows_of marked) place ≡ first_bridge (rows_of marked) index
-    → length marked ≡ first_bridge (rows_of marked) place
-first_ends marked place index end so_far =
-    let same : first_bridge (rows_of marked) place ≡ first_bridge (rows_of marked) (length marked) = rw end at so_far in
-    let all : length (rows_of marked) ≡ length marked = length_rows marked in
-    sym (same ∙ ap (first_bridge (rows_of marked)) (sym all) ∙ first_at_end (rows_of marked) ∙ all)
+  pub last_found : dead ≡ 0 → last_bridge (rows_of marked) place ≡ last_bridge (rows_of marked) after → suc index ≡ last_bridge (rows_of marked) place
+  last_found none same = sym (same ∙ ap (last_bridge (rows_of marked)) (sym next) ∙ last_here (rows_of marked) index (bridge_there ∙ ap (λ n. n == 0) none))
+
+  pub last_earlier : dead ≢ 0 → last_bridge (rows_of marked) place ≡ last_bridge (rows_of marked) after → last_bridge (rows_of marked) place ≡ last_bridge (rows_of marked) index
+  last_earlier some same = same ∙ ap (last_bridge (rows_of marked)) (sym next) ∙ last_before (rows_of marked) index (bridge_there ∙ ne_eqb dead 0 some)
+
+pub last_same : (marked : List MarkedRow) (place index : ℕ) → place ≡ index → last_bridge (rows_of marked) place ≡ last_bridge (rows_of marked) index
+last_same marked place index same = ap (last_bridge (rows_of marked)) same
+
+-- the first bridge from an index on
+module _ (marked : List MarkedRow) (index after dead bridge : ℕ) (next : suc index ≡ after) (within : index < length marked) (counted : Counted marked index dead) where
+  pub first_found : dead ≡ 0 → index ≡ first_bridge (rows_of marked) index
+  first_found none = sym (first_here (rows_of marked) index (omega (arith, length_rows marked)) (counted_bridge marked index dead counted ∙ ap (λ n. n == 0) none))
+
+  pub first_stays : dead ≢ 0 → bridge ≡ first_bridge (rows_of marked) after → bridge ≡ first_bridge (rows_of marked) index
+  first_stays some same =
+      same ∙ ap (first_bridge (rows_of marked)) (sym next)
+      ∙ sym (first_after (rows_of marked) index (omega (arith, length_rows marked)) (counted_bridge marked index dead counted ∙ ne_eqb dead 0 some))
+
+pub first_starts : (marked : List MarkedRow) → length marked ≡ first_bridge (rows_of marked) (length marked)
+first_starts marked = sym (ap (first_bridge (rows_of marked)) (sym (length_rows marked)) ∙ first_at_end (rows_of marked) ∙ length_rows marked)

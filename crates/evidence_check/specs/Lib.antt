@@ -4,3 +4,4 @@ pub mod JudgementLaws
 pub mod Laws
 pub mod Refused
 pub mod Marks
+pub mod Kept

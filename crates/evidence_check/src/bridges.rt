@@ -8,7 +8,7 @@ use crate::marked_row::MarkedRow;
 use retro_base::Entry;
 use retro_base::laws::weights_count_the_dead;
 
-/// The last bridge up to a place.
+/// The last bridge up to a place. After all rows nothing dead is held: so the walk goes back from there.
 pub(crate) fn last_bridge(rows: &[MarkedRow], place: u32) -> u32
     requires kept { MarksSurvivors rows.now }
     requires within { place ≤ length rows.now }
@@ -17,17 +17,16 @@ pub(crate) fn last_bridge(rows: &[MarkedRow], place: u32) -> u32
 {
     weights_count_the_dead();
     let mut dead = 0;
-    let mut bridge = 0;
-    for index in 0..place {
-        dead = rows[index as usize].dead_after(dead);
-        if dead == 0 {
-            bridge = index + 1;
+    for index in (0..rows.len() as u32).rev() {
+        if index < place && dead == 0 {
+            return index + 1;
         }
+        dead = rows[index as usize].dead_before(dead);
     }
-    bridge
+    0
 }
 
-/// The first bridge from a place on.
+/// The first bridge from a place on, found from the end too.
 pub(crate) fn first_bridge(rows: &[MarkedRow], place: u32) -> u32
     requires kept { MarksSurvivors rows.now }
     requires within { place ≤ length rows.now }
@@ -36,13 +35,14 @@ pub(crate) fn first_bridge(rows: &[MarkedRow], place: u32) -> u32
 {
     weights_count_the_dead();
     let mut dead = 0;
-    for index in 0..rows.len() as u32 {
-        if place <= index && dead == 0 {
-            return index;
+    let mut bridge = rows.len() as u32;
+    for index in (place..rows.len() as u32).rev() {
+        dead = rows[index as usize].dead_before(dead);
+        if dead == 0 {
+            bridge = index;
         }
-        dead = rows[index as usize].dead_after(dead);
     }
-    rows.len() as u32
+    bridge
 }
 
 /// The greatest of an entry and the dead ones of these rows.

@@ -1,21 +1,28 @@
 //! Why evidence is refused, by the tests in their order.
 
-ghost use Rattle.std.specs.Prelude.{◌≡◌, ◌==◌};
-ghost use Rattle.std.specs.List.{list_any};
+ghost use Rattle.std.specs.Prelude.{◌≡◌};
 ghost use Rattle.evidence.specs.Evidence.{IsEvidence};
-ghost use Rattle.evidence_check.specs.Marks.{MarksSurvivors, rows_of};
+ghost use Rattle.evidence_check.specs.Kept.{AreKept, AreNumbers};
+ghost use Rattle.evidence_check.specs.Marks.{rows_of};
 ghost use Rattle.evidence_check.specs.Truth.{cause_of, has_wrong_number, has_wrong_op, is_full, is_outside, same_op};
 
 use crate::CheckError;
 use crate::changes::change_cause;
 use crate::marked_row::MarkedRow;
+use crate::numbers::{Numbers, has_number};
+use crate::ordered::Survivors;
 use evidence::Evidence;
 use retro_base::{MAX_ROWS, Op};
 
 /// Why evidence is refused after these rows, if it is.
 #[tactic(auto, unfolding(crate::specs::Truth::cause_of))]
-pub(crate) fn cause_of(rows: &[MarkedRow], evidence: &Evidence) -> Option<CheckError>
-    requires kept { MarksSurvivors rows.now }
+pub(crate) fn cause_of(
+    rows: &[MarkedRow],
+    numbers: &Numbers,
+    survivors: &Survivors,
+    evidence: &Evidence,
+) -> Option<CheckError>
+    requires kept { AreKept rows.now numbers.now survivors.now }
     requires evidence { IsEvidence evidence.now }
     ensures { result ≡ cause_of (rows_of rows.now) evidence.now }
 {
@@ -23,12 +30,18 @@ pub(crate) fn cause_of(rows: &[MarkedRow], evidence: &Evidence) -> Option<CheckE
         Some(CheckError::Full)
     } else if is_outside(evidence.added, evidence.place, rows) {
         Some(CheckError::Place)
-    } else if has_wrong_number(evidence.added, evidence.number, evidence.place, rows) {
+    } else if has_wrong_number(
+        evidence.added,
+        evidence.number,
+        evidence.place,
+        rows,
+        numbers,
+    ) {
         Some(CheckError::Number)
     } else if has_wrong_op(evidence.added, evidence.op, evidence.place, rows) {
         Some(CheckError::Row)
     } else {
-        change_cause(rows, evidence)
+        change_cause(rows, survivors, evidence)
     }
 }
 
@@ -51,24 +64,24 @@ fn is_outside(added: bool, place: u32, rows: &[MarkedRow]) -> bool
 }
 
 /// Whether a row that is put in has the number of another one, or the one that is taken out has another number.
-fn has_wrong_number(added: bool, number: u32, place: u32, rows: &[MarkedRow]) -> bool
+fn has_wrong_number(
+    added: bool,
+    number: u32,
+    place: u32,
+    rows: &[MarkedRow],
+    numbers: &Numbers,
+) -> bool
+    requires { AreNumbers (rows_of rows.now) numbers.now }
     ensures { result ≡ has_wrong_number added number place (rows_of rows.now) }
 {
     if added {
-        has_number(number, rows)
+        has_number(number, numbers)
     } else {
         match rows.get(place as usize) {
             None => true,
             Some(row) => row.number != number,
         }
     }
-}
-
-/// Whether one of the rows has the number.
-fn has_number(number: u32, rows: &[MarkedRow]) -> bool
-    ensures { result ≡ list_any (λ row. row.number == number) rows.now }
-{
-    rows.iter().any(|row| row.number == number)
 }
 
 /// Whether the row that is taken out does something else.

@@ -1,15 +1,17 @@
 //! What an edit changes, read off the marks of the rows before it.
 
-ghost use Rattle.std.specs.Prelude.{◌≡◌, ◌≤◌, false, length};
+ghost use Rattle.std.specs.Prelude.{◌≡◌, ◌≤◌, false, length, take};
 ghost use Rattle.retro_base.specs.Carried.{IsPqEdit};
 ghost use Rattle.retro_base.specs.Weights.{added_as};
 ghost use Rattle.evidence.specs.Evidence.{IsEvidence};
-ghost use Rattle.evidence_check.specs.Marks.{MarksSurvivors, cause_against, gained, is_alive_at, lost, marked_change, rows_of};
+ghost use Rattle.evidence_check.specs.Kept.{AreSurvivors};
+ghost use Rattle.evidence_check.specs.Marks.{MarksSurvivors, cause_against, gained, is_alive_at, least_alive, lost, marked_change, rows_of};
 ghost use Rattle.evidence_check.specs.Truth.{bridge_of, change_cause, is_outside, same_bridge, same_change, reported_edit};
 
 use crate::CheckError;
 use crate::bridges::{first_bridge, greatest_dead, last_bridge, least_alive};
 use crate::marked_row::{MarkedRow, added_entry, is_same};
+use crate::ordered::{Survivors, least};
 use evidence::Evidence;
 use retro_base::laws::{
     greatest_from_bridge_is_gained, least_before_bridge_is_lost, one_change_is_named,
@@ -18,8 +20,13 @@ use retro_base::laws::{
 use retro_base::{Change, Entry};
 
 /// Why evidence is refused that tells of an edit which can be made in these rows, if it is.
-pub(crate) fn change_cause(rows: &[MarkedRow], evidence: &Evidence) -> Option<CheckError>
+pub(crate) fn change_cause(
+    rows: &[MarkedRow],
+    survivors: &Survivors,
+    evidence: &Evidence,
+) -> Option<CheckError>
     requires kept { MarksSurvivors rows.now }
+    requires survivors { AreSurvivors rows.now survivors.now }
     requires evidence { IsEvidence evidence.now }
     requires possible { IsPqEdit (rows_of rows.now) (reported_edit evidence.now) }
     requires inside { is_outside evidence.now.added evidence.now.place (rows_of rows.now) ≡ false }
@@ -29,7 +36,7 @@ pub(crate) fn change_cause(rows: &[MarkedRow], evidence: &Evidence) -> Option<Ch
     greatest_from_bridge_is_gained();
     least_before_bridge_is_lost();
     one_change_is_named();
-    cause_against(evidence.change, marked_change(rows, evidence))
+    cause_against(evidence.change, marked_change(rows, survivors, evidence))
 }
 
 /// Why a change is refused where this one was read off the marks, or none.
@@ -51,15 +58,16 @@ fn cause_against(stated: Change, read: Option<Change>) -> Option<CheckError>
 }
 
 /// What the edit changes. There is none where the rows after it do not replay.
-fn marked_change(rows: &[MarkedRow], evidence: &Evidence) -> Option<Change>
+fn marked_change(rows: &[MarkedRow], survivors: &Survivors, evidence: &Evidence) -> Option<Change>
     requires kept { MarksSurvivors rows.now }
+    requires survivors { AreSurvivors rows.now survivors.now }
     requires inside { is_outside evidence.now.added evidence.now.place (rows_of rows.now) ≡ false }
     ensures { result ≡ marked_change rows.now evidence.now.added evidence.now.place (added_as evidence.now.op evidence.now.number) }
 {
     let place = evidence.place;
     let entry = added_entry(evidence.op, evidence.number);
     match (evidence.added, entry) {
-        (true, None) => lost(rows, place),
+        (true, None) => lost(rows, survivors, place),
         (false, None) => gained(rows, place, None),
         (true, Some(_)) => gained(rows, place, entry),
         (false, Some(entry)) => {
@@ -69,7 +77,7 @@ fn marked_change(rows: &[MarkedRow], evidence: &Evidence) -> Option<Change>
                     entry,
                 })
             } else {
-                lost(rows, place + 1)
+                lost(rows, survivors, place + 1)
             }
         }
     }
@@ -87,17 +95,32 @@ fn gained(rows: &[MarkedRow], place: u32, new: Option<Entry>) -> Option<Change>
 }
 
 /// The least entry that survives from before the first bridge from a place on is lost.
-fn lost(rows: &[MarkedRow], place: u32) -> Option<Change>
+fn lost(rows: &[MarkedRow], survivors: &Survivors, place: u32) -> Option<Change>
     requires kept { MarksSurvivors rows.now }
+    requires survivors { AreSurvivors rows.now survivors.now }
     requires within { place ≤ length rows.now }
     ensures { result ≡ lost rows.now place }
 {
     let bridge = first_bridge(rows, place);
-    let entry = least_alive(&rows[..bridge as usize])?;
+    let entry = least_before(rows, survivors, bridge)?;
     Some(Change::Lose {
         bridge: Some(bridge),
         entry,
     })
+}
+
+/// The least entry that survives from before a bridge: of all survivors where no row stands after it.
+fn least_before(rows: &[MarkedRow], survivors: &Survivors, bridge: u32) -> Option<Entry>
+    requires kept { MarksSurvivors rows.now }
+    requires survivors { AreSurvivors rows.now survivors.now }
+    requires within { bridge ≤ length rows.now }
+    ensures { result ≡ least_alive (take bridge rows.now) }
+{
+    if bridge as usize == rows.len() {
+        least(survivors)
+    } else {
+        least_alive(&rows[..bridge as usize])
+    }
 }
 
 /// Whether the entry of the row at a place survives.

@@ -124,6 +124,8 @@ impl Checker {
     fn index_of(&self, name: Name) -> Option<usize>
         ensures { result ≡ position (is_named name) self.now.reported }
     {
-        self.reported.iter().position(|reported| reported.name() == name)
+        self.reported
+            .iter()
+            .position(|reported| reported.name() == name)
     }
 }

@@ -1,8 +1,8 @@
-ghost use Rattle.std.specs.Prelude.{◌≡◌, ◌+◌, ◌≤◌, ◌<◌, None};
+ghost use Rattle.std.specs.Prelude.{◌≡◌, ◌+◌, ◌≤◌, None, IsSome};
 ghost use Rattle.retro_base.specs.Bridges.{same_entry};
 ghost use Rattle.retro_base.specs.Limits.{most_rows};
 ghost use Rattle.retro_base.specs.Weights.{added_as};
-ghost use Rattle.evidence_check.specs.Marks.{adds, alive_entry, dead_after, dead_entry, entry_of};
+ghost use Rattle.evidence_check.specs.Marks.{adds, alive_entry, dead_before, dead_entry, entry_of};
 
 use retro_base::{Entry, Op};
 
@@ -37,16 +37,16 @@ impl MarkedRow {
         if self.alive { None } else { self.entry() }
     }
 
-    /// How many dead entries are held after the row, if so many are held in front of it.
-    pub(crate) fn dead_after(self, dead: u32) -> u32
-        requires room { dead < most_rows }
-        requires held { entry_of self ≡ None → 1 ≤ dead }
-        ensures { result ≡ dead_after dead self }
+    /// How many dead entries are held in front of the row, if so many are held after it.
+    pub(crate) fn dead_before(self, dead: u32) -> u32
+        requires room { dead ≤ most_rows }
+        requires held { IsSome (dead_entry self) → 1 ≤ dead }
+        ensures { result ≡ dead_before dead self }
     {
         match self.entry() {
-            None => dead - 1,
+            None => dead + 1,
             Some(_) if self.alive => dead,
-            Some(_) => dead + 1,
+            Some(_) => dead - 1,
         }
     }
 

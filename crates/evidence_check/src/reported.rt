@@ -6,28 +6,32 @@ use crate::CheckError;
 use crate::causes::cause_of;
 use crate::edits::make;
 use crate::marked_row::MarkedRow;
+use crate::numbers::Numbers;
+use crate::ordered::Survivors;
 use evidence::Evidence;
 use retro_base::Name;
-use retro_base::laws::one_change_is_named;
 use std::alloc::Global;
 use std::marker::Model;
 
-/// What evidence has reported of one timeline: its rows.
+/// What evidence has reported of one timeline: its rows, with their numbers and their survivors beside them.
 #[derive(Drop)]
 pub(crate) struct Reported {
     name: Name,
     rows: Vec<MarkedRow>,
+    numbers: Numbers,
+    survivors: Survivors,
 }
 
 impl Model for Reported {
     ghost use Rattle.evidence_check.specs.Judgement.{Reported};
-    ghost use Rattle.evidence_check.specs.Marks.{MarksSurvivors, rows_of};
+    ghost use Rattle.evidence_check.specs.Kept.{AreKept};
+    ghost use Rattle.evidence_check.specs.Marks.{rows_of};
 
     ghost Value = { Reported };
 
     ghost view = { λ t. record { name = t.name; rows = rows_of t.rows.items } };
 
-    ghost invariant = { λ t. MarksSurvivors t.rows.items };
+    ghost invariant = { λ t. AreKept t.rows.items t.numbers t.survivors };
 }
 
 impl Reported {
@@ -40,6 +44,8 @@ impl Reported {
         Reported {
             name,
             rows: Vec::new(alloc),
+            numbers: Numbers::new(alloc),
+            survivors: Survivors::new(alloc),
         }
     }
 
@@ -58,10 +64,14 @@ impl Reported {
         ensures err { OnErr result (self.new ≡ self.old) }
         ensures cause { IsRefused result (cause_of self.old.rows evidence.now) }
     {
-        one_change_is_named();
-        match cause_of(&self.rows, evidence) {
+        match cause_of(&self.rows, &self.numbers, &self.survivors, evidence) {
             Some(cause) => Err(cause),
-            None => make(&mut self.rows, evidence),
+            None => make(
+                &mut self.rows,
+                &mut self.numbers,
+                &mut self.survivors,
+                evidence,
+            ),
         }
     }
 }

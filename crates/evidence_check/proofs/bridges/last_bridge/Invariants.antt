@@ -5,4 +5,4 @@ use Rattle.evidence_check.proofs.Weighing.{Counted}
 use Rattle.evidence_check.proofs.bridges.last_bridge.Given as goal
 
 abbrev pub invariant-loop-index : goal.invariant-loop-index
-invariant-loop-index l = Counted l.rows l.index l.dead × (l.bridge ≡ last_bridge (rows_of l.rows) l.index) × (l.bridge ≤ l.index)
+invariant-loop-index l = Counted l.rows l.index l.dead × (l.index ≤ l.place → last_bridge (rows_of l.rows) l.place ≡ last_bridge (rows_of l.rows) l.index)
