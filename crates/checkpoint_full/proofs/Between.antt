@@ -5,7 +5,8 @@ use Rattle.std.proofs.lemmas.List.Quantifiers.{position-Some}
 use Rattle.std.proofs.Math.Seq.{take-length}
 use Rattle.retro_base.specs.OrderLaws.{all_with}
 use Rattle.retro_base.specs.Timeline.{Structure}
-use Rattle.checkpoint_full.specs.Checkpoints.{first_of, place_of, were_made, AreCheckpoints, AreClose, HasRoom, HoldsFirstRows, KeepsCheckpoints}
+use Rattle.checkpoint_full.specs.Checkpoints.{first_of, place_of, were_made, AreCheckpoints, HasRoom, HoldsFirstRows, KeepsCheckpoints}
+use Rattle.checkpoint_full.specs.Widths.{AreClose}
 use Rattle.checkpoint_full.proofs.FirstRows.{first_rows_of, first_of-first_of, place_of-first_of, not_after_now, same_structure}
 use Rattle.checkpoint_full.proofs.Mapped.{all_of}
 use Rattle.checkpoint_full.proofs.Places.{is_up_to, close_between, close_more, room_between, room_there}
@@ -16,7 +17,7 @@ pub record StandsBetween (now : Structure) (checkpoints : List Structure) (place
   pub earlier_is : earlier ≡ get_or checkpoints index earlier
   pub later_is : later ≡ get_or (now ∷ checkpoints) index earlier
 
-any_default : (xs : List Structure) (index : ℕ) (d e : Structure) → index < length xs → get_or xs index d ≡ get_or xs index e
+pub any_default : (xs : List Structure) (index : ℕ) (d e : Structure) → index < length xs → get_or xs index d ≡ get_or xs index e
 any_default [] index d e below = absurd (omega arith)
 any_default (x ∷ xs) zero d e below = refl
 any_default (x ∷ xs) (suc index) d e below = any_default xs index d e (omega arith)

@@ -6,3 +6,5 @@ pub mod Places
 pub mod Between
 pub mod Keeping
 pub mod Made
+pub mod Thinned
+pub mod Settled

@@ -6,7 +6,8 @@ use Rattle.std.proofs.lemmas.Bool.{leb-true, leb-false, le-leb, lt-ltb, cases_lt
 use Rattle.std.proofs.lemmas.List.Quantifiers.{position-Some}
 use Rattle.retro_base.specs.declared.row.Row.{Row}
 use Rattle.retro_base.specs.Timeline.{Structure}
-use Rattle.checkpoint_full.specs.Checkpoints.{place_of, with_row, without_row, AreCheckpoints, AreClose, HasRoom, HoldsFirstRows, were_made}
+use Rattle.checkpoint_full.specs.Checkpoints.{place_of, with_row, without_row, AreCheckpoints, HasRoom, HoldsFirstRows, were_made}
+use Rattle.checkpoint_full.specs.Widths.{AreClose}
 use Rattle.checkpoint_full.proofs.Mapped.{all_of}
 use Rattle.checkpoint_full.proofs.Followed.{longer, shorter, row_stays_out, row_was_out}
 

@@ -1,5 +1,5 @@
 -- The checkpoints of a timeline: structures that perform its first rows, so close to one another that few rows lie between.
-use Rattle.std.specs.Prelude.{◌≡◌, ℕ, zero, suc, ◌+◌, ◌-◌, ◌*◌, ◌/◌, ◌<◌, ◌≤◌, nat_lt, if◌then◌else◌, Bool, true, false, List, [], ◌∷◌, ◌++◌, length, take, drop, map, reverse}
+use Rattle.std.specs.Prelude.{◌≡◌, ℕ, ◌+◌, ◌<◌, ◌≤◌, nat_lt, if◌then◌else◌, Bool, true, false, List, [], ◌∷◌, length, take, drop, map, reverse}
 use Rattle.std.specs.Prelude.{Option, Some, None}
 use Rattle.std.specs.List.{insert, remove, AllByRecursion}
 use Rattle.retro_base.specs.declared.kind.Kind.{Kind}
@@ -9,17 +9,15 @@ use Rattle.retro_base.specs.Kind.{kind_of}
 use Rattle.retro_base.specs.Limits.{most_rows}
 use Rattle.retro_base.specs.Replay.{IsValid}
 use Rattle.retro_base.specs.Timeline.{IsFresh, Structure}
+use Rattle.checkpoint_full.specs.Widths.{most_checkpoints, AreClose, IsThin, IsWidth}
 
--- the most rows between neighbours
-abbrev pub width : ℕ
-width = 1024
-
--- what is seen of a structure with checkpoints: beside its rows whether the checkpoints were made, and the places
--- of those after the start, rising
+-- what is seen of a structure with checkpoints: beside its rows whether the checkpoints were made, the most rows between
+-- neighbours, and the places of those after the start, rising
 pub record Checkpointed : Type 0 where
   pub kind : Kind
   pub rows : List Row
   pub made : Bool
+  pub width : ℕ
   pub places : List ℕ
 
 -- the structure after an edit
@@ -45,16 +43,16 @@ place_of checkpoint = length checkpoint.rows
 abbrev pub HoldsFirstRows : Structure → Structure → Type 0
 HoldsFirstRows now checkpoint = checkpoint ≡ first_of (place_of checkpoint) now
 
--- places from one down to the last, each at most so many rows before the one after it
-abbrev pub AreClose : ℕ → ℕ → List ℕ → ℕ → Type 0
-AreClose most later [] last = later ≡ last
-AreClose most later (place ∷ places) last = (place ≤ later) × (later ≤ place + most) × AreClose most place places last
-
 -- the checkpoints of a timeline once they were made, the latest first: neighbours are close, the present and the start
 -- among them, and the start is the last of them
-pub record AreCheckpoints (most : ℕ) (now : Structure) (checkpoints : List Structure) : Type 0 where
+pub record AreCheckpoints (width : ℕ) (now : Structure) (checkpoints : List Structure) : Type 0 where
   pub first_rows : AllByRecursion (HoldsFirstRows now) checkpoints
-  pub close : AreClose most (place_of now) (map place_of checkpoints) 0
+  pub close : AreClose width (place_of now) (map place_of checkpoints) 0
+
+-- none of them would be dropped, and there are at most 31 besides the start
+pub record AreSettled (width : ℕ) (now : Structure) (checkpoints : List Structure) : Type 0 where
+  pub thin : IsThin width (place_of now) (map place_of checkpoints)
+  pub few : length checkpoints ≤ 1 + most_checkpoints
 
 -- whether they were made
 abbrev pub were_made : List Structure → Bool
@@ -65,23 +63,20 @@ were_made (checkpoint ∷ checkpoints) = true
 abbrev pub places_of : List Structure → List ℕ
 places_of checkpoints = drop 1 (reverse (map place_of checkpoints))
 
--- so many positive multiples of a width, rising
-abbrev pub multiples : ℕ → ℕ → List ℕ
-multiples most zero = []
-multiples most (suc count) = multiples most count ++ suc count * most ∷ []
-
--- the places at which checkpoints are made for so many rows, the start apart, rising: the positive multiples of the
--- width below that number
-abbrev pub made_places : ℕ → List ℕ
-made_places rows = multiples width ((rows - 1) / width)
-
 -- they are kept where they were made
 abbrev pub KeepsCheckpoints : ℕ → Structure → List Structure → Type 0
-KeepsCheckpoints most now checkpoints = were_made checkpoints ≡ true → AreCheckpoints most now checkpoints
+KeepsCheckpoints width now checkpoints = were_made checkpoints ≡ true → AreCheckpoints width now checkpoints
+
+-- what stays true of them, whatever is edited and asked
+pub record KeepsRule (width : ℕ) (now : Structure) (checkpoints : List Structure) : Type 0 where
+  pub of_widths : IsWidth width
+  pub kept : KeepsCheckpoints width now checkpoints
+  pub settled : AreSettled width now checkpoints
 
 -- what is seen of a present and its checkpoints
-abbrev pub seen : Structure → List Structure → Checkpointed
-seen now checkpoints = record { kind = now.kind; rows = now.rows; made = were_made checkpoints; places = places_of checkpoints }
+abbrev pub seen : ℕ → Structure → List Structure → Checkpointed
+seen width now checkpoints =
+    record { kind = now.kind; rows = now.rows; made = were_made checkpoints; width = width; places = places_of checkpoints }
 
 -- a checkpoint after a row was put into the timeline at a place: it has the row where it stands after the place
 abbrev pub with_row : ℕ → Row → Structure → Structure
@@ -94,8 +89,8 @@ without_row place checkpoint =
 
 -- one more row fits between the neighbours of the place
 abbrev pub HasRoom : ℕ → ℕ → ℕ → List ℕ → Type 0
-HasRoom most place later [] = Unit {0}
-HasRoom most place later (earlier ∷ places) = (place < earlier → HasRoom most place earlier places) × (earlier ≤ place → later < earlier + most)
+HasRoom width place later [] = Unit {0}
+HasRoom width place later (earlier ∷ places) = (place < earlier → HasRoom width place earlier places) × (earlier ≤ place → later < earlier + width)
 
 -- a checkpoint can follow an insertion, and be taken back from it
 abbrev pub CanFollow : ℕ → Row → Structure → Type 0

@@ -1,14 +1,12 @@
 //! The checkpoints of a timeline, the latest first: how they are made, and which is nearest to a place.
 ghost use Rattle.std.specs.Prelude.{◌≡◌, ◌+◌, ◌-◌, ◌*◌, ◌/◌, ◌<◌, ◌≤◌, ◌∷◌, nat_le, length, get_or, map, position, true, IfOk, IfSome, OnOk, OnErr};
-ghost use Rattle.checkpoint_full.specs.Checkpoints.{made_places, place_of, places_of, were_made, width, without_made, AreCheckpoints, HasRoom, KeepsCheckpoints};
+ghost use Rattle.checkpoint_full.specs.Checkpoints.{place_of, places_of, were_made, without_made, AreCheckpoints, AreSettled, HasRoom, KeepsCheckpoints};
+ghost use Rattle.checkpoint_full.specs.Widths.{made_places, most_checkpoints, multiples_below, IsWidth};
 
 use crate::snapshot::Snapshot;
 use retro_base::{NoMemory, Partial, Steps};
 use std::alloc::Global;
 use std::sync::ledger::Ledger;
-
-/// The most rows between neighbouring checkpoints; the start and the present count as neighbours.
-pub const WIDTH: u32 = 1024;
 
 /// The index of the latest checkpoint that is not after the place; none where none were made.
 pub(crate) fn nearest<P: Partial + Drop>(checkpoints: &[Snapshot<P>], place: u32) -> Option<usize>
@@ -20,11 +18,13 @@ pub(crate) fn nearest<P: Partial + Drop>(checkpoints: &[Snapshot<P>], place: u32
 }
 
 /// The place of the first checkpoint that is made: the last multiple of the width before so many rows.
-fn first_made(rows: u32) -> u32
+fn first_made(rows: u32, width: u32) -> u32
+    requires { 0 < width }
     ensures within { (result ≤ rows) × (rows ≤ result + width) }
-    ensures last { result ≡ (rows - 1) / width * width }
+    ensures before { 0 < result → result < rows }
+    ensures last { result ≡ multiples_below width rows * width }
 {
-    rows.saturating_sub(1) / WIDTH * WIDTH
+    rows.saturating_sub(1) / width * width
 }
 
 /// Makes the checkpoints of a timeline, at the start and at each multiple of the width below the number of rows. Each of
@@ -32,16 +32,20 @@ fn first_made(rows: u32) -> u32
 pub(crate) fn make<P: Partial + Drop, L: Ledger>(
     alloc: Global,
     present: &Snapshot<P>,
+    width: u32,
     steps: &mut Steps<L>,
 ) -> Result<Vec<Snapshot<P>>, NoMemory>
+    requires of_widths { IsWidth width }
+    requires few { multiples_below width (place_of present.now) ≤ most_checkpoints }
     ensures made { IfOk result (λ checkpoints. were_made checkpoints.items ≡ true) }
     ensures checkpoints { IfOk result (λ checkpoints. AreCheckpoints width present.now checkpoints.items) }
-    ensures places { IfOk result (λ checkpoints. places_of checkpoints.items ≡ made_places (place_of present.now)) }
+    ensures places { IfOk result (λ checkpoints. places_of checkpoints.items ≡ made_places width (place_of present.now)) }
+    ensures settled { IfOk result (λ checkpoints. AreSettled width present.now checkpoints.items) }
 {
     let mut checkpoints = Vec::new(alloc);
-    let mut latest = present.copy_at(first_made(present.place()), steps)?;
+    let mut latest = present.copy_at(first_made(present.place(), width), steps)?;
     while latest.place() > 0 {
-        let earlier = latest.copy_at(latest.place().saturating_sub(WIDTH), steps)?;
+        let earlier = latest.copy_at(latest.place().saturating_sub(width), steps)?;
         checkpoints.push(latest)?;
         latest = earlier;
     }
@@ -50,7 +54,7 @@ pub(crate) fn make<P: Partial + Drop, L: Ledger>(
 }
 
 /// The neighbour after the checkpoint at the index: a checkpoint, or the present.
-fn neighbour_after<'a, P: Partial + Drop>(
+pub(crate) fn neighbour_after<'a, P: Partial + Drop>(
     present: &'a Snapshot<P>,
     checkpoints: &'a [Snapshot<P>],
     index: usize,
@@ -85,14 +89,17 @@ fn place_between(earlier: u32, later: u32, place: u32) -> u32
 pub(crate) fn make_room<P: Partial + Drop, L: Ledger>(
     present: &Snapshot<P>,
     checkpoints: &mut Vec<Snapshot<P>>,
+    width: u32,
     place: u32,
     steps: &mut Steps<L>,
 ) -> Result<Option<usize>, NoMemory>
+    requires of_widths { IsWidth width }
     requires within { place ≤ place_of present.now }
     requires keeps { KeepsCheckpoints width present.now checkpoints.old.items }
     ensures keeps { OnOk result (KeepsCheckpoints width present.now checkpoints.new.items) }
     ensures room { OnOk result (HasRoom width place (place_of present.now) (map place_of checkpoints.new.items)) }
     ensures made { OnOk result (were_made checkpoints.new.items ≡ were_made checkpoints.old.items) }
+    ensures one { OnOk result (length checkpoints.new.items ≤ 1 + length checkpoints.old.items) }
     ensures back { IfOk result (λ split. without_made split checkpoints.new.items ≡ checkpoints.old.items) }
     ensures index { IfOk result (λ split. IfSome split (λ index. index < length checkpoints.new.items)) }
     ensures err { OnErr result (checkpoints.new.items ≡ checkpoints.old.items) }
@@ -102,7 +109,7 @@ pub(crate) fn make_room<P: Partial + Drop, L: Ledger>(
     };
     let earlier = checkpoints[index].place();
     let later = neighbour_after(present, checkpoints.as_slice(), index);
-    if later.place() < earlier + WIDTH {
+    if later.place() < earlier + width {
         return Ok(None);
     }
     let between = later.copy_at(place_between(earlier, later.place(), place), steps)?;

@@ -10,11 +10,12 @@ ghost use Rattle.retro_base.specs.Questions.{suits};
 ghost use Rattle.retro_base.specs.Replay.{failure, IsValid, present, state_at};
 ghost use Rattle.retro_base.specs.Timeline.{IsFresh, IsReplayable};
 ghost use Rattle.retro_base.specs.Visits.{VisitsWithin};
-ghost use Rattle.checkpoint_full.specs.Checkpoints.{made_places};
+ghost use Rattle.checkpoint_full.specs.Widths.{least_width, made_places, narrowest};
 
 use crate::kept::{ask_kept, insert_kept, list_kept, remove_kept};
 use crate::reader::Reader;
 use crate::snapshot::Snapshot;
+use crate::width::NARROWEST;
 use retro_base::{
     Answer, Change, Kind, Listing, NoMemory, Op, Partial, Question, Retro, Row, Steps, uncounted,
 };
@@ -24,10 +25,11 @@ use std::sync::ledger::{Blank, Ledger};
 
 /// A structure whose whole past can be asked, over one that answers of the present alone.
 ///
-/// Contracts see its kind and rows, whether its checkpoints were made, and the places of those after the start. The
-/// checkpoints are made at the first question about the past, at the start and at each multiple of `WIDTH` below the
-/// number of rows; from then on neighbours are at most `WIDTH` rows apart, and each performs the first rows of the
-/// timeline, as many as it stands for.
+/// Contracts see its kind and rows, whether its checkpoints were made, the width, and the places of those after the
+/// start. The width is 1,024, 2,048, 4,096 or 8,192 rows, and never falls. The checkpoints are made at the first question
+/// about the past, at the start and at each multiple of the width below the number of rows, at the least width at which
+/// there are at most 31 after the start. From then on neighbours are at most a width apart, those of a checkpoint more
+/// than a width, there are never more than 31, and each performs the first rows of the timeline, as many as it stands for.
 ///
 /// Where questions go forward in time, a copy of a checkpoint that was rolled to a place stays there for the next
 /// question. Contracts do not see it, and copying it is not counted among the visits.
@@ -36,37 +38,39 @@ pub struct Full<P: Partial + Drop> {
     alloc: Global,
     present: Snapshot<P>,
     checkpoints: Vec<Snapshot<P>>,
+    width: u32,
     reader: Reader<P>,
 }
 
 impl<P: Partial + Drop> Model for Full<P> {
     ghost use Rattle.std.specs.Prelude.{IfSome};
-    ghost use Rattle.checkpoint_full.specs.Checkpoints.{Checkpointed, HoldsFirstRows, KeepsCheckpoints, seen, width};
+    ghost use Rattle.checkpoint_full.specs.Checkpoints.{Checkpointed, HoldsFirstRows, KeepsRule, seen};
 
     ghost Value = { Checkpointed };
 
-    ghost view = { λ f. seen f.present f.checkpoints.items };
+    ghost view = { λ f. seen f.width f.present f.checkpoints.items };
 
-    ghost invariant = { λ f. KeepsCheckpoints width f.present f.checkpoints.items × IfSome f.reader (HoldsFirstRows f.present) };
+    ghost invariant = { λ f. KeepsRule f.width f.present f.checkpoints.items × IfSome f.reader (HoldsFirstRows f.present) };
 }
 
 impl<P: Partial + Drop> Full<P> {
     /// A structure over an empty one. It takes no memory; that of the checkpoints will be that of `alloc`.
     pub fn new(alloc: Global, present: P) -> Full<P>
         requires { P.rows present ≡ [] }
-        ensures { result ≡ record { kind = P.kind present; rows = []; made = false; places = [] } }
+        ensures { result ≡ record { kind = P.kind present; rows = []; made = false; width = narrowest; places = [] } }
     {
         Full {
             alloc,
             present: Snapshot::new(present),
             checkpoints: Vec::new(alloc),
+            width: NARROWEST,
             reader: Reader::new(),
         }
     }
 
     /// The answer to a question about the state at a place, after so many rows. The rows stay, whatever the answer, and
-    /// so do the checkpoints where they had been made; then it visits at most 432 nodes for each of 1,025 rows and each
-    /// binary digit of one more than the number of rows. After `NoMemory` all is as before.
+    /// so do the checkpoints where they had been made; then it visits at most 432 nodes for each row of a width and one
+    /// more, and each binary digit of one more than the number of rows. After `NoMemory` all is as before.
     pub fn ask_past<L: Ledger>(
         &mut self,
         place: u32,
@@ -79,15 +83,17 @@ impl<P: Partial + Drop> Full<P> {
         ensures rows { self.new.rows ≡ self.old.rows }
         ensures answer { IfOk result (λ answer. answer ≡ answer_of (state_at self.old.kind self.old.rows place) question) }
         ensures made { OnOk result (self.new.made ≡ true) }
-        ensures first { self.old.made ≡ false → OnOk result (self.new.places ≡ made_places (length self.old.rows)) }
+        ensures first { self.old.made ≡ false → OnOk result (self.new.width ≡ least_width (length self.old.rows)) }
+        ensures multiples { self.old.made ≡ false → OnOk result (self.new.places ≡ made_places self.new.width (length self.old.rows)) }
         ensures places { self.old.made ≡ true → self.new ≡ self.old }
         ensures err { OnErr result (self.new ≡ self.old) }
-        ensures visits { self.old.made ≡ true → VisitsWithin (432 * 1025) (length self.old.rows) steps.old steps.new }
+        ensures visits { self.old.made ≡ true → VisitsWithin (432 * (self.old.width + 1)) (length self.old.rows) steps.old steps.new }
     {
         ask_kept(
             self.alloc,
             &self.present,
             &mut self.checkpoints,
+            &mut self.width,
             &mut self.reader,
             place,
             question,
@@ -103,7 +109,8 @@ impl<P: Partial + Drop> Full<P> {
         ensures rows { self.new.rows ≡ self.old.rows }
         ensures content { IfOk result (λ listing. listing ≡ content (state_at self.old.kind self.old.rows place)) }
         ensures made { OnOk result (self.new.made ≡ true) }
-        ensures first { self.old.made ≡ false → OnOk result (self.new.places ≡ made_places (length self.old.rows)) }
+        ensures first { self.old.made ≡ false → OnOk result (self.new.width ≡ least_width (length self.old.rows)) }
+        ensures multiples { self.old.made ≡ false → OnOk result (self.new.places ≡ made_places self.new.width (length self.old.rows)) }
         ensures places { self.old.made ≡ true → self.new ≡ self.old }
         ensures err { OnErr result (self.new ≡ self.old) }
     {
@@ -111,6 +118,7 @@ impl<P: Partial + Drop> Full<P> {
             self.alloc,
             &self.present,
             &mut self.checkpoints,
+            &mut self.width,
             &mut self.reader,
             place,
             Blank::new(1),
@@ -133,7 +141,8 @@ impl<P: Partial + Drop> Full<P> {
         ensures rows { self.new.rows ≡ self.old.rows }
         ensures answer { IfOk result (λ answer. answer ≡ answer_of (state_at self.old.kind self.old.rows place) question) }
         ensures made { OnOk result (self.new.made ≡ true) }
-        ensures first { self.old.made ≡ false → OnOk result (self.new.places ≡ made_places (length self.old.rows)) }
+        ensures first { self.old.made ≡ false → OnOk result (self.new.width ≡ least_width (length self.old.rows)) }
+        ensures multiples { self.old.made ≡ false → OnOk result (self.new.places ≡ made_places self.new.width (length self.old.rows)) }
         ensures places { self.old.made ≡ true → self.new ≡ self.old }
         ensures err { OnErr result (self.new ≡ self.old) }
     {
@@ -174,11 +183,13 @@ impl<P: Partial + Drop> Retro for Full<P> {
         ensures replayable { OnOk result (IsReplayable self.new.kind self.new.rows) }
         ensures change { IfOk result (IsChange self.old.kind self.old.rows (add place row)) }
         ensures made { OnOk result (self.new.made ≡ self.old.made) }
+        ensures wider { OnOk result (self.old.width ≤ self.new.width) }
         ensures err { OnErr result (self.new ≡ self.old) }
     {
         let change = insert_kept::<P, Brand>(
             &mut self.present,
             &mut self.checkpoints,
+            &mut self.width,
             place,
             row,
             Blank::new(1),
@@ -198,11 +209,13 @@ impl<P: Partial + Drop> Retro for Full<P> {
         ensures replayable { OnOk result (IsReplayable self.new.kind self.new.rows) }
         ensures change { IfOk result (λ taken. IsChange self.old.kind self.old.rows (cut place taken.0) taken.1) }
         ensures made { OnOk result (self.new.made ≡ self.old.made) }
+        ensures wider { OnOk result (self.old.width ≤ self.new.width) }
         ensures err { OnErr result (self.new ≡ self.old) }
     {
         let taken = remove_kept::<P, Brand>(
             &mut self.present,
             &mut self.checkpoints,
+            &mut self.width,
             place,
             Blank::new(1),
         );
@@ -221,7 +234,8 @@ impl<P: Partial + Drop> Retro for Full<P> {
         ensures rows { self.new.rows ≡ self.old.rows }
         ensures answer { IfOk result (λ answer. answer ≡ answer_of (state_at self.old.kind self.old.rows place) question) }
         ensures made { OnOk result (self.new.made ≡ true) }
-        ensures first { self.old.made ≡ false → OnOk result (self.new.places ≡ made_places (length self.old.rows)) }
+        ensures first { self.old.made ≡ false → OnOk result (self.new.width ≡ least_width (length self.old.rows)) }
+        ensures multiples { self.old.made ≡ false → OnOk result (self.new.places ≡ made_places self.new.width (length self.old.rows)) }
         ensures places { self.old.made ≡ true → self.new ≡ self.old }
         ensures err { OnErr result (self.new ≡ self.old) }
     {
@@ -234,7 +248,8 @@ impl<P: Partial + Drop> Retro for Full<P> {
         ensures rows { self.new.rows ≡ self.old.rows }
         ensures content { IfOk result (λ listing. listing ≡ content (state_at self.old.kind self.old.rows place)) }
         ensures made { OnOk result (self.new.made ≡ true) }
-        ensures first { self.old.made ≡ false → OnOk result (self.new.places ≡ made_places (length self.old.rows)) }
+        ensures first { self.old.made ≡ false → OnOk result (self.new.width ≡ least_width (length self.old.rows)) }
+        ensures multiples { self.old.made ≡ false → OnOk result (self.new.places ≡ made_places self.new.width (length self.old.rows)) }
         ensures places { self.old.made ≡ true → self.new ≡ self.old }
         ensures err { OnErr result (self.new ≡ self.old) }
     {

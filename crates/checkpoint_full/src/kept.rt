@@ -8,13 +8,16 @@ ghost use Rattle.retro_base.specs.Questions.{suits};
 ghost use Rattle.retro_base.specs.Replay.{IsValid, state_at};
 ghost use Rattle.retro_base.specs.Timeline.{IsReplayable};
 ghost use Rattle.retro_base.specs.Visits.{VisitsWithin};
-ghost use Rattle.checkpoint_full.specs.Checkpoints.{after, made_places, place_of, places_of, were_made, width, CanTake, HoldsFirstRows, KeepsCheckpoints};
+ghost use Rattle.checkpoint_full.specs.Checkpoints.{after, place_of, places_of, were_made, CanTake, HoldsFirstRows, KeepsRule};
+ghost use Rattle.checkpoint_full.specs.Widths.{least_width, made_places};
 
 use crate::checkpoints::{drop_made, make, make_room};
 use crate::follow::{insert_everywhere, remove_everywhere};
 use crate::past::{ask_at, list_at};
 use crate::reader::Reader;
+use crate::settle::settle;
 use crate::snapshot::Snapshot;
+use crate::width::width_for;
 use retro_base::{Answer, Change, Listing, NoMemory, Partial, Question, Row, Steps};
 use std::alloc::Global;
 use std::sync::ledger::{Blank, Ledger};
@@ -23,27 +26,32 @@ use std::sync::ledger::{Blank, Ledger};
 pub(crate) fn insert_kept<P: Partial + Drop, L: Ledger>(
     present: &mut Snapshot<P>,
     checkpoints: &mut Vec<Snapshot<P>>,
+    width: &mut u32,
     place: u32,
     row: Row,
     blank: Blank,
 ) -> Result<Change, NoMemory>
     requires within { place ≤ place_of present.old }
     requires can { CanTake present.old place row }
-    requires keeps { KeepsCheckpoints width present.old checkpoints.old.items }
+    requires keeps { KeepsRule width.old present.old checkpoints.old.items }
     requires name { blank.name ≡ L.name }
     requires parts { blank.parts ≡ L.parts }
     requires shared { 0 < blank.parts }
     ensures present { OnOk result (present.new ≡ after present.old (add place row)) }
     ensures replayable { OnOk result (IsReplayable present.new.kind present.new.rows) }
-    ensures keeps { OnOk result (KeepsCheckpoints width present.new checkpoints.new.items) }
+    ensures keeps { OnOk result (KeepsRule width.new present.new checkpoints.new.items) }
     ensures made { OnOk result (were_made checkpoints.new.items ≡ were_made checkpoints.old.items) }
+    ensures wider { OnOk result (width.old ≤ width.new) }
     ensures change { IfOk result (IsChange present.old.kind present.old.rows (add place row)) }
-    ensures err { OnErr result ((present.new ≡ present.old) × (checkpoints.new.items ≡ checkpoints.old.items)) }
+    ensures err { OnErr result ((present.new ≡ present.old) × (checkpoints.new.items ≡ checkpoints.old.items) × (width.new ≡ width.old)) }
 {
     let mut steps = Steps::<L>::new(blank);
-    let split = make_room(present, checkpoints, place, &mut steps)?;
+    let split = make_room(present, checkpoints, *width, place, &mut steps)?;
     match insert_everywhere(present, checkpoints.as_mut_slice(), place, row, &mut steps) {
-        Ok(change) => Ok(change),
+        Ok(change) => {
+            *width = settle(present, checkpoints, *width);
+            Ok(change)
+        }
         Err(error) => {
             drop_made(checkpoints, split);
             Err(error)
@@ -55,24 +63,28 @@ pub(crate) fn insert_kept<P: Partial + Drop, L: Ledger>(
 pub(crate) fn remove_kept<P: Partial + Drop, L: Ledger>(
     present: &mut Snapshot<P>,
     checkpoints: &mut Vec<Snapshot<P>>,
+    width: &mut u32,
     place: u32,
     blank: Blank,
 ) -> (Row, Change)
     requires within { place < place_of present.old }
     requires replays { IsValid present.old.kind (remove present.old.rows place) }
-    requires keeps { KeepsCheckpoints width present.old checkpoints.old.items }
+    requires keeps { KeepsRule width.old present.old checkpoints.old.items }
     requires name { blank.name ≡ L.name }
     requires parts { blank.parts ≡ L.parts }
     requires shared { 0 < blank.parts }
     ensures row { slice_get present.old.rows place ≡ Some result.0 }
     ensures present { present.new ≡ after present.old (cut place result.0) }
     ensures replayable { IsReplayable present.new.kind present.new.rows }
-    ensures keeps { KeepsCheckpoints width present.new checkpoints.new.items }
+    ensures keeps { KeepsRule width.new present.new checkpoints.new.items }
     ensures made { were_made checkpoints.new.items ≡ were_made checkpoints.old.items }
+    ensures wider { width.old ≤ width.new }
     ensures change { IsChange present.old.kind present.old.rows (cut place result.0) result.1 }
 {
     let mut steps = Steps::<L>::new(blank);
-    remove_everywhere(present, checkpoints.as_mut_slice(), place, &mut steps)
+    let taken = remove_everywhere(present, checkpoints.as_mut_slice(), place, &mut steps);
+    *width = settle(present, checkpoints, *width);
+    taken
 }
 
 /// Asks at a place; the checkpoints are made where they were not. After `NoMemory` all is as before.
@@ -80,6 +92,7 @@ pub(crate) fn ask_kept<P: Partial + Drop, L: Ledger>(
     alloc: Global,
     present: &Snapshot<P>,
     checkpoints: &mut Vec<Snapshot<P>>,
+    width: &mut u32,
     reader: &mut Reader<P>,
     place: u32,
     question: Question,
@@ -87,27 +100,39 @@ pub(crate) fn ask_kept<P: Partial + Drop, L: Ledger>(
 ) -> Result<Answer, NoMemory>
     requires within { place ≤ place_of present.now }
     requires suited { suits question present.now.kind ≡ true }
-    requires keeps { KeepsCheckpoints width present.now checkpoints.old.items }
+    requires keeps { KeepsRule width.old present.now checkpoints.old.items }
     requires reads { IfSome reader.old (HoldsFirstRows present.now) }
     ensures answer { IfOk result (λ answer. answer ≡ answer_of (state_at present.now.kind present.now.rows place) question) }
-    ensures keeps { KeepsCheckpoints width present.now checkpoints.new.items }
+    ensures keeps { KeepsRule width.new present.now checkpoints.new.items }
     ensures reads { IfSome reader.new (HoldsFirstRows present.now) }
     ensures made { OnOk result (were_made checkpoints.new.items ≡ true) }
-    ensures same { were_made checkpoints.old.items ≡ true → checkpoints.new.items ≡ checkpoints.old.items }
-    ensures first { were_made checkpoints.old.items ≡ false → OnOk result (places_of checkpoints.new.items ≡ made_places (place_of present.now)) }
-    ensures err { OnErr result (checkpoints.new.items ≡ checkpoints.old.items) }
-    ensures visits { were_made checkpoints.old.items ≡ true → VisitsWithin (432 * (width + 1)) (place_of present.now) steps.old steps.new }
+    ensures same { were_made checkpoints.old.items ≡ true → (checkpoints.new.items ≡ checkpoints.old.items) × (width.new ≡ width.old) }
+    ensures first { were_made checkpoints.old.items ≡ false → OnOk result (width.new ≡ least_width (place_of present.now)) }
+    ensures places { were_made checkpoints.old.items ≡ false → OnOk result (places_of checkpoints.new.items ≡ made_places width.new (place_of present.now)) }
+    ensures err { OnErr result ((checkpoints.new.items ≡ checkpoints.old.items) × (width.new ≡ width.old)) }
+    ensures visits { were_made checkpoints.old.items ≡ true → VisitsWithin (432 * (width.old + 1)) (place_of present.now) steps.old steps.new }
 {
     if checkpoints.is_empty() {
-        let mut made = make(alloc, present, steps)?;
-        let answer = ask_at(reader, made.as_mut_slice(), present, place, question, steps)?;
+        let least = width_for(present.place());
+        let mut made = make(alloc, present, least, steps)?;
+        let answer = ask_at(
+            reader,
+            made.as_mut_slice(),
+            present,
+            least,
+            place,
+            question,
+            steps,
+        )?;
         *checkpoints = made;
+        *width = least;
         return Ok(answer);
     }
     ask_at(
         reader,
         checkpoints.as_mut_slice(),
         present,
+        *width,
         place,
         question,
         steps,
@@ -120,35 +145,47 @@ pub(crate) fn list_kept<P: Partial + Drop, L: Ledger>(
     alloc: Global,
     present: &Snapshot<P>,
     checkpoints: &mut Vec<Snapshot<P>>,
+    width: &mut u32,
     reader: &mut Reader<P>,
     place: u32,
     blank: Blank,
 ) -> Result<Listing, NoMemory>
     requires within { place ≤ place_of present.now }
-    requires keeps { KeepsCheckpoints width present.now checkpoints.old.items }
+    requires keeps { KeepsRule width.old present.now checkpoints.old.items }
     requires reads { IfSome reader.old (HoldsFirstRows present.now) }
     requires name { blank.name ≡ L.name }
     requires parts { blank.parts ≡ L.parts }
     requires shared { 0 < blank.parts }
     ensures content { IfOk result (λ listing. listing ≡ content (state_at present.now.kind present.now.rows place)) }
-    ensures keeps { KeepsCheckpoints width present.now checkpoints.new.items }
+    ensures keeps { KeepsRule width.new present.now checkpoints.new.items }
     ensures reads { IfSome reader.new (HoldsFirstRows present.now) }
     ensures made { OnOk result (were_made checkpoints.new.items ≡ true) }
-    ensures same { were_made checkpoints.old.items ≡ true → checkpoints.new.items ≡ checkpoints.old.items }
-    ensures first { were_made checkpoints.old.items ≡ false → OnOk result (places_of checkpoints.new.items ≡ made_places (place_of present.now)) }
-    ensures err { OnErr result (checkpoints.new.items ≡ checkpoints.old.items) }
+    ensures same { were_made checkpoints.old.items ≡ true → (checkpoints.new.items ≡ checkpoints.old.items) × (width.new ≡ width.old) }
+    ensures first { were_made checkpoints.old.items ≡ false → OnOk result (width.new ≡ least_width (place_of present.now)) }
+    ensures places { were_made checkpoints.old.items ≡ false → OnOk result (places_of checkpoints.new.items ≡ made_places width.new (place_of present.now)) }
+    ensures err { OnErr result ((checkpoints.new.items ≡ checkpoints.old.items) × (width.new ≡ width.old)) }
 {
     let mut steps = Steps::<L>::new(blank);
     if checkpoints.is_empty() {
-        let mut made = make(alloc, present, &mut steps)?;
-        let listing = list_at(reader, made.as_mut_slice(), present, place, &mut steps)?;
+        let least = width_for(present.place());
+        let mut made = make(alloc, present, least, &mut steps)?;
+        let listing = list_at(
+            reader,
+            made.as_mut_slice(),
+            present,
+            least,
+            place,
+            &mut steps,
+        )?;
         *checkpoints = made;
+        *width = least;
         return Ok(listing);
     }
     list_at(
         reader,
         checkpoints.as_mut_slice(),
         present,
+        *width,
         place,
         &mut steps,
     )

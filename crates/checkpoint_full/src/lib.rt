@@ -5,14 +5,18 @@
 //! later, after the rows between were appended there; they are taken off again afterwards. Where questions go forward
 //! in time, a copy of a checkpoint that was rolled to a place stays there for the next question (`reader.rt`). An edit
 //! goes to the present and to each checkpoint after its place. It is the general way from a partially to a fully
-//! retroactive structure of Demaine, Iacono and Langerman, "Retroactive Data Structures", with checkpoints a fixed
-//! number of rows apart.
+//! retroactive structure of Demaine, Iacono and Langerman, "Retroactive Data Structures", with checkpoints at most a
+//! width apart.
 //!
-//! A `Full` is seen as its kind and rows, whether its checkpoints were made, and their places, by
-//! `specs/Checkpoints.antt`. It implements `Retro` of `retro_base`; after `NoMemory` each call leaves all that is
-//! seen, and the rows of every checkpoint, as they were.
+//! An edit makes a checkpoint where two neighbours would stand more than a width apart, and drops those whose neighbours
+//! do not; where more than 31 are left, the width is doubled (`settle.rt`). So there are never more than 31, and they
+//! keep the memory of at most 31 structures, however the timeline grows and shrinks.
 //!
-//! - `Full`. The most rows between neighbouring checkpoints: `WIDTH`.
+//! A `Full` is seen as its kind and rows, whether its checkpoints were made, their width and their places, by
+//! `specs/Checkpoints.antt`; the rule over places alone is `specs/Widths.antt`. It implements `Retro` of `retro_base`;
+//! after `NoMemory` each call leaves all that is seen, and the rows of every checkpoint, as they were.
+//!
+//! - `Full`. The least width: `NARROWEST`. The most checkpoints: `MOST_CHECKPOINTS`.
 #![tactic(auto)]
 
 mod checkpoints;
@@ -21,7 +25,9 @@ mod full;
 mod kept;
 mod past;
 mod reader;
+mod settle;
 mod snapshot;
+mod width;
 
-pub use checkpoints::WIDTH;
 pub use full::Full;
+pub use width::{MOST_CHECKPOINTS, NARROWEST};

@@ -4,7 +4,7 @@ ghost use Rattle.retro_base.specs.Answers.{answer_of, content};
 ghost use Rattle.retro_base.specs.Questions.{suits};
 ghost use Rattle.retro_base.specs.Replay.{present, state_at};
 ghost use Rattle.retro_base.specs.Visits.{VisitsWithin};
-ghost use Rattle.checkpoint_full.specs.Checkpoints.{place_of, were_made, width, AreCheckpoints, HoldsFirstRows};
+ghost use Rattle.checkpoint_full.specs.Checkpoints.{place_of, were_made, AreCheckpoints, HoldsFirstRows};
 
 use crate::checkpoints::nearest;
 use crate::reader::Reader;
@@ -64,6 +64,7 @@ fn list_from<P: Partial + Drop, L: Ledger>(
 fn nearest_earlier<P: Partial + Drop>(
     checkpoints: &[Snapshot<P>],
     timeline: &Snapshot<P>,
+    width: u32,
     place: u32,
 ) -> usize
     requires made { were_made checkpoints.now ≡ true }
@@ -81,6 +82,7 @@ pub(crate) fn ask_at<P: Partial + Drop, L: Ledger>(
     reader: &mut Reader<P>,
     checkpoints: &mut [Snapshot<P>],
     timeline: &Snapshot<P>,
+    width: u32,
     place: u32,
     question: Question,
     steps: &mut Steps<L>,
@@ -98,8 +100,8 @@ pub(crate) fn ask_at<P: Partial + Drop, L: Ledger>(
     if place == timeline.place() {
         return Ok(timeline.ask_now(question, steps));
     }
-    let index = nearest_earlier(checkpoints, timeline, place);
-    match reader.choose(&checkpoints[index], place) {
+    let index = nearest_earlier(checkpoints, timeline, width, place);
+    match reader.choose(&checkpoints[index], place, width) {
         Some(copy) => reader.ask(copy, timeline, place, question, steps),
         None => ask_from(&mut checkpoints[index], timeline, place, question, steps),
     }
@@ -110,6 +112,7 @@ pub(crate) fn list_at<P: Partial + Drop, L: Ledger>(
     reader: &mut Reader<P>,
     checkpoints: &mut [Snapshot<P>],
     timeline: &Snapshot<P>,
+    width: u32,
     place: u32,
     steps: &mut Steps<L>,
 ) -> Result<Listing, NoMemory>
@@ -124,8 +127,8 @@ pub(crate) fn list_at<P: Partial + Drop, L: Ledger>(
     if place == timeline.place() {
         return timeline.all_now();
     }
-    let index = nearest_earlier(checkpoints, timeline, place);
-    match reader.choose(&checkpoints[index], place) {
+    let index = nearest_earlier(checkpoints, timeline, width, place);
+    match reader.choose(&checkpoints[index], place, width) {
         Some(copy) => reader.list(copy, timeline, place, steps),
         None => list_from(&mut checkpoints[index], timeline, place, steps),
     }

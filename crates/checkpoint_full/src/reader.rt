@@ -4,9 +4,8 @@ ghost use Rattle.retro_base.specs.Answers.{answer_of, content};
 ghost use Rattle.retro_base.specs.Questions.{suits};
 ghost use Rattle.retro_base.specs.Replay.{state_at};
 ghost use Rattle.retro_base.specs.Visits.{VisitsWithin};
-ghost use Rattle.checkpoint_full.specs.Checkpoints.{place_of, width, HoldsFirstRows};
+ghost use Rattle.checkpoint_full.specs.Checkpoints.{place_of, HoldsFirstRows};
 
-use crate::checkpoints::WIDTH;
 use crate::snapshot::Snapshot;
 use retro_base::{Answer, Listing, NoMemory, Partial, Question, Steps};
 use std::marker::Model;
@@ -33,8 +32,8 @@ impl<P: Partial + Drop> Model for Reader<P> {
 const NOWHERE: u32 = u32::MAX;
 
 /// Whether a place follows closely on the one that was asked last.
-fn goes_on(last: u32, place: u32) -> bool {
-    last <= place && place - last < WIDTH
+fn goes_on(last: u32, place: u32, width: u32) -> bool {
+    last <= place && place - last < width
 }
 
 /// Whether it is cheaper to move the structure to the place than to roll the checkpoint there and back, or to copy it.
@@ -42,13 +41,14 @@ fn serves<P: Partial + Drop>(
     copy: &Snapshot<P>,
     checkpoint: &Snapshot<P>,
     place: u32,
+    width: u32,
     follows: bool,
 ) -> bool
     requires { place_of checkpoint.now ≤ place }
     ensures { result ≡ true → (place ≤ place_of copy.now + width) × (place_of copy.now ≤ place + width) }
 {
     let apart = copy.place().abs_diff(place);
-    apart <= WIDTH && (follows || apart / 2 <= place - checkpoint.place())
+    apart <= width && (follows || apart / 2 <= place - checkpoint.place())
 }
 
 impl<P: Partial + Drop> Reader<P> {
@@ -81,17 +81,22 @@ impl<P: Partial + Drop> Reader<P> {
 
     /// Gives out a structure to ask at the place: its own where that stands near, and a copy of the nearest checkpoint
     /// where the questions go forward in time; none otherwise, or out of memory.
-    pub(crate) fn choose(&mut self, checkpoint: &Snapshot<P>, place: u32) -> Option<Snapshot<P>>
+    pub(crate) fn choose(
+        &mut self,
+        checkpoint: &Snapshot<P>,
+        place: u32,
+        width: u32,
+    ) -> Option<Snapshot<P>>
         requires earlier { place_of checkpoint.now ≤ place }
         requires near { place ≤ place_of checkpoint.now + width }
         ensures left { IfSome self.new (λ copy. self.old ≡ Some copy) }
         ensures chosen { IfSome result (λ copy. (self.old ≡ Some copy) ⊎ (copy ≡ checkpoint.now)) }
         ensures near { IfSome result (λ copy. (place ≤ place_of copy + width) × (place_of copy ≤ place + width)) }
     {
-        let follows = goes_on(self.last, place);
+        let follows = goes_on(self.last, place, width);
         self.last = place;
         let own = match &self.copy {
-            Some(copy) => serves(copy, checkpoint, place, follows),
+            Some(copy) => serves(copy, checkpoint, place, width, follows),
             None => false,
         };
         if own {
@@ -114,13 +119,12 @@ impl<P: Partial + Drop> Reader<P> {
         steps: &mut Steps<L>,
     ) -> Result<Answer, NoMemory>
         requires first { HoldsFirstRows timeline.now copy }
-        requires near { (place ≤ place_of copy + width) × (place_of copy ≤ place + width) }
         requires within { place ≤ place_of timeline.now }
         requires suited { suits question timeline.now.kind ≡ true }
         requires reads { IfSome self.old (HoldsFirstRows timeline.now) }
         ensures answer { IfOk result (λ answer. answer ≡ answer_of (state_at timeline.now.kind timeline.now.rows place) question) }
         ensures reads { IfSome self.new (HoldsFirstRows timeline.now) }
-        ensures visits { VisitsWithin (288 * width + 144) (place_of timeline.now) steps.old steps.new }
+        ensures visits { VisitsWithin (288 * (place - place_of copy + (place_of copy - place)) + 144) (place_of timeline.now) steps.old steps.new }
     {
         let mut copy = copy;
         copy.move_to(timeline, place, steps)?;

@@ -1,6 +1,7 @@
-use Rattle.std.proofs.Common.{◌∷◌, ◌++◌, ◌-◌, ◌/◌, [], map}
+use Rattle.std.proofs.Common.{◌∷◌, ◌++◌, [], map}
 use Rattle.std.specs.List.{AllByRecursion}
-use Rattle.checkpoint_full.specs.Checkpoints.{place_of, width, AreClose, HoldsFirstRows}
+use Rattle.checkpoint_full.specs.Checkpoints.{place_of, HoldsFirstRows}
+use Rattle.checkpoint_full.specs.Widths.{multiples_below, AreClose}
 use Rattle.checkpoint_full.proofs.Made.{AreToCome}
 use Rattle.checkpoint_full.proofs.checkpoints.make.Given as goal
 
@@ -8,8 +9,8 @@ abbrev pub invariant-loop-latest : goal.invariant-loop-latest
 invariant-loop-latest g l = record {
   first : AllByRecursion (HoldsFirstRows l.present) l.checkpoints.items;
   latest : HoldsFirstRows l.present l.latest;
-  close : AreClose width (place_of l.present) (map place_of l.checkpoints.items ++ place_of l.latest ∷ []) (place_of l.latest);
-  to_come : AreToCome width ((place_of l.present - 1) / width) l.checkpoints.items l.latest;
+  close : AreClose l.width (place_of l.present) (map place_of l.checkpoints.items ++ place_of l.latest ∷ []) (place_of l.latest);
+  to_come : AreToCome l.width (multiples_below l.width (place_of l.present)) (place_of l.present) l.checkpoints.items l.latest;
 }
 
 abbrev pub decreases-loop-latest : goal.decreases-loop-latest

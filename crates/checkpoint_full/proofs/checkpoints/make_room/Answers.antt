@@ -1,6 +1,5 @@
 use Rattle.std.proofs.Common.{◌∙◌, ap, position, sym, arith}
 use Rattle.std.specs.List.{remove}
-use Rattle.checkpoint_full.specs.Checkpoints.{width}
 use Rattle.checkpoint_full.proofs.Between.{between_kept, nearest_below, room_left, stands_between}
 use Rattle.checkpoint_full.proofs.FirstRows.{taken_back}
 use Rattle.checkpoint_full.proofs.Places.{is_up_to, none_were_made}
@@ -20,7 +19,7 @@ returns-then-place-earlier-clause-room g c =
     (omega (arith, c.if-place-earlier.true, c.place.ensures.place, c.place-earlier.ensures.place))
 
 pub returns-clause-keeps : goal.returns-clause-keeps
-returns-clause-keeps g c = λ _. (between_kept width c.args.present.now c.args.checkpoints.now.items c.insert.new.self.items c.args.place c.in-Some.index c.place_between.result
+returns-clause-keeps g c = λ _. (between_kept c.args.width c.args.present.now c.args.checkpoints.now.items c.insert.new.self.items c.args.place c.in-Some.index c.place_between.result
     c.index.result.now c.neighbour_after-later.result.now c.in_ok-between.between
     (stands_between c.args.present.now c.args.checkpoints.now.items _ _ _ c.args.place c.in-Some.index _ _ c.nearest.ensures c.as_slice.ensures.value c.in-Some.is
     c.index.ensures c.neighbour_after-later.ensures c.as_slice-2.ensures.value)
@@ -30,7 +29,7 @@ returns-clause-keeps g c = λ _. (between_kept width c.args.present.now c.args.c
     c.in_ok-between.ensures c.in_ok-insert.ensures.items).0
 
 pub returns-clause-room : goal.returns-clause-room
-returns-clause-room g c = (between_kept width c.args.present.now c.args.checkpoints.now.items c.insert.new.self.items c.args.place c.in-Some.index c.place_between.result
+returns-clause-room g c = (between_kept c.args.width c.args.present.now c.args.checkpoints.now.items c.insert.new.self.items c.args.place c.in-Some.index c.place_between.result
     c.index.result.now c.neighbour_after-later.result.now c.in_ok-between.between
     (stands_between c.args.present.now c.args.checkpoints.now.items _ _ _ c.args.place c.in-Some.index _ _ c.nearest.ensures c.as_slice.ensures.value c.in-Some.is
     c.index.ensures c.neighbour_after-later.ensures c.as_slice-2.ensures.value)

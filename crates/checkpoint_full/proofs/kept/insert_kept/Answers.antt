@@ -1,11 +1,11 @@
 use Rattle.std.proofs.Common.{◌∙◌, ap, map, arith}
-use Rattle.checkpoint_full.specs.Checkpoints.{width, with_row}
+use Rattle.checkpoint_full.specs.Checkpoints.{with_row}
 use Rattle.checkpoint_full.proofs.Keeping.{kept_with, written}
 use Rattle.checkpoint_full.proofs.kept.insert_kept.Goals as goal
 
-pub returns-in-Ok-clause-keeps : goal.returns-in-Ok-clause-keeps
-returns-in-Ok-clause-keeps g c =
-    kept_with width c.args.present.now _ c.make_room.new.checkpoints.items _ c.args.place c.args.row c.in_ok-split.ensures.keeps c.requires.within c.in_ok-split.ensures.room
+pub settle-requires-clause-kept : goal.settle-requires-clause-kept
+settle-requires-clause-kept g c =
+    kept_with c.args.width.now c.args.present.now _ c.make_room.new.checkpoints.items _ c.args.place c.args.row c.in_ok-split.ensures.keeps c.requires.within c.in_ok-split.ensures.room
     c.in-Ok.ensures.present
     (written c.make_room.new.checkpoints.len c.insert_everywhere.new.checkpoints _
     (omega (arith, c.as_mut_slice.ensures.len, c.insert_everywhere.auto.checkpoints))
