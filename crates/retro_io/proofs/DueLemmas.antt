@@ -4,7 +4,7 @@ use Rattle.std.proofs.lemmas.List.{append_assoc, append-nil, length-append}
 use Rattle.retro_io.specs.Lines.{has_line_feed}
 use Rattle.retro_io.specs.Reads.{Took}
 use Rattle.retro_io.specs.Source.{Gives}
-use Rattle.retro_io.specs.DueReads.{Offers, ReadOnce, ReadsDue, WereDue, WereDueOf, closes, given_by}
+use Rattle.retro_io.specs.DueReads.{Offers, ReadOnce, ReadsDue, WereDue, closes, given_by}
 use Rattle.retro_io.proofs.ReadLemmas.{Took-then}
 
 -- after a read that gave a byte another one may follow
@@ -26,12 +26,8 @@ module _ {S E : Type 0} (reads : S → ℕ → Result (List ℕ) E → S → Typ
   }
 
   -- no read
-  pub WereDueOf-none : (left : ℕ) (held : List ℕ) (closed : Bool) (source : S) (count : ℕ) → count ≡ 0 → WereDueOf reads left held closed source count source
-  WereDueOf-none left held closed source count none = record {
-    got = [];
-    counts = sym none;
-    due = record { closes = closed; due = ReadsDue.none };
-  }
+  pub WereDue-none : (left : ℕ) (held : List ℕ) (closed : Bool) (source : S) → WereDue reads left held closed source [] source
+  WereDue-none left held closed source = record { closes = closed; due = ReadsDue.none }
 
   module _ (left rest : ℕ) (held : List ℕ) (closed : Bool) (before middle after : S) (got more : List ℕ)
       (due : ReadsDue reads left held closed before got false middle) (unbroken : has_line_feed (held ++ got) ≡ false)

@@ -32,19 +32,6 @@ unbroken-from_each (x ∷ xs) each =
     let here : (x == line_feed) ≡ false = each 0 (omega arith) in
     rw here (unbroken-from_each xs (λ k h. each (suc k) (omega arith)))
 
--- the last piece, which none ends
-pub pieces-last : (b : ℕ) (piece : List ℕ) → has_line_feed (b ∷ piece) ≡ false → pieces (b ∷ piece) ≡ (b ∷ piece) ∷ []
-pieces-last b [] p =
-    let parts = both_false (b == line_feed) false p in
-    rw (parts.0) refl
-pieces-last b (c ∷ piece) p =
-    let parts = both_false (b == line_feed) (has_line_feed (c ∷ piece)) p in
-    rw (parts.0) (ap (onto_first b) (pieces-last c piece parts.1))
-
-pub lines-last : (piece : List ℕ) → has_line_feed piece ≡ false → 0 < length piece → lines piece ≡ without_return piece ∷ []
-lines-last [] p h = absurd (omega arith)
-lines-last (b ∷ piece) p h = ap (map without_return) (pieces-last b piece p)
-
 -- one carriage return at the very end is taken off, and nothing else
 pub without_return-cut : (piece : List ℕ) (b : ℕ) → (b == carriage_return) ≡ true → without_return (piece ++ b ∷ []) ≡ piece
 without_return-cut [] b h = rw h refl

@@ -14,8 +14,8 @@ use Rattle.retro_io.specs.Lines.{lines, longest_line, line_feed, has_line_feed, 
 use Rattle.retro_io.specs.Marks.{Shows, GivesNext, GivesNextOf, Measures, gives_line}
 use Rattle.retro_io.specs.Reads.{Took, GivesPiece, GivesFirst, MakesOf}
 use Rattle.retro_io.specs.Source.{Gives, bytes_left}
-use Rattle.retro_io.specs.LineLaws.{unbroken-append, lines-cut}
-use Rattle.retro_io.proofs.LineLemmas.{unbroken-back, length-without_return, take-without_return, lines-last}
+use Rattle.retro_io.specs.LineLaws.{unbroken-append, lines-cut, lines-last}
+use Rattle.retro_io.proofs.LineLemmas.{unbroken-back, length-without_return, take-without_return}
 
 pub Gives-nil : (left : Option (List ℕ)) → Gives left [] left
 Gives-nil None = refl

@@ -36,9 +36,3 @@ module _ {S E : Type 0} (reads : S → ℕ → Result (List ℕ) E → S → Typ
   pub record WereDue (left : ℕ) (held : List ℕ) (closed : Bool) (before : S) (got : List ℕ) (after : S) : Type 0 where
     pub closes : Bool
     pub due : ReadsDue left held closed before got closes after
-
-  -- the same of reads that gave so many bytes
-  pub record WereDueOf (left : ℕ) (held : List ℕ) (closed : Bool) (before : S) (count : ℕ) (after : S) : Type 0 where
-    pub got : List ℕ
-    pub counts : length got ≡ count
-    pub due : WereDue left held closed before got after

@@ -1,5 +1,5 @@
 -- What contracts see of an outbox, and what its calls do to the sink that it sends to.
-use Rattle.std.specs.Prelude.{◌≡◌, ◌⊎◌, ℕ, Bool, true, false, List, ◌++◌, drop, length, Option, None, Some, Result, is_ok, is_err, OnOk, OnErr}
+use Rattle.std.specs.Prelude.{◌≡◌, ◌⊎◌, ℕ, Bool, true, false, List, ◌++◌, drop, length, Option, None, Some, Result, is_ok, is_err, IfOk, OnOk, OnErr}
 use Rattle.retro_io.specs.declared.outbox.Outbox.{Outbox}
 use Rattle.retro_io.specs.declared.sink.Sink.{Ghosts}
 use Rattle.retro_io.specs.declared.source.Failed.{Failed}
@@ -53,12 +53,14 @@ module _ {K : Type 0} (G : Ghosts K) where
     pub is : is_ok answer ≡ succeeds
     pub called : call middle answer after
 
-  -- what a write does: nothing to the sink where there is room, and else all that waits is handed on first
-  abbrev pub Gathers : Outbox K → Result ℕ Failed → Outbox K → Type 0
-  Gathers before answer after =
+  -- what a write does: nothing to the sink where there is room, and else all that waits is handed on first; it takes the whole piece, or as
+  -- much as there is room for
+  abbrev pub Gathers : Outbox K → List ℕ → Result ℕ Failed → Outbox K → Type 0
+  Gathers before piece answer after =
       FailsWithSink before (is_err answer) after × (after.faults ≡ faults_after before.faults answer)
       × OnOk answer ((sink_of after ≡ sink_of before) ⊎ ((length before.waiting.items ≡ outbox_size) × HandsOn before (sink_of after)))
       × OnErr answer (before.failed ≡ false → HandsOnUntilFault before (sink_of after))
+      × IfOk answer (λ count. (count ≡ length piece) ⊎ (length after.waiting.items ≡ outbox_size))
 
   -- what a send or a flush does: all that waits is handed on, and then one such call of the sink is made, unless a write of these fails
   abbrev pub PassesOn : (K → Result (Unit {0}) Failed → K → Type 0) → Outbox K → Result (Unit {0}) Failed → Outbox K → Type 0

@@ -1,5 +1,5 @@
 ghost use Rattle.std.specs.Prelude.{◌≡◌, ◌+◌, ◌-◌, ◌^◌, ◌≤◌, ◌<◌, ◌↔◌, [], true, false, length, take, drop, Result, Ok, IfOk, IfErr, IsErrOf, is_err};
-ghost use Rattle.retro_io.specs.DueReads.{ReadOnce, WereDue, WereDueOf};
+ghost use Rattle.retro_io.specs.DueReads.{ReadOnce, WereDue};
 ghost use Rattle.retro_io.specs.Faults.{CountsFaults};
 ghost use Rattle.retro_io.specs.Lines.{has_line_feed, longest_line};
 ghost use Rattle.retro_io.specs.Marks.{is_fault};
@@ -114,12 +114,13 @@ impl<'a, S: Source> LineReader<'a, S> {
         ensures gives { IfOk result (λ mark. GivesLine mark self.old self.new) }
         ensures stops { IfErr result (λ error. StopsAt error self.old self.new) }
         ensures too_long { IsErrOf result ReadError.TooLong ↔ (taken self.new ≡ limit_of self.new + 1) }
-        // It reads only where no whole line is held and no read of its own has answered the end or failed, and offers a buffer
-        // of the stated size.
+        // Over every source the line is the first of the bytes held and of those that the reads gave. It reads only where no whole
+        // line is held and no read of its own has answered the end or failed, and offers a buffer of the stated size.
         ensures kept_line { has_line_feed (held self.old) ≡ true → source_of self.new ≡ source_of self.old }
         ensures kept_end { has_ended self.old ≡ true → (source_of self.new ≡ source_of self.old) × (result ≡ Ok Mark.End) }
-        ensures reads { WereDueOf S.reads (limit_of self.old - taken self.old) (held self.old) (has_ended self.old)
-            (source_of self.old) (taken self.new - taken self.old) (source_of self.new) }
+        ensures took { Took (S.left (source_of self.old)) (S.left (source_of self.new)) (taken self.new - taken self.old)
+            (λ got. MakesOf result (line_of self.new) (has_ended self.new) (held self.old) (held self.new) got
+            × WereDue S.reads (limit_of self.old - taken self.old) (held self.old) (has_ended self.old) (source_of self.old) got (source_of self.new)) }
     {
         if self.ended {
             return Ok(Mark::End);

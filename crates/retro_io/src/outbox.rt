@@ -35,6 +35,8 @@ impl<K: Sink + Drop> Outbox<K> {
         ensures sink { IfOk result (λ outbox. sink_of outbox ≡ sink) }
         ensures waiting { IfOk result (λ outbox. waiting_of outbox ≡ []) }
         ensures failed { IfOk result (λ outbox. outbox.failed ≡ false) }
+        ensures flushed { IfOk result (λ outbox. outbox.flushed ≡ false) }
+        ensures faults { IfOk result (λ outbox. outbox.faults ≡ 0) }
     {
         Ok(Outbox {
             sink,
@@ -105,7 +107,7 @@ impl<K: Sink + Drop> Sink for Outbox<K> {
 
     ghost faults = { λ o. o.faults };
 
-    ghost writes = { λ before piece answer after. Gathers ⟦<K as Sink>⟧ before answer after };
+    ghost writes = { Gathers ⟦<K as Sink>⟧ };
 
     ghost sends = { PassesOn ⟦<K as Sink>⟧ K.sends };
 
