@@ -1,24 +1,23 @@
 -- Rows that replay still do once a row that adds is put in anywhere, or one that takes is taken out: counting never falls
 -- short where it begins with more.
-use Rattle.std.proofs.Common.{◌≡◌, ℕ, ℤ, zero, suc, ◌+◌, ◌≤◌, Bool, true, false, cond, List, [], ◌∷◌, ◌++◌, length, take, drop, refl, sym, ap, subst, ◌∙◌, arith, Option, Some, None, Result, Ok, Err}
+use Rattle.std.proofs.Common.{◌≡◌, ℕ, ℤ, zero, suc, ◌+◌, ◌≤◌, Bool, true, false, List, [], ◌∷◌, ◌++◌, length, take, drop, refl, sym, ap, subst, ◌∙◌, arith, Option, Some, None, Result, Ok, Err}
 use Rattle.std.specs.Prelude.{if◌then◌else◌}
-use Rattle.std.specs.List.{insert, remove, slice_get, AllByRecursion}
+use Rattle.std.specs.List.{insert, remove, slice_get}
 use Rattle.std.specs.Ordering.{int_eq}
 use Rattle.std.specs.Result.{result_err}
 use Rattle.std.proofs.lemmas.List.{take-append-drop}
 use Rattle.retro_base.specs.declared.counting.Quantity.{Quantity}
 use Rattle.retro_base.specs.declared.counting.Quantity.TheVariants.{Items, Key}
 use Rattle.retro_base.specs.declared.kind.Kind.{Kind}
-use Rattle.retro_base.specs.declared.kind.Kind.TheVariants.{Queue, Stack, Deque, Dict, Pq}
 use Rattle.retro_base.specs.declared.op.Op.{Op}
 use Rattle.retro_base.specs.declared.op.Op.TheVariants.{Enq, Deq, Push, Pop, PushL, PushR, PopL, PopR, Put, Del, Ins, DelMin}
 use Rattle.retro_base.specs.declared.row.Row.{Row}
 use Rattle.retro_base.specs.Kind.{adds, kind_of}
-use Rattle.retro_base.specs.Replay.{failure, fold_rows, one_later, IsValid}
+use Rattle.retro_base.specs.Replay.{one_later, IsValid}
 use Rattle.retro_base.specs.Timeline.{AreOfKind}
 use Rattle.retro_base.specs.Counting.{one_fewer, size_after, pair_after, quantity_of, quantity_after, counted}
 use Rattle.retro_base.specs.lemmas.SortedPairs.{same_as_itself}
-use Rattle.retro_base.specs.lemmas.Folds.{fold_rows-nil, fold_rows-some, fold_rows-none, fold_rows-append, front_possible, after_possible, between_goes, last_possible, later, ok_same, one_later-ok, not_both}
+use Rattle.retro_base.specs.lemmas.Folds.{fold_rows-nil, fold_rows-some, fold_rows-none, fold_rows-append, front_possible, after_possible, between_goes, later, ok_same, one_later-ok, not_both}
 use Rattle.retro_base.specs.lemmas.Counted.{all_count, around, failure_with, failure_without, of_kind_at}
 
 -- more is left where more was there

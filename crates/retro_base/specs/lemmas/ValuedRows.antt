@@ -1,7 +1,6 @@
 -- Rows replay whatever their values are: which row fails first is a matter of their number and their keys.
-use Rattle.std.proofs.Common.{◌≡◌, ℕ, ℤ, pos, zero, List, [], ◌∷◌, map, refl, sym, ap, ◌∙◌, Option, Some, None}
+use Rattle.std.proofs.Common.{◌≡◌, ℕ, ℤ, pos, List, [], ◌∷◌, map, refl, sym, ap, ◌∙◌, Some, None}
 use Rattle.std.specs.Result.{result_err}
-use Rattle.std.specs.Ordering.{int_eq}
 use Rattle.retro_base.specs.declared.counting.Quantity.{Quantity}
 use Rattle.retro_base.specs.declared.counting.Quantity.TheVariants.{Items, Key}
 use Rattle.retro_base.specs.declared.kind.Kind.{Kind}
