@@ -62,12 +62,12 @@ put_before entry new [] back less apart all none = record {
 put_before entry new (e ∷ front) back less apart all none =
     elim (comes_before new e) as (λ b. comes_before new e ≡ b → PutBefore entry new (e ∷ front) back) [
       | true ↦ λ here. record {
-          grown = new ∷ e ∷ front;
-          is = rw here refl;
-          more = omega arith;
-          before = (less, all);
-          none = none_cons entry.number new (e ∷ front) apart none;
-        }
+        grown = new ∷ e ∷ front;
+        is = rw here refl;
+        more = omega arith;
+        before = (less, all);
+        none = none_cons entry.number new (e ∷ front) apart none;
+      }
       | false ↦ λ further.
           let rest = put_before entry new front back less apart all.1 (second_false (e.number == entry.number) (list_any (λ x. x.number == entry.number) front) none) in
           record {
@@ -97,17 +97,21 @@ module _ (entry : Entry) (front back : List Entry) (state : State) (all : AllBef
       elim (comes_before new entry) as (λ b. comes_before new entry ≡ b
       → EntryGoes entry.number state (cond b (Some (AfterLesser entry (length front + 1))) (Some (AfterLesser entry (length front))))) [
         | true ↦ λ less.
-            let put = put_before entry new front back less apart all none_front in
-            (refl, record {
-              front = put.grown;
-              back = back;
-              is = state_is state (entries (with_entry new (front ++ entry ∷ back))) e ∙ ap entries put.is;
-              lesser_is = put.more;
-              before = put.before;
-              none_front = put.none;
-              none_back = none_back;
-            })
-        | false ↦ λ greater. (refl, record {
+            let put = put_before entry new front back less apart all none_front in (
+              refl,
+              record {
+                front = put.grown;
+                back = back;
+                is = state_is state (entries (with_entry new (front ++ entry ∷ back))) e ∙ ap entries put.is;
+                lesser_is = put.more;
+                before = put.before;
+                none_front = put.none;
+                none_back = none_back;
+              },
+            )
+        | false ↦ λ greater. (
+          refl,
+          record {
             front = front;
             back = with_entry new back;
             is = state_is state (entries (with_entry new (front ++ entry ∷ back))) e ∙ ap entries (put_after entry new front back greater all);
@@ -115,21 +119,25 @@ module _ (entry : Entry) (front back : List Entry) (state : State) (all : AllBef
             before = all;
             none_front = none_front;
             none_back = none_with entry.number new back apart none_back;
-          })
+          },
+        )
       ] refl
 
 least_taken : (entry : Entry) (front back : List Entry) (state : State) → AllBefore entry front → NoneHas entry.number front → NoneHas entry.number back
     → option_map entries (without_first (front ++ entry ∷ back)) ≡ Some state → EntryGoes entry.number state (without_least entry (length front))
 least_taken entry [] back state all none_front none_back e = rw (state_is state (entries back) e) none_back
-least_taken entry (f ∷ front) back state all none_front none_back e = (refl, record {
-  front = front;
-  back = back;
-  is = state_is state (entries (front ++ entry ∷ back)) e;
-  lesser_is = refl;
-  before = all.1;
-  none_front = second_false _ _ none_front;
-  none_back = none_back;
-})
+least_taken entry (f ∷ front) back state all none_front none_back e = (
+  refl,
+  record {
+    front = front;
+    back = back;
+    is = state_is state (entries (front ++ entry ∷ back)) e;
+    lesser_is = refl;
+    before = all.1;
+    none_front = second_false _ _ none_front;
+    none_back = none_back;
+  },
+)
 
 goes : (op : Op) (n : ℕ) (entry : Entry) (front back : List Entry) (state : State) → n ≢ entry.number → AllBefore entry front → NoneHas entry.number front → NoneHas entry.number back
     → perform (numbered_op n op) n (entries (front ++ entry ∷ back)) ≡ Some state → EntryGoes entry.number state (entry_after entry (length front) n op)

@@ -127,7 +127,7 @@ alone_left number key another (p ∷ ps) alone =
     ]
 
 module _ (number n : ℕ) (key : ℤ) (held : List (ℤ × ℤ)) (state : State) (apart : n ≢ number) (sorted : AreSorted held)
-  (here : lookup (int_eq key) held ≡ Some (pos number)) (alone : AllByRecursion (IsOnlyAt number key) held) where
+    (here : lookup (int_eq key) held ≡ Some (pos number)) (alone : AllByRecursion (IsOnlyAt number key) held) where
   put_goes : (another : ℤ) (b : Bool) → int_eq key another ≡ b → Some (pairs (with_key another (pos n) held)) ≡ Some state
       → PairGoes number state (cond b None (Some (AtKey key)))
   put_goes another true same e =
@@ -182,7 +182,7 @@ pair_is_held number key [] here = absurd (cc)
 pair_is_held number key (p ∷ ps) here =
     elim (int_eq key p.0) as (λ b. cond b (Some p.1) (lookup (int_eq key) ps) ≡ Some (pos number) → (int_eq p.1 (pos number) || list_any (λ pair. int_eq pair.1 (pos number)) ps) ≡ true) [
       | true ↦ λ found. let one : p.1 ≡ pos number = cc in
-        let same : int_eq p.1 (pos number) ≡ true = rw one (same_as_itself (pos number)) in
-        or_true_first _ _ same
+          let same : int_eq p.1 (pos number) ≡ true = rw one (same_as_itself (pos number)) in
+          or_true_first _ _ same
       | false ↦ λ found. or_true _ _ (pair_is_held number key ps found)
     ] here

@@ -195,12 +195,12 @@ put_front entry new [] (b ∷ back) less apart all after none = record {
 put_front entry new (e ∷ front) back less apart all after none =
     elim (comes_before new e) as (λ b. comes_before new e ≡ b → PutFront entry new (e ∷ front) back) [
       | true ↦ λ here. record {
-          grown = new ∷ e ∷ front;
-          is = rw here refl;
-          more = omega arith;
-          before = (less, all);
-          none = none_more entry.number new (e ∷ front) apart none;
-        }
+        grown = new ∷ e ∷ front;
+        is = rw here refl;
+        more = omega arith;
+        before = (less, all);
+        none = none_more entry.number new (e ∷ front) apart none;
+      }
       | false ↦ λ further.
           let rest = put_front entry new front back less apart all.1 after (second_false (e.number == entry.number) (list_any (λ x. x.number == entry.number) front) none) in
           record {

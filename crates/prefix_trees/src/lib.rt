@@ -37,6 +37,8 @@ mod signed;
 mod signed_rows;
 
 pub use growth::{adds, left_growth, right_growth, sign_of, value_of};
-pub use sequence::{Sequence, ask_sequence, ask_uncounted, failure_with, failure_without, list_sequence, size_at};
+pub use sequence::{
+    Sequence, ask_sequence, ask_uncounted, failure_with, failure_without, list_sequence, size_at,
+};
 pub use sign_tree::SignTree;
 pub use signed_rows::SignedRows;

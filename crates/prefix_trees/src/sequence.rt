@@ -54,7 +54,12 @@ pub fn size_at<S: Sequence, L: Ledger>(structure: &S, place: u32, steps: &mut St
 }
 
 /// The item at an index from the left, after the first so many rows.
-fn item_at<S: Sequence, L: Ledger>(structure: &S, place: u32, index: u32, steps: &mut Steps<L>) -> i64
+fn item_at<S: Sequence, L: Ledger>(
+    structure: &S,
+    place: u32,
+    index: u32,
+    steps: &mut Steps<L>,
+) -> i64
     requires within { place ≤ length (S.rows structure.now) }
     requires there { pos index <ℤ grown sign_of (S.rows structure.now) place }
     ensures item { (line : List ℤ)
@@ -122,7 +127,11 @@ pub fn list_sequence<S: Sequence>(structure: &S, place: u32) -> Result<Listing, 
 }
 
 /// The same, with a counter of its own.
-fn listed<S: Sequence, L: Ledger>(structure: &S, place: u32, blank: Blank) -> Result<Listing, NoMemory>
+fn listed<S: Sequence, L: Ledger>(
+    structure: &S,
+    place: u32,
+    blank: Blank,
+) -> Result<Listing, NoMemory>
     requires within { place ≤ length (S.rows structure.now) }
     requires name { blank.name ≡ L.name }
     requires parts { blank.parts ≡ L.parts }

@@ -7,7 +7,8 @@ ghost use Rattle.retro_base.specs.Visits.{VisitsWithin};
 
 use crate::ends::{later, put_in};
 use prefix_trees::{
-    Sequence, SignTree, SignedRows, ask_sequence, ask_uncounted, failure_with, failure_without, list_sequence,
+    Sequence, SignTree, SignedRows, ask_sequence, ask_uncounted, failure_with, failure_without,
+    list_sequence,
 };
 use retro_base::{
     Answer, Change, Kind, Listing, NoMemory, Op, Partial, Question, Retro, Row, Steps, uncounted,

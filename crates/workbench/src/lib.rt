@@ -14,8 +14,8 @@ mod named_timeline;
 mod open_block;
 mod outcome;
 mod position;
-mod timelines;
 mod reported;
+mod timelines;
 
 pub use bench::{Bench, Reply};
 pub use timelines::MAX_TIMELINES;
