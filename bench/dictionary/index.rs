@@ -1,6 +1,6 @@
 //! Rows by label and by key, as crates/key_index has them.
 
-use crate::weighted::{Item, Monoid, Tree};
+use crate::weighted::{Item, Tree};
 
 #[derive(Clone, Copy, PartialEq, Eq)]
 pub enum Op {
@@ -22,34 +22,11 @@ pub struct KeyRow {
     pub op: Op,
 }
 
-#[derive(Clone, Copy)]
-pub struct Last {
-    items: u32,
-    row: Option<KeyRow>,
-}
-
-impl Monoid for Last {
-    const UNIT: Last = Last {
-        items: 0,
-        row: None,
-    };
-
-    fn join(self, other: Last) -> Last {
-        Last {
-            items: self.items + other.items,
-            row: other.row.or(self.row),
-        }
-    }
-}
-
 impl Item for KeyRow {
-    type Measure = Last;
+    type Measure = u32;
 
-    fn measure(&self) -> Last {
-        Last {
-            items: 1,
-            row: Some(*self),
-        }
+    fn measure(&self) -> u32 {
+        1
     }
 }
 
@@ -74,14 +51,12 @@ impl KeyIndex {
     }
 
     fn up_to_label(&self, label: u64) -> u32 {
-        let is_past = |last: &Last| last.row.is_some_and(|row| label < row.label);
-        self.rows.count_up_to(is_past)
+        self.rows.partition_point(|row| row.label <= label)
     }
 
     fn up_to_key(&self, key: i64, label: u64) -> u32 {
         let spot = (key, label);
-        let is_past = |last: &Last| last.row.is_some_and(|row| spot < (row.op.key(), row.label));
-        self.by_key.count_up_to(is_past)
+        self.by_key.partition_point(|row| (row.op.key(), row.label) <= spot)
     }
 
     /// The last row on a key up to a label.

@@ -1,38 +1,15 @@
 //! Labels of rows, as crates/order_labels has them, chosen as crates/retro_dictionary does.
 
-use crate::weighted::{Item, Monoid, Tree};
-
-#[derive(Clone, Copy)]
-pub struct Highest {
-    items: u32,
-    number: u64,
-}
-
-impl Monoid for Highest {
-    const UNIT: Highest = Highest {
-        items: 0,
-        number: 0,
-    };
-
-    fn join(self, other: Highest) -> Highest {
-        Highest {
-            items: self.items + other.items,
-            number: self.number.max(other.number),
-        }
-    }
-}
+use crate::weighted::{Item, Tree};
 
 #[derive(Clone, Copy)]
 pub struct Label(u64);
 
 impl Item for Label {
-    type Measure = Highest;
+    type Measure = u32;
 
-    fn measure(&self) -> Highest {
-        Highest {
-            items: 1,
-            number: self.0,
-        }
+    fn measure(&self) -> u32 {
+        1
     }
 }
 
@@ -106,7 +83,7 @@ impl Labels {
     }
 
     pub fn place_of(&self, label: u64) -> Option<u32> {
-        let count = self.0.count_up_to(|highest| label < highest.number);
+        let count = self.0.partition_point(|other| other.0 <= label);
         let place = count.checked_sub(1)?;
         (self.0.get(place).0 == label).then_some(place)
     }

@@ -105,9 +105,8 @@ impl Found {
     };
 
     fn of(pairs: &Tree<KeyPair>, low: i64, high: i64) -> Found {
-        let greatest = |measure: &Pairs| measure.greatest.pair();
-        let from = pairs.count_up_to(|it| greatest(it).is_some_and(|pair| low <= pair.key));
-        let to = pairs.count_up_to(|it| greatest(it).is_some_and(|pair| high < pair.key));
+        let from = pairs.partition_point(|pair| pair.key < low);
+        let to = pairs.partition_point(|pair| pair.key <= high);
         if to <= from {
             return Found::NONE;
         }

@@ -143,27 +143,18 @@ impl<T: Item> Tree<T> {
         tree.whole().join(passed)
     }
 
-    /// How many items stand before the measure from the first one on is past a spot.
-    pub fn count_up_to(&self, is_past: impl Fn(&T::Measure) -> bool) -> u32 {
-        if !is_past(&self.whole()) {
-            return self.len();
-        }
-        let (mut tree, mut passed, mut count) = (self, T::Measure::UNIT, 0);
+    /// How many items a test holds of, where it holds of none after one of which it does not.
+    pub fn partition_point(&self, test: impl Fn(&T) -> bool) -> u32 {
+        let (mut tree, mut end) = (self, self.len());
         while let Some(node) = tree.root() {
-            let through = passed.join(node.left.whole());
-            if is_past(&through) {
-                tree = &node.left;
-            } else {
-                count += node.left.len();
-                passed = through.join(node.item.measure());
-                if is_past(&passed) {
-                    return count;
-                }
-                count += 1;
+            if test(&node.item) {
                 tree = &node.right;
+            } else {
+                end -= node.right.len() + 1;
+                tree = &node.left;
             }
         }
-        count
+        end
     }
 
     pub fn insert(&mut self, place: u32, item: T) {
@@ -286,16 +277,7 @@ impl Monoid for u32 {
 /// A tree whose items stand in their order.
 impl<T: Item + Ord> Tree<T> {
     fn place_of(&self, item: T) -> u32 {
-        let (mut low, mut high) = (0, self.len());
-        while low < high {
-            let middle = low + (high - low) / 2;
-            if self.get(middle) < item {
-                low = middle + 1;
-            } else {
-                high = middle;
-            }
-        }
-        low
+        self.partition_point(|other| *other < item)
     }
 
     pub fn put(&mut self, item: T) {

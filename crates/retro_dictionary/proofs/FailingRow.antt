@@ -16,7 +16,7 @@ use Rattle.retro_base.specs.declared.row.Row.{Row}
 use Rattle.retro_base.specs.Replay.{failure, run}
 use Rattle.retro_base.specs.State.{State, empty, step}
 use Rattle.retro_base.specs.lemmas.Folds.{err_within}
-use Rattle.key_index.specs.KeyRows.{KeyRow, named, op_at, up_to, after, with_row, without, failure_of, bad_with, bad_label, Replays}
+use Rattle.key_index.specs.KeyRows.{KeyRow, named, op_at, up_to, behind as after, with_row, without, failure_of, bad_with, bad_label, Replays}
 use Rattle.lifetime_segments.specs.declared.lifetime.Lifetime.{Lifetime}
 use Rattle.order_labels.specs.Labels.{AreApart, label_limit, label_before}
 use Rattle.retro_dictionary.specs.Kept.{AreKept}

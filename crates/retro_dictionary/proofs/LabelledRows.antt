@@ -6,7 +6,7 @@ use Rattle.std.proofs.lemmas.Bool.{le-leb, lt-leb, lt-ltb, le-ltb, eq-eqb, ne_eq
 use Rattle.retro_base.specs.declared.row.Row.{Row}
 use Rattle.retro_base.specs.declared.op.Op.{Op}
 use Rattle.retro_base.specs.OrderLaws.{all_weaker}
-use Rattle.key_index.specs.KeyRows.{KeyRow, LabelsRise, is_on, last_of, last_before, first_after, op_at, without, up_to, after, with_row}
+use Rattle.key_index.specs.KeyRows.{KeyRow, LabelsRise, is_on, last_of, last_before, first_after, op_at, without, up_to, behind as after, with_row}
 use Rattle.lifetime_segments.specs.declared.lifetime.Lifetime.{Lifetime}
 use Rattle.lifetime_segments.specs.Lifetimes.{items_at}
 use Rattle.lifetime_segments.specs.Ordered.{in_order}
@@ -14,7 +14,7 @@ use Rattle.retro_dictionary.specs.declared.pairs.Found.{Found}
 use Rattle.retro_dictionary.specs.declared.pairs.KeyRange.{KeyRange}
 use Rattle.retro_dictionary.specs.Asked.{found_at}
 use Rattle.retro_dictionary.specs.PairSearch.{pair_before, found_in}
-use Rattle.order_labels.specs.Labels.{AreApart, label_limit, label_before, label_later}
+use Rattle.order_labels.specs.Labels.{AreApart, label_limit, label_before, label_after as label_later}
 use Rattle.retro_dictionary.specs.Edited.{IsBetween, label_or_end}
 use Rattle.retro_dictionary.specs.Labelled.{labelled}
 use Rattle.retro_dictionary.specs.Lifetimes.{end_of}

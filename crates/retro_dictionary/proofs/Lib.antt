@@ -7,7 +7,6 @@ pub mod Answered
 pub mod LabelledRows
 pub mod Performed
 pub mod AskedPast
-pub mod CountedPairs
 pub mod MeasuredPairs
 pub mod RangeOfPairs
 pub mod OrderedEdits

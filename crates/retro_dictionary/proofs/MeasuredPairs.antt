@@ -100,21 +100,11 @@ last-same : (ps : List (ℤ × ℤ)) → last_of ps ≡ answers.last_of ps
 last-same [] = refl
 last-same (p ∷ ps) = ap (λ o. option_or o (Some p)) (last-same ps) ∙ last-or p ps
 
--- the greatest of the first so many is the last of them
+-- what holds of all holds of the first so many
 pub all_taken : {A : Type 0} (P : A → Type 0) (rs : List A) (m : ℕ) → AllByRecursion P rs → AllByRecursion P (take m rs)
 all_taken P rs zero all = tt
 all_taken P [] (suc m) all = tt
 all_taken P (r ∷ rs) (suc m) all = (all.0, all_taken P rs m all.1)
-
-ordered_front : (qs : List (ℤ × ℤ)) (n : ℕ) → AreInOrder pair_before qs → AreInOrder pair_before (take n qs)
-ordered_front qs zero ordered = tt
-ordered_front [] (suc n) ordered = tt
-ordered_front (q ∷ qs) (suc n) ordered = (all_taken (λ (r : ℤ × ℤ). pair_before r q ≡ false) qs n ordered.0, ordered_front qs n ordered.1)
-
--- the greatest of the first so many is the last of them
-pub measured-last : (ps : List (ℤ × ℤ)) (place : ℕ) → AreInOrder pair_before ps → element (measure (slice_range ps 0 place)).1.1.first ≡ last_of (take place ps)
-measured-last ps place ordered =
-    ap (λ n. element (measure (take n ps)).1.1.first) (let same : place - 0 ≡ place = omega arith in same) ∙ measured-greatest (take place ps) (ordered_front ps place ordered)
 
 -- what was measured of pairs is what is found of them, where their sum fits
 abbrev found : ℕ → ℤ → Option (ℤ × ℤ) → Option (ℤ × ℤ) → Found

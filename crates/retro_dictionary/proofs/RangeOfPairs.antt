@@ -9,12 +9,39 @@ use Rattle.lifetime_segments.specs.Lawful.{AnswerTogether, most_items}
 use Rattle.lifetime_segments.specs.Ordered.{AreInOrder}
 use Rattle.retro_base.specs.Answers.{pairs_between}
 use Rattle.retro_base.specs.OrderLaws.{all_weaker}
+use Rattle.weighted_tree.specs.Partitioned.{IsPartitioned}
 use Rattle.retro_dictionary.specs.declared.pairs.Found.{Found}
+use Rattle.retro_dictionary.specs.declared.search.Bound.{Bound}
 use Rattle.retro_dictionary.specs.declared.search.Bound.TheVariants.{Below, UpTo}
 use Rattle.retro_dictionary.specs.PairSearch.{pair_before, found_in}
 use Rattle.retro_dictionary.specs.Bounds.{reaches}
-use Rattle.retro_dictionary.proofs.CountedPairs.{none_pass, all_pass, filter_passes}
 use Rattle.retro_dictionary.proofs.MeasuredPairs.{all_taken}
+
+module _ {A : Type 0} (test : A → Bool) where
+  none_pass : (xs : List A) → AllByRecursion (λ x. test x ≡ false) xs → filter test xs ≡ []
+  none_pass [] all = refl
+  none_pass (x ∷ xs) all = ap (λ b. cond b (x ∷ filter test xs) (filter test xs)) all.0 ∙ none_pass xs all.1
+
+  all_pass : (xs : List A) → AllByRecursion (λ x. test x ≡ true) xs → filter test xs ≡ xs
+  all_pass [] all = refl
+  all_pass (x ∷ xs) all = ap (λ b. cond b (x ∷ filter test xs) (filter test xs)) all.0 ∙ ap (λ ys. x ∷ ys) (all_pass xs all.1)
+
+  filter_passes : (xs : List A) → AllByRecursion (λ x. test x ≡ true) (filter test xs)
+  filter_passes [] = tt
+  filter_passes (x ∷ xs) = elim (test x) as (λ b. test x ≡ b → AllByRecursion (λ y. test y ≡ true) (cond b (x ∷ filter test xs) (filter test xs))) [
+    | true ↦ λ passing. (passing, filter_passes xs)
+    | false ↦ λ failing. filter_passes xs
+  ] refl
+
+-- after a pair past a bound all are past it
+further : (bound : Bound) (p q : ℤ × ℤ) → pair_before q p ≡ false → reaches bound p ≡ false → reaches bound q ≡ false
+further (Below key) p q order past = grind (arith, ints)
+further (UpTo key) p q order past = grind (arith, ints)
+
+pub reaches-falls : (bound : Bound) (ps : List (ℤ × ℤ)) → AreInOrder pair_before ps → IsPartitioned (reaches bound) ps
+reaches-falls bound [] ordered = tt
+reaches-falls bound (p ∷ ps) ordered =
+    (λ past. all_weaker (λ (q : ℤ × ℤ). pair_before q p ≡ false) (λ (q : ℤ × ℤ). reaches bound q ≡ false) ps (λ q after. further bound p q after past) ordered.0, reaches-falls bound ps ordered.1)
 
 filter_both : {A : Type 0} (test other : A → Bool) (xs : List A) → filter (λ x. test x && other x) xs ≡ filter test (filter other xs)
 filter_both test other [] = refl

@@ -4,7 +4,7 @@ use Rattle.std.specs.List.{insert}
 use Rattle.std.proofs.lemmas.Bool.{cases_lt, le-leb, lt-ltb, ne_eqb}
 use Rattle.std.proofs.lemmas.Nat.{pow_pos, mod_below}
 use Rattle.retro_base.specs.Limits.{most_rows}
-use Rattle.order_labels.specs.Labels.{AreApart, label_before, label_later, label_limit, has_room, middle, exponent, gap_of, spread}
+use Rattle.order_labels.specs.Labels.{AreApart, label_before, label_after as label_later, label_limit, has_room, middle, exponent, gap_of, spread}
 use Rattle.order_labels.specs.LabelLaws.{RelabellingIsRare, least_insertions}
 use Rattle.order_labels.specs.ApartLaws.{gap_at, apart_with, apart_without, less_apart, below_more, halves_apart, next_inside, next_at_end, next_before, middle_apart}
 use Rattle.order_labels.specs.SpreadLaws.{exponent-falls, multiples-apart, spread-apart}

@@ -13,7 +13,7 @@ use Rattle.retro_base.specs.declared.row.Row.{Row}
 use Rattle.key_index.specs.KeyRows.{KeyRow, op_at, with_row, without}
 use Rattle.key_index.specs.Relabelled.{Rise, HoldsLabels, counterpart, relabelled, is_in}
 use Rattle.lifetime_segments.specs.declared.lifetime.Lifetime.{Lifetime}
-use Rattle.order_labels.specs.Labels.{AreApart, label_limit, label_before, label_later, has_room, middle, gap_of, multiples, spread, inserted}
+use Rattle.order_labels.specs.Labels.{AreApart, label_limit, label_before, label_after as label_later, has_room, middle, gap_of, multiples, spread, inserted}
 use Rattle.order_labels.specs.ApartLaws.{apart_without}
 use Rattle.order_labels.specs.SpreadLaws.{length-multiples, multiple-at, spread-rises}
 use Rattle.retro_dictionary.specs.Edited.{IsBetween, CanInsert}

@@ -11,7 +11,7 @@ use Rattle.lifetime_segments.specs.declared.lifetime.Lifetime.{Lifetime}
 use Rattle.lifetime_segments.specs.Lifetimes.{label_end, stands_earlier}
 use Rattle.lifetime_segments.specs.Lawful.{most_items}
 use Rattle.lifetime_segments.specs.Ordered.{put_in, without}
-use Rattle.order_labels.specs.Labels.{label_limit, label_before, label_later}
+use Rattle.order_labels.specs.Labels.{label_limit, label_before, label_after as label_later}
 use Rattle.retro_dictionary.specs.Changes.{Placed, placed_by, up_to_label}
 use Rattle.retro_dictionary.specs.Lifetimes.{put_by}
 use Rattle.retro_dictionary.specs.Numbers.{IsOfNumbers}

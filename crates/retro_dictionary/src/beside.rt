@@ -1,5 +1,5 @@
 ghost use Rattle.std.specs.Prelude.{◌≡◌, ◌+◌, ◌<◌, ◌≤◌, false, length, IfSome, IfNone};
-ghost use Rattle.order_labels.specs.Labels.{AreLabels, label_before, label_later, label_limit, has_room};
+ghost use Rattle.order_labels.specs.Labels.{AreLabels, label_before, label_after as label_later, label_limit, has_room};
 ghost use Rattle.retro_dictionary.specs.Edited.{IsBetween};
 ghost use Rattle.retro_dictionary.specs.RowLabels.{label_after, row_rule, unit_after};
 

@@ -1,10 +1,9 @@
-ghost use Rattle.std.specs.Prelude.{◌≡◌, ◌<◌, ◌≤◌, length, take, drop, not, false};
+ghost use Rattle.std.specs.Prelude.{◌≡◌, ◌<◌, ◌≤◌, length, take, drop, not};
 ghost use Rattle.std.specs.List.{filter};
-ghost use Rattle.std.specs.Option.{option_map_or, option_map};
 ghost use Rattle.lifetime_segments.specs.Lawful.{IsLawful};
 ghost use Rattle.retro_dictionary.specs.PairSearch.{pair_before, found_in, none_found, found_together, lesser, greater};
 ghost use Rattle.retro_dictionary.specs.PairMeasure.{PairsMeasured};
-ghost use Rattle.retro_dictionary.specs.Bounds.{reaches, IsPartitioned};
+ghost use Rattle.retro_dictionary.specs.Bounds.{reaches};
 
 use crate::pairs::{Found, KeyPair, KeyRange, PairsMeasure};
 use lifetime_segments::Decomposable;
@@ -144,18 +143,5 @@ fn count_up_to<L: Ledger>(items: &Tree<KeyPair>, bound: Bound, steps: &mut Steps
     ensures back { drop result items.now ≡ filter (λ pair. not (reaches bound pair)) items.now }
     ensures within { result ≤ length items.now }
 {
-    match items.first_place(0, |measure: &PairsMeasure| is_past(bound, measure), steps) {
-        Some(place) => place - 1,
-        None => items.len(),
-    }
-}
-
-/// Whether the greatest pair of a range stands past the bound.
-fn is_past(bound: Bound, measure: &PairsMeasure) -> bool
-    ensures { result ≡ option_map_or (λ pair. not (reaches bound pair)) (option_map (λ first. first.0) measure.now.1.1.first) false }
-{
-    match measure.second().second().element() {
-        Some(pair) => !reaches(bound, pair),
-        None => false,
-    }
+    items.partition_point(|pair: &KeyPair| reaches(bound, *pair), steps)
 }

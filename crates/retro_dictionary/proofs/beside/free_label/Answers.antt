@@ -8,7 +8,7 @@ use Rattle.retro_dictionary.proofs.beside.free_label.Goals as goal
 
 pub overflow_sub-after : goal.overflow_sub-after
 overflow_sub-after c =
-    omega (arith, gap_at 1 0 label_limit c.args.labels.now c.args.place c.requires.within c.requires.labels.rising, c.label_before-before.ensures, c.label_after-after.ensures)
+    omega (arith, gap_at 1 0 label_limit c.args.labels.now c.args.place c.requires.within c.requires.labels.rising, c.label_before-before.ensures, c.label_later-after.ensures)
 
 pub overflow_add-result : goal.overflow_add-result
 overflow_add-result c =
@@ -17,7 +17,7 @@ overflow_add-result c =
       gap_at 1 0 label_limit c.args.labels.now c.args.place c.requires.within c.requires.labels.rising,
       after_within 1 0 label_limit c.args.labels.now c.args.place c.requires.labels.rising,
       c.label_before-before.ensures,
-      c.label_after-after.ensures,
+      c.label_later-after.ensures,
     )
 
 pub label_after-requires-clause-order : goal.label_after-requires-clause-order
@@ -30,4 +30,4 @@ returns-clause-between c =
     let label : c.label_after.result ≡ label_after (label_before 0 c.args.labels.now (c.args.place - 1)) (label_before 0 c.args.labels.now c.args.place) =
     c.label_after.ensures ∙ ap (λ former. label_after former c.label_before-before.result) c.label_before.ensures ∙ ap (label_after (label_before 0 c.args.labels.now (c.args.place - 1))) c.label_before-before.ensures in
     subst (IsBetween c.args.labels.now c.args.place) (sym label)
-    (after-between c.args.labels.now c.args.place last (omega (arith, c.label_before-before.ensures, c.label_after-after.ensures, next_at_end label_limit c.args.labels.now c.args.place last)))
+    (after-between c.args.labels.now c.args.place last (omega (arith, c.label_before-before.ensures, c.label_later-after.ensures, next_at_end label_limit c.args.labels.now c.args.place last)))
