@@ -41,7 +41,7 @@ nothing_kept = record {
   marks = tt;
 }
 
-pub all_map : {X : Type 0} (P Q : X → Type 0) (f : X → X) (xs : List X) → ((x : X) → P x → Q (f x)) → AllByRecursion P xs → AllByRecursion Q (map f xs)
+all_map : {X : Type 0} (P Q : X → Type 0) (f : X → X) (xs : List X) → ((x : X) → P x → Q (f x)) → AllByRecursion P xs → AllByRecursion Q (map f xs)
 all_map P Q f [] each all = tt
 all_map P Q f (x ∷ xs) each all = (each x all.0, all_map P Q f xs each all.1)
 
@@ -97,7 +97,7 @@ rows_changed Plain rows = refl
 rows_changed (Gain bridge entry) rows = rows_marked entry true rows
 rows_changed (Lose bridge entry) rows = rows_marked entry false rows
 
-pub rows_edited : (added : Bool) (marked : List MarkedRow) (place : ℕ) (row : MarkedRow) → rows_of (edited_rows marked added place row) ≡ edited (rows_of marked) (edit_with added place (row_of row))
+rows_edited : (added : Bool) (marked : List MarkedRow) (place : ℕ) (row : MarkedRow) → rows_of (edited_rows marked added place row) ≡ edited (rows_of marked) (edit_with added place (row_of row))
 rows_edited true marked place row = insert_rows place marked row
 rows_edited false marked place row = remove_rows place marked
 

@@ -12,7 +12,6 @@ pub mod TellingRows
 pub mod TellingLists
 pub mod ChangesRead
 pub mod ChangeCauses
-pub mod Mapped
 pub mod TrueEvidence
 pub mod Timeless
 pub mod EditsReported

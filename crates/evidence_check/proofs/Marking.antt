@@ -1,19 +1,13 @@
 -- Marked rows, and the rows that are marked.
-use Rattle.std.proofs.Common.{◌≡◌, ℕ, zero, suc, ◌||◌, List, [], ◌∷◌, length, take, drop, refl, ap}
-use Rattle.std.specs.Prelude.{◌==◌, insert, remove}
-use Rattle.std.specs.List.{list_any}
+use Rattle.std.proofs.Common.{◌≡◌, ℕ, zero, suc, List, [], ◌∷◌, length, take, drop, refl, ap}
+use Rattle.std.specs.Prelude.{insert, remove}
 use Rattle.std.proofs.lemmas.List.{take-map}
 use Rattle.evidence_check.specs.declared.marked_row.MarkedRow.{MarkedRow}
 use Rattle.evidence_check.specs.Marks.{row_of, rows_of}
-use Rattle.evidence_check.specs.Truth.{has_number}
 
 pub length_rows : (marked : List MarkedRow) → length (rows_of marked) ≡ length marked
 length_rows [] = refl
 length_rows (first ∷ others) = ap (λ n. suc n) (length_rows others)
-
-pub has_number_marked : (number : ℕ) (marked : List MarkedRow) → has_number number (rows_of marked) ≡ list_any (λ row. row.number == number) marked
-has_number_marked number [] = refl
-has_number_marked number (first ∷ others) = ap (λ b. (first.number == number) || b) (has_number_marked number others)
 
 pub take_rows : (place : ℕ) (marked : List MarkedRow) → take place (rows_of marked) ≡ rows_of (take place marked)
 take_rows place marked = take-map row_of place marked

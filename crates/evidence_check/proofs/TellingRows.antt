@@ -1,16 +1,14 @@
 -- What was reported of a timeline, after evidence that is taken or refused.
-use Rattle.std.proofs.Common.{◌≡◌, ℕ, List, ap, Result, Ok, Err, None}
-use Rattle.std.specs.Prelude.{OnOk, OnErr}
+use Rattle.std.proofs.Common.{◌≡◌, ℕ, List, ap, Result, Ok, Err}
+use Rattle.std.specs.Prelude.{OnOk}
 use Rattle.retro_base.specs.declared.row.Row.{Row}
-use Rattle.retro_base.specs.ChangeLaws.{OneChangeOfPq}
 use Rattle.evidence.specs.declared.evidence.Evidence.{Evidence}
-use Rattle.evidence.specs.Evidence.{IsEvidence}
 use Rattle.evidence_check.specs.declared.error.CheckError.{CheckError}
 use Rattle.evidence_check.specs.declared.marked_row.MarkedRow.{MarkedRow}
 use Rattle.evidence_check.specs.Judgement.{Reported}
-use Rattle.evidence_check.specs.Marks.{MarksSurvivors, changed_marks, edited_rows, marked_row, rows_of}
-use Rattle.evidence_check.specs.Truth.{cause_of, rows_after}
-use Rattle.evidence_check.proofs.Kept.{kept_after, rows_reported}
+use Rattle.evidence_check.specs.Marks.{changed_marks, edited_rows, marked_row, rows_of}
+use Rattle.evidence_check.specs.Truth.{rows_after}
+use Rattle.evidence_check.proofs.Kept.{rows_reported}
 
 abbrev reported_as : List ℕ → List Row → Reported
 reported_as name rows = record { name = name; rows = rows }
@@ -18,11 +16,6 @@ reported_as name rows = record { name = name; rows = rows }
 -- the marked rows after evidence
 abbrev pub marked_after : List MarkedRow → Evidence → List MarkedRow
 marked_after marked e = changed_marks e.change (edited_rows marked e.added e.place (marked_row e))
-
-pub kept_by : {X : Type 0} (r : Result X CheckError) (one : OneChangeOfPq) (old new : List MarkedRow) (e : Evidence) → MarksSurvivors old → IsEvidence e → cause_of (rows_of old) e ≡ None
-    → OnOk r (new ≡ marked_after old e) → OnErr r (new ≡ old) → MarksSurvivors new
-kept_by (Ok x) one old new e kept is none ok err = rw ok (kept_after one old e kept is none)
-kept_by (Err error) one old new e kept is none ok err = rw err kept
 
 pub reported_by : {X : Type 0} (r : Result X CheckError) (name : List ℕ) (old new : List MarkedRow) (now : Reported) (e : Evidence) → ◌≡◌ {A = Reported} (record { name = name; rows = rows_of old }) now
     → OnOk r (new ≡ marked_after old e) → OnOk r (◌≡◌ {A = Reported} (record { name = name; rows = rows_of new }) (record { name = now.name; rows = rows_after now.rows e }))

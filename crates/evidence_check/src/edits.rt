@@ -131,7 +131,7 @@ fn edit(
     Ok(())
 }
 
-/// Marks the row that adds this entry. It may stand at the hinted place; else it is looked for.
+/// Marks the row that adds this entry. It may stand at the hinted place; else it is looked for from the end on.
 fn mark(rows: &mut [MarkedRow], hint: usize, entry: Entry, alive: bool)
     requires { HaveOwnNumbers (rows_of rows.old) }
     ensures { rows.new ≡ map (with_mark entry alive) rows.old }
@@ -139,17 +139,19 @@ fn mark(rows: &mut [MarkedRow], hint: usize, entry: Entry, alive: bool)
     if hint < rows.len() && rows[hint].adds(entry) {
         rows[hint].alive = alive;
     } else {
-        mark_anywhere(rows, entry, alive);
+        mark_last(rows, entry, alive);
     }
 }
 
-/// Marks the row that adds this entry, wherever it stands.
-fn mark_anywhere(rows: &mut [MarkedRow], entry: Entry, alive: bool)
+/// Marks the last row that adds this entry. Of an edit it mostly stands after its place.
+fn mark_last(rows: &mut [MarkedRow], entry: Entry, alive: bool)
+    requires { HaveOwnNumbers (rows_of rows.old) }
     ensures { rows.new ≡ map (with_mark entry alive) rows.old }
 {
-    for row in rows.iter_mut() {
-        if row.adds(entry) {
-            row.alive = alive;
+    for index in (0..rows.len()).rev() {
+        if rows[index].adds(entry) {
+            rows[index].alive = alive;
+            return;
         }
     }
 }
