@@ -54,3 +54,11 @@ places_inside (Stack inner) = []
 places_inside (Deque inner) = []
 places_inside (Dict inner) = []
 places_inside (Pq inner) = inner.places
+
+-- and the most rows between neighbours among them
+abbrev pub width_inside : Engine → ℕ
+width_inside (Queue inner) = 0
+width_inside (Stack inner) = 0
+width_inside (Deque inner) = 0
+width_inside (Dict inner) = 0
+width_inside (Pq inner) = inner.width

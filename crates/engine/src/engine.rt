@@ -9,7 +9,7 @@ ghost use Rattle.retro_base.specs.Questions.{suits};
 ghost use Rattle.retro_base.specs.Replay.{IsValid, state_at};
 ghost use Rattle.retro_base.specs.Timeline.{IsFresh, IsReplayable};
 ghost use Rattle.retro_base.specs.Visits.{VisitsWithin};
-ghost use Rattle.engine.specs.Engine.{kind_inside, rows_inside, is_line, is_pq, made_inside, places_inside};
+ghost use Rattle.engine.specs.Engine.{kind_inside, rows_inside, is_line, is_pq, made_inside, places_inside, width_inside};
 
 use bridge_pq::BridgeQueue;
 use checkpoint_full::Full;
@@ -60,8 +60,9 @@ impl Engine {
     /// The answer to a question about the state at a place, after so many rows. The rows stay, whatever the answer.
     ///
     /// A queue, a stack and a deque visit at most 144 nodes for each binary digit of one more than the number of rows, and
-    /// always answer. A priority queue whose checkpoints were made visits at most 432 for each of 1,025 rows and each
-    /// digit; the first question about its past makes them, and no question moves them. Of a dictionary no bound is stated.
+    /// always answer. A priority queue whose checkpoints were made visits at most 432 for each row of their width and one
+    /// more, and each digit; the first question about its past makes them, and no question moves them or their width. Of a
+    /// dictionary no bound is stated.
     pub fn ask_past<L: Ledger>(
         &mut self,
         place: u32,
@@ -76,8 +77,8 @@ impl Engine {
         ensures line { is_line self.old ≡ true → IsOk result }
         ensures line_visits { is_line self.old ≡ true → VisitsWithin 144 (length (rows_inside self.old)) steps.old steps.new }
         ensures made { is_pq self.old ≡ true → OnOk result (made_inside self.new ≡ true) }
-        ensures places { made_inside self.old ≡ true → (made_inside self.new ≡ true) × (places_inside self.new ≡ places_inside self.old) }
-        ensures visits { made_inside self.old ≡ true → VisitsWithin (432 * 1025) (length (rows_inside self.old)) steps.old steps.new }
+        ensures places { made_inside self.old ≡ true → (made_inside self.new ≡ true) × (width_inside self.new ≡ width_inside self.old) × (places_inside self.new ≡ places_inside self.old) }
+        ensures visits { made_inside self.old ≡ true → VisitsWithin (432 * (width_inside self.old + 1)) (length (rows_inside self.old)) steps.old steps.new }
         ensures err { OnErr result (self.new ≡ self.old) }
     {
         match self {
@@ -105,7 +106,7 @@ impl Engine {
         ensures rows { rows_inside self.new ≡ rows_inside self.old }
         ensures answer { IfOk result (λ answer. answer ≡ answer_of (state_at (kind_inside self.old) (rows_inside self.old) place) question) }
         ensures made { is_pq self.old ≡ true → OnOk result (made_inside self.new ≡ true) }
-        ensures places { made_inside self.old ≡ true → (made_inside self.new ≡ true) × (places_inside self.new ≡ places_inside self.old) }
+        ensures places { made_inside self.old ≡ true → (made_inside self.new ≡ true) × (width_inside self.new ≡ width_inside self.old) × (places_inside self.new ≡ places_inside self.old) }
         ensures err { OnErr result (self.new ≡ self.old) }
     {
         let mut steps = Steps::<L>::new(blank);
@@ -169,6 +170,7 @@ impl Retro for Engine {
         ensures replayable { OnOk result (IsReplayable (kind_inside self.new) (rows_inside self.new)) }
         ensures change { IfOk result (IsChange (kind_inside self.old) (rows_inside self.old) (add place row)) }
         ensures made { OnOk result (made_inside self.new ≡ made_inside self.old) }
+        ensures wider { OnOk result (width_inside self.old ≤ width_inside self.new) }
         ensures err { OnErr result (self.new ≡ self.old) }
     {
         match self {
@@ -189,6 +191,7 @@ impl Retro for Engine {
         ensures replayable { OnOk result (IsReplayable (kind_inside self.new) (rows_inside self.new)) }
         ensures change { IfOk result (λ taken. IsChange (kind_inside self.old) (rows_inside self.old) (cut place taken.0) taken.1) }
         ensures made { OnOk result (made_inside self.new ≡ made_inside self.old) }
+        ensures wider { OnOk result (width_inside self.old ≤ width_inside self.new) }
         ensures err { OnErr result (self.new ≡ self.old) }
     {
         match self {
@@ -217,7 +220,7 @@ impl Retro for Engine {
         ensures rows { rows_inside self.new ≡ rows_inside self.old }
         ensures answer { IfOk result (λ answer. answer ≡ answer_of (state_at (kind_inside self.old) (rows_inside self.old) place) question) }
         ensures made { is_pq self.old ≡ true → OnOk result (made_inside self.new ≡ true) }
-        ensures places { made_inside self.old ≡ true → (made_inside self.new ≡ true) × (places_inside self.new ≡ places_inside self.old) }
+        ensures places { made_inside self.old ≡ true → (made_inside self.new ≡ true) × (width_inside self.new ≡ width_inside self.old) × (places_inside self.new ≡ places_inside self.old) }
         ensures err { OnErr result (self.new ≡ self.old) }
     {
         self.ask_counted::<Brand>(place, question, Blank::new(1))
@@ -229,7 +232,7 @@ impl Retro for Engine {
         ensures rows { rows_inside self.new ≡ rows_inside self.old }
         ensures content { IfOk result (λ listing. listing ≡ content (state_at (kind_inside self.old) (rows_inside self.old) place)) }
         ensures made { is_pq self.old ≡ true → OnOk result (made_inside self.new ≡ true) }
-        ensures places { made_inside self.old ≡ true → (made_inside self.new ≡ true) × (places_inside self.new ≡ places_inside self.old) }
+        ensures places { made_inside self.old ≡ true → (made_inside self.new ≡ true) × (width_inside self.new ≡ width_inside self.old) × (places_inside self.new ≡ places_inside self.old) }
         ensures err { OnErr result (self.new ≡ self.old) }
     {
         match self {

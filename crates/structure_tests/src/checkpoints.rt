@@ -78,6 +78,40 @@ fn a_gap_between_checkpoints_is_split(rt: HostRuntime) {
     sizes(&rt, &mut history, 4100);
 }
 
+/// Takes the first row out, one after another.
+fn cut_first(rt: &impl Abort, history: &mut History<Full<BridgeQueue>>, count: u32) {
+    for _ in 0..count {
+        assert!(rt; 0 < history.len());
+        history.cut(rt, 0);
+    }
+}
+
+#[test]
+fn checkpoints_go_where_rows_go(rt: HostRuntime) {
+    let mut history = empty(rt.alloc());
+    add_at_end(&rt, &mut history, 40_000);
+    assert_eq!(&rt; history.len(), 40_000);
+    let half = history.ask(&rt, 20_000, Question::Size);
+    assert_eq!(&rt; half, number(20_000));
+    let least = history.ask(&rt, 39_999, Question::Nth { index: 0 });
+    assert_eq!(&rt; least, number(1));
+    cut_first(&rt, &mut history, 39_000);
+    assert_eq!(&rt; history.len(), 1000);
+    let least = history.ask(&rt, 500, Question::Min);
+    assert_eq!(&rt; least, number(39_001));
+}
+
+#[test]
+fn one_checkpoint_too_many_doubles_the_width(rt: HostRuntime) {
+    let mut history = empty(rt.alloc());
+    add_at_end(&rt, &mut history, 32_700);
+    assert_eq!(&rt; history.len(), 32_700);
+    let few = history.ask(&rt, 1500, Question::Size);
+    assert_eq!(&rt; few, number(1500));
+    add_at_end(&rt, &mut history, 200);
+    sizes(&rt, &mut history, 32_900);
+}
+
 /// Draws an edit, makes it in both histories where it can be made, and asks both at a place.
 fn drawn_edit(
     rt: &impl Abort,
