@@ -7,3 +7,7 @@ use Rattle.std.specs.declared.vec.IntoIter.{IntoIter}
 -- the bytes of the words after the program's name
 abbrev pub words_after_name : {A B : Type 0} → IntoIter (String A) B → List (List ℕ)
 words_after_name args = drop 1 (map (λ word. string_bytes word) (into_iter_items args))
+
+-- the exit status where the system refuses the words for another cause than memory; no run ends with it
+abbrev pub words_refused : ℕ
+words_refused = 7

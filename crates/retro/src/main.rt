@@ -5,11 +5,11 @@
 //! the next line is asked for.
 #![tactic(auto)]
 
-ghost use Rattle.std.specs.Prelude.{◌≡◌, ◌<◌, ◌-◌, ◌^◌, ◌⊎◌, ◌↔◌, length, None, IfOk, IfErr};
+ghost use Rattle.std.specs.Prelude.{◌≡◌, ◌≢◌, ◌<◌, ◌-◌, ◌^◌, ◌⊎◌, ◌↔◌, length, None, IfOk, IfErr};
 ghost use Rattle.std.specs.IoError.{error_kind};
 ghost use Rattle.std.specs.Process.{exit_status};
 ghost use Rattle.retro.specs.Gathered.{RunsGathered};
-ghost use Rattle.retro.specs.Words.{words_after_name};
+ghost use Rattle.retro.specs.Words.{words_after_name, words_refused};
 ghost use Rattle.retro_cli.specs.Forms.{form_of};
 ghost use Rattle.retro_cli.specs.Status.{code_of};
 
@@ -103,6 +103,7 @@ fn exit_code(status: Status) -> ExitCode
 fn code_of_refusal(error: &io::Error) -> u8
     ensures no_text { error_kind error.now ≡ ErrorKind.InvalidData → result ≡ code_of Status.Words }
     ensures no_memory { error_kind error.now ≡ ErrorKind.OutOfMemory → result ≡ code_of Status.NoMemory }
+    ensures refused { error_kind error.now ≢ ErrorKind.InvalidData → error_kind error.now ≢ ErrorKind.OutOfMemory → result ≡ words_refused }
 {
     match error.kind() {
         ErrorKind::InvalidData => Status::Words.code(),

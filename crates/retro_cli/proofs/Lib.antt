@@ -4,6 +4,9 @@ pub mod GoesOn
 pub mod Reactions
 pub mod Stops
 pub mod WholeLines
+pub mod UpToLastFeed
+pub mod ReadSoFar
+pub mod OutOfMemory
 pub mod Statuses
 pub mod Judged
 pub mod Summing

@@ -14,6 +14,7 @@ use Rattle.retro_cli.specs.declared.stop.Stop.TheVariants as stops
 use Rattle.retro_cli.specs.Delivery.{StandsAt}
 use Rattle.retro_cli.specs.Ends.{Answers, Stands}
 use Rattle.retro_cli.specs.Judging.{is_refusal, judged_output, judgement_of}
+use Rattle.retro_cli.specs.OutOfMemory.{AppendsAnswersOfEarlier}
 use Rattle.retro_cli.specs.Output.{has_refusal}
 use Rattle.retro_cli.specs.Program.{AnswersScript, JudgesEvidence, SumsUp}
 use Rattle.retro_cli.specs.Run.{EndsWithoutFault, MatchesRefusal, MayBeTooLong, is_read_fault, is_write_fault, status_of}
@@ -92,6 +93,7 @@ module _ {S K : Type 0} (I : sources.Ghosts S) (O : sinks.Ghosts K) (source sour
     unflushed = λ none. absurd none;
     of_taken = λ e. cc;
     of_first = λ e. cc;
+    of_earlier = λ e. cc;
   }
   script_answered true ended answers = record {
     ended = λ _. ended;
@@ -104,11 +106,14 @@ module _ {S K : Type 0} (I : sources.Ghosts S) (O : sinks.Ghosts K) (source sour
     unflushed = λ none. absurd none;
     of_taken = λ e. cc;
     of_first = λ e. cc;
+    of_earlier = λ e. cc;
   }
 
   script_stopped : (stop : Stop) → Stands O (I.left source) (I.left source') sink sink' most_bytes stop
+      → (ended_at stop ≡ ended_at stops.NoMemory
+      → AppendsAnswersOfEarlier I source source' (I.left source) (I.left source') (O.written sink) (O.written sink'))
       → AnswersScript I O source source' sink sink' (status_after (ended_at stop))
-  script_stopped stops.ReadFault stands = record {
+  script_stopped stops.ReadFault stands memory = record {
     ended = λ none. absurd none;
     answered = λ none. absurd none;
     flush = λ none. absurd none;
@@ -119,8 +124,9 @@ module _ {S K : Type 0} (I : sources.Ghosts S) (O : sinks.Ghosts K) (source sour
     unflushed = λ _. stands.0.unflushed;
     of_taken = λ _. stands.1;
     of_first = λ e. cc;
+    of_earlier = λ e. cc;
   }
-  script_stopped stops.WriteFault stands = record {
+  script_stopped stops.WriteFault stands memory = record {
     ended = λ none. absurd none;
     answered = λ none. absurd none;
     flush = λ none. absurd none;
@@ -131,8 +137,9 @@ module _ {S K : Type 0} (I : sources.Ghosts S) (O : sinks.Ghosts K) (source sour
     unflushed = λ none. absurd none;
     of_taken = λ e. cc;
     of_first = λ e. cc;
+    of_earlier = λ e. cc;
   }
-  script_stopped stops.NoMemory stands = record {
+  script_stopped stops.NoMemory stands memory = record {
     ended = λ none. absurd none;
     answered = λ none. absurd none;
     flush = λ none. absurd none;
@@ -143,8 +150,9 @@ module _ {S K : Type 0} (I : sources.Ghosts S) (O : sinks.Ghosts K) (source sour
     unflushed = λ _. stands.unflushed;
     of_taken = λ e. cc;
     of_first = λ e. cc;
+    of_earlier = λ _. memory refl;
   }
-  script_stopped stops.TooLong stands = record {
+  script_stopped stops.TooLong stands memory = record {
     ended = λ none. absurd none;
     answered = λ none. absurd none;
     flush = λ none. absurd none;
@@ -155,14 +163,17 @@ module _ {S K : Type 0} (I : sources.Ghosts S) (O : sinks.Ghosts K) (source sour
     unflushed = λ _. stands.0.unflushed;
     of_taken = λ e. cc;
     of_first = λ _. stands.1;
+    of_earlier = λ e. cc;
   }
 
   pub answers_script : (outcome : Outcome) → OnOk outcome ((I.ended source' ≡ true) × (O.flushed sink' ≡ true))
       → IfOk outcome (Answers O (I.left source) (I.left source') sink sink') → IfErr outcome (Stands O (I.left source) (I.left source') sink sink' most_bytes)
+      → (outcome ≡ ended_at stops.NoMemory
+      → AppendsAnswersOfEarlier I source source' (I.left source) (I.left source') (O.written sink) (O.written sink'))
       → AnswersScript I O source source' sink sink' (status_after outcome)
-  answers_script (Ok false) ended answers stands = script_answered false ended answers
-  answers_script (Ok true) ended answers stands = script_answered true ended answers
-  answers_script (Err stop) ended answers stands = script_stopped stop stands
+  answers_script (Ok false) ended answers stands memory = script_answered false ended answers
+  answers_script (Ok true) ended answers stands memory = script_answered true ended answers
+  answers_script (Err stop) ended answers stands memory = script_stopped stop stands memory
 
   -- evidence was judged
   abbrev Judges : Outcome → Type 0

@@ -14,7 +14,7 @@ broken_at : (piece more : List ℕ) → has_line_feed (piece ++ line_feed ∷ mo
 broken_at [] more = refl
 broken_at (b ∷ piece) more = rw (broken_at piece more) (if_same (b == line_feed) true)
 
-up_to_none : (xs : List ℕ) → has_line_feed xs ≡ false → up_to_last_feed xs ≡ []
+pub up_to_none : (xs : List ℕ) → has_line_feed xs ≡ false → up_to_last_feed xs ≡ []
 unfolding up_to_last_feed
 up_to_none [] u = refl
 up_to_none (b ∷ bs) u = rw u refl

@@ -1,6 +1,7 @@
 pub use Rattle.workbench.specs.Reaction
 pub use Rattle.workbench.specs.Answers
 pub mod Ends
+pub mod OutOfMemory
 pub mod Status
 pub mod Output
 pub mod Accepted

@@ -12,6 +12,7 @@ use Rattle.retro_cli.specs.declared.status.Status.TheVariants as statuses
 use Rattle.retro_cli.specs.Delivery.{Arrives, IsCutOff}
 use Rattle.retro_cli.specs.Ends.{EndsAtSink}
 use Rattle.retro_cli.specs.Judging.{is_refusal, judged_output, judgement_of}
+use Rattle.retro_cli.specs.OutOfMemory.{AppendsAnswersOfEarlier}
 use Rattle.retro_cli.specs.Output.{has_refusal}
 use Rattle.retro_cli.specs.Run.{AppendsAnswersOfFirst, AppendsAnswersOfTaken, AppendsFirstAnswers, AppendsOutput, AppendsOutputPrefix, EndsBetweenLines, HasAnswered, status_of}
 use Rattle.retro_cli.specs.Summary.{summary}
@@ -35,6 +36,9 @@ module _ {S K : Type 0} (I : sources.Ghosts S) (O : sinks.Ghosts K) (source sour
     pub unflushed : EndsBetweenLines status → StaysUnflushed O sink sink'
     pub of_taken : status ≡ statuses.ReadFault → AppendsAnswersOfTaken (I.left source) (I.left source') (O.written sink) (O.written sink')
     pub of_first : status ≡ statuses.TooLong → AppendsAnswersOfFirst (I.left source) most_bytes (O.written sink) (O.written sink')
+    -- and where memory ran out to all lines before the one that met it: none where that was before the first, all where it was the close
+    pub of_earlier : status ≡ statuses.NoMemory
+        → AppendsAnswersOfEarlier I source source' (I.left source) (I.left source') (O.written sink) (O.written sink')
 
   -- `check`: the judgement of the lines that the source told, in one line, or nothing where the input was not read to its end
   pub record JudgesEvidence : Type 0 where

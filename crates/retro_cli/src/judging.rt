@@ -48,7 +48,7 @@ impl Judging {
     }
 
     /// Takes a line. Of a line that is too long its first bytes are given, as many as a line may have, and `long`
-    /// says that it has more. out of memory never hides a refusal.
+    /// says that it has more. Out of memory never hides a refusal.
     pub(crate) fn take(&mut self, line: &[u8], long: bool) -> Result<(), NoMemory>
         requires within { length line.now ≤ longest_line }
         requires full { IsTrue long → length line.now ≡ longest_line }

@@ -3,10 +3,11 @@ ghost use Rattle.retro_base.specs.Limits.{longest_line, most_bytes};
 ghost use Rattle.retro_io.specs.Faults.{CountsFaults, last_count};
 ghost use Rattle.retro_io.specs.Sink.{Appends, AppendsProperPrefix};
 ghost use Rattle.retro_io.specs.Flushes.{EndsWithFailedSend, EndsWithFailedWrite, StaysUnflushed};
-ghost use Rattle.retro_io.specs.LineReader.{GivesLine, MovesOn, StopsAt, given, has_ended, has_failed, held, limit_of, rest_of, source_of, taken};
+ghost use Rattle.retro_io.specs.LineReader.{GivesLine, MovesOn, StopsAt, TookForLine, given, has_ended, has_failed, held, limit_of, rest_of, source_of, taken};
 ghost use Rattle.retro_io.specs.Lines.{has_line_feed};
 ghost use Rattle.retro_io.specs.Marks.{is_fault};
 ghost use Rattle.retro_cli.specs.Ends.{Answers, Stands};
+ghost use Rattle.retro_cli.specs.OutOfMemory.{AppendsAnswersOfEarlier};
 ghost use Rattle.retro_cli.specs.Run.{AppendsOutput, MayBeTooLong, MatchesRefusal};
 ghost use Rattle.retro_cli.specs.Stop.{StopsReading, stops_at_read, stops_at_write};
 ghost use Rattle.workbench.specs.Reaction.{closing, reacts_to};
@@ -96,6 +97,7 @@ fn next_line<S: Source, K: Sink>(
     ensures stops { IfErr result (λ error. StopsAt error reader.old reader.new) }
     ensures too_long { IsErrOf result ReadError.TooLong ↔ (taken reader.new ≡ limit_of reader.new + 1) }
     ensures kept_end { has_ended reader.old ≡ true → (source_of reader.new ≡ source_of reader.old) × (result ≡ Ok Mark.End) }
+    ensures took { TookForLine result reader.old reader.new }
 {
     reader.next()
 }
@@ -107,7 +109,8 @@ fn answer_lines<S: Source, K: Sink>(
     reader: &mut LineReader<'_, S>,
     sink: &mut K,
 ) -> Result<bool, Stop>
-    requires { has_failed reader.old ≡ false }
+    requires open { has_failed reader.old ≡ false }
+    requires fresh { held reader.old ≡ [] }
     ensures moves { MovesOn reader.old reader.new }
     ensures ended { OnOk result (S.ended (source_of reader.new) ≡ true) }
     ensures output { OnOk result (AppendsOutput (rest_of reader.old) (K.written sink.old) (K.written sink.new)) }
@@ -115,6 +118,8 @@ fn answer_lines<S: Source, K: Sink>(
     ensures unflushed { OnOk result (StaysUnflushed ⟦<K as Sink>⟧ sink.old sink.new) }
     ensures stands { IfErr result (Stands ⟦<K as Sink>⟧ (rest_of reader.old) (S.left (source_of reader.new)) sink.old sink.new
         (limit_of reader.old - given reader.old)) }
+    ensures earlier { IsErrOf result Stop.NoMemory → AppendsAnswersOfEarlier ⟦<S as Source>⟧ (source_of reader.old) (source_of reader.new)
+        (S.left (source_of reader.old)) (S.left (source_of reader.new)) (K.written sink.old) (K.written sink.new) }
     ensures source_faults { CountsFaults (stops_at_read result) (S.faults (source_of reader.old)) (S.faults (source_of reader.new)) }
     ensures sink_faults { CountsFaults (stops_at_write result) (K.faults sink.old) (K.faults sink.new) }
     ensures too_long { IsErrOf result Stop.TooLong ↔ (taken reader.new ≡ limit_of reader.new + 1) }
@@ -146,6 +151,8 @@ pub(crate) fn run_script<S: Source, K: Sink>(
     ensures ended { OnOk result ((S.ended source.new ≡ true) × (K.flushed sink.new ≡ true)) }
     ensures answers { IfOk result (Answers ⟦<K as Sink>⟧ (S.left source.old) (S.left source.new) sink.old sink.new) }
     ensures stands { IfErr result (Stands ⟦<K as Sink>⟧ (S.left source.old) (S.left source.new) sink.old sink.new most_bytes) }
+    ensures earlier { IsErrOf result Stop.NoMemory → AppendsAnswersOfEarlier ⟦<S as Source>⟧ source.old source.new (S.left source.old) (S.left source.new)
+        (K.written sink.old) (K.written sink.new) }
     ensures source_faults { CountsFaults (stops_at_read result) (S.faults source.old) (S.faults source.new) }
     ensures sink_faults { CountsFaults (stops_at_write result) (K.faults sink.old) (K.faults sink.new) }
     ensures too_long { S.taken source.new < last_count → (IsErrOf result Stop.TooLong ↔ (most_bytes < S.taken source.new - S.taken source.old)) }

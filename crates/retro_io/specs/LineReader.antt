@@ -1,5 +1,5 @@
 -- What contracts see of a line reader.
-use Rattle.std.specs.Prelude.{◌≡◌, ℕ, Bool, true, false, ◌+◌, ◌-◌, ◌≤◌, ◌<◌, List, [], ◌++◌, length, take, Option, None, Some, IfSome, IsTrue}
+use Rattle.std.specs.Prelude.{◌≡◌, ℕ, Bool, true, false, ◌+◌, ◌-◌, ◌≤◌, ◌<◌, List, [], ◌++◌, length, take, Option, None, Some, Result, IfSome, IsTrue}
 use Rattle.std.specs.Borrow.{GName}
 use Rattle.retro_io.specs.declared.line_reader.LineReader.{LineReader}
 use Rattle.retro_io.specs.declared.mark.Mark.{Mark}
@@ -10,6 +10,8 @@ use Rattle.retro_io.specs.declared.source.Source.{Ghosts}
 use Rattle.retro_io.specs.Faults.{count_after}
 use Rattle.retro_io.specs.Lines.{has_line_feed}
 use Rattle.retro_io.specs.Marks.{GivesNextOf, Measures, gives_line}
+use Rattle.retro_io.specs.DueReads.{WereDue}
+use Rattle.retro_io.specs.Reads.{MakesOf, Took}
 use Rattle.retro_io.specs.Source.{GivesCount}
 
 -- the bytes not given yet: those held, and then those left in the source, where it tells them
@@ -66,6 +68,13 @@ module _ {S : Type 0} {G : Ghosts S} where
     pub within : taken after ≤ limit_of after + 1
     pub count : G.taken (source_of after) ≡ count_after (G.taken (source_of before)) (taken after - taken before)
     pub left : GivesCount (G.left (source_of before)) (taken after - taken before) (G.left (source_of after))
+
+  -- a call took some bytes by reads that were due, and made its answer of the bytes held and of these
+  abbrev pub TookForLine : Result Mark ReadError → LineReader S G → LineReader S G → Type 0
+  TookForLine answer before after =
+      Took (G.left (source_of before)) (G.left (source_of after)) (taken after - taken before)
+      (λ got. MakesOf answer (line_of after) (has_ended after) (held before) (held after) got
+      × WereDue G.reads (limit_of before - taken before) (held before) (has_ended before) (source_of before) got (source_of after))
 
   -- it gives the next line of its bytes, or comes to the end of them
   pub record GivesLine (mark : Mark) (before after : LineReader S G) : Type 0 where

@@ -31,7 +31,7 @@ pub struct LineReader<'a, S: Source> {
 }
 
 impl<'a, S: Source> LineReader<'a, S> {
-    ghost use Rattle.retro_io.specs.LineReader.{GivesLine, MovesOn, StopsAt, held, line_of, taken, limit_of, has_ended, has_failed, source_of, reference_of};
+    ghost use Rattle.retro_io.specs.LineReader.{GivesLine, MovesOn, StopsAt, TookForLine, held, line_of, taken, limit_of, has_ended, has_failed, source_of, reference_of};
 
     /// A reader of the lines of the source. It reserves all the memory that it will need.
     pub fn new(alloc: Global, source: &'a mut S, limit: u64) -> Result<LineReader<'a, S>, NoMemory>
@@ -48,7 +48,7 @@ impl<'a, S: Source> LineReader<'a, S> {
         Ok(LineReader::with_buffer(buffer, source, limit))
     }
 
-    /// The same with a buffer that is there already, and so without out of memory.
+    /// The same with a buffer that is there already. It takes no memory.
     pub fn with_buffer(buffer: LineBuffer, source: &'a mut S, limit: u64) -> LineReader<'a, S>
         requires limit { limit < 2 ^ 62 }
         requires empty { buffer.held ≡ [] }
@@ -118,9 +118,7 @@ impl<'a, S: Source> LineReader<'a, S> {
         // line is held and no read of its own has answered the end or failed, and offers a buffer of the stated size.
         ensures kept_line { has_line_feed (held self.old) ≡ true → source_of self.new ≡ source_of self.old }
         ensures kept_end { has_ended self.old ≡ true → (source_of self.new ≡ source_of self.old) × (result ≡ Ok Mark.End) }
-        ensures took { Took (S.left (source_of self.old)) (S.left (source_of self.new)) (taken self.new - taken self.old)
-            (λ got. MakesOf result (line_of self.new) (has_ended self.new) (held self.old) (held self.new) got
-            × WereDue S.reads (limit_of self.old - taken self.old) (held self.old) (has_ended self.old) (source_of self.old) got (source_of self.new)) }
+        ensures took { TookForLine result self.old self.new }
     {
         if self.ended {
             return Ok(Mark::End);

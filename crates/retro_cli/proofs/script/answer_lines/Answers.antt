@@ -1,10 +1,12 @@
-use Rattle.std.proofs.Common.{◌≡◌, false, refl, ◌∙◌, None}
+use Rattle.std.proofs.Common.{◌≡◌, ◌++◌, false, inl, inr, refl, subst, sym, ◌∙◌, None}
 use Rattle.std.proofs.lemmas.Result.{err_from_is_err_and}
 use Rattle.retro_io.specs.FlushLaws.{StaysUnflushed-more, StaysUnflushed-none}
-use Rattle.retro_io.specs.LineReader.{held, line_of, has_ended, taken}
+use Rattle.retro_io.specs.LineReader.{held, line_of, has_ended, source_of, taken}
 use Rattle.retro_io.specs.ReaderLaws.{MovesOn-none, MovesOn-then}
 use Rattle.retro_cli.proofs.Ends.{answers_of_first, answers_of_taken, appends_output, first_answers, part_at_end, part_in_line, stands_at_answer, stands_at_error, stands_at_send}
-use Rattle.retro_cli.proofs.GoesOn.{GivenAs, before_end, goes_on_first, goes_on_next, goes_on_sent}
+use Rattle.retro_cli.proofs.GoesOn.{GivenAs, before_end, goes_on_first, goes_on_next, goes_on_sent, some_same}
+use Rattle.retro_cli.proofs.OutOfMemory.{all_left, at_close, at_line, memory_is, reads_no_memory, answers_of_earlier, unwritten, writes_no_memory}
+use Rattle.retro_cli.proofs.ReadSoFar.{IsRead}
 use Rattle.retro_cli.proofs.Stops.{open_before_error, open_before_line}
 use Rattle.retro_cli.proofs.script.answer_lines.Goals as goal
 use Rattle.retro_cli.proofs.script.answer_lines.Goals.{in-Whole, in-Long}
@@ -58,6 +60,50 @@ returns-in_err-refused-in-End-clause-stands g c =
     (rw c.in-End.is at c.in_ok-next_line.ensures.gives.lines) (failed.part is))
     failed.last)
 
+pub returns-in_err-next_line-clause-earlier : goal.returns-in_err-next_line-clause-earlier
+returns-in_err-next_line-clause-earlier g c =
+    let p = err_from_is_err_and c.from_residual-in_err-next_line.result c.from_residual-in_err-next_line.ensures.1 in
+    λ short. absurd (reads_no_memory c.in_err-next_line.field-0.0 p.0 p.2 (memory_is c.from_residual-in_err-next_line.result p.0 p.1 short))
+
+pub returns-in_err-send_before_read-clause-earlier : goal.returns-in_err-send_before_read-clause-earlier
+returns-in_err-send_before_read-clause-earlier g c =
+    let p = err_from_is_err_and c.from_residual.result c.from_residual.ensures.1 in
+    λ short. absurd (writes_no_memory (sym (memory_is c.from_residual.result p.0 p.1 short) ∙ p.2 ∙ c.in_err-send_before_read.ensures.failed))
+
+pub returns-in_err-refused-clause-earlier : goal.returns-in_err-refused-clause-earlier
+returns-in_err-refused-clause-earlier g c =
+    let p = err_from_is_err_and c.from_residual-in_err-refused.result c.from_residual-in_err-refused.ensures.1 in
+    let before = c.loop-bench.invariant in
+    let now = c.next_line.new.reader in
+    let as_given : GivenAs c.in_ok-next_line.field-0 c.match-branch-3.long =
+    elim c.match-branch-3.branch [ in-Whole w ↦ rw w.in-Whole.is w.long-is | in-Long w ↦ rw w.in-Long.is w.long-is ] in
+    let not_ended : has_ended c.loop-bench.reader ≡ false = open_before_line _ _ _ as_given c.in_ok-next_line.ensures.kept_end in
+    λ short.
+    rw (c.in_err-refused.ensures.untouched (unwritten c.in_err-refused.field-0.0 (sym p.2 ∙ memory_is c.from_residual-in_err-refused.result p.0 p.1 short)))
+    (answers_of_earlier g.S.Source _ _ _ _ _ _ (λ script from.
+    let at = at_line g.S.Source (source_of c.args.reader.now) (source_of c.loop-bench.reader) (source_of now) _ _ script (held c.loop-bench.reader) (held now)
+    (line_of now) c.in_ok-next_line.field-0 c.match-branch-3.long _ (has_ended c.loop-bench.reader) (has_ended now) _ _ _
+    (before_end _ _ _ _ _ _ _ not_ended (goes_on_sent _ _ _ _ _ _ _ _ c.send_before_read.ensures.written before.answers) script
+    (all_left (held c.args.reader.now) _ script c.requires.fresh from))
+    (λ left at. before.so_far script left from at) as_given c.in_ok-next_line.ensures.took now.none_left in
+    record { rest = at.left; is = at.is; appended = record { answers = at.answers; met = inr (inl at.met) } }))
+
+pub returns-in_err-refused-in-End-clause-earlier : goal.returns-in_err-refused-in-End-clause-earlier
+returns-in_err-refused-in-End-clause-earlier g c =
+    let p = err_from_is_err_and c.from_residual-in_err-refused-in-End.result c.from_residual-in_err-refused-in-End.ensures.1 in
+    let before = c.loop-bench.invariant in
+    let now = c.next_line.new.reader in
+    λ short.
+    rw (c.in_err-refused-in-End.ensures.untouched
+    (unwritten c.in_err-refused-in-End.field-0.0 (sym p.2 ∙ memory_is c.from_residual-in_err-refused-in-End.result p.0 p.1 short)))
+    (answers_of_earlier g.S.Source _ _ _ _ _ _ (λ script from.
+    let at = at_close g.S.Source (source_of c.args.reader.now) (source_of c.loop-bench.reader) (source_of now) _ _ script (held c.loop-bench.reader) (held now)
+    (line_of now) _ (has_ended c.loop-bench.reader) _ (has_ended now) _ _ _
+    (goes_on_sent _ _ _ _ _ _ _ _ c.send_before_read.ensures.written before.answers script
+    (all_left (held c.args.reader.now) _ script c.requires.fresh from))
+    (rw c.in-End.is at c.in_ok-next_line.ensures.took) now.none_left now.at_end in
+    record { rest = at.left; is = at.is; appended = record { answers = at.answers; met = inr (inr at.met) } }))
+
 pub returns-in-End-clause-output : goal.returns-in-End-clause-output
 returns-in-End-clause-output g c =
     (appends_output _ _ _ _ _ _ _ _ _ (line_of c.next_line.new.reader) (has_ended c.next_line.new.reader) (goes_on_sent _ _ _ _ _ _ _ _ c.send_before_read.ensures.written c.loop-bench.invariant.answers)
@@ -86,11 +132,12 @@ pub loop-bench-init : goal.loop-bench-init
 loop-bench-init g c = record {
   moves = MovesOn-none c.args.reader.now c.args.reader.now.within;
   unspent = rw c.new-bench.ensures refl;
-  failed = c.requires;
+  failed = c.requires.open;
   source_faults = refl;
   sink_faults = refl;
   unflushed = StaysUnflushed-none g.K.Sink _;
   answers = λ bytes e. rw c.new-bench.ensures (goes_on_first bytes _ _ _ e);
+  so_far = λ script left from at. inl (refl, c.requires.fresh);
 }
 
 pub loop-bench-preserved : goal.loop-bench-preserved
@@ -110,4 +157,12 @@ loop-bench-preserved g c =
           rw (answered.0, answered.1)
           (goes_on_next c.in_ok-next_line.field-0 c.match-branch-3.long (line_of c.next_line.new.reader) (has_ended c.next_line.new.reader) bytes _ _ _ _ _ _ _
           as_given c.in_ok-next_line.ensures.gives.lines (before_end _ _ _ _ _ _ _ not_ended (goes_on_sent _ _ _ _ _ _ _ _ c.send_before_read.ensures.written c.loop-bench.invariant.answers) bytes e) answered.2);
+      so_far = λ script left from is.
+          let now = c.next_line.new.reader in
+          let at = at_line g.S.Source (source_of c.args.reader.now) (source_of c.loop-bench.reader) (source_of now) _ _ script (held c.loop-bench.reader) (held now)
+          (line_of now) c.in_ok-next_line.field-0 c.match-branch-3.long _ (has_ended c.loop-bench.reader) (has_ended now) _ _ _
+          (before_end _ _ _ _ _ _ _ not_ended (goes_on_sent _ _ _ _ _ _ _ _ c.send_before_read.ensures.written c.loop-bench.invariant.answers) script
+          (all_left (held c.args.reader.now) _ script c.requires.fresh from))
+          (λ left at. c.loop-bench.invariant.so_far script left from at) as_given c.in_ok-next_line.ensures.took now.none_left in
+          inr (subst (λ xs. IsRead g.S.Source (source_of now) script xs (held now ++ xs)) (some_same (g.S.Source.left (source_of now)) at.is is) at.read);
     }

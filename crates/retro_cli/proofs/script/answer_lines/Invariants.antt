@@ -1,8 +1,9 @@
 -- The lines given so far are the first ones of the script, and were answered.
 use Rattle.std.proofs.Common.{◌≡◌, ℕ, ◌+◌, ◌-◌, List, Some, false}
 use Rattle.retro_io.specs.Flushes.{StaysUnflushed}
-use Rattle.retro_io.specs.LineReader.{MovesOn, given, limit_of, has_ended, has_failed, rest_of, source_of}
+use Rattle.retro_io.specs.LineReader.{MovesOn, given, held, limit_of, has_ended, has_failed, rest_of, source_of}
 use Rattle.retro_cli.proofs.GoesOn.{GoesOn}
+use Rattle.retro_cli.proofs.ReadSoFar.{IsReadSoFar}
 use Rattle.retro_cli.proofs.script.answer_lines.Given as goal
 
 abbrev pub invariant-loop-bench : goal.invariant-loop-bench
@@ -15,6 +16,8 @@ invariant-loop-bench g l = record {
   unflushed : StaysUnflushed g.K.Sink l.fn.sink l.sink;
   answers : (bytes : List ℕ) → rest_of l.fn.reader ≡ Some bytes
       → GoesOn bytes (g.K.Sink.written l.fn.sink) l.bench.bench l.refused (has_ended l.reader) (rest_of l.reader) (g.K.Sink.written l.sink);
+  so_far : (script left : List ℕ) → g.S.Source.left (source_of l.fn.reader) ≡ Some script → g.S.Source.left (source_of l.reader) ≡ Some left
+      → IsReadSoFar g.S.Source (source_of l.fn.reader) (source_of l.reader) script left (held l.reader);
 }
 
 abbrev pub decreases-loop-bench : goal.decreases-loop-bench

@@ -2,6 +2,7 @@
 use Rattle.std.proofs.Common.{refl, inl, inr, rules, None, Ok, Err}
 use Rattle.std.proofs.lemmas.Result.{err_from_is_err_and}
 use Rattle.retro_cli.proofs.Ends.{appends_no_answers, ends_sent, stands_at_send}
+use Rattle.retro_cli.proofs.OutOfMemory.{at_start}
 use Rattle.retro_io.specs.FlushLaws.{StaysUnflushed-none}
 use Rattle.retro_cli.specs.Ends.{EndsAfterLine}
 use Rattle.retro_cli.proofs.script.run_script.Goals as goal
@@ -10,6 +11,12 @@ pub returns-in_err-buffer-clause-stands : goal.returns-in_err-buffer-clause-stan
 returns-in_err-buffer-clause-stands g c =
     let p = err_from_is_err_and c.from_residual.result c.from_residual.ensures.1 in
     rw (p.1, p.2) record { whole = appends_no_answers _ _; unflushed = StaysUnflushed-none g.K.Sink _ }
+
+pub returns-in_err-buffer-clause-earlier : goal.returns-in_err-buffer-clause-earlier
+returns-in_err-buffer-clause-earlier g c = λ short. at_start g.S.Source c.args.source.now _ _
+
+pub returns-in-Err-NoMemory-clause-earlier : goal.returns-in-Err-NoMemory-clause-earlier
+returns-in-Err-NoMemory-clause-earlier g c = λ short. rw c.send.ensures.written (search rules)
 
 pub returns-in-Err-NoMemory-clause-stands : goal.returns-in-Err-NoMemory-clause-stands
 returns-in-Err-NoMemory-clause-stands g c =
