@@ -39,6 +39,7 @@ pub fn fate_of(rows: &Timeline, place: u32) -> Fate
 
 /// Where what a row puts in stands right after it.
 fn standing_after(rows: &Timeline, place: u32, own: Row) -> Standing
+    requires within { place < length rows.now }
     requires there { slice_get rows.now place ≡ Some own }
     requires adding { adds own.op ≡ true }
     requires replayable { IsReplayable (kind_of own.op) rows.now }
