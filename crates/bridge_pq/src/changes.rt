@@ -10,9 +10,9 @@ ghost use Rattle.retro_base.specs.declared.row.Row.{Row};
 ghost use Rattle.bridge_pq.specs.MarkedRows.{rows_of, AreMarked};
 ghost use Rattle.bridge_pq.specs.Flips.{Flips};
 
+use crate::flip::Flip;
 use crate::marked_row::MarkedRow;
 use crate::row_search::{entry_at, first_bridge, greatest_dead, last_bridge, least_survivor};
-use crate::flip::Flip;
 use retro_base::{Change, Entry, Row, Steps};
 use std::sync::ledger::Ledger;
 use weighted_tree::Tree;

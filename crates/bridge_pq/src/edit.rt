@@ -17,10 +17,10 @@ ghost use Rattle.bridge_pq.specs.MarkedRows.{rows_of};
 
 use crate::changes::{gained_with, gained_without, lost_with, lost_without};
 use crate::entry_tree::{mark_entry, put_entry, take_entry};
+use crate::flip::Flip;
 use crate::marked_entry::MarkedEntry;
 use crate::marked_row::MarkedRow;
 use crate::row_search::mark_row;
-use crate::flip::Flip;
 use retro_base::{Change, Entry, NoMemory, Row, Steps};
 use std::sync::ledger::Ledger;
 use weighted_tree::Tree;

@@ -44,12 +44,12 @@ mod changes;
 mod edit;
 mod entry_measure;
 mod entry_tree;
+mod extreme;
 mod failure;
+mod flip;
 mod marked_entry;
 mod marked_row;
 mod row_measure;
 mod row_search;
-mod extreme;
-mod flip;
 
 pub use bridge_queue::BridgeQueue;
