@@ -1,34 +1,36 @@
 -- Entries in their order, as they are measured: where one of them has its place, and which is the k-th of the present.
-use Rattle.std.proofs.Common.{◌≡◌, ℕ, zero, suc, ◌-◌, ◌<◌, ◌≤◌, ℤ, pos, ◌+ℤ◌, Bool, true, false, List, [], ◌∷◌, take, length, refl, sym, ap, ◌∙◌, arith, subst, Option, Some, None}
-use Rattle.std.specs.Prelude.{not, slice_index_or, if◌then◌else◌}
+use Rattle.std.proofs.Common.{◌≡◌, ℕ, zero, suc, ◌-◌, ◌<◌, ◌≤◌, ℤ, pos, ◌+ℤ◌, Bool, true, false, List, [], ◌∷◌, take, length, refl, sym, ap, ◌∙◌, arith, subst, Some, None}
+use Rattle.std.specs.Prelude.{slice_index_or, if◌then◌else◌}
+use Rattle.std.specs.Fn.{Shared}
+use Rattle.std.specs.Borrow.{Bor}
 use Rattle.std.specs.List.{AllWithin, slice_get, slice_range}
+use Rattle.std.specs.List.Sorted.{IsPartitionedBy}
 use Rattle.std.specs.Int.Signed.{lt_z}
-use Rattle.std.specs.Option.{option_or}
 use Rattle.std.proofs.lemmas.Int.{ints}
-use Rattle.std.proofs.lemmas.List.{take_all, length-map}
+use Rattle.std.proofs.lemmas.List.{take_all, length-map, get_or-map}
 use Rattle.monoid_laws.specs.Measure.{measure_of}
-use Rattle.monoid_laws.specs.Summed.{Summed}
+use Rattle.monoid_laws.specs.Summed.{Summed, no_sum, joined_sum}
 use Rattle.retro_base.specs.declared.row.Entry.{Entry}
 use Rattle.retro_base.specs.EntriesInOrder.{AreInOrder}
 use Rattle.retro_base.specs.OrderLaws.{all_weaker}
 use Rattle.retro_base.specs.State.{comes_before}
 use Rattle.retro_base.specs.lemmas.EntrySteps.{partitioned}
 use Rattle.retro_base.specs.lemmas.bridges.EntryOrder.{before_one_way}
-use Rattle.weighted_tree.specs.Search.{HoldsNowhere, IsFirstPlace, IsRising}
+use Rattle.weighted_tree.specs.Search.{HoldsNowhere, IsFirstPlace, IsRising, TellsItems, FindsPartition}
 use Rattle.bridge_pq.specs.declared.marked_entry.MarkedEntry.{MarkedEntry}
-use Rattle.bridge_pq.specs.MarkedEntries.{entries_in, present_in, Rise, no_entries, joined_entries, entry_measure, reaches}
+use Rattle.bridge_pq.specs.MarkedEntries.{entries_in, present_in, Rise, entry_measure}
 
 -- what a range measures
-abbrev pub measures_in : List MarkedEntry → Summed × Option Entry
-measures_in items = measure_of no_entries joined_entries entry_measure items
+abbrev pub measures_in : List MarkedEntry → Summed
+measures_in items = measure_of no_sum joined_sum entry_measure items
 
 one_more : (b : Bool) (item : MarkedEntry) (rest : List Entry) (z : ℤ) → z ≡ pos (length rest) → pos (if b then 1 else 0) +ℤ z ≡ pos (length (if b then item.entry ∷ rest else rest))
 one_more true item rest z is = omega (arith, ints)
 one_more false item rest z is = omega (arith, ints)
 
-pub sum-part : (items : List MarkedEntry) → (measures_in items).0.sum ≡ pos (length (present_in items))
+pub sum-part : (items : List MarkedEntry) → (measures_in items).sum ≡ pos (length (present_in items))
 sum-part [] = refl
-sum-part (item ∷ items) = one_more item.present item (present_in items) (measures_in items).0.sum (sum-part items)
+sum-part (item ∷ items) = one_more item.present item (present_in items) (measures_in items).sum (sum-part items)
 
 range-is : (items : List MarkedEntry) (place : ℕ) → slice_range items 0 place ≡ take place items
 range-is items place = ap (λ n. take n items) (let same : place - 0 ≡ place = omega arith in same)
@@ -37,92 +39,32 @@ pub rise_in_order : (xs : List Entry) → Rise xs → AreInOrder xs
 rise_in_order [] rise = tt
 rise_in_order (x ∷ xs) rise = (all_weaker (λ y. comes_before x y ≡ true) (λ y. comes_before y x ≡ false) xs (λ y before. before_one_way x y before) rise.0, rise_in_order xs rise.1)
 
--- the last entry
-abbrev last_in : MarkedEntry → List MarkedEntry → Entry
-last_in item [] = item.entry
-last_in item (next ∷ items) = last_in next items
+pub record IsPlace (e : Entry) (items : List MarkedEntry) (place : ℕ) : Type 0 where
+  pub before : AllWithin (λ other. comes_before other e ≡ true) (entries_in items) 0 place
+  pub after : AllWithin (λ other. comes_before other e ≡ false) (entries_in items) place (length items)
 
-last_is : (item : MarkedEntry) (items : List MarkedEntry) → (measures_in (item ∷ items)).1 ≡ Some (last_in item items)
-last_is item [] = refl
-last_is item (next ∷ items) = ap (λ last. option_or last (Some item.entry)) (last_is next items)
+module _ (e : Entry) (items : List MarkedEntry) where
+  abbrev comes : MarkedEntry → Bool
+  comes item = comes_before item.entry e
 
-last_at : (item : MarkedEntry) (items : List MarkedEntry) (n : ℕ) (d : Entry) → n ≤ length items → last_in item (take n items) ≡ slice_index_or (entries_in (item ∷ items)) n d
-last_at item items zero d within = refl
-last_at item [] (suc n) d within = absurd (omega arith)
-last_at item (next ∷ items) (suc n) d within = last_at next items n d (omega arith)
+  entry_at : (k : ℕ) (d : MarkedEntry) → k < length items → comes_before (slice_index_or (entries_in items) k d.entry) e ≡ comes (slice_index_or items k d)
+  entry_at k d within = ap (λ x. comes_before x e) (get_or-map (λ (item : MarkedEntry). item.entry) items k d d.entry within)
 
-not_false : (b : Bool) → not b ≡ false → b ≡ true
-not_false true is = refl
-not_false false is = absurd (cc)
+  -- no entry that comes before it stands after one that does not
+  comes-parted : Rise (entries_in items) → IsPartitionedBy comes items
+  comes-parted rise i j d order within holding =
+      sym (entry_at i d (omega arith))
+      ∙ partitioned e (entries_in items) (rise_in_order (entries_in items) rise) i j d.entry order (omega (arith, length-map items (λ (item : MarkedEntry). item.entry))) (entry_at j d within ∙ holding)
 
-not_true : (b : Bool) → not b ≡ true → b ≡ false
-not_true false is = refl
-not_true true is = absurd (cc)
-
-module _ (e : Entry) (items : List MarkedEntry) (rise : Rise (entries_in items)) where
-  -- the first so many reach it
-  abbrev pub reached : ℕ → Bool
-  reached place = reaches e (measures_in (take place items)).1
-
-  reached_by : (all : List MarkedEntry) (n : ℕ) (d : Entry) → n < length all
-      → reaches e (measures_in (take (suc n) all)).1 ≡ not (comes_before (slice_index_or (entries_in all) n d) e)
-  reached_by [] n d within = absurd (omega arith)
-  reached_by (item ∷ rest) n d within = ap (reaches e) (last_is item (take n rest)) ∙ ap (λ l. not (comes_before l e)) (last_at item rest n d (omega arith))
-
-  reached_at : (n : ℕ) (d : Entry) → n < length items → reached (suc n) ≡ not (comes_before (slice_index_or (entries_in items) n d) e)
-  reached_at n d within = reached_by items n d within
-
-  entries_length : length (entries_in items) ≡ length items
-  entries_length = simp length-map
-
-  parted : (i j : ℕ) (d : Entry) → i ≤ j → j < length items → comes_before (slice_index_or (entries_in items) j d) e ≡ true → comes_before (slice_index_or (entries_in items) i d) e ≡ true
-  parted i j d up within before = partitioned e (entries_in items) (rise_in_order (entries_in items) rise) i j d up (omega (arith, entries_length)) before
-
-  rises_by : (n m : ℕ) (d : Entry) → n ≤ m → m < length items → reached (suc n) ≡ true → reached (suc m) ≡ true
-  rises_by n m d up within holds =
-      let here = not_true (comes_before (slice_index_or (entries_in items) n d) e) (sym (reached_at n d (omega arith)) ∙ holds) in
-      elim (comes_before (slice_index_or (entries_in items) m d) e) as (λ b. comes_before (slice_index_or (entries_in items) m d) e ≡ b → reached (suc m) ≡ true) [
-        | true ↦ λ before. let wrong : true ≡ false = sym (parted n m d up within before) ∙ here in absurd (cc)
-        | false ↦ λ after. reached_at m d within ∙ ap not after
-      ] refl
-
-  pub reached-rises : IsRising reached 0 (length items)
-  reached-rises zero later above up within holds = absurd (cc)
-  reached-rises (suc n) zero above up within holds = absurd (omega arith)
-  reached-rises (suc n) (suc m) above up within holds = rises_by n m e (omega arith) (omega arith) holds
-
-  pub record IsPlace (place : ℕ) : Type 0 where
-    pub within : place ≤ length items
-    pub before : AllWithin (λ other. comes_before other e ≡ true) (entries_in items) 0 place
-    pub after : AllWithin (λ other. comes_before other e ≡ false) (entries_in items) place (length items)
-
-  place_at : (n : ℕ) → IsFirstPlace reached 0 (length items) (suc n) → IsPlace n
-  place_at n first = record {
-    within = let inside : suc n ≤ length items = first.within in omega arith;
-    before = λ k d low high.
-        let inside : suc n ≤ length items = first.within in
-        not_false (comes_before (slice_index_or (entries_in items) k d) e) (sym (reached_at k d (omega arith)) ∙ first.not_before (suc k) (omega arith) (omega arith));
-    after = λ k d low high.
-        not_true (comes_before (slice_index_or (entries_in items) k d) e) (sym (reached_at k d high) ∙ rises_by n k d low high first.holds_there);
-  }
-
-  pub place-some : (end : ℕ) → IsFirstPlace reached 0 (length items) end → 1 ≤ end
-  place-some zero first = let wrong : false ≡ true = first.holds_there in absurd (cc)
-  place-some (suc n) first = omega arith
-
-  pub place-before : (end : ℕ) → IsFirstPlace reached 0 (length items) end → IsPlace (end - 1)
-  place-before zero first = let wrong : false ≡ true = first.holds_there in absurd (cc)
-  place-before (suc n) first = let same : n ≡ suc n - 1 = omega arith in subst IsPlace same (place_at n first)
-
-  pub place-none : HoldsNowhere reached 0 (length items) → IsPlace (length items)
-  place-none nowhere = record {
-    within = omega arith;
-    before = λ k d low high. not_false (comes_before (slice_index_or (entries_in items) k d) e) (sym (reached_at k d high) ∙ nowhere (suc k) (omega arith) (omega arith));
-    after = λ k d low high. absurd (omega arith);
-  }
-
-  pub reached-reported : (place : ℕ) → reaches e (measures_in (slice_range items 0 place)).1 ≡ reached place
-  reached-reported place = ap (λ l. reaches e (measures_in l).1) (range-is items place)
+  -- what a search finds that asks each entry whether it comes before this one
+  pub place_found : {F : Type 0} (calls : Shared F (Bor MarkedEntry × Unit {0}) Bool) (closure : F) (place : ℕ) → FindsPartition calls closure items place → TellsItems calls closure comes → Rise (entries_in items) → place ≤ length items → IsPlace e items place
+  place_found calls closure place found tells rise within =
+      let point = found comes tells (comes-parted rise) in
+      let seen : Entry → MarkedEntry = λ d. record { entry = d; present = false } in
+      record {
+        before = λ k d from to. entry_at k (seen d) (omega arith) ∙ point.0 k (seen d) from to;
+        after = λ k d from to. entry_at k (seen d) to ∙ point.1 k (seen d) from to;
+      }
 
 -- the k-th of the present
 more_is : (k m : ℕ) → lt_z (pos k) (pos m) ≡ true → k < m
@@ -178,7 +120,7 @@ module _ (items : List MarkedEntry) (k : ℕ) where
   abbrev pub has_more : ℕ → Bool
   has_more place = lt_z (pos k) (pos (count_to items place))
 
-  pub more-reported : (place : ℕ) → lt_z (pos k) (measures_in (slice_range items 0 place)).0.sum ≡ has_more place
+  pub more-reported : (place : ℕ) → lt_z (pos k) (measures_in (slice_range items 0 place)).sum ≡ has_more place
   more-reported place = ap (lt_z (pos k)) (sum-part (slice_range items 0 place) ∙ ap (λ l. pos (length (present_in l))) (range-is items place))
 
   pub more-rises : IsRising has_more 0 (length items)
@@ -199,5 +141,5 @@ module _ (items : List MarkedEntry) (k : ℕ) where
       let same : suc n - 1 ≡ n = omega arith in
       kth_is items n k item (sym (ap (slice_get items) same) ∙ at) (no_more k (count_to items n) (first.not_before n (omega arith) (omega arith))) (more_is k (count_to items (suc n)) first.holds_there)
 
-pub size-reported : (items : List MarkedEntry) → (measures_in (slice_range items 0 (length items))).0.sum ≡ pos (length (present_in items))
+pub size-reported : (items : List MarkedEntry) → (measures_in (slice_range items 0 (length items))).sum ≡ pos (length (present_in items))
 size-reported items = sum-part (slice_range items 0 (length items)) ∙ ap (λ l. pos (length (present_in l))) (range-is items (length items) ∙ take_all (length items) items (omega arith))

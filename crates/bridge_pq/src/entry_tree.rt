@@ -2,23 +2,13 @@ ghost use Rattle.std.specs.Prelude.{◌≡◌, ℕ, pos, ◌+◌, ◌^◌, ◌<�
 ghost use Rattle.std.specs.List.{AllWithin};
 ghost use Rattle.retro_base.specs.State.{comes_before};
 ghost use Rattle.retro_base.specs.Visits.{VisitsWithin};
-ghost use Rattle.bridge_pq.specs.MarkedEntries.{entries_in, present_in, Rise, reaches, put_marked, without_entry, marked_so};
+ghost use Rattle.bridge_pq.specs.MarkedEntries.{entries_in, present_in, Rise, put_marked, without_entry, marked_so};
 
 use crate::entry_measure::EntryMeasure;
 use crate::marked_entry::MarkedEntry;
 use retro_base::{Entry, NoMemory, Steps};
 use std::sync::ledger::Ledger;
 use weighted_tree::Tree;
-
-/// Whether the last entry of a range does not come before an entry.
-fn reaches(range: &EntryMeasure, entry: Entry) -> bool
-    ensures { result ≡ reaches entry range.now.1 }
-{
-    match range.last() {
-        Some(last) => !last.comes_before(entry),
-        None => false,
-    }
-}
 
 /// How many entries come before this one.
 fn place_of<L: Ledger>(entries: &Tree<MarkedEntry>, entry: Entry, steps: &mut Steps<L>) -> u32
@@ -28,10 +18,7 @@ fn place_of<L: Ledger>(entries: &Tree<MarkedEntry>, entry: Entry, steps: &mut St
     ensures after { AllWithin (λ other. comes_before other entry ≡ false) (entries_in entries.now) result (length entries.now) }
     ensures visits { VisitsWithin 12 (length entries.now) steps.old steps.new }
 {
-    match entries.first_place(0, |range: &EntryMeasure| reaches(range, entry), steps) {
-        Some(end) => end - 1,
-        None => entries.len(),
-    }
+    entries.partition_point(|other: &MarkedEntry| other.entry.comes_before(entry), steps)
 }
 
 /// Puts an entry in, in its order, with its mark not set. After `NoMemory` all is as before.
@@ -88,7 +75,7 @@ pub(crate) fn mark_entry<L: Ledger>(
 
 /// How many entries of a range are in the present.
 fn marks(range: &EntryMeasure) -> i128
-    ensures { result ≡ range.now.0.sum }
+    ensures { result ≡ range.now.sum }
 {
     i128::from(range.present())
 }

@@ -1,5 +1,5 @@
 ghost use Rattle.std.specs.Prelude.{◌≡◌, ◌+◌, ◌^◌, ◌<◌, false, None, Some, IfSome};
-ghost use Rattle.std.specs.Option.{option_map, option_or};
+ghost use Rattle.std.specs.Option.{option_map};
 ghost use Rattle.std.specs.Ordering.{flip_args};
 ghost use Rattle.monoid_laws.specs.Extreme.{first_greatest, moved, IsOffsetWithin};
 ghost use Rattle.bridge_pq.specs.EntryOrder.{entry_order};
@@ -79,13 +79,6 @@ impl ExtremeEntry {
             return None;
         }
         Some(self.offset)
-    }
-
-    /// This one where it holds an entry, and else the other.
-    pub(crate) fn or(self, other: ExtremeEntry) -> ExtremeEntry
-        ensures { result ≡ option_or self other }
-    {
-        if self.is_none() { other } else { self }
     }
 
     fn entry(self) -> Entry

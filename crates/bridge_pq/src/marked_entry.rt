@@ -19,6 +19,6 @@ impl Measured for MarkedEntry {
     ghost single = { entry_measure-items };
 
     fn measure(&self) -> EntryMeasure {
-        EntryMeasure::single(self.entry, self.present)
+        EntryMeasure::single(self.present)
     }
 }

@@ -8,7 +8,7 @@ use Rattle.bridge_pq.proofs.entry_tree.nth_present.Goals as goal
 pub returns-in_err-end-clause-entry : goal.returns-in_err-end-clause-entry
 returns-in_err-end-clause-entry g c =
     let nowhere : HoldsNowhere (has_more c.args.entries.now c.args.index) 0 (length c.args.entries.now) = c.in_err-end.ensures.first (has_more c.args.entries.now c.args.index) (λ place answer above within call.
-    let reported : answer ≡ lt_z (pos c.args.index) (measures_in (slice_range c.args.entries.now 0 place)).0.sum = search rules in
+    let reported : answer ≡ lt_z (pos c.args.index) (measures_in (slice_range c.args.entries.now 0 place)).sum = search rules in
     reported ∙ more-reported c.args.entries.now c.args.index place)
     (more-rises c.args.entries.now c.args.index) in
     c.from_residual.ensures ∙ sym (none-more c.args.entries.now c.args.index nowhere)
@@ -16,7 +16,7 @@ returns-in_err-end-clause-entry g c =
 pub overflow_sub-end : goal.overflow_sub-end
 overflow_sub-end g c =
     let first : IsFirstPlace (has_more c.args.entries.now c.args.index) 0 (length c.args.entries.now) c.in_ok-end.end = c.in_ok-end.ensures.first (has_more c.args.entries.now c.args.index) (λ place answer above within call.
-    let reported : answer ≡ lt_z (pos c.args.index) (measures_in (slice_range c.args.entries.now 0 place)).0.sum = search rules in
+    let reported : answer ≡ lt_z (pos c.args.index) (measures_in (slice_range c.args.entries.now 0 place)).sum = search rules in
     reported ∙ more-reported c.args.entries.now c.args.index place)
     (more-rises c.args.entries.now c.args.index) in
     some-more c.args.entries.now c.args.index c.in_ok-end.end first
@@ -24,7 +24,7 @@ overflow_sub-end g c =
 pub get-requires : goal.get-requires
 get-requires g c =
     let first : IsFirstPlace (has_more c.args.entries.now c.args.index) 0 (length c.args.entries.now) c.in_ok-end.end = c.in_ok-end.ensures.first (has_more c.args.entries.now c.args.index) (λ place answer above within call.
-    let reported : answer ≡ lt_z (pos c.args.index) (measures_in (slice_range c.args.entries.now 0 place)).0.sum = search rules in
+    let reported : answer ≡ lt_z (pos c.args.index) (measures_in (slice_range c.args.entries.now 0 place)).sum = search rules in
     reported ∙ more-reported c.args.entries.now c.args.index place)
     (more-rises c.args.entries.now c.args.index) in
     let some = some-more c.args.entries.now c.args.index c.in_ok-end.end first in
@@ -34,7 +34,7 @@ get-requires g c =
 pub returns-clause-entry : goal.returns-clause-entry
 returns-clause-entry g c =
     let first : IsFirstPlace (has_more c.args.entries.now c.args.index) 0 (length c.args.entries.now) c.in_ok-end.end = c.in_ok-end.ensures.first (has_more c.args.entries.now c.args.index) (λ place answer above within call.
-    let reported : answer ≡ lt_z (pos c.args.index) (measures_in (slice_range c.args.entries.now 0 place)).0.sum = search rules in
+    let reported : answer ≡ lt_z (pos c.args.index) (measures_in (slice_range c.args.entries.now 0 place)).sum = search rules in
     reported ∙ more-reported c.args.entries.now c.args.index place)
     (more-rises c.args.entries.now c.args.index) in
     sym (kth-before c.args.entries.now c.args.index c.in_ok-end.end c.get.result first c.get.ensures.item)

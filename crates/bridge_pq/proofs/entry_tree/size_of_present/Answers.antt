@@ -7,5 +7,5 @@ use Rattle.bridge_pq.proofs.entry_tree.size_of_present.Goals as goal
 pub returns-clause-size : goal.returns-clause-size
 returns-clause-size g c =
     let size : c.marks.result ≡ pos (length (present_in c.args.entries.now)) =
-    c.marks.ensures ∙ ap (λ m. m.0.sum) c.measure.ensures.value ∙ ap (λ n. (measures_in (slice_range c.args.entries.now 0 n)).0.sum) c.len.ensures ∙ size-reported c.args.entries.now in
+    c.marks.ensures ∙ ap (λ m. m.sum) c.measure.ensures.value ∙ ap (λ n. (measures_in (slice_range c.args.entries.now 0 n)).sum) c.len.ensures ∙ size-reported c.args.entries.now in
     search (rules, size)
