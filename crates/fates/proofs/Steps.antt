@@ -2,6 +2,7 @@
 use Rattle.std.proofs.Common.{◌≡◌, ◌≢◌, ℕ, ℤ, pos, zero, suc, Bool, true, false, cond, List, [], ◌∷◌, ◌++◌, refl, sym, ap, subst, ◌∙◌, arith, Option, Some, None, inl, inr}
 use Rattle.std.specs.Prelude.{◌+◌, ◌-◌, ◌<◌, ◌≤◌, slice_get}
 use Rattle.std.specs.Ordering.{int_eq}
+use Rattle.std.proofs.lemmas.Bool.{cases_lt}
 use Rattle.fates.specs.declared.standing.Standing.{Standing}
 use Rattle.fates.specs.declared.standing.Standing.TheVariants.{InLine, AtKey, AfterLesser}
 use Rattle.fates.specs.Holding.{Stands}
@@ -286,11 +287,24 @@ pub there_next : (rows : List Row) (place index : ℕ) (own : Row) (standing : S
     → ((q : ℕ) → place < q → q ≤ index → holds own.number (holders (kind_of own.op) rows q) ≡ true)
     → Stands standing own.number (holders (kind_of own.op) rows (suc index))
     → (q : ℕ) → place < q → q ≤ index + 1 → holds own.number (holders (kind_of own.op) rows q) ≡ true
-there_next rows place index own standing so_far stands q later within = elim (cases_le q index) [
-  | inl before ↦ so_far q later before
-  | inr past ↦ let last : suc index ≡ q = omega arith in
+there_next rows place index own standing so_far stands q later within = elim (cases_lt index q) [
+  | inl past ↦ let last : suc index ≡ q = omega arith in
       subst (λ k. holds own.number (holders (kind_of own.op) rows k) ≡ true) last (is_there standing own.number (holders (kind_of own.op) rows (suc index)) stands)
+  | inr before ↦ so_far q later (omega arith)
 ]
 
 pub own_same : (rows : List Row) (place : ℕ) (own other : Row) → slice_get rows place ≡ Some own → slice_get rows place ≡ Some other → own ≡ other
 own_same rows place own other here there = cc
+
+-- the first place after its own row
+pub there_first : (rows : List Row) (place : ℕ) (own : Row) (standing : Standing) → Stands standing own.number (holders (kind_of own.op) rows (suc place))
+    → (q : ℕ) → place < q → q ≤ place + 1 → holds own.number (holders (kind_of own.op) rows q) ≡ true
+there_first rows place own standing stands q later within =
+    let last : suc place ≡ q = omega arith in
+    subst (λ k. holds own.number (holders (kind_of own.op) rows k) ≡ true) last (is_there standing own.number (holders (kind_of own.op) rows (suc place)) stands)
+
+pub goes_so : (o : Option Standing) (next : Standing) (number : ℕ) (state : State) → o ≡ Some next → Goes o number state → Stands next number state
+goes_so o next number state e goes = subst (λ p. Goes p number state) e goes
+
+pub gone_so : (o : Option Standing) (number : ℕ) (state : State) → o ≡ None → Goes o number state → holds number state ≡ false
+gone_so o number state e goes = subst (λ p. Goes p number state) e goes
