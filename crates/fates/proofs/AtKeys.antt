@@ -16,8 +16,8 @@ use Rattle.fates.specs.Standings.{pair_after}
 use Rattle.fates.proofs.Held.{other_number, or_false, or_true, or_true_first}
 use Rattle.retro_base.specs.declared.op.Op.{Op}
 use Rattle.retro_base.specs.declared.op.Op.TheVariants.{Enq, Deq, Push, Pop, PushL, PushR, PopL, PopR, Put, Del, Ins, DelMin}
-use Rattle.retro_base.specs.State.{State, pairs, perform, with_key, without_key}
-use Rattle.retro_base.specs.lemmas.SortedPairs.{AreSorted, has, same_key, same_as_itself, sorted_with, sorted_without}
+use Rattle.retro_base.specs.State.{State, pairs, perform, with_key}
+use Rattle.retro_base.specs.lemmas.SortedPairs.{AreSorted, same_key, same_as_itself, sorted_with, sorted_without}
 
 -- where it stands after a step, or that it is gone
 abbrev pub PairGoes : ℕ → State → Option Standing → Type 0

@@ -1,20 +1,17 @@
 -- What is there before a row's own: so many items in a line, or so many lesser entries, and nothing with its number.
-use Rattle.std.proofs.Common.{◌≡◌, ◌≢◌, ℕ, ℤ, pos, zero, suc, ◌+◌, ◌-◌, Bool, true, false, cond, List, [], ◌∷◌, ◌++◌, length, take, refl, sym, ap, subst, ◌∙◌, arith, length-append, length-take, Option, Some, None, inl, inr, Ordering, Less, Equal, Greater}
-use Rattle.std.specs.Prelude.{◌==◌, ◌||◌, if◌then◌else◌}
+use Rattle.std.proofs.Common.{◌≡◌, ◌≢◌, ℕ, ℤ, pos, ◌+◌, ◌-◌, Bool, true, false, cond, List, [], ◌∷◌, ◌++◌, length, take, refl, sym, ap, subst, ◌∙◌, arith, length-append, length-take, Option, Some, None, inl, inr, Less, Equal, Greater}
+use Rattle.std.specs.Prelude.{◌==◌, if◌then◌else◌}
 use Rattle.std.specs.List.{list_any, AllByRecursion}
 use Rattle.std.specs.Map.{lookup, remove_entry}
 use Rattle.std.specs.Option.{option_map, is_some}
 use Rattle.std.specs.Ordering.{int_cmp, int_eq, match_ordering, is_eq}
 use Rattle.std.proofs.lemmas.Map.Lookups.{exact_signed}
 use Rattle.std.proofs.lemmas.Bool.{eq-eqb, ne_eqb}
-use Rattle.fates.specs.declared.standing.Standing.{Standing}
-use Rattle.fates.specs.declared.standing.Standing.TheVariants.{InLine, AtKey, AfterLesser}
 use Rattle.fates.specs.Holding.{Lacks, NoneHas, AllBefore, NoneIs, IsOnlyAt, StandsInLine, StandsAfterLesser, StandsAtKey}
-use Rattle.fates.specs.Fates.{holds, numbered_op}
+use Rattle.fates.specs.Fates.{numbered_op}
 use Rattle.fates.specs.Standings.{is_lesser}
 use Rattle.fates.proofs.Held.{other_number, or_false, first_false, second_false, lacks_cons, lacks_tail, lacks_append, lacks_take}
 use Rattle.fates.proofs.AfterLessers.{none_with}
-use Rattle.retro_base.specs.declared.kind.Kind.TheVariants.{Dict, Pq}
 use Rattle.retro_base.specs.declared.op.Op.{Op}
 use Rattle.retro_base.specs.declared.op.Op.TheVariants.{Enq, Deq, Push, Pop, PushL, PushR, PopL, PopR, Put, Del, Ins, DelMin}
 use Rattle.retro_base.specs.declared.row.Entry.{Entry}

@@ -1,15 +1,14 @@
 -- What is there after one more row.
-use Rattle.std.proofs.Common.{◌≡◌, ◌≢◌, ℕ, ℤ, pos, zero, suc, Bool, true, false, List, [], ◌∷◌, ◌++◌, length, map, take, refl, sym, ap, ◌∙◌, Option, Some, None, Result, Ok, Err}
-use Rattle.std.specs.List.{AllByRecursion, slice_get}
+use Rattle.std.proofs.Common.{◌≡◌, ℕ, pos, zero, suc, true, List, [], ◌∷◌, ◌++◌, map, take, refl, sym, ap, ◌∙◌, Option, Some, None, Result, Ok, Err}
+use Rattle.std.specs.List.{slice_get}
 use Rattle.std.specs.Option.{is_some}
-use Rattle.std.specs.Ordering.{int_eq}
 use Rattle.std.specs.Result.{result_err, result_unwrap_or}
-use Rattle.fates.specs.Fates.{numbered, numbered_op, holders}
+use Rattle.fates.specs.Fates.{numbered, holders}
 use Rattle.retro_base.specs.declared.kind.Kind.{Kind}
 use Rattle.retro_base.specs.declared.row.Row.{Row}
 use Rattle.retro_base.specs.PrefixLaws.{valid_take}
-use Rattle.retro_base.specs.Replay.{fold_rows, one_later, run, state_at, IsValid}
-use Rattle.retro_base.specs.State.{State, items, pairs, empty, step}
+use Rattle.retro_base.specs.Replay.{run, IsValid}
+use Rattle.retro_base.specs.State.{State, empty, step}
 use Rattle.retro_base.specs.Timeline.{AreOfKind}
 use Rattle.retro_base.specs.lemmas.Folds.{fold_rows-nil, fold_rows-last, last_possible}
 use Rattle.retro_base.specs.lemmas.ValuedRows.{valued_valid}

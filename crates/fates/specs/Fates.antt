@@ -1,5 +1,5 @@
 -- What became of what a row put in: the later row that took it out, or that it stays.
-use Rattle.std.specs.Prelude.{◌≡◌, ℕ, ℤ, pos, suc, Bool, true, false, ◌==◌, ◌<◌, ◌≤◌, List, length, map}
+use Rattle.std.specs.Prelude.{◌≡◌, ℕ, pos, suc, Bool, true, false, ◌==◌, ◌<◌, ◌≤◌, List, length, map}
 use Rattle.std.specs.List.{list_any}
 use Rattle.std.specs.Ordering.{int_eq}
 use Rattle.fates.specs.declared.fate.Fate.{Fate}

@@ -1,5 +1,5 @@
 -- What a standing says of what is there.
-use Rattle.std.specs.Prelude.{◌≡◌, ℕ, ℤ, pos, suc, true, false, ◌==◌, ◌≤◌, List, ◌∷◌, ◌++◌, length}
+use Rattle.std.specs.Prelude.{◌≡◌, ℕ, ℤ, pos, suc, true, false, ◌==◌, List, ◌∷◌, ◌++◌, length}
 use Rattle.std.specs.Prelude.{Some}
 use Rattle.std.specs.List.{list_any, AllByRecursion}
 use Rattle.std.specs.Map.{lookup}

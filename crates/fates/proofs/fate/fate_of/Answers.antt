@@ -1,4 +1,4 @@
-use Rattle.std.proofs.Common.{◌≡◌, ◌+◌, ℕ, suc, add-one, arith, subst, sym, ◌∙◌}
+use Rattle.std.proofs.Common.{◌+◌, suc, add-one, arith, subst, sym, ◌∙◌}
 use Rattle.retro_base.specs.declared.row.Row.{Row}
 use Rattle.retro_base.specs.Kind.{kind_of}
 use Rattle.fates.specs.Fates.{holders}

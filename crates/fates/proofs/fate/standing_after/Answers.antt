@@ -1,4 +1,4 @@
-use Rattle.std.proofs.Common.{◌≡◌, ◌+◌, suc, add-one, arith, subst}
+use Rattle.std.proofs.Common.{◌≡◌, add-one, arith, subst}
 use Rattle.retro_base.specs.Kind.{kind_of}
 use Rattle.fates.specs.Fates.{holders}
 use Rattle.fates.proofs.Steps.{Ready, counted_first, count_next, count_up, stands_first, few_first}
