@@ -143,7 +143,7 @@ fn mark(rows: &mut [MarkedRow], hint: usize, entry: Entry, alive: bool)
     }
 }
 
-/// Marks the last row that adds this entry. Of an edit it mostly stands after its place.
+/// Marks the last row that adds this entry. The row of one that is gained stands after the bridge, or at it.
 fn mark_last(rows: &mut [MarkedRow], entry: Entry, alive: bool)
     requires { HaveOwnNumbers (rows_of rows.old) }
     ensures { rows.new ≡ map (with_mark entry alive) rows.old }
