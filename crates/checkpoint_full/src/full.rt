@@ -28,8 +28,9 @@ use std::sync::ledger::{Blank, Ledger};
 /// Contracts see its kind and rows, whether its checkpoints were made, the width, and the places of those after the
 /// start. The width is 1,024, 2,048, 4,096 or 8,192 rows, and never falls. The checkpoints are made at the first question
 /// about the past, at the start and at each multiple of the width below the number of rows, at the least width at which
-/// there are at most 31 after the start. From then on neighbours are at most a width apart, those of a checkpoint more
-/// than a width, there are never more than 31, and each performs the first rows of the timeline, as many as it stands for.
+/// there are at most 31 after the start. From then on neighbours are at most a width apart, the two neighbours of each
+/// are more than a width apart, there are at most 31, and each performs the first rows of the timeline, as many as it
+/// stands for.
 ///
 /// Where questions go forward in time, a copy of a checkpoint that was rolled to a place stays there for the next
 /// question. Contracts do not see it, and copying it is not counted among the visits.
