@@ -31,3 +31,8 @@ pub record RunsGathered {S K : Type 0} (I : sources.Ghosts S) (O : sinks.Ghosts 
   pub too_long : I.taken source' < last_count → (status ≡ statuses.TooLong) ↔ (most_bytes < I.taken source' - I.taken source)
   -- where no bytes wait at the sink before, all that was written is in the sink in the end, unless that failed
   pub all : O.waiting sink ≡ [] → is_write_fault status ≡ false → O.written (sink_of outbox) ≡ G.written outbox
+
+-- some run of these words over some streams ended with this status
+abbrev pub EndsARun : {S K : Type 0} → sources.Ghosts S → sinks.Ghosts K → sinks.Ghosts (Outbox K) → Status → List (List ℕ) → Type 0
+EndsARun {S} {K} I O G status words =
+    (source : S) × (source' : S) × (sink : K) × (outbox : Outbox K) × RunsGathered I O G source source' sink outbox status words

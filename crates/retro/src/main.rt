@@ -8,7 +8,7 @@
 ghost use Rattle.std.specs.Prelude.{◌≡◌, ◌≢◌, ◌<◌, ◌-◌, ◌^◌, ◌⊎◌, ◌↔◌, length, None, IfOk, IfErr};
 ghost use Rattle.std.specs.IoError.{error_kind};
 ghost use Rattle.std.specs.Process.{exit_status};
-ghost use Rattle.retro.specs.Gathered.{RunsGathered};
+ghost use Rattle.retro.specs.Gathered.{EndsARun, RunsGathered};
 ghost use Rattle.retro.specs.Words.{words_after_name, words_refused};
 ghost use Rattle.retro_cli.specs.Forms.{form_of};
 ghost use Rattle.retro_cli.specs.Status.{code_of};
@@ -18,7 +18,7 @@ use retro_cli::{Status, Words, run};
 use retro_io::{Outbox, Sink, Source, StdSink, StdSource};
 use std::alloc::Global;
 use std::env::{self, Args};
-use std::io::{self, ErrorKind};
+use std::io::{self, ErrorKind, Stdin, Stdout};
 use std::process::ExitCode;
 
 /// The exit status where the system refuses the words of the command line. No run gives it.
@@ -33,6 +33,8 @@ fn main(rt: HostRuntime) -> ExitCode {
 
 /// Runs the program over the streams of the process, with the words after its name.
 fn status_of(rt: &HostRuntime, args: Args) -> Status
+    ensures runs { (result ≡ Status.NoMemory) ⊎ ((result ≡ Status.Words) ⊎ EndsARun ⟦<StdSource<Stdin> as Source>⟧ ⟦<StdSink<Stdout> as Sink>⟧
+        ⟦<Outbox<StdSink<Stdout>> as Sink>⟧ result (words_after_name args)) }
     ensures words { result ≡ Status.Words → form_of (words_after_name args) ≡ None }
     ensures no_form { form_of (words_after_name args) ≡ None → (result ≡ Status.Words) ⊎ (result ≡ Status.NoMemory) }
 {
@@ -44,6 +46,8 @@ fn status_of(rt: &HostRuntime, args: Args) -> Status
 
 /// Runs the program over the streams of the process.
 fn answer(rt: &HostRuntime, words: &Words) -> Status
+    ensures runs { (result ≡ Status.NoMemory) ⊎ EndsARun ⟦<StdSource<Stdin> as Source>⟧ ⟦<StdSink<Stdout> as Sink>⟧
+        ⟦<Outbox<StdSink<Stdout>> as Sink>⟧ result words.now }
     ensures words { result ≡ Status.Words → form_of words.now ≡ None }
     ensures no_form { form_of words.now ≡ None → (result ≡ Status.Words) ⊎ (result ≡ Status.NoMemory) }
 {
