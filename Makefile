@@ -4,7 +4,7 @@
 #   make try      answers the same script by a trial build within a minute or two, and proves nothing
 #   make build    leaves the program at build/retro, so that `build/retro run < FILE` works on any script
 #   make check    proves one crate over what was proved before: make check CRATE=retro_queue
-#   make unit     runs the tests of the crates by a trial build, within a few minutes, and proves nothing
+#   make unit     runs the tests of the crates by a trial build with checks, some ten minutes, and proves nothing
 #   make fmt      lays all sources out
 #   make install  puts it into bin below PREFIX, which is /usr/local where none is named
 #   make test     the gate: every proof, every must-fail edit, every test, every example, and of the built program
@@ -41,7 +41,7 @@ check:
 
 unit:
 	@for crate in retro_base retro_io script_gen tree_tests structure_tests script_tests; do \
-	    echo "== $$crate"; (cd crates/$$crate && rt try --test) || exit 1; done
+	    echo "== $$crate"; (cd crates/$$crate && rt try --test --seconds 900) || exit 1; done
 
 fmt:
 	@for crate in crates/*/; do (cd "$$crate" && rt fmt) || exit 1; done
