@@ -6,7 +6,7 @@ use Rattle.retro_base.specs.declared.kind.Kind.{Kind}
 use Rattle.retro_base.specs.Limits.{longest_line}
 use Rattle.retro_base.specs.Name.{is_name, name_of}
 use Rattle.script_gen.specs.Coming.{GivesNext}
-use Rattle.script_gen.specs.Script.{generated, lines_from, state_after}
+use Rattle.script_gen.specs.Script.{generated, lines_from, state_later}
 use Rattle.workbench.specs.Answers.{bench_after, reactions}
 use Rattle.workbench.specs.Bench.{Bench, BenchState}
 use Rattle.workbench.specs.Reaction.{Reaction, reacts, reacts_to}
@@ -105,7 +105,7 @@ counts_all first bench all (next ∷ more) left' refused line gives counts = abs
 
 lines_count : (kind : Kind) (lines number state : ℕ) → length (lines_from kind lines number state) ≡ lines
 lines_count kind zero number state = refl
-lines_count kind (suc more) number state = ap suc (lines_count kind more (number + 1) (state_after kind state))
+lines_count kind (suc more) number state = ap suc (lines_count kind more (number + 1) (state_later kind state))
 
 -- how many lines a generated script has
 pub length-generated : (kind : Kind) (lines start : ℕ) → length (generated kind lines start) ≡ lines + 1
