@@ -1,5 +1,5 @@
 -- An edit of what a queue by bridges keeps: the row comes in or goes, and then the marks of the changed entry are flipped.
-use Rattle.std.proofs.Common.{◌≡◌, ℕ, ◌<◌, ◌≤◌, Bool, false, List, length, sym, ap, ◌∙◌, arith, subst, Some, None}
+use Rattle.std.proofs.Common.{◌≡◌, ℕ, ◌<◌, ◌≤◌, Bool, false, List, length, sym, ap, ◌∙◌, arith, subst, refl, Option, Some, None}
 use Rattle.std.specs.Prelude.{Contains, slice_set, Result, Ok, Err, OnOk, OnErr}
 use Rattle.std.specs.List.{insert, remove, slice_get}
 use Rattle.std.proofs.lemmas.List.{length-map}
@@ -27,8 +27,9 @@ use Rattle.bridge_pq.specs.declared.marked_entry.MarkedEntry.{MarkedEntry}
 use Rattle.bridge_pq.specs.Bridged.{AddsAt, IsFlipped, Holds, IsBridged}
 use Rattle.bridge_pq.specs.MarkedEntries.{entries_in, put_marked, without_entry, marked_so}
 use Rattle.bridge_pq.specs.MarkedRows.{rows_of, AreMarked}
-use Rattle.bridge_pq.proofs.Places.{map-insert, map-remove, map-get}
+use Rattle.bridge_pq.proofs.Places.{insert-at, map-insert, map-remove, map-get, set-inserted}
 use Rattle.bridge_pq.proofs.RowExtremes.{adds-in, adds-within}
+use Rattle.bridge_pq.proofs.EntryEdits.{put-then-marked}
 use Rattle.bridge_pq.proofs.FlippedRows.{flip-loss, others-marked, set-marked, rows-set, insert-marked, remove-marked, fresh-removed}
 use Rattle.bridge_pq.proofs.HeldEntries.{added-le, fresh-not-added, holds-put, holds-with-take, holds-taken, holds-without-take, holds-marked, holds-others, survivor-added}
 
@@ -91,6 +92,24 @@ module _ (rows : List Row) (before : List Entry) (items : List MarkedRow) (entri
         rows_same,
       )
 
+-- the row that comes in stands at its place
+there_is : {A : Type 0} (m : Option A) (x y : A) → m ≡ Some x → m ≡ Some y → x ≡ y
+there_is (Some z) x y first second = cc
+there_is None x y first second = absurd (cc)
+
+own_entry : (rows : List Row) (place : ℕ) (row : Row) (new e : Entry) → place ≤ length rows → added_by row ≡ Some new → AddsAt (insert rows place row) place e → new ≡ e
+own_entry rows place row new e within adds at =
+    let same : row ≡ at.0 = there_is (slice_get (insert rows place row) place) row at.0 (insert-at rows place row within) at.1 in
+    there_is (added_by row) new e adds (ap added_by same ∙ at.2)
+
+put_then_set : (items : List MarkedRow) (place : ℕ) (row : Row) (a b : Bool) (item : MarkedRow) → place ≤ length items
+    → slice_get (insert items place (record { row = row; survives = a })) place ≡ Some item
+    → slice_set (insert items place (record { row = row; survives = a })) place (record { row = item.row; survives = b }) ≡ insert items place (record { row = row; survives = b })
+put_then_set items place row a b item within there =
+    let same : record { row = row; survives = a } ≡ item = there_is (slice_get (insert items place (record { row = row; survives = a })) place) _ item (insert-at items place _ within) there in
+    subst (λ (i : MarkedRow). slice_set (insert items place (record { row = row; survives = a })) place (record { row = i.row; survives = b }) ≡ insert items place (record { row = row; survives = b })) same
+    (set-inserted items place _ _ within)
+
 -- a row comes in
 module _ (items : List MarkedRow) (entries : List MarkedEntry) (bridged : IsBridged items entries) (place : ℕ) (row : Row) (within : place ≤ length items) (room : length items < most_rows)
     (fresh : IsFresh row.number (rows_of items)) (of_kind : kind_of row.op ≡ Pq) (valid : IsValid Pq (insert (rows_of items) place row)) where
@@ -119,6 +138,19 @@ module _ (items : List MarkedRow) (entries : List MarkedEntry) (bridged : IsBrid
     holds = subst (Holds (insert rows place row) (survivors rows)) (sym put_entry)
         (holds-put rows (survivors rows) entries place row new adds (absent_from new adds) (absent_alive new adds) bridged.holds);
   }
+
+  -- where its own entry is gained, the row comes in with the mark that it will have
+  pub put-gained : (new e : Entry) (b : Bool) → added_by row ≡ Some new → AddsAt (insert rows place row) place e → IsFlipped (survivors rows) (survivors (insert rows place row)) e b
+      → (new_items : List MarkedRow) (new_entries : List MarkedEntry) → new_items ≡ insert items place (record { row = row; survives = b })
+      → new_entries ≡ put_marked (record { entry = new; present = b }) entries → IsBridged new_items new_entries × (rows_of new_items ≡ insert rows place row)
+  put-gained new e b adds at flip new_items new_entries put_row put_entry =
+      let same : new ≡ e = own_entry rows place row new e (omega (arith, rows-length items)) adds at in
+      let marked : new_entries ≡ marked_so e b (put_marked (record { entry = new; present = false }) entries) =
+      put_entry ∙ sym (subst (λ x. marked_so x b (put_marked (record { entry = new; present = false }) entries) ≡ put_marked (record { entry = new; present = b }) entries) same
+      (put-then-marked new b entries (λ inside. absent_from new adds (contains_in _ new ((bridged.holds.same new).0 (in_contains _ new inside)))))) in
+      flip_marks-done (insert rows place row) (survivors rows) (insert items place (record { row = row; survives = false })) (put_marked (record { entry = new; present = false }) entries)
+      (put-adding new adds _ _ refl refl) place e at b flip new_items new_entries
+      (λ item there. put_row ∙ sym (put_then_set items place row false b item within there)) marked
 
   pub put-taking : added_by row ≡ None → (new_items : List MarkedRow) → new_items ≡ insert items place (record { row = row; survives = false })
       → Unflipped (insert rows place row) (survivors rows) new_items entries

@@ -90,6 +90,28 @@ marked-at e b (x ∷ items) (suc place) rise inside before after =
     (λ k d low high. before (suc k) d (omega arith) (omega arith)) (λ k d low high. after (suc k) d (omega arith) (omega arith)) in
     (omega (arith, rest.0), rw other (ap (λ l. x ∷ l) rest.1))
 
+-- what is put in and then marked is what is put in with that mark
+not_marked : (e : Entry) (b : Bool) (items : List MarkedEntry) → ¬ In e (entries_in items) → marked_so e b items ≡ items
+not_marked e b [] absent = refl
+not_marked e b (x ∷ items) absent =
+    let other : same_entry x.entry e ≡ false = not_same x.entry e (λ same. absent (inl (sym same))) in
+    rw other (ap (λ l. x ∷ l) (not_marked e b items (λ inside. absent (inr inside))))
+
+put-then-marked-by : (first : Bool) (e : Entry) (b : Bool) (x : MarkedEntry) (items : List MarkedEntry) → comes_before e x.entry ≡ first → ¬ In e (entries_in (x ∷ items))
+    → marked_so e b (put_marked (record { entry = e; present = false }) items) ≡ put_marked (record { entry = e; present = b }) items
+    → marked_so e b (put_marked (record { entry = e; present = false }) (x ∷ items)) ≡ put_marked (record { entry = e; present = b }) (x ∷ items)
+put-then-marked-by true e b x items before absent rest =
+    rw before (rw (same_entry-refl e) (ap (λ l. record { entry = e; present = b } ∷ l) (not_marked e b (x ∷ items) absent)))
+put-then-marked-by false e b x items before absent rest =
+    let other : same_entry x.entry e ≡ false = not_same x.entry e (λ same. absent (inl (sym same))) in
+    rw before (rw other (ap (λ l. x ∷ l) rest))
+
+pub put-then-marked : (e : Entry) (b : Bool) (items : List MarkedEntry) → ¬ In e (entries_in items)
+    → marked_so e b (put_marked (record { entry = e; present = false }) items) ≡ put_marked (record { entry = e; present = b }) items
+put-then-marked e b [] absent = rw (same_entry-refl e) refl
+put-then-marked e b (x ∷ items) absent =
+    put-then-marked-by (comes_before e x.entry) e b x items refl absent (put-then-marked e b items (λ inside. absent (inr inside)))
+
 -- no insertion leaves fewer items
 pub no_shorter : {X T E : Type 0} (r : Result T E) (old new : List X) (place : ℕ) (x : X) → place ≤ length old → OnOk r (new ≡ insert old place x) → OnErr r (new ≡ old) → length old ≤ length new
 no_shorter (Ok t) old new place x within ok err = omega (arith, ap length ok, length-insert old place x within)

@@ -77,6 +77,9 @@ lowest-rises xs earlier place order = elim (cases_lt (lowest_from xs place) (low
 pub lowest-falls : (xs : List ℤ) (to place earlier : ℕ) → earlier ≤ place → is_lowest_up_to xs to place ≡ true → is_lowest_up_to xs to earlier ≡ true
 lowest-falls xs to place earlier order holds = up_to_holds xs to earlier (let upto : lowest_from xs earlier ≤ to = omega (arith, lowest-rises xs earlier place order, holds_up_to xs to place holds) in upto)
 
+none_between : (place other : ℕ) → place < other → other ≤ place → ⊥
+none_between place other after upto = omega arith
+
 -- what is measured from a place on tells it
 pub lowest-after : (items : List MarkedRow) (place end low : ℕ) (m : Dip × (Extreme Entry × Extreme Entry)) → place ≤ length items → end ≡ length items
     → m ≡ measures_of entry_order (slice_range items place end) → low ≡ place_in m.0.low → place + low ≡ lowest_from (weights_of items) place
@@ -113,6 +116,14 @@ module _ (items : List MarkedRow) (history : IsPqHistory (rows_of items)) (marke
 
   end_sum : sum (length items) ≡ pos 0
   end_sum = bridge_sum (length items) (subst (IsBridge (rows_of items)) rows_length (end_is_bridge (rows_of items)))
+
+  -- the place after all rows is the last bridge up to itself
+  pub last-end : (place : ℕ) → place ≡ length items → IsLastBridge (rows_of items) place place
+  last-end place end = record {
+    within = omega arith;
+    bridges = subst (IsBridge (rows_of items)) (rows_length ∙ sym end) (end_is_bridge (rows_of items));
+    last = λ other after upto. absurd (none_between place other after upto);
+  }
 
   pub next-bridge : (place : ℕ) → place ≤ length items → IsFirstBridge (rows_of items) place (next place)
   next-bridge place within = record {

@@ -114,7 +114,7 @@ put-entries m (x ∷ items) = elim (comes_before m.entry x.entry) as (λ b. entr
   | false ↦ ap (λ l. x.entry ∷ l) (put-entries m items)
 ]
 
-put-length : (m : MarkedEntry) (items : List MarkedEntry) → length (put_marked m items) ≡ suc (length items)
+pub put-length : (m : MarkedEntry) (items : List MarkedEntry) → length (put_marked m items) ≡ suc (length items)
 put-length m [] = refl
 put-length m (x ∷ items) = elim (comes_before m.entry x.entry) as (λ b. length (cond b (m ∷ x ∷ items) (x ∷ put_marked m items)) ≡ suc (suc (length items))) [
   | true ↦ refl
@@ -386,6 +386,3 @@ put-taken new (x ∷ items) absent = elim (comes_before new x.entry) as (λ b. w
   | true ↦ rw (same_entry-refl new) (none-out new (x ∷ items) absent)
   | false ↦ rw (not_same x.entry new (λ same. absent (inl (sym same)))) (ap (λ l. x ∷ l) (put-taken new items (λ later. absent (inr later))))
 ]
-
-pub put-longer : (new : Entry) (items : List MarkedEntry) → length (put_marked (record { entry = new; present = false }) items) ≡ length items + 1
-put-longer new items = omega (arith, put-length (record { entry = new; present = false }) items)

@@ -1,5 +1,6 @@
 -- What stands at a place after one more element is put in, one is taken out, or one is changed.
 use Rattle.std.proofs.Common.{◌≡◌, ℕ, zero, suc, ◌<◌, ◌≤◌, List, [], ◌∷◌, map, length, refl, ap, arith, Some}
+use Rattle.std.specs.Prelude.{slice_set}
 use Rattle.std.specs.List.{insert, remove, slice_get}
 
 module _ {A : Type 0} where
@@ -32,6 +33,11 @@ module _ {A : Type 0} where
   remove-after (y ∷ xs) zero k after = refl
   remove-after (y ∷ xs) (suc place) zero after = absurd (omega arith)
   remove-after (y ∷ xs) (suc place) (suc k) after = remove-after xs place k (omega arith)
+
+  pub set-inserted : (xs : List A) (place : ℕ) (x y : A) → place ≤ length xs → slice_set (insert xs place x) place y ≡ insert xs place y
+  set-inserted xs zero x y within = refl
+  set-inserted [] (suc place) x y within = absurd (omega arith)
+  set-inserted (z ∷ xs) (suc place) x y within = ap (λ l. z ∷ l) (set-inserted xs place x y (omega arith))
 
 module _ {A B : Type 0} (f : A → B) where
   pub map-insert : (xs : List A) (place : ℕ) (x : A) → map f (insert xs place x) ≡ insert (map f xs) place (f x)

@@ -45,33 +45,14 @@ fn flip_marks<L: Ledger>(
     mark_entry(entries, flip.entry, flip.survives, steps);
 }
 
-/// Puts a row in whose mark is not set. After `NoMemory` all is as before.
-fn put_row<L: Ledger>(
-    rows: &mut Tree<MarkedRow>,
-    place: u32,
-    row: Row,
-    steps: &mut Steps<L>,
-) -> Result<(), NoMemory>
-    requires within { place ≤ length rows.old }
-    requires room { length rows.old < 2 ^ 31 }
-    ensures ok { OnOk result (rows.new ≡ insert rows.old place (record { row = row; survives = false })) }
-    ensures err { OnErr result (rows.new ≡ rows.old) }
-    ensures visits { VisitsWithin 12 (length rows.new) steps.old steps.new }
-{
-    let item = MarkedRow {
-        row,
-        survives: false,
-    };
-    rows.insert(place, item, steps)
-}
-
-/// Puts a row in with its entry, whose marks are not set. After `NoMemory` all is as before.
+/// Puts a row in with its entry, both with this mark. After `NoMemory` all is as before.
 fn put_row_with_entry<L: Ledger>(
     rows: &mut Tree<MarkedRow>,
     entries: &mut Tree<MarkedEntry>,
     place: u32,
     row: Row,
     entry: Entry,
+    survives: bool,
     steps: &mut Steps<L>,
 ) -> Result<(), NoMemory>
     requires within { place ≤ length rows.old }
@@ -79,14 +60,14 @@ fn put_row_with_entry<L: Ledger>(
     requires few { length entries.old ≤ length rows.old }
     requires rise { Rise (entries_in entries.old) }
     requires absent { ¬ Contains (entries_in entries.old) entry }
-    ensures rows { OnOk result (rows.new ≡ insert rows.old place (record { row = row; survives = false })) }
-    ensures entries { OnOk result (entries.new ≡ put_marked (record { entry = entry; present = false }) entries.old) }
+    ensures rows { OnOk result (rows.new ≡ insert rows.old place (record { row = row; survives = survives })) }
+    ensures entries { OnOk result (entries.new ≡ put_marked (record { entry = entry; present = survives }) entries.old) }
     ensures err { OnErr result ((rows.new ≡ rows.old) × (entries.new ≡ entries.old)) }
     ensures ok_visits { OnOk result (VisitsWithin 36 (length rows.new) steps.old steps.new) }
     ensures visits { VisitsWithin 72 (length rows.new) steps.old steps.new }
 {
-    put_row(rows, place, row, steps)?;
-    if let Err(error) = put_entry(entries, entry, steps) {
+    rows.insert(place, MarkedRow { row, survives }, steps)?;
+    if let Err(error) = put_entry(entries, entry, survives, steps) {
         rows.remove(place, steps);
         return Err(error);
     }
@@ -116,7 +97,12 @@ pub(crate) fn insert_adding<L: Ledger>(
     ensures visits { VisitsWithin 144 (length rows.new) steps.old steps.new }
 {
     let flip = gained_with(rows, place, row, new, steps);
-    put_row_with_entry(rows, entries, place, row, new, steps)?;
+    // Where the entry itself is gained, it goes in with its mark.
+    if flip.place == place {
+        put_row_with_entry(rows, entries, place, row, new, flip.survives, steps)?;
+        return Ok(flip.change);
+    }
+    put_row_with_entry(rows, entries, place, row, new, false, steps)?;
     flip_marks(rows, entries, flip, steps);
     Ok(flip.change)
 }
@@ -143,7 +129,11 @@ pub(crate) fn insert_taking<L: Ledger>(
     ensures visits { VisitsWithin 144 (length rows.new) steps.old steps.new }
 {
     let flip = lost_with(rows, place, row, steps);
-    put_row(rows, place, row, steps)?;
+    let item = MarkedRow {
+        row,
+        survives: false,
+    };
+    rows.insert(place, item, steps)?;
     flip_marks(rows, entries, flip, steps);
     Ok(flip.change)
 }

@@ -21,25 +21,22 @@ fn place_of<L: Ledger>(entries: &Tree<MarkedEntry>, entry: Entry, steps: &mut St
     entries.partition_point(|other: &MarkedEntry| other.entry.comes_before(entry), steps)
 }
 
-/// Puts an entry in, in its order, with its mark not set. After `NoMemory` all is as before.
+/// Puts an entry in, in its order, with this mark. After `NoMemory` all is as before.
 pub(crate) fn put_entry<L: Ledger>(
     entries: &mut Tree<MarkedEntry>,
     entry: Entry,
+    present: bool,
     steps: &mut Steps<L>,
 ) -> Result<(), NoMemory>
     requires rise { Rise (entries_in entries.old) }
     requires absent { ¬ Contains (entries_in entries.old) entry }
     requires room { length entries.old < 2 ^ 31 }
-    ensures ok { OnOk result (entries.new ≡ put_marked (record { entry = entry; present = false }) entries.old) }
+    ensures ok { OnOk result (entries.new ≡ put_marked (record { entry = entry; present = present }) entries.old) }
     ensures err { OnErr result (entries.new ≡ entries.old) }
     ensures visits { VisitsWithin 24 (length entries.new) steps.old steps.new }
 {
     let place = place_of(entries, entry, steps);
-    let item = MarkedEntry {
-        entry,
-        present: false,
-    };
-    entries.insert(place, item, steps)
+    entries.insert(place, MarkedEntry { entry, present }, steps)
 }
 
 /// Takes an entry out.

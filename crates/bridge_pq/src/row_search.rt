@@ -30,7 +30,7 @@ fn last_lowest<L: Ledger>(rows: &Tree<MarkedRow>, to: u32, steps: &mut Steps<L>)
     )
 }
 
-/// The last bridge up to a place.
+/// The last bridge up to a place. The place after all rows is one, and is not looked for.
 pub(crate) fn last_bridge<L: Ledger>(
     rows: &Tree<MarkedRow>,
     place: u32,
@@ -42,6 +42,9 @@ pub(crate) fn last_bridge<L: Ledger>(
     ensures bridge { IsLastBridge (rows_of rows.now) place result }
     ensures visits { VisitsWithin 12 (length rows.now) steps.old steps.new }
 {
+    if place == rows.len() {
+        return place;
+    }
     match last_lowest(rows, place, steps) {
         Some(bridge) => bridge,
         None => unreachable!(),

@@ -10,37 +10,37 @@ use Rattle.bridge_pq.proofs.EntryEdits.{one_longer}
 use Rattle.bridge_pq.proofs.Edited.{put-taking, flip_marks-within, flip_marks-few, flip_marks-among, flip_marks-done}
 use Rattle.bridge_pq.proofs.edit.insert_taking.Goals as goal
 
-pub returns-in_err-put_row-clause-visits : goal.returns-in_err-put_row-clause-visits
-returns-in_err-put_row-clause-visits g c =
-    let same : c.args.rows.now ≡ c.put_row.new.rows = sym c.in_err-put_row.ensures.err in
-    visits-more 60 84 (length c.put_row.new.rows) _ _
-    (visits-add 48 12 (length c.put_row.new.rows) _ _ _
+pub returns-in_err-insert-clause-visits : goal.returns-in_err-insert-clause-visits
+returns-in_err-insert-clause-visits g c =
+    let same : c.args.rows.now ≡ c.insert.new.self = sym c.in_err-insert.ensures.err in
+    visits-more 60 84 (length c.insert.new.self) _ _
+    (visits-add 48 12 (length c.insert.new.self) _ _ _
     (subst (λ rows. VisitsWithin 48 (length rows) c.args.steps.now c.lost_with-flip.new.steps) same c.lost_with-flip.ensures.visits)
-    c.put_row.ensures.visits)
+    c.insert.ensures.visits)
 
 pub flip_marks-requires-clause-within : goal.flip_marks-requires-clause-within
-flip_marks-requires-clause-within g c = flip_marks-within (insert (rows_of c.args.rows.now) c.args.place c.args.row) (survivors (rows_of c.args.rows.now)) c.put_row.new.rows c.args.entries.now (put-taking c.args.rows.now c.args.entries.now c.requires.bridged c.args.place c.args.row c.requires.within c.requires.room c.requires.fresh c.requires.of_kind c.requires.replays c.requires.takes c.put_row.new.rows c.in_ok-put_row.ensures.ok) c.lost_with-flip.result.place c.lost_with-flip.result.entry c.lost_with-flip.ensures.flips.there
+flip_marks-requires-clause-within g c = flip_marks-within (insert (rows_of c.args.rows.now) c.args.place c.args.row) (survivors (rows_of c.args.rows.now)) c.insert.new.self c.args.entries.now (put-taking c.args.rows.now c.args.entries.now c.requires.bridged c.args.place c.args.row c.requires.within c.requires.room c.requires.fresh c.requires.of_kind c.requires.replays c.requires.takes c.insert.new.self c.in_ok-insert.ensures.ok) c.lost_with-flip.result.place c.lost_with-flip.result.entry c.lost_with-flip.ensures.flips.there
 
 pub flip_marks-requires-clause-few : goal.flip_marks-requires-clause-few
-flip_marks-requires-clause-few g c = flip_marks-few (insert (rows_of c.args.rows.now) c.args.place c.args.row) (survivors (rows_of c.args.rows.now)) c.put_row.new.rows c.args.entries.now (put-taking c.args.rows.now c.args.entries.now c.requires.bridged c.args.place c.args.row c.requires.within c.requires.room c.requires.fresh c.requires.of_kind c.requires.replays c.requires.takes c.put_row.new.rows c.in_ok-put_row.ensures.ok) c.lost_with-flip.result.place c.lost_with-flip.result.entry c.lost_with-flip.ensures.flips.there
+flip_marks-requires-clause-few g c = flip_marks-few (insert (rows_of c.args.rows.now) c.args.place c.args.row) (survivors (rows_of c.args.rows.now)) c.insert.new.self c.args.entries.now (put-taking c.args.rows.now c.args.entries.now c.requires.bridged c.args.place c.args.row c.requires.within c.requires.room c.requires.fresh c.requires.of_kind c.requires.replays c.requires.takes c.insert.new.self c.in_ok-insert.ensures.ok) c.lost_with-flip.result.place c.lost_with-flip.result.entry c.lost_with-flip.ensures.flips.there
 
 pub flip_marks-requires-clause-among : goal.flip_marks-requires-clause-among
-flip_marks-requires-clause-among g c = flip_marks-among (insert (rows_of c.args.rows.now) c.args.place c.args.row) (survivors (rows_of c.args.rows.now)) c.put_row.new.rows c.args.entries.now (put-taking c.args.rows.now c.args.entries.now c.requires.bridged c.args.place c.args.row c.requires.within c.requires.room c.requires.fresh c.requires.of_kind c.requires.replays c.requires.takes c.put_row.new.rows c.in_ok-put_row.ensures.ok) c.lost_with-flip.result.place c.lost_with-flip.result.entry c.lost_with-flip.ensures.flips.there
+flip_marks-requires-clause-among g c = flip_marks-among (insert (rows_of c.args.rows.now) c.args.place c.args.row) (survivors (rows_of c.args.rows.now)) c.insert.new.self c.args.entries.now (put-taking c.args.rows.now c.args.entries.now c.requires.bridged c.args.place c.args.row c.requires.within c.requires.room c.requires.fresh c.requires.of_kind c.requires.replays c.requires.takes c.insert.new.self c.in_ok-insert.ensures.ok) c.lost_with-flip.result.place c.lost_with-flip.result.entry c.lost_with-flip.ensures.flips.there
 
 pub returns-clause-bridged : goal.returns-clause-bridged
-returns-clause-bridged g c = (flip_marks-done (insert (rows_of c.args.rows.now) c.args.place c.args.row) (survivors (rows_of c.args.rows.now)) c.put_row.new.rows c.args.entries.now (put-taking c.args.rows.now c.args.entries.now c.requires.bridged c.args.place c.args.row c.requires.within c.requires.room c.requires.fresh c.requires.of_kind c.requires.replays c.requires.takes c.put_row.new.rows c.in_ok-put_row.ensures.ok) c.lost_with-flip.result.place c.lost_with-flip.result.entry c.lost_with-flip.ensures.flips.there c.lost_with-flip.result.survives c.lost_with-flip.ensures.flips.marks c.flip_marks.new.rows c.flip_marks.new.entries c.flip_marks.ensures.rows c.flip_marks.ensures.entries).0
+returns-clause-bridged g c = (flip_marks-done (insert (rows_of c.args.rows.now) c.args.place c.args.row) (survivors (rows_of c.args.rows.now)) c.insert.new.self c.args.entries.now (put-taking c.args.rows.now c.args.entries.now c.requires.bridged c.args.place c.args.row c.requires.within c.requires.room c.requires.fresh c.requires.of_kind c.requires.replays c.requires.takes c.insert.new.self c.in_ok-insert.ensures.ok) c.lost_with-flip.result.place c.lost_with-flip.result.entry c.lost_with-flip.ensures.flips.there c.lost_with-flip.result.survives c.lost_with-flip.ensures.flips.marks c.flip_marks.new.rows c.flip_marks.new.entries c.flip_marks.ensures.rows c.flip_marks.ensures.entries).0
 
 pub returns-clause-rows : goal.returns-clause-rows
-returns-clause-rows g c = (flip_marks-done (insert (rows_of c.args.rows.now) c.args.place c.args.row) (survivors (rows_of c.args.rows.now)) c.put_row.new.rows c.args.entries.now (put-taking c.args.rows.now c.args.entries.now c.requires.bridged c.args.place c.args.row c.requires.within c.requires.room c.requires.fresh c.requires.of_kind c.requires.replays c.requires.takes c.put_row.new.rows c.in_ok-put_row.ensures.ok) c.lost_with-flip.result.place c.lost_with-flip.result.entry c.lost_with-flip.ensures.flips.there c.lost_with-flip.result.survives c.lost_with-flip.ensures.flips.marks c.flip_marks.new.rows c.flip_marks.new.entries c.flip_marks.ensures.rows c.flip_marks.ensures.entries).1
+returns-clause-rows g c = (flip_marks-done (insert (rows_of c.args.rows.now) c.args.place c.args.row) (survivors (rows_of c.args.rows.now)) c.insert.new.self c.args.entries.now (put-taking c.args.rows.now c.args.entries.now c.requires.bridged c.args.place c.args.row c.requires.within c.requires.room c.requires.fresh c.requires.of_kind c.requires.replays c.requires.takes c.insert.new.self c.in_ok-insert.ensures.ok) c.lost_with-flip.result.place c.lost_with-flip.result.entry c.lost_with-flip.ensures.flips.there c.lost_with-flip.result.survives c.lost_with-flip.ensures.flips.marks c.flip_marks.new.rows c.flip_marks.new.entries c.flip_marks.ensures.rows c.flip_marks.ensures.entries).1
 
 pub returns-clause-visits : goal.returns-clause-visits
 returns-clause-visits g c =
-    let put = c.put_row.new.rows in
+    let put = c.insert.new.self in
     let flip : length c.flip_marks.new.rows ≡ length c.args.rows.now + 1 = one_longer c.args.rows.now c.flip_marks.new.rows c.args.place c.args.row c.requires.within (returns-clause-rows g c) in
-    let longer : length put ≡ length c.args.rows.now + 1 = ap length c.in_ok-put_row.ensures.ok ∙ length-insert c.args.rows.now c.args.place (record { row = c.args.row; survives = false }) c.requires.within in
+    let longer : length put ≡ length c.args.rows.now + 1 = ap length c.in_ok-insert.ensures.ok ∙ length-insert c.args.rows.now c.args.place (record { row = c.args.row; survives = false }) c.requires.within in
     visits-more 108 36 (length c.flip_marks.new.rows) _ _
     (visits-add 60 48 (length c.flip_marks.new.rows) _ _ _
     (visits-add 48 12 (length c.flip_marks.new.rows) _ _ _
     (visits-longer 48 (length c.args.rows.now) _ _ _ (omega (arith, flip)) c.lost_with-flip.ensures.visits)
-    (visits-longer 12 (length put) _ _ _ (omega (arith, flip, longer)) c.put_row.ensures.visits))
+    (visits-longer 12 (length put) _ _ _ (omega (arith, flip, longer)) c.insert.ensures.visits))
     (visits-longer 48 (length put) _ _ _ (omega (arith, flip, longer)) c.flip_marks.ensures.visits))

@@ -1,5 +1,5 @@
 use Rattle.std.proofs.Common.{◌≡◌, ◌≤◌, length, subst}
-use Rattle.std.specs.Prelude.{OnOk, false}
+use Rattle.std.specs.Prelude.{OnOk}
 use Rattle.retro_base.specs.VisitsLaws.{visits-longer, visits-add}
 use Rattle.retro_base.specs.lemmas.bridges.Entries.{in_contains}
 use Rattle.bridge_pq.proofs.EntryEdits.{put-at, no_shorter}
@@ -8,7 +8,7 @@ use Rattle.bridge_pq.proofs.entry_tree.put_entry.Goals as goal
 pub returns-clause-ok : goal.returns-clause-ok
 returns-clause-ok g c =
     subst (λ l. OnOk c.insert.result (c.insert.new.self ≡ l))
-    (put-at (record { entry = c.args.entry; present = false }) c.args.entries.now c.place_of-place.result (λ inside. c.requires.absent (in_contains _ c.args.entry inside))
+    (put-at (record { entry = c.args.entry; present = c.args.present }) c.args.entries.now c.place_of-place.result (λ inside. c.requires.absent (in_contains _ c.args.entry inside))
     c.place_of-place.ensures.within c.place_of-place.ensures.before c.place_of-place.ensures.after)
     c.insert.ensures.ok
 

@@ -1,8 +1,13 @@
-use Rattle.bridge_pq.proofs.FoundBridges.{last-found, last-there}
+use Rattle.std.proofs.Common.{arith}
+use Rattle.bridge_pq.proofs.FoundBridges.{last-found, last-there, last-end}
 use Rattle.bridge_pq.proofs.row_search.last_bridge.Goals as goal
 
 pub unreachable-requires : goal.unreachable-requires
 unreachable-requires g c = last-there c.args.rows.now c.requires.history c.requires.marked c.args.place c.requires.within c.in-None.ensures.last
+
+pub returns-then-place-len-clause-bridge : goal.returns-then-place-len-clause-bridge
+returns-then-place-len-clause-bridge g c =
+    last-end c.args.rows.now c.requires.history c.requires.marked c.args.place (omega (arith, c.if-place-len.true, c.len.ensures))
 
 pub returns-clause-bridge : goal.returns-clause-bridge
 returns-clause-bridge g c = last-found c.args.rows.now c.requires.history c.requires.marked c.args.place c.requires.within c.in-Some.bridge c.in-Some.ensures.last
