@@ -1,0 +1,5 @@
+pub mod Order
+pub mod Split
+pub mod Fused
+pub mod FromRows
+pub mod Replays

@@ -1,0 +1,26 @@
+//! Laws of pieces.
+ghost use Rattle.pq_fusion.specs.PieceLaws.{RowsRise, FusedRise, FuseIsAssociative, NothingIsUnit, RowsFuse, MetIsValid, LeftIsPresent};
+
+/// A law: the lists of a piece rise, be it that of rows or one that two pieces fuse to.
+pub fn pieces_rise()
+    ensures rows { RowsRise }
+    ensures fused { FusedRise }
+{}
+
+/// A law: pieces can be fused in either order, and the piece of no rows changes nothing.
+pub fn fuse_is_associative()
+    ensures associative { FuseIsAssociative }
+    ensures unit { NothingIsUnit }
+{}
+
+/// A law: what two lists of rows come to one after the other is what they come to apart, fused. So what a timeline comes to is
+/// the product of what its rows come to.
+pub fn rows_fuse()
+    ensures { RowsFuse }
+{}
+
+/// A law: rows replay whole exactly where no taking is unmet, and what is left is then the state.
+pub fn met_rows_replay()
+    ensures valid { MetIsValid }
+    ensures present { LeftIsPresent }
+{}
