@@ -4,8 +4,7 @@ use Rattle.retro_base.specs.declared.op.Op.{Op}
 use Rattle.retro_base.specs.declared.op.Op.TheVariants.{Ins, DelMin}
 use Rattle.retro_base.specs.declared.row.Entry.{Entry}
 use Rattle.retro_base.specs.declared.row.Row.{Row}
-use Rattle.pq_fusion.specs.Pieces.{PieceParts, no_parts, after_row, after_rows, tolerant, together, fuse}
-use Rattle.pq_fusion.specs.PieceLaws.{IsRising}
+use Rattle.pq_fusion.specs.Pieces.{PieceParts, IsRising, no_parts, after_row, after_rows, tolerant, together, fuse}
 use Rattle.pq_fusion.proofs.Order.{together_alone}
 use Rattle.pq_fusion.proofs.Fused.{parts, fuse_row, rising_row, unit_after}
 

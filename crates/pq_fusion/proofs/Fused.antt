@@ -8,9 +8,8 @@ use Rattle.retro_base.specs.declared.row.Entry.{Entry}
 use Rattle.retro_base.specs.EntriesInOrder.{AreInOrder}
 use Rattle.retro_base.specs.State.{comes_before, with_entry}
 use Rattle.retro_base.specs.lemmas.bridges.EntryOrder.{before_one_way}
-use Rattle.pq_fusion.specs.Pieces.{PieceParts, no_parts, after_take, after_row, together, greatest, all_but_greatest, met, kept, fuse}
-use Rattle.pq_fusion.specs.PieceLaws.{IsRising}
-use Rattle.pq_fusion.proofs.Order.{IsLeast, not_earlier, least_first, least_with, order_with, with_either, length_with, together_none, together_more, order_together, least_together, length_together, together_alone, with_in_first, with_in_second}
+use Rattle.pq_fusion.specs.Pieces.{PieceParts, IsRising, no_parts, after_take, after_row, together, greatest, all_but_greatest, met, kept, fuse}
+use Rattle.pq_fusion.proofs.Order.{IsLeast, least_further, least_first, least_with, order_with, with_either, length_with, together_none, together_more, order_together, least_together, length_together, together_alone, with_in_first, with_in_second}
 use Rattle.pq_fusion.proofs.Split.{InParts, parts_of, lesser_is, greater_is, order_front, order_back, least_moves, with_lesser, with_greater}
 
 -- a piece by its parts
@@ -63,10 +62,6 @@ take_of_second a y ys removed unmet lesser greater least below split =
     ∙ ap (λ l. after_take l (together a.removed lesser) (a.unmet + (unmet - length a.left)))
     (sym (together_more y ys greater ∙ least_first y (together ys greater) (least_together y ys greater least below)))
 
-all_no_earlier : (x y : Entry) (zs : List Entry) → comes_before y x ≡ false → IsLeast y zs → IsLeast x zs
-all_no_earlier x y [] first least = tt
-all_no_earlier x y (z ∷ zs) first least = (not_earlier x y z first least.0, all_no_earlier x y zs first least.1)
-
 -- the least that stays of the first is no greater than it: that one is taken
 take_of_staying : (a : PieceParts) (y : Entry) (ys removed : List Entry) (unmet : ℕ) (lesser : List Entry) (t : Entry) (ts : List Entry) → IsLeast y ys
     → AreInOrder (together a.left removed) → comes_before y t ≡ false
@@ -80,7 +75,7 @@ take_of_staying a y ys removed unmet lesser t ts least order later split =
     with_in_second y a.left removed ∙ ap (with_entry y) split.joined ∙ with_greater y lesser ts t ordered later ∙ sym (append_assoc lesser (t ∷ []) (with_entry y ts)) in
     let first : with_entry y (together ys (t ∷ ts)) ≡ t ∷ with_entry y (together ys ts) =
     ap (λ l. with_entry y (together ys l)) (sym (least_first t ts above)) ∙ ap (with_entry y) (with_in_second t ys ts) ∙ with_either y t (together ys ts)
-    ∙ least_first t (with_entry y (together ys ts)) (least_with t y (together ys ts) (least_together t ys ts (all_no_earlier t y ys later least) above) later) in
+    ∙ least_first t (with_entry y (together ys ts)) (least_with t y (together ys ts) (least_together t ys ts (least_further t y ys later least) above) later) in
     fuse_is a (parts ys (with_entry y removed) unmet) (lesser ++ t ∷ []) (with_entry y ts) (record { joined = joined; counted = omega (arith, length_with y ts, split.counted) })
     ∙ same_parts _ _ _ _ _ _ (with_in_second y ys ts) (ap (together a.removed) moved ∙ with_in_second t a.removed lesser) refl
     ∙ ap (λ l. after_take l (together a.removed lesser) (a.unmet + (unmet - length a.left))) (sym (together_more y ys (t ∷ ts) ∙ first))
@@ -95,7 +90,7 @@ take_of_some a y ys removed unmet lesser (t ∷ ts) least order split =
       | true ↦ λ before. take_of_staying a y ys removed unmet lesser t ts least order (before_one_way t y before) split
       | false ↦ λ after.
           let ordered : AreInOrder (lesser ++ t ∷ ts) = subst AreInOrder split.joined order in
-          take_of_second a y ys removed unmet lesser (t ∷ ts) least (after, all_no_earlier y t ts after (order_back lesser (t ∷ ts) ordered).0) split
+          take_of_second a y ys removed unmet lesser (t ∷ ts) least (after, least_further y t ts after (order_back lesser (t ∷ ts) ordered).0) split
     ] refl
 
 fuse_take : (a : PieceParts) (left removed : List Entry) (unmet : ℕ) → AreInOrder left → AreInOrder removed

@@ -1,5 +1,7 @@
 pub mod Order
 pub mod Split
+pub mod Merged
 pub mod Fused
+pub mod Sizes
 pub mod FromRows
 pub mod Replays

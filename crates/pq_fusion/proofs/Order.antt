@@ -34,7 +34,7 @@ same_by_order a b first second = elim (same_or_other a b) [
   | inr other ↦ let wrong : true ≡ false = sym (before_or_after a b other first) ∙ second in absurd (cc)
 ]
 
-least_further : (x y : Entry) (zs : List Entry) → comes_before y x ≡ false → IsLeast y zs → IsLeast x zs
+pub least_further : (x y : Entry) (zs : List Entry) → comes_before y x ≡ false → IsLeast y zs → IsLeast x zs
 least_further x y [] first least = tt
 least_further x y (z ∷ zs) first least = (not_earlier x y z first least.0, least_further x y zs first least.1)
 

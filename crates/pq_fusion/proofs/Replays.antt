@@ -1,5 +1,5 @@
 -- Rows that are let pass tell of a replay: it fails at the first taking that is unmet, and up to there what is left is the state.
-use Rattle.std.proofs.Common.{◌≡◌, ◌↔◌, ℕ, ℤ, suc, ◌+◌, ◌≤◌, List, [], ◌∷◌, ◌⊎◌, inl, inr, refl, sym, arith, subst, None, Result, Ok, Err}
+use Rattle.std.proofs.Common.{◌≡◌, ◌↔◌, ℕ, ℤ, suc, ◌+◌, ◌≤◌, List, [], ◌∷◌, ◌⊎◌, inl, inr, refl, ap, sym, ◌∙◌, arith, subst, Some, None, Result, Ok, Err}
 use Rattle.std.specs.Option.{option_map_or}
 use Rattle.std.specs.Result.{result_err, result_unwrap_or}
 use Rattle.retro_base.specs.declared.kind.Kind.TheVariants.{Pq}
@@ -11,7 +11,8 @@ use Rattle.retro_base.specs.Kind.{kind_of}
 use Rattle.retro_base.specs.Replay.{fold_rows, one_later, run, IsValid, present}
 use Rattle.retro_base.specs.State.{State, entries, perform}
 use Rattle.retro_base.specs.Timeline.{AreOfKind}
-use Rattle.pq_fusion.specs.Pieces.{PieceParts, after_take, after_row, after_rows, tolerant}
+use Rattle.retro_base.specs.Weights.{added_as, added_by}
+use Rattle.pq_fusion.specs.Pieces.{PieceParts, no_parts, after_take, after_row, after_rows, tolerant}
 use Rattle.pq_fusion.proofs.Fused.{parts}
 
 -- a row of a priority queue adds an entry or takes one
@@ -114,3 +115,36 @@ met_is_valid rows of_kind =
 
 pub left_is_present : (rows : List Row) → AreOfKind Pq rows → IsValid Pq rows → present Pq rows ≡ entries (tolerant rows).left
 left_is_present rows of_kind valid = left_is_state _ 0 (tolerant rows) (replay_tells rows of_kind [] [] 0) valid
+
+-- what one row comes to
+never_none : (entry : Entry) → Some entry ≡ None → ⊥
+never_none entry same = cc
+
+takes_where_none : (row : Row) → kind_of row.op ≡ Pq → added_by row ≡ None → row.op ≡ DelMin
+takes_where_none row same none = elim (adds_or_takes row.op same) [
+  | inl adds ↦ absurd (never_none (record { key = adds.0; number = row.number }) (sym (ap (λ op. added_as op row.number) adds.1) ∙ none))
+  | inr takes ↦ takes
+]
+
+pub of_taking : (row : Row) → kind_of row.op ≡ Pq → added_by row ≡ None → tolerant (row ∷ []) ≡ parts [] [] 1
+unfolding after_rows after_row
+of_taking row same none = rw (takes_where_none row same none) refl
+
+adds_where_some : (op : Op) (number : ℕ) (entry : Entry) → added_as op number ≡ Some entry → after_row op number no_parts ≡ parts (entry ∷ []) [] 0
+unfolding after_row
+adds_where_some (Enq v) number entry some = absurd (cc)
+adds_where_some Deq number entry some = absurd (cc)
+adds_where_some (Push v) number entry some = absurd (cc)
+adds_where_some Pop number entry some = absurd (cc)
+adds_where_some (PushL v) number entry some = absurd (cc)
+adds_where_some (PushR v) number entry some = absurd (cc)
+adds_where_some PopL number entry some = absurd (cc)
+adds_where_some PopR number entry some = absurd (cc)
+adds_where_some (Put k v) number entry some = absurd (cc)
+adds_where_some (Del k) number entry some = absurd (cc)
+adds_where_some (Ins k) number entry some = let same : record { key = k; number = number } ≡ entry = cc in ap (λ e. parts (e ∷ []) [] 0) same
+adds_where_some DelMin number entry some = absurd (cc)
+
+pub of_adding : (row : Row) (entry : Entry) → added_by row ≡ Some entry → tolerant (row ∷ []) ≡ parts (entry ∷ []) [] 0
+unfolding after_rows
+of_adding row entry some = adds_where_some row.op row.number entry some

@@ -8,16 +8,10 @@
 use Rattle.std.specs.Prelude.{◌≡◌, ◌↔◌, List, ◌++◌}
 use Rattle.retro_base.specs.declared.kind.Kind.TheVariants.{Pq}
 use Rattle.retro_base.specs.declared.row.Row.{Row}
-use Rattle.retro_base.specs.EntriesInOrder.{AreInOrder}
 use Rattle.retro_base.specs.Replay.{IsValid, present}
 use Rattle.retro_base.specs.State.{entries}
 use Rattle.retro_base.specs.Timeline.{AreOfKind}
-use Rattle.pq_fusion.specs.Pieces.{PieceParts, no_parts, tolerant, fuse}
-
--- both lists of the piece rise
-pub record IsRising (piece : PieceParts) : Type 0 where
-  pub left : AreInOrder piece.left
-  pub removed : AreInOrder piece.removed
+use Rattle.pq_fusion.specs.Pieces.{PieceParts, IsRising, no_parts, tolerant, fuse}
 
 -- what rows come to rises, and what two pieces fuse to
 abbrev pub RowsRise : Type 0

@@ -1,9 +1,11 @@
 -- What some neighbouring rows of a priority queue come to, whatever stands before them: a piece. Pieces that stand side by side are fused.
-use Rattle.std.specs.Prelude.{ℕ, ◌+◌, ◌-◌, List, [], ◌∷◌, length, take, drop}
+use Rattle.std.specs.Prelude.{ℕ, ◌+◌, ◌-◌, ◌≤◌, List, [], ◌∷◌, length, take, drop}
 use Rattle.retro_base.specs.declared.op.Op.{Op}
 use Rattle.retro_base.specs.declared.op.Op.TheVariants.{Ins, DelMin}
 use Rattle.retro_base.specs.declared.row.Entry.{Entry}
 use Rattle.retro_base.specs.declared.row.Row.{Row}
+use Rattle.retro_base.specs.EntriesInOrder.{AreInOrder}
+use Rattle.retro_base.specs.Limits.{most_rows}
 use Rattle.retro_base.specs.State.{with_entry}
 
 -- the entries that the rows leave, those that they remove again, and how many takings found nothing to take
@@ -11,6 +13,20 @@ pub record PieceParts : Type 0 where
   pub left : List Entry
   pub removed : List Entry
   pub unmet : ℕ
+
+-- both lists of the piece rise
+pub record IsRising (piece : PieceParts) : Type 0 where
+  pub left : AreInOrder piece.left
+  pub removed : AreInOrder piece.removed
+
+-- how many entries and unmet takings the piece has
+abbrev pub size_of : PieceParts → ℕ
+size_of piece = length piece.left + length piece.removed + piece.unmet
+
+-- a piece that rows of a timeline come to
+pub record IsPiece (piece : PieceParts) : Type 0 where
+  pub rising : IsRising piece
+  pub few : size_of piece ≤ most_rows
 
 -- what no rows come to
 abbrev pub no_parts : PieceParts

@@ -8,7 +8,13 @@
 //! What `ins 4`, `ins 2` come to leaves 2 and 4. What `delmin`, `delmin`, `delmin`, `ins 7` come to leaves 7, with three takings
 //! unmet. Fused they leave 7, have removed 2 and 4, and one taking is unmet: the third one of these rows cannot be performed.
 //!
+//! `Piece` is such a piece; `Piece::fuse` walks each of its lists once.
+//!
 //! Files: specs/Pieces.antt has the definitions, specs/PieceLaws.antt the laws, which are the contracts of `laws`.
 #![tactic(auto)]
 
 pub mod laws;
+mod merge;
+mod piece;
+
+pub use piece::Piece;
