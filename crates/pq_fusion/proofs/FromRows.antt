@@ -1,5 +1,5 @@
 -- What rows come to is the product of what parts of them come to; and each piece is that of some rows, so the product is associative.
-use Rattle.std.proofs.Common.{◌≡◌, ℕ, zero, suc, ◌+◌, List, [], ◌∷◌, ◌++◌, refl, ap, sym, ◌∙◌, arith}
+use Rattle.std.proofs.Common.{◌≡◌, ℕ, zero, suc, ◌+◌, List, [], ◌∷◌, ◌++◌, refl, ap, sym, ◌∙◌, arith, append_assoc}
 use Rattle.retro_base.specs.declared.op.Op.{Op}
 use Rattle.retro_base.specs.declared.op.Op.TheVariants.{Ins, DelMin}
 use Rattle.retro_base.specs.declared.row.Entry.{Entry}
@@ -102,3 +102,8 @@ pub associative : (a b c : PieceParts) → IsRising b → IsRising c → IsRisin
 associative a b c second third both first =
     let same = is_of_rows c third in
     ap (fuse (fuse a b)) (sym same) ∙ fuse_of_rows a b (rows_of c) first second both ∙ ap (λ p. fuse a (fuse b p)) same
+
+-- a row between the rows before it and after it
+pub row_between : (before after : List Row) (row : Row) → fuse (fuse (tolerant before) (tolerant (row ∷ []))) (tolerant after) ≡ tolerant (before ++ row ∷ after)
+row_between before after row =
+    ap (λ p. fuse p (tolerant after)) (sym (rows_fuse before (row ∷ []))) ∙ sym (rows_fuse (before ++ row ∷ []) after) ∙ ap tolerant (append_assoc before (row ∷ []) after)

@@ -5,3 +5,7 @@ pub mod Fused
 pub mod Sizes
 pub mod FromRows
 pub mod Replays
+pub mod Ranges
+pub mod Rooted
+pub mod Stored
+pub mod Grown

@@ -1,11 +1,14 @@
 -- How many entries and unmet takings pieces have.
-use Rattle.std.proofs.Common.{◌≡◌, ℕ, ◌+◌, ◌-◌, ◌≤◌, List, length, take, drop, refl, ap, sym, ◌∙◌, arith, length-append}
+use Rattle.std.proofs.Common.{◌≡◌, ℕ, suc, ◌+◌, ◌-◌, ◌≤◌, List, [], ◌∷◌, length, take, drop, refl, ap, sym, ◌∙◌, arith, length-append}
 use Rattle.std.proofs.lemmas.List.{take-append-drop, length-drop}
+use Rattle.retro_base.specs.declared.op.Op.{Op}
+use Rattle.retro_base.specs.declared.op.Op.TheVariants.{Enq, Deq, Push, Pop, PushL, PushR, PopL, PopR, Put, Del, Ins, DelMin}
 use Rattle.retro_base.specs.declared.row.Entry.{Entry}
+use Rattle.retro_base.specs.declared.row.Row.{Row}
 use Rattle.retro_base.specs.EntriesInOrder.{AreInOrder}
 use Rattle.retro_base.specs.Limits.{most_rows}
-use Rattle.pq_fusion.specs.Pieces.{PieceParts, IsPiece, size_of, together, fuse}
-use Rattle.pq_fusion.proofs.Order.{length_together, order_together}
+use Rattle.pq_fusion.specs.Pieces.{PieceParts, IsPiece, size_of, no_parts, after_take, after_row, after_rows, tolerant, together, fuse}
+use Rattle.pq_fusion.proofs.Order.{length_with, length_together, order_together}
 use Rattle.pq_fusion.proofs.Split.{order_front, order_back}
 use Rattle.pq_fusion.proofs.Fused.{parts, fused_rise}
 
@@ -44,3 +47,31 @@ front_order xs ys front place met order m f =
 pub back_order : (xs ys back : List Entry) (place : ℕ) (met : List Entry) → AreInOrder ys → met ≡ together xs ys → back ≡ drop place met → AreInOrder back
 back_order xs ys back place met order m f =
     rw f (order_back (take place met) (drop place met) (rw (take-append-drop place met, m) (order_together xs ys order)))
+
+-- rows come to no more entries and unmet takings than they are
+take_size : (left removed : List Entry) (unmet : ℕ) → size_of (after_take left removed unmet) ≤ suc (length left + length removed + unmet)
+take_size [] removed unmet = omega arith
+take_size (x ∷ xs) removed unmet = omega (arith, length_with x removed)
+
+row_size : (op : Op) (number : ℕ) (a : PieceParts) → size_of (after_row op number a) ≤ suc (size_of a)
+unfolding after_row
+row_size (Enq v) number a = omega arith
+row_size Deq number a = omega arith
+row_size (Push v) number a = omega arith
+row_size Pop number a = omega arith
+row_size (PushL v) number a = omega arith
+row_size (PushR v) number a = omega arith
+row_size PopL number a = omega arith
+row_size PopR number a = omega arith
+row_size (Put k v) number a = omega arith
+row_size (Del k) number a = omega arith
+row_size (Ins k) number a = omega (arith, length_with (record { key = k; number = number }) a.left)
+row_size DelMin number a = take_size a.left a.removed a.unmet
+
+rows_size_from : (rows : List Row) (a : PieceParts) → size_of (after_rows rows a) ≤ size_of a + length rows
+unfolding after_rows
+rows_size_from [] a = omega arith
+rows_size_from (row ∷ rows) a = omega (arith, row_size row.op row.number a, rows_size_from rows (after_row row.op row.number a))
+
+pub rows_size : (rows : List Row) → size_of (tolerant rows) ≤ length rows
+rows_size rows = omega (arith, rows_size_from rows no_parts)

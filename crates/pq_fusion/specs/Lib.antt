@@ -1,2 +1,4 @@
 pub mod Pieces
 pub mod PieceLaws
+pub mod Nodes
+pub mod NodesFall

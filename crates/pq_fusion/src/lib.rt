@@ -13,8 +13,11 @@
 //! Files: specs/Pieces.antt has the definitions, specs/PieceLaws.antt the laws, which are the contracts of `laws`.
 #![tactic(auto)]
 
+mod edit;
 pub mod laws;
 mod merge;
 mod piece;
+mod read;
+mod subtree;
 
 pub use piece::Piece;

@@ -84,6 +84,18 @@ impl Piece {
         })
     }
 
+    /// The same piece once more.
+    pub(crate) fn copy(&self) -> Result<Piece, NoMemory>
+        ensures { IfOk result (λ piece. piece ≡ self.now) }
+    {
+        Ok(Piece {
+            alloc: self.alloc,
+            left: Vec::from_slice(self.alloc, self.left())?,
+            removed: Vec::from_slice(self.alloc, self.removed())?,
+            unmet: self.unmet,
+        })
+    }
+
     /// The least entry that is left, where there is one.
     pub fn min(&self) -> Option<Entry>
         ensures { result ≡ slice_get self.now.left 0 }
