@@ -9,7 +9,7 @@ use Rattle.retro_base.specs.EntriesInOrder.{AreInOrder}
 use Rattle.retro_base.specs.State.{comes_before, with_entry}
 use Rattle.retro_base.specs.lemmas.bridges.EntryOrder.{before_one_way}
 use Rattle.pq_fusion.specs.Pieces.{PieceParts, IsRising, no_parts, after_take, after_row, together, greatest, all_but_greatest, met, kept, fuse}
-use Rattle.pq_fusion.proofs.Order.{IsLeast, least_further, least_first, least_with, order_with, with_either, length_with, together_none, together_more, order_together, least_together, length_together, together_alone, with_in_first, with_in_second}
+use Rattle.pq_fusion.proofs.Order.{IsLeast, least_further, least_first, least_with, order_with, with_either, length_with, together_none, together_more, order_together, least_together, length_together, together_alone, with_in_first, with_in_second, with_none}
 use Rattle.pq_fusion.proofs.Split.{InParts, parts_of, lesser_is, greater_is, order_front, order_back, least_moves, with_lesser, with_greater}
 
 -- a piece by its parts
@@ -152,10 +152,6 @@ rising_made a b lesser greater rising split =
 
 pub fused_rise : (a b : PieceParts) → IsRising a → IsRising b → IsRising (fuse a b)
 fused_rise a b first second = rw (fuse_is a b _ _ (met_parts a b)) (rising_made a b _ _ second (met_parts a b))
-
-with_none : (xs : List Entry) → xs ≡ xs ++ []
-with_none [] = refl
-with_none (x ∷ xs) = ap (λ l. x ∷ l) (with_none xs)
 
 -- the piece of no rows is a unit
 no_less : (n : ℕ) → 0 + (n - 0) ≡ n

@@ -1,7 +1,7 @@
 -- A node of which one side was edited, with its size and its piece renewed, is a node of the edited rows.
-use Rattle.std.proofs.Common.{◌≡◌, ℕ, zero, suc, ◌+◌, ◌-◌, ◌*◌, ◌<◌, ◌≤◌, List, [], ◌∷◌, ◌++◌, length, refl, sym, ap, ◌∙◌, arith, subst, length-append, Bool, true, false, Option, Some, None, Result, Ok, Err, Box, Global}
+use Rattle.std.proofs.Common.{◌≡◌, ℕ, zero, suc, ◌+◌, ◌-◌, ◌<◌, ◌≤◌, List, [], ◌∷◌, length, refl, sym, ap, ◌∙◌, arith, subst, length-append, true, false, Result, Ok, Err, Box, Global}
 use Rattle.std.specs.Prelude.{OnOk, OnErr, is_ok}
-use Rattle.std.specs.List.{AllByRecursion, insert, remove}
+use Rattle.std.specs.List.{insert, remove}
 use Rattle.std.proofs.lemmas.List.Edits.{length-insert}
 use Rattle.retro_base.specs.declared.kind.Kind.TheVariants.{Pq}
 use Rattle.retro_base.specs.declared.row.Row.{Row}
@@ -9,7 +9,6 @@ use Rattle.retro_base.specs.Kind.{kind_of}
 use Rattle.retro_base.specs.Limits.{most_rows}
 use Rattle.retro_base.specs.OrderLaws.{all_with, all_without}
 use Rattle.retro_base.specs.Timeline.{AreOfKind}
-use Rattle.pq_fusion.specs.declared.subtree.Link.{Link}
 use Rattle.pq_fusion.specs.declared.subtree.Link.TheVariants.{Full}
 use Rattle.pq_fusion.specs.declared.subtree.Node.{Node}
 use Rattle.pq_fusion.specs.Nodes.{weight, IsBalanced, node_rows, IsNode, Bears, Spares}

@@ -9,3 +9,4 @@ pub mod Ranges
 pub mod Rooted
 pub mod Stored
 pub mod Grown
+pub mod Listed

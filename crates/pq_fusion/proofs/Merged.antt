@@ -7,7 +7,7 @@ use Rattle.retro_base.specs.EntriesInOrder.{AreInOrder}
 use Rattle.retro_base.specs.State.{comes_before}
 use Rattle.retro_base.specs.lemmas.bridges.EntryOrder.{before_one_way}
 use Rattle.pq_fusion.specs.Pieces.{together}
-use Rattle.pq_fusion.proofs.Order.{least_further, least_first, together_none, together_more, together_alone, least_together, with_in_second}
+use Rattle.pq_fusion.proofs.Order.{least_further, least_first, together_none, together_more, together_alone, least_together, with_in_second, with_none}
 
 -- the first of the second list comes before that of the first
 second_first : (x y : Entry) (xs ys : List Entry) → AreInOrder (x ∷ xs) → AreInOrder (y ∷ ys) → comes_before y x ≡ true
@@ -29,10 +29,6 @@ order_drop zero xs order = order
 order_drop (suc n) [] order = tt
 order_drop (suc n) (x ∷ xs) order = order_drop n xs order.1
 
-with_none : (xs : List Entry) → xs ≡ xs ++ []
-with_none [] = refl
-with_none (x ∷ xs) = ap (λ l. x ∷ l) (with_none xs)
-
 -- so many entries of each list were merged, and what is left together follows them
 pub record IsMerged (first second both : List Entry) (i j : ℕ) : Type 0 where
   pub within_first : i ≤ length first
@@ -42,7 +38,7 @@ pub record IsMerged (first second both : List Entry) (i j : ℕ) : Type 0 where
 pub merge_starts : (first second : List Entry) → IsMerged first second [] 0 0
 merge_starts first second = record { within_first = omega arith; within_second = omega arith; joined = refl }
 
-at_place : (xs : List Entry) (i : ℕ) (d : Entry) → i < length xs → drop i xs ≡ get_or xs i d ∷ drop (i + 1) xs
+pub at_place : (xs : List Entry) (i : ℕ) (d : Entry) → i < length xs → drop i xs ≡ get_or xs i d ∷ drop (i + 1) xs
 at_place xs i d within = drop-cons xs i d within ∙ ap (λ n. get_or xs i d ∷ drop n xs) (sym (add-one i))
 
 -- one more is merged

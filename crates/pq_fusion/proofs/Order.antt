@@ -1,5 +1,5 @@
 -- Entries in order, of which two may be the same: one more keeps them so, and in which order several come does not matter.
-use Rattle.std.proofs.Common.{◌≡◌, ℕ, ℤ, suc, ◌+◌, Bool, true, false, cond, ◌&&◌, ◌||◌, List, [], ◌∷◌, length, inl, inr, refl, ap, sym, ◌∙◌, arith}
+use Rattle.std.proofs.Common.{◌≡◌, ℕ, ℤ, suc, ◌+◌, Bool, true, false, cond, ◌&&◌, ◌||◌, List, [], ◌∷◌, ◌++◌, length, inl, inr, refl, ap, sym, ◌∙◌, arith}
 use Rattle.std.specs.Prelude.{int_lt, nat_lt}
 use Rattle.std.specs.Ordering.{int_eq}
 use Rattle.std.specs.List.{AllByRecursion}
@@ -120,3 +120,7 @@ pub with_in_second : (e : Entry) (xs ys : List Entry) → together xs (with_entr
 unfolding together
 with_in_second e [] ys = refl
 with_in_second e (x ∷ xs) ys = ap (with_entry x) (with_in_second e xs ys) ∙ with_either x e (together xs ys)
+
+pub with_none : (xs : List Entry) → xs ≡ xs ++ []
+with_none [] = refl
+with_none (x ∷ xs) = ap (λ l. x ∷ l) (with_none xs)

@@ -1,6 +1,8 @@
 -- Rows that are let pass tell of a replay: it fails at the first taking that is unmet, and up to there what is left is the state.
-use Rattle.std.proofs.Common.{◌≡◌, ◌↔◌, ℕ, ℤ, suc, ◌+◌, ◌≤◌, List, [], ◌∷◌, ◌⊎◌, inl, inr, refl, ap, sym, ◌∙◌, arith, subst, Some, None, Result, Ok, Err}
+use Rattle.std.proofs.Common.{◌≡◌, ◌↔◌, ℕ, ℤ, suc, ◌+◌, ◌≤◌, List, [], ◌∷◌, ◌⊎◌, inl, inr, refl, ap, sym, ◌∙◌, arith, subst, Some, None, Result, Ok, Err, zero, take}
+use Rattle.std.specs.List.{AllByRecursion}
 use Rattle.std.specs.Option.{option_map_or}
+use Rattle.std.specs.Prelude.{IfOk}
 use Rattle.std.specs.Result.{result_err, result_unwrap_or}
 use Rattle.retro_base.specs.declared.kind.Kind.TheVariants.{Pq}
 use Rattle.retro_base.specs.declared.op.Op.{Op}
@@ -8,9 +10,10 @@ use Rattle.retro_base.specs.declared.op.Op.TheVariants.{Enq, Deq, Push, Pop, Pus
 use Rattle.retro_base.specs.declared.row.Entry.{Entry}
 use Rattle.retro_base.specs.declared.row.Row.{Row}
 use Rattle.retro_base.specs.Kind.{kind_of}
-use Rattle.retro_base.specs.Replay.{fold_rows, one_later, run, IsValid, present}
+use Rattle.retro_base.specs.Replay.{fold_rows, one_later, run, IsValid, present, state_at}
 use Rattle.retro_base.specs.State.{State, entries, perform}
-use Rattle.retro_base.specs.Timeline.{AreOfKind}
+use Rattle.retro_base.specs.PrefixLaws.{valid_take}
+use Rattle.retro_base.specs.Timeline.{AreOfKind, IsReplayable}
 use Rattle.retro_base.specs.Weights.{added_as, added_by}
 use Rattle.pq_fusion.specs.Pieces.{PieceParts, no_parts, after_take, after_row, after_rows, tolerant}
 use Rattle.pq_fusion.proofs.Fused.{parts}
@@ -148,3 +151,17 @@ adds_where_some DelMin number entry some = absurd (cc)
 pub of_adding : (row : Row) (entry : Entry) → added_by row ≡ Some entry → tolerant (row ∷ []) ≡ parts (entry ∷ []) [] 0
 unfolding after_rows
 of_adding row entry some = adds_where_some row.op row.number entry some
+
+all_take : (P : Row → Type 0) (n : ℕ) (rows : List Row) → AllByRecursion P rows → AllByRecursion P (take n rows)
+all_take P zero rows all = tt
+all_take P (suc n) [] all = tt
+all_take P (suc n) (row ∷ rows) all = (all.0, all_take P n rows all.1)
+
+-- the state at a place is what the rows before it leave
+pub state_is_left : (rows : List Row) (place : ℕ) → IsReplayable Pq rows → state_at Pq rows place ≡ entries (tolerant (take place rows)).left
+state_is_left rows place replayable =
+    left_is_present (take place rows) (all_take (λ row. kind_of row.op ≡ Pq) place rows replayable.of_kind) (valid_take Pq rows place replayable.valid)
+
+pub if_ok_more : {X E : Type 0} {P Q : X → Type 0} (outcome : Result X E) → ((x : X) → P x → Q x) → IfOk outcome P → IfOk outcome Q
+if_ok_more (Ok x) more there = more x there
+if_ok_more (Err e) more there = tt

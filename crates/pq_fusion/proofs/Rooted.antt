@@ -1,5 +1,5 @@
 -- What is known of the root of a tree of rows.
-use Rattle.std.proofs.Common.{◌≡◌, ℕ, zero, suc, ◌+◌, ◌*◌, ◌<◌, ◌≤◌, List, [], ◌∷◌, ◌++◌, length, refl, sym, ap, ◌∙◌, arith, subst, length-append}
+use Rattle.std.proofs.Common.{◌≡◌, ◌+◌, ◌≤◌, List, [], ◌∷◌, ◌++◌, length, sym, ap, ◌∙◌, arith, length-append}
 use Rattle.std.specs.List.{AllByRecursion}
 use Rattle.retro_base.specs.declared.kind.Kind.TheVariants.{Pq}
 use Rattle.retro_base.specs.declared.row.Row.{Row}
@@ -9,10 +9,9 @@ use Rattle.retro_base.specs.Timeline.{AreOfKind}
 use Rattle.pq_fusion.specs.declared.subtree.Link.{Link}
 use Rattle.pq_fusion.specs.declared.subtree.Link.TheVariants.{Empty, Full}
 use Rattle.pq_fusion.specs.declared.subtree.Node.{Node}
-use Rattle.pq_fusion.specs.Nodes.{weight, IsBalanced, node_rows, rows_of, IsNode, IsRoot, IsSound}
-use Rattle.pq_fusion.specs.Pieces.{PieceParts, size_of, tolerant, fuse}
+use Rattle.pq_fusion.specs.Nodes.{weight, IsBalanced, rows_of, IsNode, IsRoot, IsSound}
+use Rattle.pq_fusion.specs.Pieces.{tolerant, fuse}
 use Rattle.pq_fusion.proofs.FromRows.{row_between}
-use Rattle.pq_fusion.proofs.Sizes.{rows_size}
 
 pub all_both : (P : Row → Type 0) (xs ys : List Row) → AllByRecursion P xs → AllByRecursion P ys → AllByRecursion P (xs ++ ys)
 all_both P [] ys first second = second

@@ -87,8 +87,8 @@ impl Subtree {
         requires of_kind { kind_of row.op ≡ Pq }
         ensures { IfOk result (λ piece. piece ≡ tolerant (insert self.now place row)) }
     {
-        let before = self.piece(alloc, 0, place)?;
-        let after = self.piece(alloc, place, self.len())?;
+        let before = self.prefix(alloc, place)?;
+        let after = self.suffix(alloc, place)?;
         joined(alloc, &before, row, &after)
     }
 
@@ -97,9 +97,9 @@ impl Subtree {
         requires within { place < length self.now }
         ensures { IfOk result (λ piece. piece ≡ tolerant (remove self.now place)) }
     {
-        let count = self.len();
-        let before = self.piece(alloc, 0, place)?;
-        let after = self.piece(alloc, place + 1, count)?;
+        let _few = self.len();
+        let before = self.prefix(alloc, place)?;
+        let after = self.suffix(alloc, place + 1)?;
         before.fuse(&after)
     }
 

@@ -1,4 +1,4 @@
-//! The whole past of a priority queue as one product.
+//! The fused priority queue: its whole past is one product, so a question about the past needs no checkpoint.
 //!
 //! What some neighbouring rows come to, whatever stands before them, is a piece: the entries that they leave, the entries that
 //! they put in and remove again, and how many takings found nothing to take. Pieces that stand side by side are fused: what the
@@ -8,16 +8,41 @@
 //! What `ins 4`, `ins 2` come to leaves 2 and 4. What `delmin`, `delmin`, `delmin`, `ins 7` come to leaves 7, with three takings
 //! unmet. Fused they leave 7, have removed 2 and 4, and one taking is unmet: the third one of these rows cannot be performed.
 //!
-//! `Piece` is such a piece; `Piece::fuse` walks each of its lists once.
+//! `FusedQueue` is a priority queue of `retro_base`'s trait `Retro`. It keeps its rows in a weight-balanced tree of which each node
+//! has the piece of all rows below it, so what the rows before a place come to is a product of a few pieces; what they leave is the
+//! state there. Verdicts, changes and the present are those of a `BridgeQueue` beside the tree. An edit makes the pieces of its path
+//! anew, so it is dearer than by bridges alone. Where a side would weigh over 3 times the other, or the row of a node is taken out,
+//! the part of the tree below that node is made anew, as light as it can be on both sides of each node.
 //!
-//! Files: specs/Pieces.antt has the definitions, specs/PieceLaws.antt the laws, which are the contracts of `laws`.
+//! | Call | Cost, with m rows | Memory |
+//! |---|---|---|
+//! | `Piece::empty`, `of_row`, `min`, `unmet`, `left_len`, `removed_len` | constant | an entry |
+//! | `Piece::fuse` | a walk of the lists of both | the fused lists |
+//! | `FusedQueue::new`, `kind`, `len` | constant | none |
+//! | `ask_now`, `failure_after_insert`, `failure_after_remove` | those of `BridgeQueue`, log m | none |
+//! | `ask`, `all`, `piece` | in proportion to the rows asked about | as many entries |
+//! | `insert`, `remove` | in proportion to m; m log m at most where a part is made anew | the new pieces |
+//! | `stored` | each node once | none |
+//!
+//! All new pieces of an edit are made before the first one is written, so after `NoMemory` all is as before; `remove` takes memory too.
+//! The pieces have at least as many entries as there are rows that add, and at most 3 m for each binary digit of m + 1: a side
+//! weighs at most 3 quarters of the whole, so there are at most 3 levels for each digit.
+//!
+//! What the layer above may rely on: the clauses of `Piece` and `FusedQueue`, the definitions of specs/Pieces.antt, and the laws of
+//! specs/PieceLaws.antt, which are the contracts of `laws`.
+//!
+//! - `piece`, `merge`: a piece, and two rising lists together. `answer`: the answers of what a piece leaves.
+//! - `subtree`: the tree of rows. `read`: its products. `edit`: a row more or less. `fused_queue`.
 #![tactic(auto)]
 
+mod answer;
 mod edit;
+mod fused_queue;
 pub mod laws;
 mod merge;
 mod piece;
 mod read;
 mod subtree;
 
+pub use fused_queue::FusedQueue;
 pub use piece::Piece;

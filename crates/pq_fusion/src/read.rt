@@ -1,4 +1,4 @@
-ghost use Rattle.std.specs.Prelude.{◌≡◌, ℕ, ◌+◌, ◌*◌, ◌≤◌, [], ◌∷◌, ◌++◌, length, IfOk, OnOk, MatchOption};
+ghost use Rattle.std.specs.Prelude.{◌≡◌, ℕ, ◌+◌, ◌*◌, ◌≤◌, [], ◌∷◌, ◌++◌, length, take, drop, IfOk, OnOk, MatchOption};
 ghost use Rattle.std.specs.List.{slice_range};
 ghost use Rattle.retro_base.specs.declared.kind.Kind.TheVariants.{Pq};
 ghost use Rattle.retro_base.specs.BridgeTable.{added};
@@ -97,6 +97,46 @@ impl Subtree {
 }
 
 impl Subtree {
+    /// What the first rows come to.
+    pub(crate) fn prefix(&self, alloc: Global, to: u32) -> Result<Piece, NoMemory>
+        requires { to ≤ length self.now }
+        ensures { IfOk result (λ piece. piece ≡ tolerant (take to self.now)) }
+    {
+        let none = Piece::empty(alloc);
+        let Some(node) = self.root() else {
+            return Ok(none);
+        };
+        if to == node.size {
+            return node.piece.copy();
+        }
+        let before = node.left.len();
+        if to <= before {
+            return node.left.prefix(alloc, to);
+        }
+        let after = node.right.prefix(alloc, to - before - 1)?;
+        joined(alloc, node.left.whole(&none), node.row, &after)
+    }
+
+    /// What the rows from a place on come to.
+    pub(crate) fn suffix(&self, alloc: Global, from: u32) -> Result<Piece, NoMemory>
+        requires { from ≤ length self.now }
+        ensures { IfOk result (λ piece. piece ≡ tolerant (drop from self.now)) }
+    {
+        let none = Piece::empty(alloc);
+        let Some(node) = self.root() else {
+            return Ok(none);
+        };
+        if from == 0 {
+            return node.piece.copy();
+        }
+        let before = node.left.len();
+        if from > before {
+            return node.right.suffix(alloc, from - before - 1);
+        }
+        let first = node.left.suffix(alloc, from)?;
+        joined(alloc, &first, node.row, node.right.whole(&none))
+    }
+
     /// What the rows from `from` to before `to` come to.
     pub(crate) fn piece(&self, alloc: Global, from: u32, to: u32) -> Result<Piece, NoMemory>
         requires order { from ≤ to }
@@ -106,8 +146,8 @@ impl Subtree {
         let Some(node) = self.root() else {
             return Ok(Piece::empty(alloc));
         };
-        if from == 0 && to == node.size {
-            return node.piece.copy();
+        if from == 0 {
+            return self.prefix(alloc, to);
         }
         let before = node.left.len();
         if to <= before {
@@ -116,8 +156,8 @@ impl Subtree {
         if from > before {
             return node.right.piece(alloc, from - before - 1, to - before - 1);
         }
-        let first = node.left.piece(alloc, from, before)?;
-        let second = node.right.piece(alloc, 0, to - before - 1)?;
+        let first = node.left.suffix(alloc, from)?;
+        let second = node.right.prefix(alloc, to - before - 1)?;
         joined(alloc, &first, node.row, &second)
     }
 

@@ -1,5 +1,5 @@
-use Rattle.std.proofs.Common.{◌≡◌, ◌+◌, ◌≤◌, length, ◌∷◌, [], arith, ap}
-use Rattle.pq_fusion.specs.Pieces.{PieceParts, size_of, tolerant, fuse}
+use Rattle.std.proofs.Common.{◌≡◌, ◌∷◌, [], arith, ap}
+use Rattle.pq_fusion.specs.Pieces.{size_of, tolerant, fuse}
 use Rattle.pq_fusion.proofs.Sizes.{rows_size, fused_size}
 use Rattle.pq_fusion.proofs.read.joined.Goals as goal
 

@@ -1,4 +1,4 @@
-use Rattle.std.proofs.Common.{◌≡◌, ◌+◌, ◌-◌, ap, ◌∙◌, sym, refl, arith, subst, length, true, false}
+use Rattle.std.proofs.Common.{◌≡◌, ◌-◌, ap, ◌∙◌, sym, refl, arith, subst, length, true, false}
 use Rattle.std.specs.Prelude.{is_ok}
 use Rattle.std.specs.List.{remove}
 use Rattle.pq_fusion.specs.declared.subtree.Link.TheVariants.{Full}

@@ -1,5 +1,5 @@
-use Rattle.std.proofs.Common.{◌≡◌, ◌+◌, ◌≤◌, length, ◌∷◌, [], arith, ap, subst, ◌∙◌, sym}
-use Rattle.pq_fusion.specs.Pieces.{PieceParts, size_of, tolerant}
+use Rattle.std.proofs.Common.{◌≡◌, length, arith, ap}
+use Rattle.pq_fusion.specs.Pieces.{size_of, tolerant}
 use Rattle.pq_fusion.proofs.Rooted.{sizes, few, piece_is}
 use Rattle.pq_fusion.proofs.Sizes.{rows_size}
 use Rattle.pq_fusion.proofs.Stored.{count_of, rows_count, one_level_more, squares}

@@ -1,4 +1,4 @@
-use Rattle.std.proofs.Common.{◌≡◌, ◌+◌, ◌≤◌, length, ◌∷◌, [], arith, ap, subst, ◌∙◌, sym, refl}
+use Rattle.std.proofs.Common.{◌≡◌, arith, ap, subst, ◌∙◌, sym, refl}
 use Rattle.retro_base.specs.declared.kind.Kind.TheVariants.{Pq}
 use Rattle.retro_base.specs.Timeline.{AreOfKind}
 use Rattle.pq_fusion.specs.Nodes.{IsNode}

@@ -1,0 +1,157 @@
+ghost use Rattle.std.specs.Prelude.{◌≡◌, ◌+◌, ◌*◌, ◌<◌, ◌≤◌, [], length, IfOk, OnOk, OnErr};
+ghost use Rattle.std.specs.List.{insert, slice_range};
+ghost use Rattle.retro_base.specs.declared.kind.Kind.TheVariants.{Pq};
+ghost use Rattle.retro_base.specs.BridgeTable.{added};
+ghost use Rattle.retro_base.specs.Changes.{IsChange};
+ghost use Rattle.retro_base.specs.Digits.{digits};
+ghost use Rattle.retro_base.specs.Edits.{add};
+ghost use Rattle.retro_base.specs.Kind.{kind_of};
+ghost use Rattle.retro_base.specs.Limits.{most_rows};
+ghost use Rattle.retro_base.specs.Replay.{state_at, IsValid};
+ghost use Rattle.retro_base.specs.State.{entries};
+ghost use Rattle.retro_base.specs.Timeline.{IsFresh, IsReplayable};
+ghost use Rattle.pq_fusion.specs.Pieces.{tolerant};
+
+use crate::Piece;
+use crate::answer::keys_of;
+use crate::subtree::Subtree;
+use bridge_pq::BridgeQueue;
+use retro_base::{
+    Answer, Change, Kind, Listing, NoMemory, Op, Partial, Question, Retro, Row, uncounted,
+};
+use std::alloc::Global;
+use std::marker::Model;
+
+/// A priority queue whose whole past is one product of pieces, which contracts see as its rows.
+#[derive(Drop)]
+pub struct FusedQueue {
+    alloc: Global,
+    queue: BridgeQueue,
+    rows: Subtree,
+}
+
+impl Model for FusedQueue {
+    ghost use Rattle.std.specs.Prelude.{◌≡◌, List};
+    ghost use Rattle.retro_base.specs.declared.row.Row.{Row};
+
+    ghost Value = { List Row };
+
+    ghost view = { λ fused. fused.queue };
+
+    ghost invariant = { λ fused. fused.rows ≡ fused.queue };
+}
+
+impl FusedQueue {
+    /// A queue with no rows; their memory will be that of `alloc`.
+    pub fn new(alloc: Global) -> FusedQueue
+        ensures { result ≡ [] }
+    {
+        FusedQueue {
+            alloc,
+            queue: BridgeQueue::new(alloc),
+            rows: Subtree::new(),
+        }
+    }
+
+    /// What the rows from `from` to before `to` come to.
+    pub fn piece(&self, from: u32, to: u32) -> Result<Piece, NoMemory>
+        requires order { from ≤ to }
+        requires within { to ≤ length self.now }
+        ensures { IfOk result (λ piece. piece ≡ tolerant (slice_range self.now from to)) }
+    {
+        self.rows.piece(self.alloc, from, to)
+    }
+
+    /// How many entries there are in all pieces of the tree of rows.
+    pub fn stored(&self) -> u64
+        ensures least { length (added self.now) ≤ result }
+        ensures most { result ≤ 3 * length self.now * digits (length self.now + 1) }
+    {
+        self.rows.stored()
+    }
+
+    /// What the first rows come to; what they leave is the state after them.
+    fn prefix(&self, place: u32) -> Result<Piece, NoMemory>
+        requires { place ≤ length self.now }
+        ensures { IfOk result (λ piece. state_at Pq self.now place ≡ entries piece.left) }
+    {
+        let _replayable = self.queue.kind();
+        self.rows.prefix(self.alloc, place)
+    }
+}
+
+impl Retro for FusedQueue {
+    ghost kind = { λ _. Pq };
+
+    ghost rows = { λ fused. fused };
+
+    fn kind(&self) -> Kind {
+        self.queue.kind()
+    }
+
+    fn len(&self) -> u32 {
+        self.queue.len()
+    }
+
+    fn failure_after_insert(&self, place: u32, op: Op) -> Option<u32> {
+        uncounted::failure_after_insert(&self.queue, place, op)
+    }
+
+    fn failure_after_remove(&self, place: u32) -> Option<u32> {
+        uncounted::failure_after_remove(&self.queue, place)
+    }
+
+    fn insert(&mut self, place: u32, row: Row) -> Result<Change, NoMemory> {
+        insert_into_both(self.alloc, &mut self.queue, &mut self.rows, place, row)
+    }
+
+    fn remove(&mut self, place: u32) -> Result<(Row, Change), NoMemory> {
+        let _few = self.queue.len();
+        self.rows.remove(self.alloc, place)?;
+        Ok(uncounted::remove(&mut self.queue, place))
+    }
+
+    fn ask_now(&self, question: Question) -> Answer {
+        uncounted::ask_now(&self.queue, question)
+    }
+
+    fn ask(&mut self, place: u32, question: Question) -> Result<Answer, NoMemory> {
+        let piece = self.prefix(place)?;
+        Ok(piece.answer(question))
+    }
+
+    fn all(&mut self, place: u32) -> Result<Listing, NoMemory> {
+        let piece = self.prefix(place)?;
+        keys_of(self.alloc, piece.left())
+    }
+}
+
+/// Puts a row into a queue and into the tree of its rows. Where the tree has no memory for it, it is taken out of the queue
+/// again, which takes none.
+fn insert_into_both(
+    alloc: Global,
+    queue: &mut BridgeQueue,
+    rows: &mut Subtree,
+    place: u32,
+    row: Row,
+) -> Result<Change, NoMemory>
+    requires same { rows.old ≡ queue.old }
+    requires within { place ≤ length queue.old }
+    requires room { length queue.old < most_rows }
+    requires fresh { IsFresh row.number queue.old }
+    requires of_kind { kind_of row.op ≡ Pq }
+    requires replays { IsValid Pq (insert queue.old place row) }
+    ensures rows { OnOk result (queue.new ≡ insert queue.old place row) }
+    ensures replayable { OnOk result (IsReplayable Pq queue.new) }
+    ensures change { IfOk result (IsChange Pq queue.old (add place row)) }
+    ensures err { OnErr result (queue.new ≡ queue.old) }
+    ensures same { rows.new ≡ queue.new }
+{
+    let _replayable = queue.kind();
+    let change = uncounted::insert(queue, place, row)?;
+    if let Err(error) = rows.insert(alloc, place, row) {
+        uncounted::remove(queue, place);
+        return Err(error);
+    }
+    Ok(change)
+}
