@@ -1,17 +1,17 @@
 -- Lines whose commands were worked out by hand, computed from the grammar.
 use Rattle.std.proofs.Common.{◌≡◌, [], pos, negsuc, refl}
-use Rattle.std.specs.Prelude.{Ok, Err, codes}
+use Rattle.std.specs.Prelude.{Ok, Err, Some, None, codes}
 use Rattle.retro_base.specs.Name.{is_name}
 use Rattle.retro_base.specs.declared.kind.Kind.TheVariants.{Queue, Dict, Pq}
 use Rattle.retro_base.specs.declared.op.Op.TheVariants.{Enq, Deq, Put, DelMin}
 use Rattle.retro_base.specs.declared.question.Question.TheVariants.{Size, Min, Nth, Succ, Sum}
-use Rattle.script_grammar.specs.declared.command.Command.TheVariants.{Nothing, New, Insert, Delete, Ask}
+use Rattle.script_grammar.specs.declared.command.Command.TheVariants.{Nothing, New, Insert, Delete, Move, Change, Fate, Ask, Header}
 use Rattle.script_grammar.specs.declared.command.Spot.TheVariants.{At, Before, After}
 use Rattle.script_grammar.specs.declared.command.Moment.TheVariants.{Now, Then}
 use Rattle.script_grammar.specs.declared.command.Query.TheVariants.{One, All}
 use Rattle.script_grammar.specs.declared.command.LineError.TheVariants.{Syntax}
 use Rattle.script_grammar.specs.Words.{words}
-use Rattle.script_grammar.specs.Numbers.{index_of, row_number_of, time_of, value_of}
+use Rattle.script_grammar.specs.Numbers.{count_of, index_of, next_of, row_number_of, time_of, value_of}
 use Rattle.script_grammar.specs.Command.{command}
 
 new_queue : command (codes "new q queue") ≡ Ok (New (codes "q") Queue)
@@ -42,6 +42,50 @@ put_in_after = refl
 take_out : command (codes "s delete #1") ≡ Ok (Delete (codes "s") 1)
 unfolding command words is_name row_number_of
 take_out = refl
+
+move : command (codes "s move #1 at 25") ≡ Ok (Move (codes "s") 1 25)
+unfolding command words is_name row_number_of time_of
+move = refl
+
+move_without_at : command (codes "s move #1 25") ≡ Err Syntax
+unfolding command words is_name row_number_of
+move_without_at = refl
+
+move_before : command (codes "s move #1 before #2") ≡ Err Syntax
+unfolding command words is_name row_number_of
+move_before = refl
+
+change : command (codes "d change #3 put 1 -2") ≡ Ok (Change (codes "d") 3 (Put (pos 1) (negsuc 1)))
+unfolding command words is_name row_number_of value_of
+change = refl
+
+fate : command (codes "p fate #2") ≡ Ok (Fate (codes "p") 2)
+unfolding command words is_name row_number_of
+fate = refl
+
+header : command (codes "timeline q queue next 3") ≡ Ok (Header (codes "q") Queue 3 None)
+unfolding command words is_name next_of
+header = refl
+
+header_with_count : command (codes "timeline q queue next 3 rows 02") ≡ Ok (Header (codes "q") Queue 3 (Some 2))
+unfolding command words is_name next_of count_of
+header_with_count = refl
+
+header_with_most_rows : command (codes "timeline q queue next 16777216 rows 131072") ≡ Ok (Header (codes "q") Queue 16777216 (Some 131072))
+unfolding command words is_name next_of count_of
+header_with_most_rows = refl
+
+count_past_range : command (codes "timeline q queue next 3 rows 131073") ≡ Err Syntax
+unfolding command words is_name next_of count_of
+count_past_range = refl
+
+rows_without_count : command (codes "timeline q queue next 3 rows") ≡ Err Syntax
+unfolding command words is_name next_of
+rows_without_count = refl
+
+rows_before_next : command (codes "timeline q queue rows 2 next 3") ≡ Err Syntax
+unfolding command words is_name
+rows_before_next = refl
 
 ask_now : command (codes "q ask nth 18446744073709551615") ≡ Ok (Ask (codes "q") Now (One (Nth 18446744073709551615)))
 unfolding command words is_name index_of

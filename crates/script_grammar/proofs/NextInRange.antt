@@ -9,8 +9,8 @@ use Rattle.script_grammar.specs.declared.command.Command.TheVariants.{Undo, Redo
 use Rattle.script_grammar.specs.declared.command.LineError.{LineError}
 use Rattle.script_grammar.specs.declared.command.LineError.TheVariants.{Syntax}
 use Rattle.script_grammar.specs.declared.command.Spot.{Spot}
-use Rattle.script_grammar.specs.Command.{IsNextInRange, about, ask_at, ask_of, ask_then, command_of, delete_of, header_end, header_kind, header_next, header_of, insert_of, kind_of_word, new_of, save_of}
-use Rattle.script_grammar.specs.Numbers.{between, natural_of, next_of}
+use Rattle.script_grammar.specs.Command.{IsNextInRange, about, ask_at, ask_of, ask_then, change_of, command_of, delete_of, fate_of, header_count, header_end, header_kind, header_next, header_of, header_rows, insert_of, kind_of_word, move_at, move_of, move_time, new_of, save_of}
+use Rattle.script_grammar.specs.Numbers.{between, count_of, natural_of, next_of}
 use Rattle.script_grammar.specs.Operands.{alone}
 use Rattle.retro_base.specs.Limits.{next_limit}
 use Rattle.std.proofs.lemmas.Bool.{cases_Bool, leb-true}
@@ -49,6 +49,27 @@ delete_in_range : (name : List ℕ) (rest : List (List ℕ)) → IfSome (delete_
 delete_in_range name [] = tt
 delete_in_range name (word ∷ rest) = search (chained, last)
 
+move_time_in_range : (name : List ℕ) (number : ℕ) (rest : List (List ℕ)) → IfSome (move_time name number rest) IsNextInRange
+move_time_in_range name number [] = tt
+move_time_in_range name number (word ∷ rest) = search (chained, last)
+
+move_at_in_range : (name : List ℕ) (number : ℕ) (rest : List (List ℕ)) → IfSome (move_at name number rest) IsNextInRange
+move_at_in_range name number [] = tt
+move_at_in_range name number (word ∷ rest) =
+    chosen IsNextInRange (bytes_eq word (codes "at")) (move_time name number rest) None (move_time_in_range name number rest) tt
+
+move_in_range : (name : List ℕ) (rest : List (List ℕ)) → IfSome (move_of name rest) IsNextInRange
+move_in_range name [] = tt
+move_in_range name (word ∷ rest) = search (chained, move_at_in_range)
+
+change_in_range : (name : List ℕ) (rest : List (List ℕ)) → IfSome (change_of name rest) IsNextInRange
+change_in_range name [] = tt
+change_in_range name (word ∷ rest) = search (chained, mapped)
+
+fate_in_range : (name : List ℕ) (rest : List (List ℕ)) → IfSome (fate_of name rest) IsNextInRange
+fate_in_range name [] = tt
+fate_in_range name (word ∷ rest) = search (chained, last)
+
 ask_at_in_range : (name : List ℕ) (spot : Spot) (rest : List (List ℕ)) → IfSome (ask_at name spot rest) IsNextInRange
 ask_at_in_range name spot [] = tt
 ask_at_in_range name spot (word ∷ rest) = search mapped
@@ -66,8 +87,11 @@ about_in_range name [] = tt
 about_in_range name (word ∷ rest) =
     chosen IsNextInRange (bytes_eq word (codes "ask")) _ _ (ask_in_range name rest)
     (chosen IsNextInRange (bytes_eq word (codes "delete")) _ _ (delete_in_range name rest)
+    (chosen IsNextInRange (bytes_eq word (codes "move")) _ _ (move_in_range name rest)
+    (chosen IsNextInRange (bytes_eq word (codes "change")) _ _ (change_in_range name rest)
+    (chosen IsNextInRange (bytes_eq word (codes "fate")) _ _ (fate_in_range name rest)
     (chosen IsNextInRange (bytes_eq word (codes "undo")) _ _ (last IsNextInRange (Undo name) rest tt)
-    (chosen IsNextInRange (bytes_eq word (codes "redo")) _ _ (last IsNextInRange (Redo name) rest tt) (insert_in_range name word rest))))
+    (chosen IsNextInRange (bytes_eq word (codes "redo")) _ _ (last IsNextInRange (Redo name) rest tt) (insert_in_range name word rest)))))))
 
 both_true : (test other : Bool) → (test && other) ≡ true → (test ≡ true) × (other ≡ true)
 both_true true other h = (refl, h)
@@ -89,11 +113,23 @@ next_of_ranged : (word : List ℕ) → IfSome (next_of word) (λ next. (1 ≤ ne
 unfolding next_of
 next_of_ranged word = next_ranged (natural_of word)
 
+header_count_in_range : (name : List ℕ) (kind : Kind) (next : ℕ) (rest : List (List ℕ)) → (1 ≤ next) × (next ≤ next_limit)
+    → IfSome (header_count name kind next rest) IsNextInRange
+header_count_in_range name kind next [] ranged = tt
+header_count_in_range name kind next (word ∷ rest) ranged =
+    chained IsNextInRange _ (count_of word) (λ rows. last IsNextInRange (Header name kind next (Some rows)) rest ranged)
+
+header_rows_in_range : (name : List ℕ) (kind : Kind) (next : ℕ) (rest : List (List ℕ)) → (1 ≤ next) × (next ≤ next_limit)
+    → IfSome (header_rows name kind next rest) IsNextInRange
+header_rows_in_range name kind next [] ranged = ranged
+header_rows_in_range name kind next (word ∷ rest) ranged =
+    chosen IsNextInRange (bytes_eq word (codes "rows")) (header_count name kind next rest) None (header_count_in_range name kind next rest ranged) tt
+
 header_next_in_range : (name : List ℕ) (kind : Kind) (rest : List (List ℕ)) → IfSome (header_next name kind rest) IsNextInRange
 header_next_in_range name kind [] = tt
 header_next_in_range name kind (word ∷ rest) =
     chained_from IsNextInRange (λ next. (1 ≤ next) × (next ≤ next_limit)) _ (next_of word) (next_of_ranged word)
-    (λ next ranged. last IsNextInRange (Header name kind next) rest ranged)
+    (λ next ranged. header_rows_in_range name kind next rest ranged)
 
 header_end_in_range : (name : List ℕ) (kind : Kind) (rest : List (List ℕ)) → IfSome (header_end name kind rest) IsNextInRange
 header_end_in_range name kind [] = tt

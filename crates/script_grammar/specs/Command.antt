@@ -7,14 +7,14 @@ use Rattle.retro_base.specs.Name.{name_of}
 use Rattle.retro_base.specs.declared.kind.Kind.{Kind}
 use Rattle.retro_base.specs.declared.kind.Kind.TheVariants.{Queue, Stack, Deque, Dict, Pq}
 use Rattle.script_grammar.specs.declared.command.Command.{Command}
-use Rattle.script_grammar.specs.declared.command.Command.TheVariants.{Nothing, New, Insert, Delete, Ask, Undo, Redo, Save, Header}
+use Rattle.script_grammar.specs.declared.command.Command.TheVariants.{Nothing, New, Insert, Delete, Move, Change, Fate, Ask, Undo, Redo, Save, Header}
 use Rattle.script_grammar.specs.declared.command.Spot.{Spot}
 use Rattle.script_grammar.specs.declared.command.Spot.TheVariants.{At, Before, After}
 use Rattle.script_grammar.specs.declared.command.Moment.TheVariants.{Now, Then}
 use Rattle.script_grammar.specs.declared.command.LineError.{LineError}
 use Rattle.script_grammar.specs.declared.command.LineError.TheVariants.{Syntax}
 use Rattle.script_grammar.specs.Words.{words}
-use Rattle.script_grammar.specs.Numbers.{next_of, row_number_of, time_of}
+use Rattle.script_grammar.specs.Numbers.{count_of, next_of, row_number_of, time_of}
 use Rattle.script_grammar.specs.Operands.{alone}
 use Rattle.script_grammar.specs.Operations.{op_of}
 use Rattle.script_grammar.specs.Queries.{query_of}
@@ -61,6 +61,31 @@ abbrev pub delete_of : List ℕ → List (List ℕ) → Option Command
 delete_of name [] = None
 delete_of name (word ∷ rest) = option_and_then (λ number. alone (Delete name number) rest) (row_number_of word)
 
+-- `T` of a move, as the last word
+abbrev pub move_time : List ℕ → ℕ → List (List ℕ) → Option Command
+move_time name number [] = None
+move_time name number (word ∷ rest) = option_and_then (λ time. alone (Move name number time) rest) (time_of word)
+
+-- `at T` of a move
+abbrev pub move_at : List ℕ → ℕ → List (List ℕ) → Option Command
+move_at name number [] = None
+move_at name number (word ∷ rest) = if bytes_eq word (codes "at") then move_time name number rest else None
+
+-- `NAME move #N at T`, after its second word
+abbrev pub move_of : List ℕ → List (List ℕ) → Option Command
+move_of name [] = None
+move_of name (word ∷ rest) = option_and_then (λ number. move_at name number rest) (row_number_of word)
+
+-- `NAME change #N OP`, after its second word
+abbrev pub change_of : List ℕ → List (List ℕ) → Option Command
+change_of name [] = None
+change_of name (word ∷ rest) = option_and_then (λ number. option_map (Change name number) (op_of rest)) (row_number_of word)
+
+-- `NAME fate #N`, after its second word
+abbrev pub fate_of : List ℕ → List (List ℕ) → Option Command
+fate_of name [] = None
+fate_of name (word ∷ rest) = option_and_then (λ number. alone (Fate name number) rest) (row_number_of word)
+
 -- Q, at a moment
 abbrev pub ask_at : List ℕ → Spot → List (List ℕ) → Option Command
 ask_at name spot [] = None
@@ -84,31 +109,44 @@ about name [] = None
 about name (word ∷ rest) =
     if bytes_eq word (codes "ask") then ask_of name rest
     else (if bytes_eq word (codes "delete") then delete_of name rest
+    else (if bytes_eq word (codes "move") then move_of name rest
+    else (if bytes_eq word (codes "change") then change_of name rest
+    else (if bytes_eq word (codes "fate") then fate_of name rest
     else (if bytes_eq word (codes "undo") then alone (Undo name) rest
     else (if bytes_eq word (codes "redo") then alone (Redo name) rest
-    else insert_of name word rest)))
+    else insert_of name word rest))))))
 
 -- `save NAME`, after its first word
 abbrev pub save_of : List (List ℕ) → Option Command
 save_of [] = None
 save_of (word ∷ rest) = option_and_then (λ name. alone (Save name) rest) (name_of word)
 
--- `N` of a header, as the last word
+-- `M` of a header, as the last word
+abbrev pub header_count : List ℕ → Kind → ℕ → List (List ℕ) → Option Command
+header_count name kind next [] = None
+header_count name kind next (word ∷ rest) = option_and_then (λ rows. alone (Header name kind next (Some rows)) rest) (count_of word)
+
+-- `rows M` of a header, or nothing
+abbrev pub header_rows : List ℕ → Kind → ℕ → List (List ℕ) → Option Command
+header_rows name kind next [] = Some (Header name kind next None)
+header_rows name kind next (word ∷ rest) = if bytes_eq word (codes "rows") then header_count name kind next rest else None
+
+-- `N` of a header, and what follows it
 abbrev pub header_next : List ℕ → Kind → List (List ℕ) → Option Command
 header_next name kind [] = None
-header_next name kind (word ∷ rest) = option_and_then (λ next. alone (Header name kind next) rest) (next_of word)
+header_next name kind (word ∷ rest) = option_and_then (λ next. header_rows name kind next rest) (next_of word)
 
--- `next N` of a header
+-- `next N` of a header, and what follows it
 abbrev pub header_end : List ℕ → Kind → List (List ℕ) → Option Command
 header_end name kind [] = None
 header_end name kind (word ∷ rest) = if bytes_eq word (codes "next") then header_next name kind rest else None
 
--- `KIND next N` of a header
+-- `KIND next N` of a header, and what follows it
 abbrev pub header_kind : List ℕ → List (List ℕ) → Option Command
 header_kind name [] = None
 header_kind name (word ∷ rest) = option_and_then (λ kind. header_end name kind rest) (kind_of_word word)
 
--- `timeline NAME KIND next N`, after its first word
+-- `timeline NAME KIND next N` and `timeline NAME KIND next N rows M`, after their first word
 abbrev pub header_of : List (List ℕ) → Option Command
 header_of [] = None
 header_of (word ∷ rest) = option_and_then (λ name. header_kind name rest) (name_of word)
@@ -134,5 +172,5 @@ command line = ok_or (command_of (words line)) Syntax
 
 -- the number that a header gives to draw next is in its range
 abbrev pub IsNextInRange : Command → Type 0
-IsNextInRange (Header name kind next) = (1 ≤ next) × (next ≤ next_limit)
+IsNextInRange (Header name kind next rows) = (1 ≤ next) × (next ≤ next_limit)
 IsNextInRange other = Unit {0}

@@ -1,6 +1,6 @@
 -- The numbers of the script, as words spell them.
 use Rattle.std.specs.Prelude.{ℕ, ◌+◌, ◌-◌, ◌*◌, ◌^◌, ◌==◌, ◌&&◌, nat_le, ℤ, pos, neg_ℤ, List, [], ◌∷◌, Option, Some, None, option_map, option_and_then, if◌then◌else◌}
-use Rattle.retro_base.specs.Limits.{next_limit}
+use Rattle.retro_base.specs.Limits.{most_rows, next_limit}
 use Rattle.retro_base.specs.Name.{is_digit}
 
 -- the number whose digits are those of a number and then these
@@ -41,6 +41,10 @@ row_number_of (byte ∷ bytes) = if byte == 35 then option_and_then (between 1 (
 -- the number that a timeline draws next: a natural from 1 to the limit of numbers
 unfoldable pub next_of : List ℕ → Option ℕ
 next_of word = option_and_then (between 1 next_limit) (natural_of word)
+
+-- the number of row lines that a block is to have: a natural up to the number of rows that a timeline may have
+unfoldable pub count_of : List ℕ → Option ℕ
+count_of word = natural_up_to most_rows word
 
 -- a value: an optional `-` and digits, from -2 ^ 63 up to 2 ^ 63 - 1
 unfoldable pub value_of : List ℕ → Option ℤ

@@ -22,6 +22,23 @@ pub enum Command {
         name: Name,
         number: u32,
     },
+    /// Puts the row with this number at another time.
+    Move {
+        name: Name,
+        number: u32,
+        time: u64,
+    },
+    /// Gives the row with this number another operation.
+    Change {
+        name: Name,
+        number: u32,
+        op: Op,
+    },
+    /// Asks which row takes out what the row with this number put in.
+    Fate {
+        name: Name,
+        number: u32,
+    },
     /// Asks a timeline for something.
     Ask {
         name: Name,
@@ -40,11 +57,12 @@ pub enum Command {
     Save {
         name: Name,
     },
-    /// Opens the block of a timeline, which draws this number next.
+    /// Opens the block of a timeline, which draws this number next. With `rows` it has so many row lines.
     Header {
         name: Name,
         kind: Kind,
         next: u32,
+        rows: Option<u32>,
     },
 }
 

@@ -15,6 +15,7 @@ mod answer;
 mod ask;
 mod block_lines;
 mod command;
+mod correction;
 mod header;
 mod line;
 mod listing;

@@ -2,9 +2,10 @@ ghost use Rattle.std.specs.Prelude.{◌≡◌, ◌≤◌, ◌∷◌, length, IsT
 ghost use Rattle.retro_base.specs.Limits.{longest_line};
 ghost use Rattle.script_grammar.specs.Operands.{alone};
 ghost use Rattle.script_grammar.specs.declared.command.Command.TheVariants.{Undo, Redo};
-ghost use Rattle.script_grammar.specs.Command.{about, begins_comment, command, command_of, delete_of, insert_of, kind_named, kind_of_word, new_of, save_of, IsNextInRange};
+ghost use Rattle.script_grammar.specs.Command.{about, begins_comment, command, command_of, delete_of, fate_of, insert_of, kind_named, kind_of_word, new_of, save_of, IsNextInRange};
 
 use crate::ask::read_ask;
+use crate::correction::{read_change, read_move};
 use crate::header::read_header;
 use crate::numbers::read_row_number;
 use crate::operation::read_op;
@@ -114,6 +115,12 @@ fn read_about(name: Name, mut words: Words) -> Option<Command>
         read_ask(name, words)
     } else if word == b"delete".as_slice() {
         read_delete(name, words)
+    } else if word == b"move".as_slice() {
+        read_move(name, words)
+    } else if word == b"change".as_slice() {
+        read_change(name, words)
+    } else if word == b"fate".as_slice() {
+        read_fate(name, words)
     } else if word == b"undo".as_slice() {
         read_undo(name, words)
     } else if word == b"redo".as_slice() {
@@ -128,6 +135,13 @@ fn read_delete(name: Name, mut words: Words) -> Option<Command>
 {
     let number = read_row_number(words.next_word()?)?;
     words.is_empty().then_some(Command::Delete { name, number })
+}
+
+fn read_fate(name: Name, mut words: Words) -> Option<Command>
+    ensures { result ≡ fate_of name words.entry }
+{
+    let number = read_row_number(words.next_word()?)?;
+    words.is_empty().then_some(Command::Fate { name, number })
 }
 
 fn read_undo(name: Name, words: Words) -> Option<Command>

@@ -1,8 +1,8 @@
 ghost use Rattle.std.specs.Prelude.{◌≡◌, ◌+◌, ◌-◌, ◌*◌, ◌^◌, ◌<◌, ◌≤◌, IfSome, option_and_then};
-ghost use Rattle.retro_base.specs.Limits.{next_limit};
-ghost use Rattle.script_grammar.specs.Numbers.{between, index_of, natural_of, natural_up_to, next_of, row_number_of, time_of, up_to, value_of};
+ghost use Rattle.retro_base.specs.Limits.{most_rows, next_limit};
+ghost use Rattle.script_grammar.specs.Numbers.{between, count_of, index_of, natural_of, natural_up_to, next_of, row_number_of, time_of, up_to, value_of};
 
-use retro_base::MAX_NEXT;
+use retro_base::{MAX_NEXT, MAX_ROWS};
 
 /// The moment that a word spells.
 #[tactic(auto, unfolding(crate::specs::Numbers::time_of))]
@@ -41,6 +41,14 @@ pub fn read_next(word: &[u8]) -> Option<u32>
     next_number(read_natural(word)?)
 }
 
+/// The number of row lines that a word spells.
+#[tactic(auto, unfolding(crate::specs::Numbers::count_of))]
+pub fn read_count(word: &[u8]) -> Option<u32>
+    ensures { result ≡ count_of word.now }
+{
+    row_count(read_natural(word)?)
+}
+
 /// The value that a word spells.
 #[tactic(auto, unfolding(crate::specs::Numbers::value_of))]
 pub fn read_value(word: &[u8]) -> Option<i64>
@@ -70,6 +78,17 @@ fn next_number(number: u64) -> Option<u32>
     ensures range { IfSome result (λ next. (1 ≤ next) × (next ≤ next_limit)) }
 {
     if 1 <= number && number <= u64::from(MAX_NEXT) {
+        u32::try_from(number).ok()
+    } else {
+        None
+    }
+}
+
+/// A number of rows that a timeline may have.
+fn row_count(number: u64) -> Option<u32>
+    ensures { result ≡ up_to most_rows number }
+{
+    if number <= u64::from(MAX_ROWS) {
         u32::try_from(number).ok()
     } else {
         None
