@@ -111,10 +111,10 @@ numbered_below next (row ∷ rows) all below =
     ((all.0.0, ltb-true row.number next parts.0), numbered_below next rows all.1 parts.1)
 
 -- the rows of a good block are those of a timeline
-pub timeline_read : (now : Block) (kind : Kind) (rows : List Row) (next : ℕ) (bad : Option BlockError) (numbers : Numbers) (time : ℕ)
-    → ◌≡◌ {A = Block} (record { kind = kind; next = next; rows = rows; bad = bad }) now → IsRead rows numbers time → IsReplayable kind rows
+pub timeline_read : (now : Block) (kind : Kind) (rows : List Row) (next : ℕ) (count : Option ℕ) (bad : Option BlockError) (numbers : Numbers) (time : ℕ)
+    → ◌≡◌ {A = Block} (record { kind = kind; next = next; count = count; rows = rows; bad = bad }) now → IsRead rows numbers time → IsReplayable kind rows
     → are_below next rows ≡ true → 1 ≤ now.next → now.next ≤ next_limit → IsTimeline now.kind rows now.next
-timeline_read now kind rows next bad numbers time seen read replayable below least most =
+timeline_read now kind rows next count bad numbers time seen read replayable below least most =
     let same_kind : kind ≡ now.kind = ap (λ (b : Block). b.kind) seen in
     let same_next : next ≡ now.next = ap (λ (b : Block). b.next) seen in
     record {

@@ -5,14 +5,14 @@ use Rattle.std.specs.List.{list_all}
 use Rattle.std.proofs.lemmas.Bool.{eqb-true, le-leb}
 use Rattle.retro_base.specs.declared.kind.Kind.{Kind}
 use Rattle.retro_base.specs.declared.kind.Kind.TheVariants.{Queue, Stack, Deque, Dict, Pq}
-use Rattle.retro_base.specs.Limits.{longest_name, next_limit}
+use Rattle.retro_base.specs.Limits.{longest_name, most_rows, next_limit}
 use Rattle.retro_base.specs.Name.{is_name, is_name_byte, is_reserved, starts_with_letter}
 use Rattle.script_grammar.specs.declared.command.Command.TheVariants.{Header}
 use Rattle.script_grammar.specs.Command.{command, kind_of_word}
-use Rattle.script_grammar.specs.Numbers.{natural_of, next_of, time_of, up_to}
+use Rattle.script_grammar.specs.Numbers.{count_of, natural_of, next_of, time_of, up_to}
 use Rattle.script_grammar.specs.SpellingLaws.{is_word, words-then, words-alone, decimal_is_word, time_of-decimal}
 use Rattle.script_grammar.specs.Words.{is_filled, is_space, words}
-use Rattle.timeline_file.specs.Saved.{header_text, kind_text, next_text}
+use Rattle.timeline_file.specs.Saved.{count_text, header_text, kind_text, next_text}
 
 both_hold : (test other : Bool) → (test && other) ≡ true → (test ≡ true) × (other ≡ true)
 both_hold true other h = (refl, h)
@@ -73,17 +73,30 @@ next_read : (next : ℕ) → 1 ≤ next → next ≤ next_limit → next_of (dec
 unfolding next_of
 next_read next least most = rw (natural_read next (omega arith), le-leb 1 next least, le-leb next next_limit most) refl
 
-header_words : (name : List ℕ) (kind : Kind) (next : ℕ) → is_word name ≡ true → next < 2 ^ 64
-    → words (header_text name kind next) ≡ codes "timeline" ∷ name ∷ kind_text kind ∷ codes "next" ∷ decimal next ∷ []
-header_words name kind next named small =
-    words-then (codes "timeline") (name ++ 32 ∷ (kind_text kind ++ next_text next)) refl
-    ∙ ap (λ rest. codes "timeline" ∷ rest) (words-then name (kind_text kind ++ next_text next) named
-    ∙ ap (λ rest. name ∷ rest) (words-then (kind_text kind) (codes "next " ++ decimal next) (kind_is_word kind)
-    ∙ ap (λ rest. kind_text kind ∷ rest) (words-then (codes "next") (decimal next) refl
-    ∙ ap (λ rest. codes "next" ∷ rest) (words-alone (decimal next) (decimal_is_word next small)))))
+-- the number of rows
+count_read : (count : ℕ) → count ≤ most_rows → count_of (decimal count) ≡ Some count
+unfolding count_of
+count_read count few = rw (natural_read count (omega arith), le-leb count most_rows few) refl
 
-pub header_read : (name : List ℕ) (kind : Kind) (next : ℕ) → is_name name ≡ true → 1 ≤ next → next ≤ next_limit
-    → command (header_text name kind next) ≡ Ok (Header name kind next)
+header_words : (name : List ℕ) (kind : Kind) (next count : ℕ) → is_word name ≡ true → next < 2 ^ 64 → count < 2 ^ 64
+    → words (header_text name kind next count) ≡ codes "timeline" ∷ name ∷ kind_text kind ∷ codes "next" ∷ decimal next ∷ codes "rows" ∷ decimal count ∷ []
+header_words name kind next count named small few =
+    words-then (codes "timeline") (name ++ 32 ∷ (kind_text kind ++ (next_text next ++ count_text count))) refl
+    ∙ ap (λ rest. codes "timeline" ∷ rest) (words-then name (kind_text kind ++ (next_text next ++ count_text count)) named
+    ∙ ap (λ rest. name ∷ rest) (words-then (kind_text kind) (codes "next " ++ (decimal next ++ count_text count)) (kind_is_word kind)
+    ∙ ap (λ rest. kind_text kind ∷ rest) (words-then (codes "next") (decimal next ++ count_text count) refl
+    ∙ ap (λ rest. codes "next" ∷ rest) (words-then (decimal next) (codes "rows " ++ decimal count) (decimal_is_word next small)
+    ∙ ap (λ rest. decimal next ∷ rest) (words-then (codes "rows") (decimal count) refl
+    ∙ ap (λ rest. codes "rows" ∷ rest) (words-alone (decimal count) (decimal_is_word count few)))))))
+
+pub header_read : (name : List ℕ) (kind : Kind) (next count : ℕ) → is_name name ≡ true → 1 ≤ next → next ≤ next_limit → count ≤ most_rows
+    → command (header_text name kind next count) ≡ Ok (Header name kind next (Some count))
 unfolding command
-header_read name kind next named least most =
-    rw (header_words name kind next (name_is_word name named) (omega arith), named, kind_read kind, next_read next least most) refl
+header_read name kind next count named least most few =
+    rw (
+      header_words name kind next count (name_is_word name named) (omega arith) (omega arith),
+      named,
+      kind_read kind,
+      next_read next least most,
+      count_read count few,
+    ) refl

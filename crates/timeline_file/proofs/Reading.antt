@@ -3,7 +3,7 @@ use Rattle.std.proofs.Common.{◌≡◌, ◌≢◌, ℕ, ◌<◌, ◌≤◌, ◌
 use Rattle.std.specs.Prelude.{is_some}
 use Rattle.std.specs.Result.{result_err, result_unwrap_or}
 use Rattle.std.specs.List.{AllByRecursion}
-use Rattle.std.proofs.lemmas.Bool.{and_from, ne_eqb, le-ltb, lt-leb, lt-ltb}
+use Rattle.std.proofs.lemmas.Bool.{and_from, eq-eqb, ne_eqb, le-ltb, lt-leb, lt-ltb}
 use Rattle.retro_base.specs.declared.kind.Kind.{Kind}
 use Rattle.retro_base.specs.declared.kind.Kind.TheVariants.{Queue, Stack, Deque, Dict, Pq}
 use Rattle.retro_base.specs.declared.row.Row.{Row}
@@ -47,11 +47,11 @@ record IsGood (kind : Kind) (rows : List Row) (row : Row) : Type 0 where
   room : length rows < most_rows
   good : cause_of_row kind rows row ≡ None
 
-read_one : (kind : Kind) (next : ℕ) (rows : List Row) (row : Row) → IsGood kind rows row → 1 ≤ row.number → row.number < next_limit → IsInRange row
-    → taken (record { kind = kind; next = next; rows = rows; bad = None }) (row_text row) false
-    ≡ record { kind = kind; next = next; rows = rows ++ row ∷ []; bad = None }
+read_one : (kind : Kind) (next : ℕ) (count : Option ℕ) (rows : List Row) (row : Row) → IsGood kind rows row → 1 ≤ row.number → row.number < next_limit → IsInRange row
+    → taken (record { kind = kind; next = next; count = count; rows = rows; bad = None }) (row_text row) false
+    ≡ record { kind = kind; next = next; count = count; rows = rows ++ row ∷ []; bad = None }
 unfolding taken
-read_one kind next rows row good least most range =
+read_one kind next count rows row good least most range =
     rw (row_line_counts row most range.0, row_line_read row least most range, lt-leb most_rows (length rows) good.room, good.good) refl
 
 -- What a timeline says of one of its rows, which stands after some of them and in front of the others.
@@ -116,17 +116,17 @@ good_at kind next before row after timeline = record {
 }
 
 -- the row lines read back, after those that were read before
-read_from : (kind : Kind) (next : ℕ) (before rows : List Row) → IsTimeline kind (before ++ rows) next → AllByRecursion IsInRange rows
-    → taken_all (record { kind = kind; next = next; rows = before; bad = None }) (map row_text rows)
-    ≡ record { kind = kind; next = next; rows = before ++ rows; bad = None }
-read_from kind next before [] timeline ranges = ap (λ rows. record { kind = kind; next = next; rows = rows; bad = None }) (sym (append-nil before))
-read_from kind next before (row ∷ rows) timeline ranges =
+read_from : (kind : Kind) (next : ℕ) (count : Option ℕ) (before rows : List Row) → IsTimeline kind (before ++ rows) next → AllByRecursion IsInRange rows
+    → taken_all (record { kind = kind; next = next; count = count; rows = before; bad = None }) (map row_text rows)
+    ≡ record { kind = kind; next = next; count = count; rows = before ++ rows; bad = None }
+read_from kind next count before [] timeline ranges = ap (λ rows. record { kind = kind; next = next; count = count; rows = rows; bad = None }) (sym (append-nil before))
+read_from kind next count before (row ∷ rows) timeline ranges =
     let number = all_middle (λ r. (1 ≤ r.number) × (r.number < next)) before row rows timeline.numbered in
     let regroup : before ++ row ∷ rows ≡ (before ++ row ∷ []) ++ rows = sym (append_assoc before (row ∷ []) rows) in
-    let first = read_one kind next before row (good_at kind next before row rows timeline) number.0 (omega (arith, number.1, timeline.next_in_range.1)) ranges.0 in
+    let first = read_one kind next count before row (good_at kind next before row rows timeline) number.0 (omega (arith, number.1, timeline.next_in_range.1)) ranges.0 in
     ap (λ block. taken_all block (map row_text rows)) first
-    ∙ read_from kind next (before ++ row ∷ []) rows (rw regroup at timeline) ranges.1
-    ∙ ap (λ all. record { kind = kind; next = next; rows = all; bad = None }) (sym regroup)
+    ∙ read_from kind next count (before ++ row ∷ []) rows (rw regroup at timeline) ranges.1
+    ∙ ap (λ all. record { kind = kind; next = next; count = count; rows = all; bad = None }) (sym regroup)
 
 no_row_line_ends : (next : ℕ) (rows : List Row) → next ≤ next_limit → AllByRecursion (λ row. (1 ≤ row.number) × (row.number < next)) rows → AllByRecursion IsInRange rows
     → AllByRecursion (λ row. is_end (row_text row) ≡ false) rows
@@ -145,8 +145,8 @@ end_is_end = refl
 pub reads_back : (name : List ℕ) (kind : Kind) (next : ℕ) (rows : List Row) → is_name name ≡ true → IsTimeline kind rows next → AllByRecursion IsInRange rows
     → ReadsBack name kind next rows
 reads_back name kind next rows named timeline ranges = record {
-  header = header_read name kind next named timeline.next_in_range.0 timeline.next_in_range.1;
+  header = header_read name kind next (length rows) named timeline.next_in_range.0 timeline.next_in_range.1 timeline.replayable.few;
   row_lines = no_row_line_ends next rows timeline.next_in_range.1 timeline.numbered ranges;
   end_line = end_is_end;
-  block = rw (read_from kind next [] rows timeline ranges, all_below next rows timeline.numbered) refl;
+  block = rw (read_from kind next (Some (length rows)) [] rows timeline ranges, all_below next rows timeline.numbered, eq-eqb (length rows) (length rows) refl) refl;
 }

@@ -1,5 +1,5 @@
 -- What a block comes to, line by line.
-use Rattle.std.specs.Prelude.{ℕ, ◌+◌, ◌==◌, Bool, not, ◌&&◌, nat_le, nat_lt, List, [], ◌∷◌, ◌++◌, length, is_some, if◌then◌else◌}
+use Rattle.std.specs.Prelude.{ℕ, ◌+◌, ◌==◌, Bool, true, not, ◌&&◌, nat_le, nat_lt, List, [], ◌∷◌, ◌++◌, length, is_some, if◌then◌else◌}
 use Rattle.std.specs.Prelude.{Option, Some, None, option_map, Result, Ok, Err}
 use Rattle.std.specs.List.{list_all, list_any}
 use Rattle.retro_base.specs.declared.kind.Kind.{Kind}
@@ -14,16 +14,18 @@ use Rattle.timeline_file.specs.declared.block.RowCause.TheVariants as causes
 use Rattle.timeline_file.specs.declared.block.BlockError.{BlockError}
 use Rattle.timeline_file.specs.declared.block.BlockError.TheVariants as errors
 
--- a block that is being read: its kind, the number that is to be drawn next, the good rows so far, and what is wrong with the first bad row line, if there is one
+-- a block that is being read: its kind, the number that is to be drawn next, how many row lines its header says that it has, if it says it, the good
+-- rows so far, and what is wrong with the first bad row line, if there is one
 pub record Block : Type 0 where
   pub kind : Kind
   pub next : ℕ
+  pub count : Option ℕ
   pub rows : List Row
   pub bad : Option BlockError
 
 -- a block of which nothing is read but its header
-abbrev pub begun : Kind → ℕ → Block
-begun kind next = record { kind = kind; next = next; rows = []; bad = None }
+abbrev pub begun : Kind → ℕ → Option ℕ → Block
+begun kind next count = record { kind = kind; next = next; count = count; rows = []; bad = None }
 
 -- one of the rows has the number
 abbrev pub has_number : ℕ → List Row → Bool
@@ -79,12 +81,18 @@ taken block bytes long =
 abbrev pub are_below : ℕ → List Row → Bool
 are_below next rows = list_all (λ row. nat_lt row.number next) rows
 
+-- there are as many rows as the header says, if it says it
+abbrev pub has_count : Option ℕ → List Row → Bool
+has_count None rows = true
+has_count (Some count) rows = length rows == count
+
 -- what a block without a bad row line comes to, if `end` came or not
 abbrev pub whole : Block → Bool → Result (List Row) BlockError
 whole block ended =
     if not ended then Err errors.Unfinished
-    else (if are_below block.next block.rows then Ok block.rows
-    else Err errors.Next)
+    else (if not (are_below block.next block.rows) then Err errors.Next
+    else (if has_count block.count block.rows then Ok block.rows
+    else Err errors.Rows))
 
 -- what a block comes to: the first bad row line decides
 abbrev pub decided : Option BlockError → Block → Bool → Result (List Row) BlockError

@@ -1,5 +1,5 @@
 -- The one saved spelling of a timeline.
-use Rattle.std.specs.Prelude.{ℕ, List, [], ◌∷◌, ◌++◌, codes, decimal}
+use Rattle.std.specs.Prelude.{ℕ, List, [], ◌∷◌, ◌++◌, codes, decimal, length}
 use Rattle.std.specs.List.{flat_map}
 use Rattle.retro_base.specs.declared.kind.Kind.{Kind}
 use Rattle.retro_base.specs.declared.kind.Kind.TheVariants.{Queue, Stack, Deque, Dict, Pq}
@@ -22,9 +22,13 @@ spaced text = codes " " ++ text
 abbrev pub next_text : ℕ → List ℕ
 next_text next = codes " next " ++ decimal next
 
--- `timeline NAME KIND next N`
-abbrev pub header_text : List ℕ → Kind → ℕ → List ℕ
-header_text name kind next = codes "timeline " ++ (name ++ (spaced (kind_text kind) ++ next_text next))
+-- `rows M`, after a space
+abbrev pub count_text : ℕ → List ℕ
+count_text count = codes " rows " ++ decimal count
+
+-- `timeline NAME KIND next N rows M`
+abbrev pub header_text : List ℕ → Kind → ℕ → ℕ → List ℕ
+header_text name kind next count = codes "timeline " ++ (name ++ (spaced (kind_text kind) ++ (next_text next ++ count_text count)))
 
 -- `#N T OP`
 abbrev pub row_text : Row → List ℕ
@@ -48,4 +52,4 @@ row_lines rows = flat_map row_line_text rows
 
 -- the lines of the block of a timeline, each with its line feed
 unfoldable pub saved : List ℕ → Kind → ℕ → List Row → List ℕ
-saved name kind next rows = with_feed (header_text name kind next) ++ (row_lines rows ++ with_feed end_text)
+saved name kind next rows = with_feed (header_text name kind next (length rows)) ++ (row_lines rows ++ with_feed end_text)

@@ -1,7 +1,7 @@
 ghost use Rattle.std.specs.Prelude.{◌≡◌, ◌<◌, ◌≤◌, length, nat_eq, true, false, None, Some, Ok, IsTrue, IfSome, IfOk, OnOk, OnErr};
 ghost use Rattle.retro_base.specs.Limits.{longest_line, most_rows, next_limit};
 ghost use Rattle.retro_base.specs.Timeline.{IsTimeline};
-ghost use Rattle.timeline_file.specs.Block.{are_below, begun, cause_of_row, fault_of, finished, grown, taken};
+ghost use Rattle.timeline_file.specs.Block.{are_below, begun, cause_of_row, fault_of, finished, grown, has_count, taken};
 
 use retro_base::{Kind, MAX_ROWS, NoMemory, PerformedRows, Row, Rows};
 use script_grammar::{is_passed_over, read_row};
@@ -35,12 +35,15 @@ pub enum BlockError {
     Unfinished,
     /// A row has a number that is not below the one that the timeline draws next.
     Next,
+    /// There are more or fewer row lines than the header says.
+    Rows,
 }
 
 /// What has been read of a block, after its header. Contracts see it as a block of `specs/Block.antt`.
 #[derive(Drop)]
 pub struct BlockReader {
     next: u32,
+    count: Option<u32>,
     rows: PerformedRows,
     numbers: HashSet<u32>,
     time: u64,
@@ -53,18 +56,19 @@ impl Model for BlockReader {
 
     ghost Value = { Block };
 
-    ghost view = { λ r. record { kind = r.rows.kind; next = r.next; rows = r.rows.rows; bad = r.bad } };
+    ghost view = { λ r. record { kind = r.rows.kind; next = r.next; count = r.count; rows = r.rows.rows; bad = r.bad } };
 
     ghost invariant = { λ r. IsRead r.rows.rows r.numbers r.time };
 }
 
 impl BlockReader {
-    /// A block of which nothing is read but its header.
-    pub fn new(alloc: Global, kind: Kind, next: u32) -> BlockReader
-        ensures { result ≡ begun kind next }
+    /// A block of which nothing is read but its header. The header may say how many row lines the block has.
+    pub fn new(alloc: Global, kind: Kind, next: u32, rows: Option<u32>) -> BlockReader
+        ensures { result ≡ begun kind next rows }
     {
         BlockReader {
             next,
+            count: rows,
             rows: PerformedRows::new(alloc, kind),
             numbers: HashSet::new(alloc),
             time: 0,
@@ -176,9 +180,13 @@ impl BlockReader {
             return Err(BlockError::Unfinished);
         }
         let next = self.next;
+        let count = self.count;
         let rows = self.rows.into_rows();
         if !are_below(next, rows.as_slice()) {
             return Err(BlockError::Next);
+        }
+        if !has_count(count, &rows) {
+            return Err(BlockError::Rows);
         }
         Ok(rows)
     }
@@ -189,4 +197,14 @@ fn are_below(next: u32, rows: &[Row]) -> bool
     ensures { result ≡ are_below next rows.now }
 {
     rows.iter().all(|row| row.number < next)
+}
+
+/// Whether there are as many rows as the header says, if it says it.
+fn has_count(count: Option<u32>, rows: &Rows) -> bool
+    ensures { result ≡ has_count count rows.now }
+{
+    match count {
+        None => true,
+        Some(count) => rows.len() == count,
+    }
 }

@@ -1,7 +1,7 @@
-ghost use Rattle.std.specs.Prelude.{◌≡◌, ◌++◌, decimal, OnOk, OnErr};
+ghost use Rattle.std.specs.Prelude.{◌≡◌, ◌++◌, decimal, length, OnOk, OnErr};
 ghost use Rattle.retro_base.specs.OpText.{op_text};
 ghost use Rattle.retro_base.specs.Text.{AppendsPrefix};
-ghost use Rattle.timeline_file.specs.Saved.{header_text, kind_text, next_text, row_lines, row_text, saved, spaced, with_feed};
+ghost use Rattle.timeline_file.specs.Saved.{count_text, header_text, kind_text, next_text, row_lines, row_text, saved, spaced, with_feed};
 
 use retro_base::{Kind, Name, NoMemory, Op, Row, Rows, Text, print_op};
 
@@ -18,47 +18,69 @@ pub fn print_block(
     ensures ok { OnOk result (out.new ≡ out.old ++ saved name.now kind next timeline.now) }
     ensures err { OnErr result (AppendsPrefix out.old out.new (saved name.now kind next timeline.now)) }
 {
-    print_header_line(name, kind, next, out)?;
+    print_header_line(name, kind, next, timeline.len(), out)?;
     print_row_lines(timeline, out)?;
     out.push_all(b"end\n")
 }
 
 /// Appends the header with its line feed.
-fn print_header_line(name: &Name, kind: Kind, next: u32, out: &mut Text) -> Result<(), NoMemory>
-    ensures ok { OnOk result (out.new ≡ out.old ++ with_feed (header_text name.now kind next)) }
-    ensures err { OnErr result (AppendsPrefix out.old out.new (with_feed (header_text name.now kind next))) }
+fn print_header_line(
+    name: &Name,
+    kind: Kind,
+    next: u32,
+    count: u32,
+    out: &mut Text,
+) -> Result<(), NoMemory>
+    ensures ok { OnOk result (out.new ≡ out.old ++ with_feed (header_text name.now kind next count)) }
+    ensures err { OnErr result (AppendsPrefix out.old out.new (with_feed (header_text name.now kind next count))) }
 {
-    print_header(name, kind, next, out)?;
+    print_header(name, kind, next, count, out)?;
     out.push_all(b"\n")
 }
 
 /// Appends the header.
-fn print_header(name: &Name, kind: Kind, next: u32, out: &mut Text) -> Result<(), NoMemory>
-    ensures ok { OnOk result (out.new ≡ out.old ++ header_text name.now kind next) }
-    ensures err { OnErr result (AppendsPrefix out.old out.new (header_text name.now kind next)) }
+fn print_header(
+    name: &Name,
+    kind: Kind,
+    next: u32,
+    count: u32,
+    out: &mut Text,
+) -> Result<(), NoMemory>
+    ensures ok { OnOk result (out.new ≡ out.old ++ header_text name.now kind next count) }
+    ensures err { OnErr result (AppendsPrefix out.old out.new (header_text name.now kind next count)) }
 {
     out.push_all(b"timeline ")?;
     out.push_all(name.bytes())?;
-    print_kind_and_next(kind, next, out)
+    print_kind_and_numbers(kind, next, count, out)
 }
 
 /// Appends what stands in a header after the name.
-fn print_kind_and_next(kind: Kind, next: u32, out: &mut Text) -> Result<(), NoMemory>
-    ensures ok { OnOk result (out.new ≡ out.old ++ (spaced (kind_text kind) ++ next_text next)) }
-    ensures err { OnErr result (AppendsPrefix out.old out.new (spaced (kind_text kind) ++ next_text next)) }
+fn print_kind_and_numbers(kind: Kind, next: u32, count: u32, out: &mut Text) -> Result<(), NoMemory>
+    ensures ok { OnOk result (out.new ≡ out.old ++ (spaced (kind_text kind) ++ (next_text next ++ count_text count))) }
+    ensures err { OnErr result (AppendsPrefix out.old out.new (spaced (kind_text kind) ++ (next_text next ++ count_text count))) }
 {
     out.push_all(b" ")?;
     out.push_all(kind_word(kind))?;
-    print_next(next, out)
+    print_numbers(next, count, out)
 }
 
-/// Appends the number that the timeline draws next.
-fn print_next(next: u32, out: &mut Text) -> Result<(), NoMemory>
-    ensures ok { OnOk result (out.new ≡ out.old ++ next_text next) }
-    ensures err { OnErr result (AppendsPrefix out.old out.new (next_text next)) }
+/// Appends the number that the timeline draws next, and how many rows it has.
+fn print_numbers(next: u32, count: u32, out: &mut Text) -> Result<(), NoMemory>
+    ensures ok { OnOk result (out.new ≡ out.old ++ (next_text next ++ count_text count)) }
+    ensures err { OnErr result (AppendsPrefix out.old out.new (next_text next ++ count_text count)) }
 {
     out.push_all(b" next ")?;
-    out.push_number(next)
+    out.push_number(next)?;
+    print_count(count, out)
+}
+
+/// Appends how many rows the timeline has.
+fn print_count(count: u32, out: &mut Text) -> Result<(), NoMemory>
+    ensures ok { OnOk result (out.new ≡ out.old ++ count_text count) }
+    ensures err { OnErr result (AppendsPrefix out.old out.new (count_text count)) }
+{
+    out.push_all(b" rows ")?;
+    out.push_number(count)
 }
 
 /// The word of a kind.
