@@ -5,3 +5,4 @@ pub mod AtKeys
 pub mod BeforeOwn
 pub mod Numbering
 pub mod Steps
+pub mod Counts

@@ -1,3 +1,4 @@
 pub mod Fates
 pub mod Standings
 pub mod Holding
+pub mod AtMost
