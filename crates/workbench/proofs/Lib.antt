@@ -7,4 +7,5 @@ pub mod Shares
 pub mod OwnLines
 pub mod Loaded
 pub mod NamedChanges
+pub mod FateOutcomes
 pub mod Sizes

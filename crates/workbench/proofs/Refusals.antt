@@ -8,7 +8,7 @@ use Rattle.retro_base.specs.Edits.{Edit, Step, add, edited, inverse_step}
 use Rattle.retro_base.specs.Replay.{failure}
 use Rattle.retro_base.specs.Kind.{kind_of, same_kind}
 use Rattle.script_grammar.specs.declared.command.Command.{Command}
-use Rattle.script_grammar.specs.declared.command.Command.TheVariants.{Nothing, New, Insert, Delete, Ask, Undo, Redo, Save, Header}
+use Rattle.script_grammar.specs.declared.command.Command.TheVariants.{Nothing, New, Insert, Delete, Move, Change, Fate, Ask, Undo, Redo, Save, Header}
 use Rattle.script_grammar.specs.declared.command.LineError.{LineError}
 use Rattle.script_grammar.specs.declared.command.LineError.TheVariants as errors
 use Rattle.script_grammar.specs.BlockLines.{is_end}
@@ -27,7 +27,7 @@ use Rattle.workbench.specs.declared.position.Position.{Position}
 use Rattle.workbench.specs.Bench.{NamedTimeline, OpenBlock, Bench, fresh, is_named, has_timeline}
 use Rattle.workbench.specs.Outcome.{is_refusal}
 use Rattle.workbench.specs.Reaction.{Effect, BenchEffect, leaves, if_startable, with_timeline, on_named, obeys, opened, outside, happens, loads, closes, ends, with_line, with_block, without_block}
-use Rattle.workbench.specs.TimelineEffects.{TimelineEffect, refuses, accepted_or_refused, after_edit, edits, tells, new_row, row_named, position_of, inserts_there, inserts_at, cut_of, deletes_by, inserts, deletes, unchanged, answers, undoes_step, undoes, redoes_step, redoes, saves}
+use Rattle.workbench.specs.TimelineEffects.{TimelineEffect, refuses, accepted_or_refused, after_edit, edits, tells, new_row, row_named, position_of, inserts_there, inserts_at, cut_of, deletes_by, inserts, deletes, unchanged, answers, answers_fate, undoes_step, undoes, redoes_step, redoes, saves}
 use Rattle.timeline_undo.specs.History.{newest_step}
 use Rattle.workbench.specs.Reported.{reported}
 
@@ -159,6 +159,12 @@ refusal_keeps timelines (Ok (Delete name number)) refused = record {
   kept = named_keeps name (λ timeline. deletes timeline number) (λ timeline. keeps_deletes timeline number) timelines refused;
   opens_nothing = refl;
 }
+refusal_keeps timelines (Ok (Move name number time)) refused = record { kept = refl; opens_nothing = refl }
+refusal_keeps timelines (Ok (Change name number op)) refused = record { kept = refl; opens_nothing = refl }
+refusal_keeps timelines (Ok (Fate name number)) refused = record {
+  kept = named_keeps name (λ timeline. unchanged timeline (answers_fate timeline number)) (λ timeline e. refl) timelines refused;
+  opens_nothing = refl;
+}
 refusal_keeps timelines (Ok (Ask name moment query)) refused = record {
   kept = named_keeps name (λ timeline. unchanged timeline (answers timeline moment query)) (λ timeline e. refl) timelines refused;
   opens_nothing = refl;
@@ -169,7 +175,7 @@ refusal_keeps timelines (Ok (Save name)) refused = record {
   kept = named_keeps name (λ timeline. unchanged timeline (saves timeline)) (λ timeline e. refl) timelines refused;
   opens_nothing = refl;
 }
-refusal_keeps timelines (Ok (Header name kind next)) refused = record { kept = refl; opens_nothing = absurd (not_both false refl refused) }
+refusal_keeps timelines (Ok (Header name kind next rows)) refused = record { kept = refl; opens_nothing = absurd (not_both false refl refused) }
 
 -- the bench after a refusal
 abbrev KeepsBench : List NamedTimeline → BenchEffect → Type 0

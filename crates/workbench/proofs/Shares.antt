@@ -13,7 +13,7 @@ use Rattle.std.proofs.lemmas.Slice.Eq.{bytes_eq-Decides}
 use Rattle.retro_base.specs.declared.row.Row.{Row}
 use Rattle.retro_base.specs.Limits.{most_timelines}
 use Rattle.script_grammar.specs.declared.command.Command.{Command}
-use Rattle.script_grammar.specs.declared.command.Command.TheVariants.{Nothing, New, Insert, Delete, Ask, Undo, Redo, Save, Header}
+use Rattle.script_grammar.specs.declared.command.Command.TheVariants.{Nothing, New, Insert, Delete, Move, Change, Fate, Ask, Undo, Redo, Save, Header}
 use Rattle.script_grammar.specs.declared.command.LineError.{LineError}
 use Rattle.script_grammar.specs.declared.command.LineError.TheVariants as errors
 use Rattle.timeline_file.specs.declared.block.BlockError.{BlockError}
@@ -25,7 +25,7 @@ use Rattle.workbench.specs.Bench.{NamedTimeline, OpenBlock, Bench, fresh, is_nam
 use Rattle.workbench.specs.OwnLines.{name_in, names}
 use Rattle.workbench.specs.Reaction.{Effect, BenchEffect, leaves, if_startable, with_timeline, on_named, obeys, of_block, loads, closes, opened}
 use Rattle.workbench.specs.Reported.{loaded}
-use Rattle.workbench.specs.TimelineEffects.{TimelineEffect, unchanged, inserts, deletes, answers, undoes, redoes, saves}
+use Rattle.workbench.specs.TimelineEffects.{TimelineEffect, unchanged, inserts, deletes, answers, answers_fate, undoes, redoes, saves}
 use Rattle.workbench.proofs.Names.{KeepsName, inserts_keeps_name, deletes_keeps_name, undoes_keeps_name, redoes_keeps_name}
 
 -- the share of a name in the timelines, in the block, and in what becomes of them
@@ -186,13 +186,17 @@ module _ (name : List ℕ) where
       rw (same_name other name is) (own_named (λ timeline. inserts timeline spot op) (inserts_keeps_name spot op) timelines)
   own_obeys timelines (Ok (Delete other number)) is room =
       rw (same_name other name is) (own_named (λ timeline. deletes timeline number) (deletes_keeps_name number) timelines)
+  own_obeys timelines (Ok (Move other number time)) is room = refl
+  own_obeys timelines (Ok (Change other number op)) is room = refl
+  own_obeys timelines (Ok (Fate other number)) is room =
+      rw (same_name other name is) (own_named (λ timeline. unchanged timeline (answers_fate timeline number)) (λ timeline. refl) timelines)
   own_obeys timelines (Ok (Ask other moment query)) is room =
       rw (same_name other name is) (own_named (λ timeline. unchanged timeline (answers timeline moment query)) (λ timeline. refl) timelines)
   own_obeys timelines (Ok (Undo other)) is room = rw (same_name other name is) (own_named undoes undoes_keeps_name timelines)
   own_obeys timelines (Ok (Redo other)) is room = rw (same_name other name is) (own_named redoes redoes_keeps_name timelines)
   own_obeys timelines (Ok (Save other)) is room =
       rw (same_name other name is) (own_named (λ timeline. unchanged timeline (saves timeline)) (λ timeline. refl) timelines)
-  own_obeys timelines (Ok (Header other kind next)) is room = refl
+  own_obeys timelines (Ok (Header other kind next rows)) is room = refl
 
   -- and one that is about another, or about none
   pub other_obeys : (timelines : List NamedTimeline) (line : Result Command LineError) → names name (name_in line) ≡ false
@@ -204,12 +208,16 @@ module _ (name : List ℕ) where
       other_startable timelines other (with_timeline timelines (fresh other kind) Accepted) (other_comes timelines (fresh other kind) apart)
   other_obeys timelines (Ok (Insert other spot op)) apart = other_named other (λ timeline. inserts timeline spot op) (inserts_keeps_name spot op) apart timelines
   other_obeys timelines (Ok (Delete other number)) apart = other_named other (λ timeline. deletes timeline number) (deletes_keeps_name number) apart timelines
+  other_obeys timelines (Ok (Move other number time)) apart = refl
+  other_obeys timelines (Ok (Change other number op)) apart = refl
+  other_obeys timelines (Ok (Fate other number)) apart =
+      other_named other (λ timeline. unchanged timeline (answers_fate timeline number)) (λ timeline. refl) apart timelines
   other_obeys timelines (Ok (Ask other moment query)) apart =
       other_named other (λ timeline. unchanged timeline (answers timeline moment query)) (λ timeline. refl) apart timelines
   other_obeys timelines (Ok (Undo other)) apart = other_named other undoes undoes_keeps_name apart timelines
   other_obeys timelines (Ok (Redo other)) apart = other_named other redoes redoes_keeps_name apart timelines
   other_obeys timelines (Ok (Save other)) apart = other_named other (λ timeline. unchanged timeline (saves timeline)) (λ timeline. refl) apart timelines
-  other_obeys timelines (Ok (Header other kind next)) apart = refl
+  other_obeys timelines (Ok (Header other kind next rows)) apart = refl
 
   -- the block that a line opens is in the share where the line is about the name
   pub own_opened : (line : Result Command LineError) → names name (name_in line) ≡ true → share_of_block name (opened line) ≡ opened line
@@ -218,11 +226,14 @@ module _ (name : List ℕ) where
   own_opened (Ok (New other kind)) is = refl
   own_opened (Ok (Insert other spot op)) is = refl
   own_opened (Ok (Delete other number)) is = refl
+  own_opened (Ok (Move other number time)) is = refl
+  own_opened (Ok (Change other number op)) is = refl
+  own_opened (Ok (Fate other number)) is = refl
   own_opened (Ok (Ask other moment query)) is = refl
   own_opened (Ok (Undo other)) is = refl
   own_opened (Ok (Redo other)) is = refl
   own_opened (Ok (Save other)) is = refl
-  own_opened (Ok (Header other kind next)) is = rw is refl
+  own_opened (Ok (Header other kind next rows)) is = rw is refl
 
   pub other_opened : (line : Result Command LineError) → names name (name_in line) ≡ false → share_of_block name (opened line) ≡ None
   other_opened (Err error) apart = refl
@@ -230,8 +241,11 @@ module _ (name : List ℕ) where
   other_opened (Ok (New other kind)) apart = refl
   other_opened (Ok (Insert other spot op)) apart = refl
   other_opened (Ok (Delete other number)) apart = refl
+  other_opened (Ok (Move other number time)) apart = refl
+  other_opened (Ok (Change other number op)) apart = refl
+  other_opened (Ok (Fate other number)) apart = refl
   other_opened (Ok (Ask other moment query)) apart = refl
   other_opened (Ok (Undo other)) apart = refl
   other_opened (Ok (Redo other)) apart = refl
   other_opened (Ok (Save other)) apart = refl
-  other_opened (Ok (Header other kind next)) apart = rw apart refl
+  other_opened (Ok (Header other kind next rows)) apart = rw apart refl

@@ -11,9 +11,9 @@ use Rattle.timeline_file.specs.declared.block.RowCause.{RowCause}
 use Rattle.timeline_file.specs.declared.block.RowCause.TheVariants as causes
 use Rattle.timeline_file.specs.Saved.{saved}
 use Rattle.workbench.specs.declared.outcome.Outcome.{Outcome}
-use Rattle.workbench.specs.declared.outcome.Outcome.TheVariants.{Silent, Accepted, Inserted, Changed, Loaded, Answered, Listed, Saved, Refused}
+use Rattle.workbench.specs.declared.outcome.Outcome.TheVariants.{Silent, Accepted, Inserted, Changed, Loaded, Answered, Listed, Saved, Taken, Stays, Refused}
 use Rattle.workbench.specs.declared.outcome.Refusal.{Refusal}
-use Rattle.workbench.specs.declared.outcome.Refusal.TheVariants.{Long, Syntax, NoTimeline, NameTaken, Timelines, Kind, NoRow, Full, Numbers, At, NothingToUndo, NothingToRedo, RowLine, Unfinished, Next}
+use Rattle.workbench.specs.declared.outcome.Refusal.TheVariants.{Long, Syntax, NoTimeline, NameTaken, Timelines, Kind, NoRow, Full, Numbers, At, NothingToUndo, NothingToRedo, RowLine, Unfinished, Next, Rows, NoItem}
 
 -- why a row line of a block is bad
 abbrev pub cause_text : RowCause → List ℕ
@@ -29,6 +29,7 @@ block_refusal (blocks.Row place cause) = RowLine place cause
 block_refusal blocks.Full = Full
 block_refusal blocks.Unfinished = Unfinished
 block_refusal blocks.Next = Next
+block_refusal blocks.Rows = Rows
 
 -- the text of a refusal
 abbrev pub refusal_text : Refusal → List ℕ
@@ -46,6 +47,8 @@ refusal_text NothingToRedo = codes "refused nothing to redo"
 refusal_text (RowLine place cause) = codes "refused row " ++ decimal place ++ codes " " ++ cause_text cause
 refusal_text Unfinished = codes "refused unfinished"
 refusal_text Next = codes "refused next"
+refusal_text Rows = codes "refused rows"
+refusal_text (NoItem number) = codes "refused no item #" ++ decimal number
 refusal_text (At number time) = codes "refused at #" ++ decimal number ++ codes " " ++ decimal time
 
 -- a text on a line of its own
@@ -69,6 +72,8 @@ reply_text (Loaded evidence) = as_line (codes "ok") ++ evidence_lines evidence
 reply_text (Answered answer) = as_line (answer_text answer)
 reply_text (Listed listing) = as_line (listing_text listing)
 reply_text (Saved name kind next rows) = saved name kind next rows
+reply_text (Taken number time) = as_line (codes "= taken #" ++ decimal number ++ codes " " ++ decimal time)
+reply_text Stays = as_line (codes "= stays")
 reply_text (Refused refusal) = as_line (refusal_text refusal)
 
 -- the outcome is a refusal
@@ -81,4 +86,6 @@ is_refusal (Loaded evidence) = false
 is_refusal (Answered answer) = false
 is_refusal (Listed listing) = false
 is_refusal (Saved name kind next rows) = false
+is_refusal (Taken number time) = false
+is_refusal Stays = false
 is_refusal (Refused refusal) = true

@@ -4,7 +4,7 @@ use Rattle.std.specs.Prelude.{◌≡◌, ◌≢◌, ℕ, Bool, false, not, ◌&&
 use Rattle.std.specs.Prelude.{Option, Some, None, option_map, Result, Ok, Err}
 use Rattle.std.specs.Str.{bytes_eq}
 use Rattle.script_grammar.specs.declared.command.Command.{Command}
-use Rattle.script_grammar.specs.declared.command.Command.TheVariants.{Nothing, New, Insert, Delete, Ask, Undo, Redo, Save, Header}
+use Rattle.script_grammar.specs.declared.command.Command.TheVariants.{Nothing, New, Insert, Delete, Move, Change, Fate, Ask, Undo, Redo, Save, Header}
 use Rattle.script_grammar.specs.declared.command.LineError.{LineError}
 use Rattle.retro_base.specs.LineLength.{is_long}
 use Rattle.script_grammar.specs.BlockLines.{is_end}
@@ -20,11 +20,14 @@ name_in (Ok Nothing) = None
 name_in (Ok (New name kind)) = Some name
 name_in (Ok (Insert name spot op)) = Some name
 name_in (Ok (Delete name number)) = Some name
+name_in (Ok (Move name number time)) = Some name
+name_in (Ok (Change name number op)) = Some name
+name_in (Ok (Fate name number)) = Some name
 name_in (Ok (Ask name moment query)) = Some name
 name_in (Ok (Undo name)) = Some name
 name_in (Ok (Redo name)) = Some name
 name_in (Ok (Save name)) = Some name
-name_in (Ok (Header name kind next)) = Some name
+name_in (Ok (Header name kind next rows)) = Some name
 
 -- the name that a block gives
 abbrev pub name_of_block : Option OpenBlock → Option (List ℕ)

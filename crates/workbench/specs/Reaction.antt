@@ -5,7 +5,7 @@ use Rattle.std.specs.Prelude.{Option, Some, None, Result, Ok, Err}
 use Rattle.retro_base.specs.declared.kind.Kind.{Kind}
 use Rattle.retro_base.specs.declared.row.Row.{Row}
 use Rattle.script_grammar.specs.declared.command.Command.{Command}
-use Rattle.script_grammar.specs.declared.command.Command.TheVariants.{Nothing, New, Insert, Delete, Ask, Undo, Redo, Save, Header}
+use Rattle.script_grammar.specs.declared.command.Command.TheVariants.{Nothing, New, Insert, Delete, Move, Change, Fate, Ask, Undo, Redo, Save, Header}
 use Rattle.script_grammar.specs.declared.command.LineError.{LineError}
 use Rattle.script_grammar.specs.declared.command.LineError.TheVariants as errors
 use Rattle.retro_base.specs.LineLength.{is_long}
@@ -20,7 +20,7 @@ use Rattle.retro_base.specs.Limits.{most_timelines}
 use Rattle.workbench.specs.Bench.{NamedTimeline, OpenBlock, Bench, fresh, with_rows, is_named, has_timeline}
 use Rattle.workbench.specs.Outcome.{block_refusal, reply_text, is_refusal}
 use Rattle.workbench.specs.Reported.{loaded}
-use Rattle.workbench.specs.TimelineEffects.{TimelineEffect, unchanged, inserts, deletes, answers, undoes, redoes, saves}
+use Rattle.workbench.specs.TimelineEffects.{TimelineEffect, unchanged, inserts, deletes, answers, answers_fate, undoes, redoes, saves}
 
 -- what becomes of the timelines: themselves afterwards, and the outcome
 pub record Effect : Type 0 where
@@ -65,11 +65,14 @@ obeys timelines (Ok Nothing) = leaves timelines Silent
 obeys timelines (Ok (New name kind)) = starts timelines name kind
 obeys timelines (Ok (Insert name spot op)) = on_named name (λ timeline. inserts timeline spot op) timelines
 obeys timelines (Ok (Delete name number)) = on_named name (λ timeline. deletes timeline number) timelines
+obeys timelines (Ok (Move name number time)) = leaves timelines (Refused refusals.Syntax)
+obeys timelines (Ok (Change name number op)) = leaves timelines (Refused refusals.Syntax)
+obeys timelines (Ok (Fate name number)) = on_named name (λ timeline. unchanged timeline (answers_fate timeline number)) timelines
 obeys timelines (Ok (Ask name moment query)) = on_named name (λ timeline. unchanged timeline (answers timeline moment query)) timelines
 obeys timelines (Ok (Undo name)) = on_named name undoes timelines
 obeys timelines (Ok (Redo name)) = on_named name redoes timelines
 obeys timelines (Ok (Save name)) = on_named name (λ timeline. unchanged timeline (saves timeline)) timelines
-obeys timelines (Ok (Header name kind next)) = leaves timelines Silent
+obeys timelines (Ok (Header name kind next rows)) = leaves timelines Silent
 
 -- the timeline that a block makes of its rows, of which nothing can be undone
 abbrev pub of_block : OpenBlock → List Row → NamedTimeline
@@ -95,7 +98,7 @@ with_block block effect = record { bench = record { timelines = effect.timelines
 
 -- the block that a command opens, if it is a header
 abbrev pub opened : Result Command LineError → Option OpenBlock
-opened (Ok (Header name kind next)) = Some (record { name = name; block = begun kind next })
+opened (Ok (Header name kind next rows)) = Some (record { name = name; block = begun kind next rows })
 opened line = None
 
 -- a line outside a block

@@ -1,16 +1,17 @@
 -- What one timeline makes of an edit and of a question.
-use Rattle.std.specs.Prelude.{ℕ, suc, ◌+◌, nat_le, List, [], ◌∷◌, length, slice_get, if◌then◌else◌}
+use Rattle.std.specs.Prelude.{ℕ, suc, ◌+◌, nat_le, List, [], ◌∷◌, drop, length, slice_get, if◌then◌else◌}
 use Rattle.std.specs.Prelude.{Option, Some, None, option_map, option_and_then}
 use Rattle.retro_base.specs.declared.op.Op.{Op}
 use Rattle.retro_base.specs.declared.row.Row.{Row}
 use Rattle.retro_base.specs.Limits.{most_rows, next_limit}
-use Rattle.retro_base.specs.Kind.{kind_of, same_kind}
+use Rattle.retro_base.specs.Kind.{adds, kind_of, same_kind}
 use Rattle.retro_base.specs.Replay.{failure, state_at}
 use Rattle.retro_base.specs.Answers.{answer_of, content}
 use Rattle.retro_base.specs.Questions.{suits}
 use Rattle.retro_base.specs.Edits.{Edit, Step, add, cut, edited, edited_by, inverse_step}
 use Rattle.retro_base.specs.Places.{place_of_time, place_of_row}
 use Rattle.timeline_undo.specs.History.{newest_step, recorded, redone, undone}
+use Rattle.fates.specs.Fates.{holders, holds}
 use Rattle.script_grammar.specs.declared.command.Spot.{Spot}
 use Rattle.script_grammar.specs.declared.command.Spot.TheVariants as spots
 use Rattle.script_grammar.specs.declared.command.Moment.{Moment}
@@ -18,7 +19,7 @@ use Rattle.script_grammar.specs.declared.command.Moment.TheVariants.{Now, Then}
 use Rattle.script_grammar.specs.declared.command.Query.{Query}
 use Rattle.script_grammar.specs.declared.command.Query.TheVariants.{One, All}
 use Rattle.workbench.specs.declared.outcome.Outcome.{Outcome}
-use Rattle.workbench.specs.declared.outcome.Outcome.TheVariants.{Accepted, Inserted, Answered, Listed, Saved, Refused}
+use Rattle.workbench.specs.declared.outcome.Outcome.TheVariants.{Accepted, Inserted, Answered, Listed, Saved, Taken, Stays, Refused}
 use Rattle.workbench.specs.declared.outcome.Refusal.{Refusal}
 use Rattle.workbench.specs.declared.outcome.Refusal.TheVariants as refusals
 use Rattle.workbench.specs.declared.position.Position.{Position}
@@ -163,3 +164,29 @@ answers timeline moment All = answers_then timeline (λ place. Listed (content (
 -- `save NAME`
 abbrev pub saves : NamedTimeline → Outcome
 saves timeline = Saved timeline.name timeline.kind timeline.next timeline.rows
+
+-- the fate of what the row of this number put in, from a place on: the first of the later rows after which it is not there took it out
+abbrev pub fate_from : NamedTimeline → ℕ → ℕ → List Row → Outcome
+fate_from timeline number place [] = Stays
+fate_from timeline number place (row ∷ later) =
+    if holds number (holders timeline.kind timeline.rows (suc place)) then fate_from timeline number (suc place) later
+    else Taken row.number row.time
+
+-- the fate of what the row at a place put in, where it adds
+abbrev pub fate_at : NamedTimeline → ℕ → Row → Outcome
+fate_at timeline place row =
+    if adds row.op then fate_from timeline row.number (suc place) (drop (suc place) timeline.rows)
+    else Refused (refusals.NoItem row.number)
+
+-- the fate of what the row of this number put in, if there is one
+abbrev pub fate_of_row : NamedTimeline → ℕ → Option Outcome
+fate_of_row timeline number = option_and_then (λ place. option_map (fate_at timeline place) (slice_get timeline.rows place)) (place_of_row number timeline.rows)
+
+-- the answer about the row of this number, if there is one
+abbrev pub if_row : ℕ → Option Outcome → Outcome
+if_row number None = Refused (refusals.NoRow number)
+if_row number (Some outcome) = outcome
+
+-- `NAME fate #N`
+unfoldable pub answers_fate : NamedTimeline → ℕ → Outcome
+answers_fate timeline number = if_row number (fate_of_row timeline number)

@@ -215,9 +215,14 @@ fn opened(alloc: Global, line: &Result<Command, LineError>) -> Option<OpenBlock>
     ensures { result ≡ opened line.now }
 {
     match line {
-        Ok(Command::Header { name, kind, next }) => {
-            Some(OpenBlock::new(alloc, *name, *kind, *next))
-        }
+        Ok(
+            Command::Header {
+                name,
+                kind,
+                next,
+                rows,
+            },
+        ) => Some(OpenBlock::new(alloc, *name, *kind, *next, *rows)),
         _ => None,
     }
 }

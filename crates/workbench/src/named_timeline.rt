@@ -12,7 +12,7 @@ ghost use Rattle.retro_base.specs.Replay.{state_at};
 ghost use Rattle.retro_base.specs.Timeline.{IsTimeline};
 ghost use Rattle.script_grammar.specs.declared.command.Moment.TheVariants.{Then};
 ghost use Rattle.script_grammar.specs.declared.command.Query.TheVariants.{One, All};
-ghost use Rattle.workbench.specs.declared.outcome.Outcome.TheVariants.{Listed, Refused};
+ghost use Rattle.workbench.specs.declared.outcome.Outcome.TheVariants.{Listed, Refused, Taken};
 ghost use Rattle.workbench.specs.declared.outcome.Refusal.TheVariants.{NoRow};
 ghost use Rattle.workbench.specs.EditErrors.{IsRefusedBy};
 
@@ -21,6 +21,7 @@ use crate::outcome::{Outcome, Refusal};
 use crate::position::{Position, position_of, row_named};
 use crate::reported::{note, reported};
 use engine::Engine;
+use fates::{Fate, fate_of};
 use order_timeline::Timeline;
 use retro_base::{Change, Kind, MAX_NEXT, MAX_ROWS, Name, NoMemory, Op, Question, Row, Rows};
 use script_grammar::{Moment, Query, Spot};
@@ -53,7 +54,7 @@ impl Model for NamedTimeline {
 
 impl NamedTimeline {
     ghost use Rattle.workbench.specs.Bench.{fresh, named, with_rows};
-    ghost use Rattle.workbench.specs.TimelineEffects.{deletes, inserts, inserts_there, unchanged, answers, undoes, redoes, saves};
+    ghost use Rattle.workbench.specs.TimelineEffects.{deletes, inserts, inserts_there, unchanged, answers, answers_fate, undoes, redoes, saves};
 
     /// A timeline without rows.
     pub(crate) fn new(alloc: Global, name: Name, kind: Kind) -> Result<NamedTimeline, NoMemory>
@@ -275,6 +276,24 @@ impl NamedTimeline {
         Ok(Outcome::Listed { listing })
     }
 
+    /// What became of what the row with this number put in.
+    pub(crate) fn fate(&self, number: u32) -> Outcome
+        ensures { result ≡ answers_fate self.now number }
+    {
+        let timeline = self.session.timeline();
+        let Some(place) = timeline.place_of(number) else {
+            return no_row(number);
+        };
+        let row = timeline.row_at(place);
+        if !row.op.adds() {
+            return Outcome::refused(Refusal::NoItem { number: row.number });
+        }
+        match fate_of(timeline, place) {
+            Fate::Taken { place } => taken_by(timeline.row_at(place)),
+            Fate::Stays => Outcome::Stays,
+        }
+    }
+
     /// What is saved of the timeline.
     pub(crate) fn save(&self, alloc: Global) -> Result<Outcome, NoMemory>
         ensures { IfOk result (λ outcome. outcome ≡ saves self.now) }
@@ -311,6 +330,16 @@ fn rows_of(alloc: Global, timeline: &Timeline) -> Result<Rows, NoMemory>
         rows.push(timeline.row_at(place))?;
     }
     Ok(rows)
+}
+
+/// The fate of what this row took out.
+fn taken_by(row: Row) -> Outcome
+    ensures { result ≡ Taken row.number row.time }
+{
+    Outcome::Taken {
+        number: row.number,
+        time: row.time,
+    }
 }
 
 /// The outcome of a line that names a row that is not there.

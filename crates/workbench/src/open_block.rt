@@ -31,14 +31,20 @@ impl Model for OpenBlock {
 
 impl OpenBlock {
     /// A block of which nothing is read but its header.
-    pub(crate) fn new(alloc: Global, name: Name, kind: Kind, next: u32) -> OpenBlock
+    pub(crate) fn new(
+        alloc: Global,
+        name: Name,
+        kind: Kind,
+        next: u32,
+        rows: Option<u32>,
+    ) -> OpenBlock
         requires least { 1 ≤ next }
         requires most { next ≤ next_limit }
-        ensures { result ≡ record { name = name; block = begun kind next } }
+        ensures { result ≡ record { name = name; block = begun kind next rows } }
     {
         OpenBlock {
             name,
-            reader: BlockReader::new(alloc, kind, next),
+            reader: BlockReader::new(alloc, kind, next, rows),
         }
     }
 

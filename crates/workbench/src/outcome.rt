@@ -44,6 +44,13 @@ pub enum Outcome {
         next: u32,
         rows: Rows,
     },
+    /// What a row put in was taken out by the row with this number and time.
+    Taken {
+        number: u32,
+        time: u64,
+    },
+    /// What a row put in is there after all rows.
+    Stays,
     /// The line was refused, and changed nothing.
     Refused {
         refusal: Refusal,
@@ -83,6 +90,10 @@ pub enum Refusal {
     Unfinished,
     /// A row of a block has a number that is not below the one that its timeline draws next.
     Next,
+    /// A block has more or fewer row lines than its header says.
+    Rows,
+    /// The row with this number puts nothing in.
+    NoItem { number: u32 },
 }
 
 impl Outcome {
@@ -127,6 +138,13 @@ impl Outcome {
                 next,
                 rows,
             } => return print_block(name, *kind, *next, rows, out),
+            Outcome::Taken { number, time } => {
+                out.push_all(b"= taken #")?;
+                out.push_number(*number)?;
+                out.push_all(b" ")?;
+                out.push_number(*time)?;
+            }
+            Outcome::Stays => out.push_all(b"= stays")?,
             Outcome::Refused { refusal } => refusal.print(out)?,
         }
         out.push_all(b"\n")
@@ -143,6 +161,7 @@ impl Refusal {
             BlockError::Full => Refusal::Full,
             BlockError::Unfinished => Refusal::Unfinished,
             BlockError::Next => Refusal::Next,
+            BlockError::Rows => Refusal::Rows,
         }
     }
 
@@ -173,6 +192,11 @@ impl Refusal {
             Refusal::NothingToRedo => out.push_all(b"refused nothing to redo")?,
             Refusal::Unfinished => out.push_all(b"refused unfinished")?,
             Refusal::Next => out.push_all(b"refused next")?,
+            Refusal::Rows => out.push_all(b"refused rows")?,
+            Refusal::NoItem { number } => {
+                out.push_all(b"refused no item #")?;
+                out.push_number(*number)?;
+            }
             Refusal::RowLine { place, cause } => {
                 out.push_all(b"refused row ")?;
                 out.push_number(*place)?;

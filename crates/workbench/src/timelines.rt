@@ -5,7 +5,7 @@ ghost use Rattle.script_grammar.specs.Command.{IsNextInRange};
 ghost use Rattle.timeline_file.specs.Block.{finished};
 ghost use Rattle.workbench.specs.Bench.{has_timeline, is_named, named, timeline_of};
 ghost use Rattle.workbench.specs.Reaction.{closes, loads, obeys, of_block, on_named, starts};
-ghost use Rattle.workbench.specs.TimelineEffects.{answers, deletes, inserts, redoes, saves, undoes, unchanged};
+ghost use Rattle.workbench.specs.TimelineEffects.{answers, answers_fate, deletes, inserts, redoes, saves, undoes, unchanged};
 
 use crate::named_timeline::NamedTimeline;
 use crate::open_block::OpenBlock;
@@ -72,6 +72,8 @@ impl Timelines {
             Command::New { name, kind } => self.start(*name, *kind),
             Command::Insert { name, spot, op } => self.insert(*name, *spot, *op),
             Command::Delete { name, number } => self.delete(*name, *number),
+            Command::Move { .. } | Command::Change { .. } => Ok(Outcome::refused(Refusal::Syntax)),
+            Command::Fate { name, number } => Ok(self.fate(*name, *number)),
             Command::Ask {
                 name,
                 moment,
@@ -152,6 +154,16 @@ impl Timelines {
         match self.index_of(name) {
             Some(index) => self.timelines[index].ask(moment, query),
             None => Ok(Outcome::refused(Refusal::NoTimeline { name })),
+        }
+    }
+
+    /// What became of what a row of the timeline of this name put in. Nothing changes.
+    fn fate(&self, name: Name, number: u32) -> Outcome
+        ensures { on_named name (λ timeline. unchanged timeline (answers_fate timeline number)) self.now ≡ record { timelines = self.now; outcome = result } }
+    {
+        match self.index_of(name) {
+            Some(index) => self.timelines[index].fate(number),
+            None => Outcome::refused(Refusal::NoTimeline { name }),
         }
     }
 
