@@ -2,7 +2,8 @@
 //! crates anew.
 //!
 //! One file for each crate: `queues`, `stacks`, `deques` and `dictionaries` of the four fully retroactive structures, `bridges`
-//! of `bridge_pq`, which is compared with a plain list, `checkpoints` of `checkpoint_full` over it, and `engines` of `engine`.
+//! of `bridge_pq` and `fusions` of `pq_fusion`, which are compared with a plain list, `checkpoints` of `checkpoint_full` over the
+//! first, and `engines` of `engine`.
 #![tactic(auto)]
 
 #[cfg(test)]
@@ -15,6 +16,8 @@ mod deques;
 mod dictionaries;
 #[cfg(test)]
 mod engines;
+#[cfg(test)]
+mod fusions;
 #[cfg(test)]
 mod queues;
 #[cfg(test)]

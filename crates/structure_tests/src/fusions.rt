@@ -1,0 +1,174 @@
+ghost use Rattle.std.specs.Prelude.{◌≡◌, length};
+
+mod compared;
+
+use compared::Compared;
+use pq_fusion::{FusedQueue, Piece};
+use retro_base::{Answer, Change, Entry, Item, Kind, Op, Question, Retro, Row};
+use std::process::Abort;
+
+const TWO: Op = Op::Ins { key: 2 };
+
+const FOUR: Op = Op::Ins { key: 4 };
+
+/// The history `ins 4`, `delmin`, into which `ins 2` comes first.
+fn three_rows(rt: &impl Abort, both: &mut Compared) {
+    for (place, op) in [(0, FOUR), (1, Op::DelMin), (0, TWO)] {
+        assert!(rt; place <= both.len());
+        assert_eq!(rt; op.kind(), Kind::Pq);
+        both.add(rt, place, op);
+    }
+}
+
+/// What a piece is to have.
+#[derive(Clone, Copy)]
+struct Wanted {
+    from: u32,
+    min: Option<Entry>,
+    left: u32,
+    removed: u32,
+    unmet: u32,
+}
+
+fn expect_piece(rt: &impl Abort, piece: &Piece, wanted: Wanted) {
+    assert_eq!(rt; piece.min(), wanted.min);
+    assert_eq!(rt; piece.left_len(), wanted.left);
+    assert_eq!(rt; piece.removed_len(), wanted.removed);
+    assert_eq!(rt; piece.unmet(), wanted.unmet);
+}
+
+fn expect_pieces(rt: &impl Abort, queue: &FusedQueue) {
+    assert_eq!(rt; queue.len(), 3);
+    let four = Entry { key: 4, number: 1 };
+    for wanted in [
+        Wanted {
+            from: 0,
+            min: Some(four),
+            left: 1,
+            removed: 1,
+            unmet: 0,
+        },
+        Wanted {
+            from: 1,
+            min: None,
+            left: 0,
+            removed: 1,
+            unmet: 0,
+        },
+        Wanted {
+            from: 2,
+            min: None,
+            left: 0,
+            removed: 0,
+            unmet: 1,
+        },
+    ] {
+        assert!(rt; wanted.from <= 3);
+        let piece = queue.piece(wanted.from, 3).expect(rt, "memory");
+        expect_piece(rt, &piece, wanted);
+    }
+}
+
+fn expect_past(rt: &impl Abort, queue: &mut FusedQueue) {
+    assert_eq!(rt; queue.len(), 3);
+    let listing = queue.all(2).expect(rt, "memory");
+    assert_eq!(rt; listing.len(), 2);
+    assert_eq!(rt; listing.item(0), Item::Single { value: 2 });
+    assert_eq!(rt; listing.item(1), Item::Single { value: 4 });
+    let least = queue.ask(1, Question::Min).expect(rt, "memory");
+    assert_eq!(rt; least, Answer::Number { value: 2 });
+}
+
+fn cut_first(rt: &impl Abort, queue: &mut FusedQueue) {
+    assert_eq!(rt; queue.len(), 3);
+    assert_eq!(rt; queue.failure_after_remove(0), None);
+    let (row, change) = queue.remove(0).expect(rt, "memory");
+    assert_eq!(rt; (row.number, row.op), (3, TWO));
+    let lost = Change::Lose {
+        bridge: Some(3),
+        entry: Entry { key: 4, number: 1 },
+    };
+    assert_eq!(rt; change, lost);
+}
+
+#[test]
+fn three_rows_are_one_product(rt: HostRuntime) {
+    let mut both = Compared::new(rt.alloc());
+    three_rows(&rt, &mut both);
+    let mut queue = both.into_queue();
+    assert!(&rt; queue.stored() <= 27);
+    expect_pieces(&rt, &queue);
+    expect_past(&rt, &mut queue);
+    cut_first(&rt, &mut queue);
+}
+
+/// Two pieces of a few entries, fused.
+fn fuse_small(rt: &impl Abort, first: &Piece, second: &Piece) -> Piece {
+    assert!(rt; first.left_len() < 9 && first.removed_len() < 9 && first.unmet() < 9);
+    assert!(rt; second.left_len() < 9 && second.removed_len() < 9 && second.unmet() < 9);
+    first.fuse(second).expect(rt, "memory")
+}
+
+#[test]
+fn a_taking_removes_what_was_put_in(rt: HostRuntime) {
+    let added = Row {
+        number: 1,
+        time: 10,
+        op: FOUR,
+    };
+    let taken = Row {
+        number: 2,
+        time: 20,
+        op: Op::DelMin,
+    };
+    let first = Piece::of_row(rt.alloc(), added).expect(&rt, "memory");
+    let second = Piece::of_row(rt.alloc(), taken).expect(&rt, "memory");
+    let fused = fuse_small(&rt, &first, &second);
+    let wanted = Wanted {
+        from: 0,
+        min: None,
+        left: 0,
+        removed: 1,
+        unmet: 0,
+    };
+    expect_piece(&rt, &fused, wanted);
+    let nothing = Piece::empty(rt.alloc());
+    let same = fuse_small(&rt, &nothing, &fused);
+    expect_piece(&rt, &same, wanted);
+}
+
+/// One edit of a drawn history: most often a row that adds, and where one cannot be, none.
+fn drawn_edit(rt: &impl Abort, both: &mut Compared, draw: u32) {
+    let len = both.len();
+    let place = draw / 8 % (len + 1);
+    let op = if draw % 8 < 4 {
+        Op::Ins {
+            key: i64::from(draw / 64 % 20),
+        }
+    } else {
+        Op::DelMin
+    };
+    assert_eq!(rt; op.kind(), Kind::Pq);
+    if draw % 8 < 7 {
+        if both.failure_with(rt, place, op).is_none() {
+            both.add(rt, place, op);
+        }
+    } else if place < len && both.failure_without(rt, place).is_none() {
+        both.cut(rt, place);
+    }
+    let asked = draw / 16 % (both.len() + 1);
+    both.compare(rt, asked);
+}
+
+#[test]
+fn drawn_edits_are_those_of_the_plain_list(rt: HostRuntime) {
+    let mut both = Compared::new(rt.alloc());
+    let mut state = 1u32;
+    for _ in 0..400u32 {
+        state = state.wrapping_mul(1_664_525).wrapping_add(1_013_904_223);
+        drawn_edit(&rt, &mut both, state >> 8);
+    }
+    let (rows, stored) = (u64::from(both.len()), both.stored());
+    assert!(&rt; rows > 100);
+    assert!(&rt; stored <= 27 * rows);
+}
