@@ -1,26 +1,40 @@
--- What an undo that follows an accepted edit leads to, and a redo after it.
-use Rattle.std.specs.Prelude.{◌≡◌, ℕ, Some, [], ◌∷◌}
-use Rattle.retro_base.specs.Edits.{Edit, edited}
-use Rattle.timeline_undo.specs.History.{newest_step}
-use Rattle.timeline_undo.specs.Session.{SessionState, with_edit, with_undo, with_redo}
+-- What an undo that follows an accepted step leads to, and a redo after it.
+use Rattle.std.specs.Prelude.{◌≡◌, ℕ, List, Some, [], ◌∷◌, slice_get}
+use Rattle.retro_base.specs.declared.row.Row.{Row}
+use Rattle.retro_base.specs.Edits.{Step, edited, edited_by, IsWithin}
+use Rattle.timeline_undo.specs.declared.shift.Target.{Target}
+use Rattle.timeline_undo.specs.History.{newest_step, recorded}
+use Rattle.timeline_undo.specs.Session.{SessionState, with_undo, with_redo}
+use Rattle.timeline_undo.specs.Shift.{shift_of}
 
--- the session after an accepted edit, where this number comes next: the same as before for a cut, and one more for an insert
-abbrev pub after_edit : SessionState → Edit → ℕ → SessionState
-after_edit session edit next = record (with_edit session edit) { next = next }
+-- the session after an accepted step, where this number comes next: the same as before for a cut, and one more for an insert or a shift
+abbrev pub after_step : SessionState → Step → ℕ → SessionState
+after_step session step next =
+    record session { rows = edited_by session.rows step; next = next; history = recorded step session.history }
 
 -- after its undo, and after a redo of that
-abbrev pub after_undo : SessionState → Edit → ℕ → SessionState
-after_undo session edit next = with_undo (after_edit session edit next) (edit ∷ [])
+abbrev pub after_undo : SessionState → Step → ℕ → SessionState
+after_undo session step next = with_undo (after_step session step next) step
 
-abbrev pub after_redo : SessionState → Edit → ℕ → SessionState
-after_redo session edit next = with_redo (after_undo session edit next) (edit ∷ [])
+abbrev pub after_redo : SessionState → Step → ℕ → SessionState
+after_redo session step next = with_redo (after_undo session step next) step
 
--- the edit is the newest step to undo, which leads to the rows from before it; then it is the newest step to make again, which
--- leads to the edited rows; and the number that comes next stays the one after the edit
-pub record LeadsBack (session : SessionState) (edit : Edit) (next : ℕ) : Type 0 where
-  pub newest : newest_step (after_edit session edit next).history.undo ≡ Some (edit ∷ [])
-  pub undone : (after_undo session edit next).rows ≡ session.rows
-  pub newest_undone : newest_step (after_undo session edit next).history.redo ≡ Some (edit ∷ [])
-  pub redone : (after_redo session edit next).rows ≡ edited session.rows edit
-  pub next_undone : (after_undo session edit next).next ≡ next
-  pub next_redone : (after_redo session edit next).next ≡ next
+-- the step is the newest one to undo, which leads to the rows from before it; then it is the newest one to redo, which leads to the
+-- edited rows; and the number that comes next stays the one after the step
+pub record LeadsBack (session : SessionState) (step : Step) (next : ℕ) : Type 0 where
+  pub newest : newest_step (after_step session step next).history.undo ≡ Some step
+  pub undone : (after_undo session step next).rows ≡ session.rows
+  pub newest_undone : newest_step (after_undo session step next).history.redo ≡ Some step
+  pub redone : (after_redo session step next).rows ≡ edited_by session.rows step
+  pub next_undone : (after_undo session step next).next ≡ next
+  pub next_redone : (after_redo session step next).next ≡ next
+
+-- the edits of a step can be made one after another
+abbrev pub CanBeMade : List Row → Step → Type 0
+CanBeMade rows [] = Unit {0}
+CanBeMade rows (edit ∷ more) = IsWithin rows edit × CanBeMade (edited rows edit) more
+
+-- the edits of a shift can
+abbrev pub ShiftsCanBeMade : Type 0
+ShiftsCanBeMade = (rows : List Row) (target : Target) (number index : ℕ) (old : Row) → slice_get rows index ≡ Some old
+    → CanBeMade rows (shift_of rows target number index old)

@@ -1,5 +1,8 @@
 pub use Rattle.retro_base.specs.Edits
 pub mod History
+pub mod Shift
 pub mod Session
 pub mod Kept
+pub mod Tallies
+pub mod Replaced
 pub mod Back

@@ -1,16 +1,81 @@
-ghost use Rattle.std.specs.Prelude.{◌≡◌, ◌+◌, ◌≤◌, ◌<◌, length, slice_get, Some, IfOk, OnErr};
+ghost use Rattle.std.specs.Prelude.{◌≡◌, ◌+◌, ◌≤◌, ◌<◌, [], ◌∷◌, length, slice_get, Some, IfOk, IfErr, OnErr};
 ghost use Rattle.std.specs.List.{insert, remove};
 ghost use Rattle.retro_base.specs.Changes.{IsChange};
-ghost use Rattle.retro_base.specs.Edits.{add, cut, edited, IsWithin};
+ghost use Rattle.retro_base.specs.Edits.{add, cut, edited, edited_by, IsWithin};
 ghost use Rattle.retro_base.specs.MadeEdits.{IsMade};
 ghost use Rattle.retro_base.specs.Timeline.{IsReplayable, TimesNeverFall};
-ghost use Rattle.timeline_undo.specs.Kept.{edit_of};
-ghost use Rattle.timeline_undo.specs.Session.{edit_reported};
+ghost use Rattle.timeline_undo.specs.Kept.{AreReady, IsLeftMidway, edit_of, step_of};
+ghost use Rattle.timeline_undo.specs.Session.{AreMade, edit_reported, step_reported};
+ghost use Rattle.timeline_undo.specs.declared.turn.Turns.TheVariants.{Double};
 
-use crate::Turn;
-use crate::noted::Noted;
+use crate::noted::{Noted, NotedStep};
+use crate::{Turn, Turns};
 use order_timeline::Timeline;
 use retro_base::{Change, NoMemory, Retro, Row};
+
+/// Where a step met out of memory.
+#[derive(Clone, Copy, Debug, PartialEq, Eq)]
+pub(crate) enum Interrupted {
+    /// In its first edit: nothing was edited.
+    AtOnce,
+    /// In its second edit: the first one was made.
+    Midway,
+}
+
+/// Makes the edits of a step in order, in the timeline and in the structure.
+pub(crate) fn make_step<R: Retro>(
+    timeline: &mut Timeline,
+    structure: &mut R,
+    step: NotedStep,
+) -> Result<Turns, Interrupted>
+    requires same { R.rows structure.old ≡ timeline.old }
+    requires before { IsReplayable (R.kind structure.old) timeline.old }
+    requires ready { AreReady (R.kind structure.old) timeline.old (step_of step) }
+    ensures kind { R.kind structure.new ≡ R.kind structure.old }
+    ensures same { R.rows structure.new ≡ timeline.new }
+    ensures rows { IfOk result (λ _. timeline.new ≡ edited_by timeline.old (step_of step)) }
+    ensures reported { IfOk result (λ turns. step_reported turns ≡ step_of step) }
+    ensures made { IfOk result (AreMade (R.kind structure.old) timeline.old) }
+    ensures err { IfErr result (IsLeftMidway timeline.old (step_of step) timeline.new) }
+{
+    match step {
+        NotedStep::Single { edit } => match make(timeline, structure, edit) {
+            Ok(turn) => Ok(Turns::Single { turn }),
+            Err(NoMemory) => Err(Interrupted::AtOnce),
+        },
+        NotedStep::Double { first, second } => {
+            let (first, second) = make_both(timeline, structure, first, second)?;
+            Ok(Turns::Double { first, second })
+        }
+    }
+}
+
+/// Makes two edits, one after the other.
+pub(crate) fn make_both<R: Retro>(
+    timeline: &mut Timeline,
+    structure: &mut R,
+    first: Noted,
+    second: Noted,
+) -> Result<(Turn, Turn), Interrupted>
+    requires same { R.rows structure.old ≡ timeline.old }
+    requires before { IsReplayable (R.kind structure.old) timeline.old }
+    requires ready { AreReady (R.kind structure.old) timeline.old (edit_of first ∷ edit_of second ∷ []) }
+    ensures kind { R.kind structure.new ≡ R.kind structure.old }
+    ensures same { R.rows structure.new ≡ timeline.new }
+    ensures rows { IfOk result (λ _. timeline.new ≡ edited (edited timeline.old (edit_of first)) (edit_of second)) }
+    ensures first { IfOk result (λ turns. edit_reported turns.0 ≡ edit_of first) }
+    ensures second { IfOk result (λ turns. edit_reported turns.1 ≡ edit_of second) }
+    ensures made { IfOk result (λ turns. AreMade (R.kind structure.old) timeline.old (Double turns.0 turns.1)) }
+    ensures err { IfErr result (IsLeftMidway timeline.old (edit_of first ∷ edit_of second ∷ []) timeline.new) }
+{
+    let Ok(first) = make(timeline, structure, first) else {
+        return Err(Interrupted::AtOnce);
+    };
+    match make(timeline, structure, second) {
+        Ok(second) => Ok((first, second)),
+        Err(NoMemory) => Err(Interrupted::Midway),
+    }
+}
 
 /// Makes an edit in the timeline and in the structure. After `NoMemory` both are as before.
 pub(crate) fn make<R: Retro>(

@@ -26,9 +26,14 @@ mod error;
 mod failing;
 pub mod laws;
 mod noted;
+mod replacement;
+mod scan;
 mod session;
+mod shift;
+mod tally;
 mod turn;
 
 pub use error::{EditError, UndoError};
 pub use session::{MAX_STEPS, Session};
-pub use turn::{Put, Turn};
+pub use shift::{Shift, Target};
+pub use turn::{Put, Turn, Turns};

@@ -1,6 +1,6 @@
-ghost use Rattle.std.specs.Prelude.{◌≡◌, ◌↔◌, ◌+◌, ◌≤◌, ◌<◌, [], length, slice_get, Some, true, IfOk, IfErr, IfSome, OnErr, OnOk, IsErrOf, ◌∷◌, ◌++◌};
+ghost use Rattle.std.specs.Prelude.{◌≡◌, ◌↔◌, ◌+◌, ◌≤◌, ◌<◌, [], length, slice_get, Some, true, false, IfOk, IfErr, IfSome, OnErr, OnOk, IsErrOf, ◌∷◌, ◌++◌, option_map};
 ghost use Rattle.retro_base.specs.Answers.{answer_of, content};
-ghost use Rattle.retro_base.specs.Edits.{add, cut, Step, inverse_step, IsAccepted};
+ghost use Rattle.retro_base.specs.Edits.{add, cut, Step, inverse_step, IsAccepted, IsStepAccepted};
 ghost use Rattle.retro_base.specs.Kind.{kind_of};
 ghost use Rattle.retro_base.specs.Limits.{most_rows, next_limit};
 ghost use Rattle.retro_base.specs.MadeEdits.{IsMade};
@@ -9,12 +9,16 @@ ghost use Rattle.retro_base.specs.Questions.{suits};
 ghost use Rattle.retro_base.specs.Replay.{present, state_at};
 ghost use Rattle.retro_base.specs.Timeline.{IsFresh, IsTimeline};
 ghost use Rattle.timeline_undo.specs.History.{newest_step, no_history};
-ghost use Rattle.timeline_undo.specs.Session.{drawn, edit_reported, IsCause, with_edit, with_insert, with_redo, with_undo};
+ghost use Rattle.timeline_undo.specs.Session.{AreMade, drawn, edit_reported, IsCause, IsLeftByShift, IsLeftByUndo, IsStepCause, step_reported, with_edit, with_insert, with_redo, with_shift, with_undo};
+ghost use Rattle.timeline_undo.specs.Shift.{IsTargetOf, shift_at};
+ghost use Rattle.timeline_undo.specs.declared.turn.Turns.TheVariants.{Double};
 
-use crate::edit::make;
+use crate::edit::{Interrupted, make, make_both, make_step};
 use crate::failing::{fails_at, row_after_insert, row_after_remove};
-use crate::noted::{Noted, newest, note, pass_on};
-use crate::{EditError, Put, Turn, UndoError};
+use crate::noted::{Noted, NotedStep, forget, newest, note, pass_on};
+use crate::replacement::Replacement;
+use crate::scan::failing_after;
+use crate::{EditError, Put, Shift, Target, Turn, Turns, UndoError};
 use circular_buffer::HeapCircularBuffer;
 use order_timeline::Timeline;
 use retro_base::{Answer, Change, Kind, Listing, NoMemory, Op, Question, Retro, Row};
@@ -24,14 +28,16 @@ use std::marker::Model;
 /// How many steps of a timeline can be undone.
 pub const MAX_STEPS: usize = 1024;
 
-/// A timeline with the structure that performs it, and with what can be undone of it.
+/// A timeline with the structure that performs it, and with what can be undone of it. A session that met out of memory
+/// between the two list edits of a step is spent, and takes no more calls.
 #[derive(Drop)]
 pub struct Session<R: Retro + Drop> {
     timeline: Timeline,
     structure: R,
     next: u32,
-    undo: HeapCircularBuffer<Noted>,
-    redo: HeapCircularBuffer<Noted>,
+    undo: HeapCircularBuffer<NotedStep>,
+    redo: HeapCircularBuffer<NotedStep>,
+    spent: bool,
 }
 
 impl<R: Retro + Drop> Model for Session<R> {
@@ -45,6 +51,7 @@ impl<R: Retro + Drop> Model for Session<R> {
       rows = s.timeline;
       next = s.next;
       history = record { undo = steps_of s.undo.items; redo = steps_of s.redo.items };
+      spent = s.spent;
     } };
 
     ghost invariant = { λ s. IsSession (R.kind s.structure) (R.rows s.structure) s.timeline s.next s.undo s.redo };
@@ -57,7 +64,7 @@ impl<R: Retro + Drop> Session<R> {
         requires empty { R.rows structure ≡ [] }
         requires least { 1 ≤ next }
         requires most { next ≤ next_limit }
-        ensures { IfOk result (λ session. session ≡ record { kind = R.kind structure; rows = []; next = next; history = no_history }) }
+        ensures { IfOk result (λ session. session ≡ record { kind = R.kind structure; rows = []; next = next; history = no_history; spent = false }) }
     {
         let _kind = structure.kind();
         let undo = HeapCircularBuffer::with_capacity(alloc, MAX_STEPS)?;
@@ -68,11 +75,20 @@ impl<R: Retro + Drop> Session<R> {
             next,
             undo,
             redo,
+            spent: false,
         })
+    }
+
+    /// Whether an earlier shift, undo or redo met out of memory after its first list edit and before its end.
+    pub fn spent(&self) -> bool
+        ensures { result ≡ self.now.spent }
+    {
+        self.spent
     }
 
     /// The rows.
     pub fn timeline(&self) -> &Timeline
+        requires { self.now.spent ≡ false }
         ensures rows { result.now ≡ self.now.rows }
         ensures timeline { IsTimeline self.now.kind self.now.rows self.now.next }
     {
@@ -81,6 +97,7 @@ impl<R: Retro + Drop> Session<R> {
 
     /// The structure that performs them.
     pub fn structure(&self) -> &R
+        requires { self.now.spent ≡ false }
         ensures kind { R.kind result.now ≡ self.now.kind }
         ensures rows { R.rows result.now ≡ self.now.rows }
     {
@@ -89,6 +106,7 @@ impl<R: Retro + Drop> Session<R> {
 
     /// The number that the next row draws.
     pub fn next(&self) -> u32
+        requires { self.now.spent ≡ false }
         ensures next { result ≡ self.now.next }
         ensures within { (1 ≤ result) × (result ≤ next_limit) }
     {
@@ -97,6 +115,7 @@ impl<R: Retro + Drop> Session<R> {
 
     /// The kind.
     pub fn kind(&self) -> Kind
+        requires { self.now.spent ≡ false }
         ensures { result ≡ self.now.kind }
     {
         self.structure.kind()
@@ -104,6 +123,7 @@ impl<R: Retro + Drop> Session<R> {
 
     /// Puts in a row that draws the next number. After every error all is as before.
     pub fn put(&mut self, place: u32, time: u64, op: Op) -> Result<Put, EditError>
+        requires unspent { self.old.spent ≡ false }
         requires within { place ≤ length self.old.rows }
         requires fits { Fits self.old.rows place time }
         requires room { length self.old.rows < most_rows }
@@ -124,9 +144,9 @@ impl<R: Retro + Drop> Session<R> {
         if let Some(index) = self.structure.failure_after_insert(place, op) {
             return Err(fails_at(row_after_insert(&self.timeline, place, row, index)));
         }
-        let noted = Noted::Added { place, row };
-        let turn = make(&mut self.timeline, &mut self.structure, noted)?;
-        note(&mut self.undo, &mut self.redo, noted);
+        let edit = Noted::Added { place, row };
+        let turn = make(&mut self.timeline, &mut self.structure, edit)?;
+        note(&mut self.undo, &mut self.redo, NotedStep::Single { edit });
         self.next += 1;
         Ok(Put {
             number: row.number,
@@ -137,6 +157,7 @@ impl<R: Retro + Drop> Session<R> {
     /// Appends a row that has a number already, as one of a block that is read has. It is no step of the history,
     /// which has none. After `NoMemory` all is as before.
     pub fn append(&mut self, row: Row) -> Result<Change, NoMemory>
+        requires unspent { self.old.spent ≡ false }
         requires number { (1 ≤ row.number) × (row.number < self.old.next) }
         requires fresh { IsFresh row.number self.old.rows }
         requires fits { Fits self.old.rows (length self.old.rows) row.time }
@@ -149,14 +170,15 @@ impl<R: Retro + Drop> Session<R> {
         ensures err { OnErr result (self.new ≡ self.old) }
     {
         let place = self.timeline.len();
-        let noted = Noted::Added { place, row };
-        let turn = make(&mut self.timeline, &mut self.structure, noted)?;
+        let edit = Noted::Added { place, row };
+        let turn = make(&mut self.timeline, &mut self.structure, edit)?;
         Ok(turn.change)
     }
 
     /// Takes the row at a place out. After every error all is as before.
     pub fn cut(&mut self, place: u32) -> Result<Turn, EditError>
-        requires { place < length self.old.rows }
+        requires unspent { self.old.spent ≡ false }
+        requires within { place < length self.old.rows }
         ensures row { IfOk result (λ turn. slice_get self.old.rows place ≡ Some turn.row) }
         ensures reported { IfOk result (λ turn. edit_reported turn ≡ cut place turn.row) }
         ensures accepted { IfOk result (λ turn. IsAccepted self.old.kind self.old.rows (cut place turn.row)) }
@@ -169,45 +191,114 @@ impl<R: Retro + Drop> Session<R> {
         if let Some(index) = self.structure.failure_after_remove(place) {
             return Err(fails_at(row_after_remove(&self.timeline, place, index)));
         }
-        let noted = Noted::Taken { place, row };
-        let turn = make(&mut self.timeline, &mut self.structure, noted)?;
-        note(&mut self.undo, &mut self.redo, noted);
+        let edit = Noted::Taken { place, row };
+        let turn = make(&mut self.timeline, &mut self.structure, edit)?;
+        note(&mut self.undo, &mut self.redo, NotedStep::Single { edit });
         Ok(turn)
     }
 
-    /// Takes the newest step back. After every error all is as before.
-    pub fn undo(&mut self) -> Result<Turn, UndoError>
-        ensures step { IfOk result (λ turn. (step : Step) × (newest_step self.old.history.undo ≡ Some step) × (inverse_step step ≡ edit_reported turn ∷ []) × (self.new ≡ with_undo self.old step)) }
-        ensures made { IfOk result (λ turn. IsMade self.old.kind self.old.rows (edit_reported turn) turn.change) }
+    /// Replaces the row at a place in one step, by a row that draws the next number. Whether the rows after both list edits replay
+    /// is found by a walk over the rows before anything is edited, which takes no memory. After `Fails` all is as before; after
+    /// `NoMemory` it is so too, or the session is spent.
+    pub fn shift(&mut self, place: u32, target: Target) -> Result<Shift, EditError>
+        requires unspent { self.old.spent ≡ false }
+        requires within { place < length self.old.rows }
+        requires room { length self.old.rows < most_rows }
+        requires number { self.old.next < next_limit }
+        requires of_kind { IsTargetOf self.old.kind target }
+        ensures step { IfOk result (λ shift. shift_at self.old.rows target self.old.next place ≡ Some (step_reported (Double shift.first shift.second))) }
+        ensures accepted { IfOk result (λ shift. IsStepAccepted self.old.kind self.old.rows (step_reported (Double shift.first shift.second))) }
+        ensures session { IfOk result (λ shift. self.new ≡ with_shift self.old (step_reported (Double shift.first shift.second))) }
+        ensures number { IfOk result (λ shift. shift.number ≡ self.old.next) }
+        ensures made { IfOk result (λ shift. AreMade self.old.kind self.old.rows (Double shift.first shift.second)) }
+        ensures cause { IfErr result (λ error. IfSome (shift_at self.old.rows target self.old.next place) (λ step. IsStepCause self.old.kind self.old.rows step error)) }
+        ensures err { IfErr result (λ error. IfSome (shift_at self.old.rows target self.old.next place) (λ step. IsLeftByShift self.old step self.new error)) }
+    {
+        let replacement = Replacement::of(&self.timeline, place, target, self.next);
+        if let Some(failing) = failing_after(&self.timeline, replacement) {
+            return Err(fails_at(failing));
+        }
+        let (first, second) = replacement.edits();
+        match make_both(&mut self.timeline, &mut self.structure, first, second) {
+            Ok((first_turn, second_turn)) => {
+                note(
+                    &mut self.undo,
+                    &mut self.redo,
+                    NotedStep::Double { first, second },
+                );
+                self.next += 1;
+                Ok(Shift {
+                    number: replacement.new.number,
+                    first: first_turn,
+                    second: second_turn,
+                })
+            }
+            Err(Interrupted::AtOnce) => Err(EditError::NoMemory),
+            Err(Interrupted::Midway) => {
+                forget(&mut self.undo, &mut self.redo);
+                self.next += 1;
+                self.spent = true;
+                Err(EditError::NoMemory)
+            }
+        }
+    }
+
+    /// Takes the newest step back, all its list edits. After `Nothing` all is as before; after `NoMemory` it is so too, or the session
+    /// is spent.
+    pub fn undo(&mut self) -> Result<Turns, UndoError>
+        requires { self.old.spent ≡ false }
+        ensures step { IfOk result (λ turns. (step : Step) × (newest_step self.old.history.undo ≡ Some step) × (inverse_step step ≡ step_reported turns) × (self.new ≡ with_undo self.old step)) }
+        ensures made { IfOk result (AreMade self.old.kind self.old.rows) }
         ensures nothing { IsErrOf result UndoError.Nothing ↔ (self.old.history.undo ≡ []) }
-        ensures err { OnErr result (self.new ≡ self.old) }
+        ensures err { IfErr result (IsLeftByUndo self.old (option_map inverse_step (newest_step self.old.history.undo)) self.new) }
     {
-        let Some(noted) = newest(&self.undo) else {
+        let Some(step) = newest(&self.undo) else {
             return Err(UndoError::Nothing);
         };
-        let turn = make(&mut self.timeline, &mut self.structure, noted.inverse())?;
-        pass_on(&mut self.undo, &mut self.redo, noted);
-        Ok(turn)
+        match make_step(&mut self.timeline, &mut self.structure, step.inverse()) {
+            Ok(turns) => {
+                pass_on(&mut self.undo, &mut self.redo, step);
+                Ok(turns)
+            }
+            Err(Interrupted::AtOnce) => Err(UndoError::NoMemory),
+            Err(Interrupted::Midway) => {
+                forget(&mut self.undo, &mut self.redo);
+                self.spent = true;
+                Err(UndoError::NoMemory)
+            }
+        }
     }
 
-    /// Makes the step again that was taken back last. After every error all is as before.
-    pub fn redo(&mut self) -> Result<Turn, UndoError>
-        ensures step { IfOk result (λ turn. (newest_step self.old.history.redo ≡ Some (edit_reported turn ∷ [])) × (self.new ≡ with_redo self.old (edit_reported turn ∷ []))) }
-        ensures made { IfOk result (λ turn. IsMade self.old.kind self.old.rows (edit_reported turn) turn.change) }
+    /// Makes the step again that was taken back last, all its list edits. After `Nothing` all is as before; after `NoMemory` it is so
+    /// too, or the session is spent.
+    pub fn redo(&mut self) -> Result<Turns, UndoError>
+        requires { self.old.spent ≡ false }
+        ensures step { IfOk result (λ turns. (newest_step self.old.history.redo ≡ Some (step_reported turns)) × (self.new ≡ with_redo self.old (step_reported turns))) }
+        ensures made { IfOk result (AreMade self.old.kind self.old.rows) }
         ensures nothing { IsErrOf result UndoError.Nothing ↔ (self.old.history.redo ≡ []) }
-        ensures err { OnErr result (self.new ≡ self.old) }
+        ensures err { IfErr result (IsLeftByUndo self.old (newest_step self.old.history.redo) self.new) }
     {
-        let Some(noted) = newest(&self.redo) else {
+        let Some(step) = newest(&self.redo) else {
             return Err(UndoError::Nothing);
         };
-        let turn = make(&mut self.timeline, &mut self.structure, noted)?;
-        pass_on(&mut self.redo, &mut self.undo, noted);
-        Ok(turn)
+        match make_step(&mut self.timeline, &mut self.structure, step) {
+            Ok(turns) => {
+                pass_on(&mut self.redo, &mut self.undo, step);
+                Ok(turns)
+            }
+            Err(Interrupted::AtOnce) => Err(UndoError::NoMemory),
+            Err(Interrupted::Midway) => {
+                forget(&mut self.undo, &mut self.redo);
+                self.spent = true;
+                Err(UndoError::NoMemory)
+            }
+        }
     }
 
     /// The answer to a question about the present.
     pub fn ask_now(&self, question: Question) -> Answer
-        requires { suits question self.now.kind ≡ true }
+        requires unspent { self.now.spent ≡ false }
+        requires suited { suits question self.now.kind ≡ true }
         ensures { result ≡ answer_of (present self.now.kind self.now.rows) question }
     {
         self.structure.ask_now(question)
@@ -215,6 +306,7 @@ impl<R: Retro + Drop> Session<R> {
 
     /// The answer to a question about a place. The session is unchanged, whatever the answer.
     pub fn ask(&mut self, place: u32, question: Question) -> Result<Answer, NoMemory>
+        requires unspent { self.old.spent ≡ false }
         requires within { place ≤ length self.old.rows }
         requires suited { suits question self.old.kind ≡ true }
         ensures unchanged { self.new ≡ self.old }
@@ -225,7 +317,8 @@ impl<R: Retro + Drop> Session<R> {
 
     /// The whole content at a place. The session is unchanged, whatever the answer.
     pub fn all(&mut self, place: u32) -> Result<Listing, NoMemory>
-        requires { place ≤ length self.old.rows }
+        requires unspent { self.old.spent ≡ false }
+        requires within { place ≤ length self.old.rows }
         ensures unchanged { self.new ≡ self.old }
         ensures content { IfOk result (λ listing. listing ≡ content (state_at self.old.kind self.old.rows place)) }
     {

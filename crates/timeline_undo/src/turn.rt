@@ -9,7 +9,7 @@ pub struct Put {
     pub change: Change,
 }
 
-/// The list edit that a delete, an undo or a redo has made.
+/// A list edit that was made.
 #[derive(Clone, Copy, Debug, PartialEq, Eq)]
 pub struct Turn {
     /// Whether the row was put in; else it was taken out.
@@ -20,4 +20,13 @@ pub struct Turn {
     pub row: Row,
     /// What has changed in the present.
     pub change: Change,
+}
+
+/// The list edits that an undo or a redo has made, in order.
+#[derive(Clone, Copy, Debug, PartialEq, Eq)]
+pub enum Turns {
+    /// Of an insert or a delete.
+    Single { turn: Turn },
+    /// Of a shift.
+    Double { first: Turn, second: Turn },
 }

@@ -1,0 +1,94 @@
+ghost use Rattle.std.specs.Prelude.{◌≡◌, ◌∷◌, [], ◌<◌, ◌≤◌, length, slice_get, Some};
+ghost use Rattle.retro_base.specs.Timeline.{TimesNeverFall};
+ghost use Rattle.timeline_undo.specs.Kept.{edit_of};
+ghost use Rattle.timeline_undo.specs.Replaced.{replacement_of, step_of_replacement};
+
+use crate::Target;
+use crate::noted::Noted;
+use order_timeline::Timeline;
+use retro_base::Row;
+
+/// A row that is to be replaced.
+#[derive(Clone, Copy)]
+pub(crate) struct Replacement {
+    /// Where the old row stands.
+    pub(crate) index: u32,
+    pub(crate) old: Row,
+    /// How many of the present rows, the old one among them, stand before the new one.
+    pub(crate) before: u32,
+    pub(crate) new: Row,
+}
+
+impl Replacement {
+    /// The replacement of the row at an index by a row with this number.
+    pub(crate) fn of(timeline: &Timeline, index: u32, target: Target, number: u32) -> Replacement
+        requires { index < length timeline.now }
+        ensures { (old : Row) → slice_get timeline.now index ≡ Some old → result ≡ replacement_of timeline.now target number index old }
+    {
+        let old = timeline.row_at(index);
+        match target {
+            Target::At { time } => Replacement {
+                index,
+                old,
+                before: timeline.place_at(time),
+                new: Row {
+                    number,
+                    time,
+                    op: old.op,
+                },
+            },
+            Target::Into { op } => Replacement {
+                index,
+                old,
+                before: index,
+                new: Row {
+                    number,
+                    time: old.time,
+                    op,
+                },
+            },
+        }
+    }
+
+    /// Its two edits, in order.
+    pub(crate) fn edits(self) -> (Noted, Noted)
+        requires { 0 < self.before }
+        ensures { edit_of result.0 ∷ edit_of result.1 ∷ [] ≡ step_of_replacement self }
+    {
+        if self.new.op.adds() {
+            let put = Noted::Added {
+                place: self.before,
+                row: self.new,
+            };
+            let index = if self.before <= self.index {
+                self.index + 1
+            } else {
+                self.index
+            };
+            (
+                put,
+                Noted::Taken {
+                    place: index,
+                    row: self.old,
+                },
+            )
+        } else {
+            let place = if self.before <= self.index {
+                self.before
+            } else {
+                self.before - 1
+            };
+            let put = Noted::Added {
+                place,
+                row: self.new,
+            };
+            (
+                Noted::Taken {
+                    place: self.index,
+                    row: self.old,
+                },
+                put,
+            )
+        }
+    }
+}

@@ -1,0 +1,72 @@
+ghost use Rattle.std.specs.Prelude.{◌≡◌, ◌<◌, ◌≤◌, length};
+ghost use Rattle.timeline_undo.specs.Tallies.{tallied, tally_before};
+ghost use Rattle.timeline_undo.specs.Replaced.{between, replaced};
+
+use crate::replacement::Replacement;
+use crate::tally::Tally;
+use order_timeline::Timeline;
+use retro_base::{Op, Row};
+
+/// How many rows are read at a time.
+const WINDOW: usize = 64;
+
+/// The first row that could not be performed, were the row replaced; none where all rows could.
+pub(crate) fn failing_after(timeline: &Timeline, replacement: Replacement) -> Option<Row>
+    requires index { replacement.index < length timeline.now }
+    requires before { replacement.before ≤ length timeline.now }
+    ensures { result ≡ result_err (tallied (replaced timeline.now replacement) (tally_before replacement.old.op replacement.new.op)) }
+{
+    let tally = Tally::before(replacement.old.op, replacement.new.op);
+    tally_along(timeline, replacement, tally).err()
+}
+
+/// The tally after all rows, the one row replaced by the other, or the first of them that finds nothing to take.
+fn tally_along(timeline: &Timeline, replacement: Replacement, tally: Tally) -> Result<Tally, Row>
+    requires index { replacement.index < length timeline.now }
+    requires before { replacement.before ≤ length timeline.now }
+    ensures { result ≡ tallied (replaced timeline.now replacement) tally }
+{
+    let Replacement {
+        index,
+        before,
+        new,
+        ..
+    } = replacement;
+    let end = timeline.len();
+    if before <= index {
+        let tally = walk(timeline, 0, before, tally)?;
+        let tally = tally.along(&[new])?;
+        let tally = walk(timeline, before, index, tally)?;
+        walk(timeline, index + 1, end, tally)
+    } else {
+        let tally = walk(timeline, 0, index, tally)?;
+        let tally = walk(timeline, index + 1, before, tally)?;
+        let tally = tally.along(&[new])?;
+        walk(timeline, before, end, tally)
+    }
+}
+
+/// The tally after the rows from one place to before another, or the first of them that finds nothing to take.
+fn walk(timeline: &Timeline, from: u32, to: u32, tally: Tally) -> Result<Tally, Row>
+    requires from { from ≤ to }
+    requires to { to ≤ length timeline.now }
+    ensures { result ≡ tallied (between timeline.now from to) tally }
+{
+    let mut window = [NO_ROW; WINDOW];
+    let mut tally = tally;
+    let mut place = from;
+    while place < to {
+        let read = timeline.read_rows(place, &mut window);
+        let rows = read.min(to - place);
+        tally = tally.along(&window[..rows as usize])?;
+        place += rows;
+    }
+    Ok(tally)
+}
+
+/// What a window holds before it is read into.
+const NO_ROW: Row = Row {
+    number: 1,
+    time: 0,
+    op: Op::Deq,
+};
