@@ -1,12 +1,15 @@
 -- Edits that can be made one after another.
-use Rattle.std.proofs.Common.{ℕ, ◌+◌, ◌<◌, ◌≤◌, List, [], ◌∷◌, ◌++◌, arith}
+use Rattle.std.proofs.Common.{◌≡◌, ℕ, ap, ◌∙◌, ◌+◌, ◌<◌, ◌≤◌, List, [], ◌∷◌, ◌++◌, arith}
 use Rattle.retro_base.specs.declared.kind.Kind.{Kind}
 use Rattle.retro_base.specs.declared.row.Row.{Row}
 use Rattle.retro_base.specs.Limits.{next_limit}
-use Rattle.retro_base.specs.Edits.{Edit, edited, inverse, IsWithin}
+use Rattle.retro_base.specs.Edits.{Edit, edited, edited_by, inverse, inverse_step, IsWithin}
 use Rattle.retro_base.specs.OrderLaws.{all_weaker}
 use Rattle.retro_base.specs.Timeline.{IsTimeline}
-use Rattle.timeline_undo.specs.Kept.{StandInTurn}
+use Rattle.timeline_undo.specs.declared.noted.NotedStep.{NotedStep}
+use Rattle.timeline_undo.specs.declared.noted.NotedStep.TheVariants.{Single, Double}
+use Rattle.timeline_undo.specs.Kept.{AreReady, StandInTurn, edit_of, step_of}
+use Rattle.timeline_undo.proofs.Edits.{inverse_twice}
 use Rattle.retro_base.specs.EditedLists.{can_go_back, there_and_back}
 
 -- a timeline is one still where another number comes next
@@ -33,9 +36,42 @@ pub in_turn_first : (kind : Kind) (next : ℕ) (rows : List Row) (first others :
 in_turn_first kind next rows [] others turn = tt
 in_turn_first kind next rows (edit ∷ first) others turn = (turn.0, in_turn_first kind next (edited rows edit) first others turn.1)
 
+-- the others can be made after them
+pub in_turn_others : (kind : Kind) (next : ℕ) (rows : List Row) (first others : List Edit)
+    → StandInTurn kind next rows (first ++ others) → StandInTurn kind next (edited_by rows first) others
+in_turn_others kind next rows [] others turn = turn
+in_turn_others kind next rows (edit ∷ first) others turn = in_turn_others kind next (edited rows edit) first others turn.1
+
 -- after an edit it can be taken back, and then what could be made before it can be redone
 pub in_turn_back : (kind : Kind) (next : ℕ) (rows : List Row) (edit : Edit) (more : List Edit) → IsWithin rows edit
     → IsTimeline kind rows next → StandInTurn kind next rows more → StandInTurn kind next (edited rows edit) (inverse edit ∷ more)
 in_turn_back kind next rows edit more within timeline turn =
     let back = there_and_back rows edit within in
     (record { within = can_go_back rows edit within; timeline = rw back timeline }, rw back turn)
+
+-- and so it is after a step
+pub step_back : (kind : Kind) (next : ℕ) (rows : List Row) (noted : NotedStep) (more : List Edit) → IsTimeline kind rows next
+    → StandInTurn kind next rows (step_of noted) → StandInTurn kind next rows more
+    → StandInTurn kind next (edited_by rows (step_of noted)) (inverse_step (step_of noted) ++ more)
+step_back kind next rows (Single edit) more timeline made turn = in_turn_back kind next rows (edit_of edit) more made.0.within timeline turn
+step_back kind next rows (Double first second) more timeline made turn =
+    in_turn_back kind next (edited rows (edit_of first)) (edit_of second) (inverse (edit_of first) ∷ more) made.1.0.within made.0.timeline
+    (in_turn_back kind next rows (edit_of first) more made.0.within timeline turn)
+
+-- the rows after them are a timeline
+pub timeline_after : (kind : Kind) (next : ℕ) (rows : List Row) (edits : List Edit) → IsTimeline kind rows next
+    → StandInTurn kind next rows edits → IsTimeline kind (edited_by rows edits) next
+timeline_after kind next rows [] timeline turn = timeline
+timeline_after kind next rows (edit ∷ more) timeline turn = timeline_after kind next (edited rows edit) more turn.0.timeline turn.1
+
+-- they are ready to be made
+pub ready : (kind : Kind) (next : ℕ) (rows : List Row) (edits : List Edit) → StandInTurn kind next rows edits → AreReady kind rows edits
+ready kind next rows [] turn = tt
+ready kind next rows (edit ∷ more) turn =
+    (turn.0.within, turn.0.timeline.in_order, turn.0.timeline.replayable, ready kind next (edited rows edit) more turn.1)
+
+-- a step that is taken back twice
+pub inverse_step_twice : (noted : NotedStep) → inverse_step (inverse_step (step_of noted)) ≡ step_of noted
+inverse_step_twice (Single edit) = ap (λ e. e ∷ []) (inverse_twice (edit_of edit))
+inverse_step_twice (Double first second) =
+    ap (λ e. e ∷ inverse (inverse (edit_of second)) ∷ []) (inverse_twice (edit_of first)) ∙ ap (λ e. edit_of first ∷ e ∷ []) (inverse_twice (edit_of second))

@@ -1,11 +1,11 @@
 -- A session stays one after each of its calls.
-use Rattle.std.proofs.Common.{◌≡◌, ℕ, true, false, cond, ◌+◌, ◌-◌, ◌<◌, ◌≤◌, List, [], ◌∷◌, ◌++◌, length, take, drop, slice_get, Option, Some, None, sym, ◌∙◌, ap, subst, arith}
+use Rattle.std.proofs.Common.{◌≡◌, ℕ, Bool, true, false, cond, ◌+◌, ◌-◌, ◌<◌, ◌≤◌, List, [], ◌∷◌, ◌++◌, length, take, drop, slice_get, Option, Some, None, sym, ◌∙◌, ap, subst, arith}
 use Rattle.std.proofs.lemmas.List.{length-append}
 use Rattle.circular_buffer.specs.Buffer.{Buffer, buffer, keep_last}
 use Rattle.retro_base.specs.declared.kind.Kind.{Kind}
 use Rattle.retro_base.specs.declared.row.Row.{Row}
 use Rattle.retro_base.specs.Limits.{most_rows, most_steps, next_limit}
-use Rattle.retro_base.specs.Edits.{add, cut, edited, inverse, IsWithin}
+use Rattle.retro_base.specs.Edits.{Step, add, cut, edited_by, inverse_step}
 use Rattle.retro_base.specs.Kind.{kind_of}
 use Rattle.retro_base.specs.Order.{Fits}
 use Rattle.retro_base.specs.Replay.{failure, IsValid}
@@ -14,12 +14,13 @@ use Rattle.retro_base.specs.ReplayableLaws.{replayable_with, replayable_without}
 use Rattle.retro_base.specs.Timeline.{IsFresh, IsTimeline}
 use Rattle.retro_base.specs.TimelineLaws.{next_is_fresh, timeline_with, timeline_without}
 use Rattle.std.specs.List.{insert, remove}
-use Rattle.timeline_undo.specs.declared.noted.Noted.{Noted}
+use Rattle.timeline_undo.specs.declared.noted.NotedStep.{NotedStep}
 use Rattle.timeline_undo.specs.declared.turn.Turn.{Turn}
-use Rattle.timeline_undo.specs.Session.{edit_reported}
-use Rattle.timeline_undo.specs.Kept.{edit_of, latest, latest_undone, StandInTurn, IsSession}
-use Rattle.timeline_undo.proofs.Edits.{inverse_twice}
-use Rattle.timeline_undo.proofs.InTurn.{in_turn_first, in_turn_back}
+use Rattle.timeline_undo.specs.declared.edit.Interrupted.{Interrupted}
+use Rattle.timeline_undo.specs.declared.edit.Interrupted.TheVariants.{AtOnce, Midway}
+use Rattle.timeline_undo.specs.Session.{IsSpentWithin, edit_reported}
+use Rattle.timeline_undo.specs.Kept.{step_of, latest, latest_undone, StandInTurn, IsLeftMidway, IsSession}
+use Rattle.timeline_undo.proofs.InTurn.{in_turn_first, in_turn_others, inverse_step_twice, step_back, timeline_after}
 use Rattle.timeline_undo.proofs.Rings.{up_to_newest, latest-more, latest_undone-more, latest_undone-kept, few_kept}
 
 -- an accepted insert leaves a timeline, and so does an accepted delete
@@ -50,7 +51,7 @@ append_leads kind rows next place row timeline end number fresh fits room of_kin
 })
 
 -- after it a session without a history is one still
-pub session_appended : (kind : Kind) (old performed rows after : List Row) (next : ℕ) (undo redo : Buffer Noted) → IsSession kind old rows next undo redo
+pub session_appended : (kind : Kind) (old performed rows after : List Row) (next : ℕ) (undo redo : Buffer NotedStep) → IsSession kind old rows next undo redo
     → undo.items ≡ [] → redo.items ≡ [] → performed ≡ after → IsTimeline kind after next → IsSession kind performed after next undo redo
 session_appended kind old performed rows after next undo redo session no_undo no_redo same timeline = record {
   same = same;
@@ -62,38 +63,37 @@ session_appended kind old performed rows after next undo redo session no_undo no
   redoable = rw no_redo tt;
 }
 
--- the newest edit of the undo ring can be taken back, and then those before it
-pub undo_stands : (kind : Kind) (next : ℕ) (rows : List Row) (noted : List Noted) (last : Noted) → slice_get noted (length noted - 1) ≡ Some last
+-- the newest step of the undo ring can be taken back, and then those before it
+pub undo_stands : (kind : Kind) (next : ℕ) (rows : List Row) (noted : List NotedStep) (last : NotedStep) → slice_get noted (length noted - 1) ≡ Some last
     → StandInTurn kind next rows (latest_undone noted)
-    → StandInTurn kind next rows (inverse (edit_of last) ∷ latest_undone (take (length noted - 1) noted))
+    → StandInTurn kind next rows (inverse_step (step_of last) ++ latest_undone (take (length noted - 1) noted))
 undo_stands kind next rows noted last there turn =
     subst (StandInTurn kind next rows) (ap latest_undone (sym (up_to_newest noted last there)) ∙ latest_undone-more (take (length noted - 1) noted) last) turn
 
--- and the newest edit of the redo ring can be redone
-pub redo_stands : (kind : Kind) (next : ℕ) (rows : List Row) (noted : List Noted) (last : Noted) → slice_get noted (length noted - 1) ≡ Some last
-    → StandInTurn kind next rows (latest noted) → StandInTurn kind next rows (edit_of last ∷ latest (take (length noted - 1) noted))
+-- and the newest step of the redo ring can be redone
+pub redo_stands : (kind : Kind) (next : ℕ) (rows : List Row) (noted : List NotedStep) (last : NotedStep) → slice_get noted (length noted - 1) ≡ Some last
+    → StandInTurn kind next rows (latest noted) → StandInTurn kind next rows (step_of last ++ latest (take (length noted - 1) noted))
 redo_stands kind next rows noted last there turn =
     subst (StandInTurn kind next rows) (ap latest (sym (up_to_newest noted last there)) ∙ latest-more (take (length noted - 1) noted) last) turn
 
 -- there is one in the ring
-some_there : (noted : List Noted) (last : Noted) → slice_get noted (length noted - 1) ≡ Some last → length (take (length noted - 1) noted) + 1 ≡ length noted
+some_there : (noted : List NotedStep) (last : NotedStep) → slice_get noted (length noted - 1) ≡ Some last → length (take (length noted - 1) noted) + 1 ≡ length noted
 some_there noted last there =
     sym (length-append (take (length noted - 1) noted) (last ∷ [])) ∙ ap length (up_to_newest noted last there)
 
--- after an accepted edit that was noted
-pub session_noted : (kind : Kind) (performed rows : List Row) (next : ℕ) (undo redo : Buffer Noted) (noted : Noted)
-    → undo.capacity ≡ most_steps → redo.capacity ≡ most_steps
-    → IsWithin rows (edit_of noted) → performed ≡ edited rows (edit_of noted)
-    → IsTimeline kind rows next → IsTimeline kind (edited rows (edit_of noted)) next → StandInTurn kind next rows (latest_undone undo.items)
-    → IsSession kind performed (edited rows (edit_of noted)) next
+-- after an accepted step that was noted
+pub session_noted : (kind : Kind) (performed rows : List Row) (next : ℕ) (undo redo : Buffer NotedStep) (noted : NotedStep)
+    → undo.capacity ≡ most_steps → redo.capacity ≡ most_steps → performed ≡ edited_by rows (step_of noted)
+    → IsTimeline kind rows next → StandInTurn kind next rows (step_of noted) → StandInTurn kind next rows (latest_undone undo.items)
+    → IsSession kind performed (edited_by rows (step_of noted)) next
     (buffer (keep_last undo.capacity (undo.items ++ noted ∷ [])) undo.capacity) (buffer [] redo.capacity)
-session_noted kind performed rows next undo redo noted undo_room redo_room within same before after turn =
+session_noted kind performed rows next undo redo noted undo_room redo_room same before made turn =
     let all = undo.items ++ noted ∷ [] in
     let dropped = length all - undo.capacity in
-    let back : StandInTurn kind next (edited rows (edit_of noted)) (latest_undone all) =
-    rw (latest_undone-more undo.items noted) (in_turn_back kind next rows (edit_of noted) (latest_undone undo.items) within before turn) in record {
+    let back : StandInTurn kind next (edited_by rows (step_of noted)) (latest_undone all) =
+    rw (latest_undone-more undo.items noted) (step_back kind next rows noted (latest_undone undo.items) before made turn) in record {
       same = same;
-      timeline = after;
+      timeline = timeline_after kind next rows (step_of noted) before made;
       undo_room = undo_room;
       redo_room = redo_room;
       few = omega (arith, few_kept undo.capacity all, undo_room);
@@ -101,41 +101,78 @@ session_noted kind performed rows next undo redo noted undo_room redo_room withi
       redoable = tt;
     }
 
+-- after a step that met out of memory after its first edit
+pub session_spent : (kind : Kind) (performed rows : List Row) (next : ℕ) (undo redo : Buffer NotedStep)
+    → undo.capacity ≡ most_steps → redo.capacity ≡ most_steps → performed ≡ rows → IsTimeline kind rows next
+    → IsSession kind performed rows next (buffer [] undo.capacity) (buffer [] redo.capacity)
+session_spent kind performed rows next undo redo undo_room redo_room same timeline = record {
+  same = same;
+  timeline = timeline;
+  undo_room = undo_room;
+  redo_room = redo_room;
+  few = omega arith;
+  undoable = tt;
+  redoable = tt;
+}
+
+-- in its first edit all is as before
+pub at_once : (before after : List Row) (step : Step) (place : Interrupted) → place ≡ AtOnce → IsLeftMidway before step after place → after ≡ before
+at_once before after step AtOnce is left = left
+at_once before after step Midway is left = absurd (cc)
+
+-- after its first edit the rows are a timeline
+pub midway_timeline : (kind : Kind) (next : ℕ) (rows after : List Row) (edits : Step) (place : Interrupted) → StandInTurn kind next rows edits
+    → place ≡ Midway → IsLeftMidway rows edits after place → IsTimeline kind after next
+midway_timeline kind next rows after edits AtOnce turn is left = absurd (cc)
+midway_timeline kind next rows after [] Midway turn is left = absurd left
+midway_timeline kind next rows after (edit ∷ []) Midway turn is left = absurd left
+midway_timeline kind next rows after (first ∷ second ∷ more) Midway turn is left = rw left turn.0.timeline
+
+-- and the session is spent
+pub midway_spent : (before after : List Row) (edits : Step) (spent : Bool) (place : Interrupted) → place ≡ Midway → IsLeftMidway before edits after place
+    → spent ≡ true → IsSpentWithin before edits after spent
+midway_spent before after edits spent AtOnce is left flag = absurd (cc)
+midway_spent before after [] spent Midway is left flag = left
+midway_spent before after (edit ∷ []) spent Midway is left flag = left
+midway_spent before after (first ∷ second ∷ more) spent Midway is left flag = (left, flag)
+
 -- after an undo
-pub session_undone : (kind : Kind) (old performed rows : List Row) (next : ℕ) (undo redo : Buffer Noted) (last : Noted)
+pub session_undone : (kind : Kind) (old performed rows : List Row) (next : ℕ) (undo redo : Buffer NotedStep) (last back : NotedStep)
     → IsSession kind old rows next undo redo → slice_get undo.items (length undo.items - 1) ≡ Some last
-    → performed ≡ edited rows (inverse (edit_of last))
-    → IsSession kind performed (edited rows (inverse (edit_of last))) next
+    → step_of back ≡ inverse_step (step_of last) → performed ≡ edited_by rows (step_of back)
+    → IsSession kind performed (edited_by rows (step_of back)) next
     (buffer (take (length undo.items - 1) undo.items) undo.capacity) (buffer (redo.items ++ last ∷ []) redo.capacity)
-session_undone kind old performed rows next undo redo last session there same =
-    let turn = undo_stands kind next rows undo.items last there session.undoable in record {
+session_undone kind old performed rows next undo redo last back session there is same =
+    let turn = rw (← is) at (undo_stands kind next rows undo.items last there session.undoable) in
+    let made = in_turn_first kind next rows (step_of back) (latest_undone (take (length undo.items - 1) undo.items)) turn in record {
       same = same;
-      timeline = turn.0.timeline;
+      timeline = timeline_after kind next rows (step_of back) session.timeline made;
       undo_room = session.undo_room;
       redo_room = session.redo_room;
       few = omega (arith, session.few, some_there undo.items last there, length-append redo.items (last ∷ []));
-      undoable = turn.1;
+      undoable = in_turn_others kind next rows (step_of back) (latest_undone (take (length undo.items - 1) undo.items)) turn;
       redoable = rw (latest-more redo.items last)
-          (subst (λ e. StandInTurn kind next (edited rows (inverse (edit_of last))) (e ∷ latest redo.items)) (inverse_twice (edit_of last))
-          (in_turn_back kind next rows (inverse (edit_of last)) (latest redo.items) turn.0.within session.timeline session.redoable));
+          (subst (λ e. StandInTurn kind next (edited_by rows (step_of back)) (e ++ latest redo.items)) (ap inverse_step is ∙ inverse_step_twice last)
+          (step_back kind next rows back (latest redo.items) session.timeline made session.redoable));
     }
 
 -- after a redo
-pub session_redone : (kind : Kind) (old performed rows : List Row) (next : ℕ) (undo redo : Buffer Noted) (last : Noted)
+pub session_redone : (kind : Kind) (old performed rows : List Row) (next : ℕ) (undo redo : Buffer NotedStep) (last : NotedStep)
     → IsSession kind old rows next undo redo → slice_get redo.items (length redo.items - 1) ≡ Some last
-    → performed ≡ edited rows (edit_of last)
-    → IsSession kind performed (edited rows (edit_of last)) next
+    → performed ≡ edited_by rows (step_of last)
+    → IsSession kind performed (edited_by rows (step_of last)) next
     (buffer (undo.items ++ last ∷ []) undo.capacity) (buffer (take (length redo.items - 1) redo.items) redo.capacity)
 session_redone kind old performed rows next undo redo last session there same =
-    let turn = redo_stands kind next rows redo.items last there session.redoable in record {
+    let turn = redo_stands kind next rows redo.items last there session.redoable in
+    let made = in_turn_first kind next rows (step_of last) (latest (take (length redo.items - 1) redo.items)) turn in record {
       same = same;
-      timeline = turn.0.timeline;
+      timeline = timeline_after kind next rows (step_of last) session.timeline made;
       undo_room = session.undo_room;
       redo_room = session.redo_room;
       few = omega (arith, session.few, some_there redo.items last there, length-append undo.items (last ∷ []));
       undoable = rw (latest_undone-more undo.items last)
-          (in_turn_back kind next rows (edit_of last) (latest_undone undo.items) turn.0.within session.timeline session.undoable);
-      redoable = turn.1;
+          (step_back kind next rows last (latest_undone undo.items) session.timeline made session.undoable);
+      redoable = in_turn_others kind next rows (step_of last) (latest (take (length redo.items - 1) redo.items)) turn;
     }
 
 -- a turn that tells of this row

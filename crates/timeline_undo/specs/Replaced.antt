@@ -1,11 +1,11 @@
 -- The rows after a row was replaced, and its two edits.
-use Rattle.std.specs.Prelude.{ℕ, suc, ◌+◌, ◌-◌, nat_le, List, [], ◌∷◌, ◌++◌, take, drop, if◌then◌else◌}
+use Rattle.std.specs.Prelude.{ℕ, suc, ◌-◌, nat_le, List, ◌∷◌, ◌++◌, take, drop, slice_range, if◌then◌else◌}
 use Rattle.retro_base.specs.declared.row.Row.{Row}
-use Rattle.retro_base.specs.Edits.{Step, add, cut}
+use Rattle.retro_base.specs.Edits.{Step}
 use Rattle.retro_base.specs.Kind.{adds}
 use Rattle.timeline_undo.specs.declared.replacement.Replacement.{Replacement}
 use Rattle.timeline_undo.specs.declared.shift.Target.{Target}
-use Rattle.timeline_undo.specs.Shift.{index_after, place_for, put_then_cut, cut_then_put, replacing}
+use Rattle.timeline_undo.specs.Shift.{place_for, put_then_cut, cut_then_put, replacing}
 
 -- the new row stands after so many of the present rows, the old one among them
 abbrev pub replacement_of : List Row → Target → ℕ → ℕ → Row → Replacement
@@ -21,13 +21,9 @@ step_of_replacement r =
     if adds r.new.op then put_then_cut r.before r.new r.index r.old
     else cut_then_put r.index r.old (before_without r.index r.before) r.new
 
--- the rows from one index to before another
-abbrev pub between : List Row → ℕ → ℕ → List Row
-between rows from to = take (to - from) (drop from rows)
-
 -- the rows after the replacement
 abbrev pub replaced : List Row → Replacement → List Row
 replaced rows r =
     if nat_le r.before r.index
-    then between rows 0 r.before ++ r.new ∷ (between rows r.before r.index ++ drop (suc r.index) rows)
-    else between rows 0 r.index ++ (between rows (suc r.index) r.before ++ r.new ∷ drop r.before rows)
+    then take r.before rows ++ r.new ∷ (slice_range rows r.before r.index ++ drop (suc r.index) rows)
+    else take r.index rows ++ (slice_range rows (suc r.index) r.before ++ r.new ∷ drop r.before rows)

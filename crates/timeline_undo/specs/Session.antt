@@ -62,15 +62,15 @@ IsStepCause kind rows step edits.NoMemory = IsStepAccepted kind rows step
 abbrev pub IsCause : Kind → List Row → Edit → EditError → Type 0
 IsCause kind rows edit error = IsStepCause kind rows (edit ∷ []) error
 
--- the session met out of memory after the first list edit of a step and before its end: it is spent
-abbrev pub IsSpentWithin : SessionState → Step → SessionState → Type 0
-IsSpentWithin before [] after = ⊥
-IsSpentWithin before (edit ∷ []) after = ⊥
-IsSpentWithin before (first ∷ second ∷ more) after = (after.rows ≡ edited before.rows first) × (after.spent ≡ true)
+-- out of memory after the first list edit of a step and before its end: the rows after that edit are left, and the session is spent
+abbrev pub IsSpentWithin : List Row → Step → List Row → Bool → Type 0
+IsSpentWithin rows [] left spent = ⊥
+IsSpentWithin rows (edit ∷ []) left spent = ⊥
+IsSpentWithin rows (first ∷ second ∷ more) left spent = (left ≡ edited rows first) × (spent ≡ true)
 
 -- after out of memory all is as before, or the session is spent
 abbrev pub IsLeftWithout : SessionState → Step → SessionState → Type 0
-IsLeftWithout before step after = (after ≡ before) ⊎ IsSpentWithin before step after
+IsLeftWithout before step after = (after ≡ before) ⊎ IsSpentWithin before.rows step after.rows after.spent
 
 -- what a shift leaves that does not stand
 abbrev pub IsLeftByShift : SessionState → Step → SessionState → EditError → Type 0

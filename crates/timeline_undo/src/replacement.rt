@@ -1,5 +1,4 @@
-ghost use Rattle.std.specs.Prelude.{◌≡◌, ◌∷◌, [], ◌<◌, ◌≤◌, length, slice_get, Some};
-ghost use Rattle.retro_base.specs.Timeline.{TimesNeverFall};
+ghost use Rattle.std.specs.Prelude.{◌≡◌, ◌+◌, ◌^◌, ◌∷◌, [], ◌<◌, length, slice_get, Some};
 ghost use Rattle.timeline_undo.specs.Kept.{edit_of};
 ghost use Rattle.timeline_undo.specs.Replaced.{replacement_of, step_of_replacement};
 
@@ -52,7 +51,7 @@ impl Replacement {
 
     /// Its two edits, in order.
     pub(crate) fn edits(self) -> (Noted, Noted)
-        requires { 0 < self.before }
+        requires { self.index + 1 < 2 ^ 32 }
         ensures { edit_of result.0 ∷ edit_of result.1 ∷ [] ≡ step_of_replacement self }
     {
         if self.new.op.adds() {

@@ -1,6 +1,7 @@
-ghost use Rattle.std.specs.Prelude.{◌≡◌, ◌<◌, ◌≤◌, length};
+ghost use Rattle.std.specs.Prelude.{◌≡◌, ◌<◌, ◌≤◌, length, slice_range};
+ghost use Rattle.std.specs.Result.{result_err};
 ghost use Rattle.timeline_undo.specs.Tallies.{tallied, tally_before};
-ghost use Rattle.timeline_undo.specs.Replaced.{between, replaced};
+ghost use Rattle.timeline_undo.specs.Replaced.{replaced};
 
 use crate::replacement::Replacement;
 use crate::tally::Tally;
@@ -50,7 +51,7 @@ fn tally_along(timeline: &Timeline, replacement: Replacement, tally: Tally) -> R
 fn walk(timeline: &Timeline, from: u32, to: u32, tally: Tally) -> Result<Tally, Row>
     requires from { from ≤ to }
     requires to { to ≤ length timeline.now }
-    ensures { result ≡ tallied (between timeline.now from to) tally }
+    ensures { result ≡ tallied (slice_range timeline.now from to) tally }
 {
     let mut window = [NO_ROW; WINDOW];
     let mut tally = tally;

@@ -1,32 +1,49 @@
-use Rattle.std.proofs.Common.{refl, sym, ◌∙◌}
+use Rattle.std.proofs.Common.{inl, inr, refl, sym, ◌∙◌}
+use Rattle.timeline_undo.specs.Kept.{step_of}
+use Rattle.timeline_undo.proofs.InTurn.{in_turn_first, ready}
 use Rattle.timeline_undo.proofs.Rings.{steps-older, steps-more, steps-newest, no_newest}
-use Rattle.timeline_undo.proofs.Sessions.{redo_stands, session_redone}
+use Rattle.timeline_undo.proofs.Sessions.{at_once, midway_spent, midway_timeline, session_spent, session_redone, redo_stands}
 use Rattle.timeline_undo.proofs.session.Session.redo.Goals as goal
 
 pub returns-in_default-clause-nothing : goal.returns-in_default-clause-nothing
 returns-in_default-clause-nothing g c = (λ e. rw (← c.self.view_is) (no_newest c.self.inside.redo.items (sym c.newest.ensures ∙ c.in_default.is)), λ e. refl)
 
-pub make-requires-clause-within : goal.make-requires-clause-within
-make-requires-clause-within g c =
-    (redo_stands _ _ _ c.self.inside.redo.items c.in-Some.noted (sym c.newest.ensures ∙ c.in-Some.is) c.self.invariant.redoable).0.within
+pub make_step-requires-clause-ready : goal.make_step-requires-clause-ready
+make_step-requires-clause-ready g c =
+    (ready _ c.self.inside.next _ _ (in_turn_first _ _ _ (step_of c.in-Some.step) _
+    (redo_stands _ _ _ c.self.inside.redo.items c.in-Some.step (sym c.newest.ensures ∙ c.in-Some.is) c.self.invariant.redoable)))
 
-pub make-requires-clause-in_order : goal.make-requires-clause-in_order
-make-requires-clause-in_order g c =
-    (redo_stands _ _ _ c.self.inside.redo.items c.in-Some.noted (sym c.newest.ensures ∙ c.in-Some.is) c.self.invariant.redoable).0.timeline.in_order
+pub invariant_of-self : goal.invariant_of-self
+invariant_of-self g c =
+    rw (c.in-Ok.ensures.kind, c.in-Ok.ensures.rows, c.pass_on.ensures.from, c.pass_on.ensures.to)
+    (session_redone _ _ _ c.self.inside.timeline _ c.self.inside.undo c.self.inside.redo c.in-Some.step c.self.invariant
+    (sym c.newest.ensures ∙ c.in-Some.is) (c.in-Ok.ensures.same ∙ c.in-Ok.ensures.rows))
 
-pub make-requires-clause-replayable : goal.make-requires-clause-replayable
-make-requires-clause-replayable g c =
-    (redo_stands _ _ _ c.self.inside.redo.items c.in-Some.noted (sym c.newest.ensures ∙ c.in-Some.is) c.self.invariant.redoable).0.timeline.replayable
+pub invariant_of-self-in-Err-Midway : goal.invariant_of-self-in-Err-Midway
+invariant_of-self-in-Err-Midway g c =
+    rw (c.in-Err-Midway.ensures.kind, c.forget.ensures.undo, c.forget.ensures.redo)
+    (session_spent _ _ _ _ c.self.inside.undo c.self.inside.redo c.self.invariant.undo_room c.self.invariant.redo_room c.in-Err-Midway.ensures.same
+    (midway_timeline _ _ c.self.inside.timeline _ (step_of c.in-Some.step) c.in-Err-Midway.field-0
+    (in_turn_first _ _ _ (step_of c.in-Some.step) _ (redo_stands _ _ _ c.self.inside.redo.items c.in-Some.step (sym c.newest.ensures ∙ c.in-Some.is) c.self.invariant.redoable))
+    c.in-Err-Midway.field-0-is c.in-Err-Midway.ensures.err))
 
-pub invariant_of-self-2 : goal.invariant_of-self-2
-invariant_of-self-2 g c =
-    rw (c.in_ok-turn.ensures.kind, c.in_ok-turn.ensures.rows, c.pass_on.ensures.from, c.pass_on.ensures.to)
-    (session_redone _ _ _ c.self.inside.timeline _ c.self.inside.undo c.self.inside.redo c.in-Some.noted c.self.invariant (sym c.newest.ensures ∙ c.in-Some.is)
-    (c.in_ok-turn.ensures.same ∙ c.in_ok-turn.ensures.rows))
-
-pub returns-clause-step : goal.returns-clause-step
-returns-clause-step g c = (
-  rw (← c.self.view_is, c.in_ok-turn.ensures.reported) (steps-newest c.self.inside.redo.items _ (sym c.newest.ensures ∙ c.in-Some.is)),
-  rw (← c.self.view_is, c.in_ok-turn.ensures.reported, c.in_ok-turn.ensures.kind, c.in_ok-turn.ensures.rows, c.pass_on.ensures.from, c.pass_on.ensures.to)
+pub returns-in-Ok-clause-step : goal.returns-in-Ok-clause-step
+returns-in-Ok-clause-step g c = (
+  rw (← c.self.view_is, c.in-Ok.ensures.reported) (steps-newest c.self.inside.redo.items _ (sym c.newest.ensures ∙ c.in-Some.is)),
+  rw (← c.self.view_is, c.in-Ok.ensures.reported, c.in-Ok.ensures.kind, c.in-Ok.ensures.rows, c.pass_on.ensures.from, c.pass_on.ensures.to)
       (rw (steps-older c.self.inside.redo.items, steps-more c.self.inside.undo.items _) refl),
+)
+
+pub returns-in-Err-AtOnce-clause-err : goal.returns-in-Err-AtOnce-clause-err
+returns-in-Err-AtOnce-clause-err g c = (
+  step_of c.in-Some.step,
+  rw (← c.self.view_is) (steps-newest c.self.inside.redo.items _ (sym c.newest.ensures ∙ c.in-Some.is)),
+  inl (rw (← c.self.view_is, c.in-Err-AtOnce.ensures.kind, at_once _ _ _ _ c.in-Err-AtOnce.field-0-is c.in-Err-AtOnce.ensures.err) refl),
+)
+
+pub returns-in-Err-Midway-clause-err : goal.returns-in-Err-Midway-clause-err
+returns-in-Err-Midway-clause-err g c = (
+  step_of c.in-Some.step,
+  rw (← c.self.view_is) (steps-newest c.self.inside.redo.items _ (sym c.newest.ensures ∙ c.in-Some.is)),
+  inr (rw (← c.self.view_is) (midway_spent _ _ _ _ c.in-Err-Midway.field-0 c.in-Err-Midway.field-0-is c.in-Err-Midway.ensures.err refl)),
 )

@@ -1,0 +1,264 @@
+-- The tally along the rows after a replacement finds the first of them that cannot be performed.
+use Rattle.std.proofs.Common.{◌≡◌, ◌≢◌, ℕ, ℤ, zero, suc, ◌+◌, ◌≤◌, Bool, true, false, cond, List, [], ◌∷◌, ◌++◌, length, take, drop, slice_get, refl, sym, ap, ◌∙◌, arith, Option, Some, None, Result, Ok, Err}
+use Rattle.std.specs.List.{insert, remove, AllByRecursion}
+use Rattle.std.specs.Option.{option_and_then, option_map}
+use Rattle.std.specs.Ordering.{int_eq}
+use Rattle.std.specs.Result.{result_err}
+use Rattle.std.proofs.lemmas.List.{take-append-drop}
+use Rattle.retro_base.specs.declared.kind.Kind.{Kind}
+use Rattle.retro_base.specs.declared.kind.Kind.TheVariants.{Queue, Stack, Deque, Dict, Pq}
+use Rattle.retro_base.specs.declared.op.Op.{Op}
+use Rattle.retro_base.specs.declared.op.Op.TheVariants.{Enq, Deq, Push, Pop, PushL, PushR, PopL, PopR, Put, Del, Ins, DelMin}
+use Rattle.retro_base.specs.declared.row.Row.{Row}
+use Rattle.retro_base.specs.Counting.{pair_after, one_fewer, size_after, quantity_of, quantity_after, counted}
+use Rattle.retro_base.specs.Edits.{failing_row}
+use Rattle.retro_base.specs.Kind.{adds, kind_of}
+use Rattle.retro_base.specs.OrderLaws.{all_with, all_without}
+use Rattle.retro_base.specs.Replay.{one_later, failure, fold_rows, run, IsValid}
+use Rattle.retro_base.specs.State.{pairs}
+use Rattle.retro_base.specs.Timeline.{AreOfKind}
+use Rattle.retro_base.specs.lemmas.Counted.{all_lines, around}
+use Rattle.retro_base.specs.lemmas.CountedEntries.{pq_failure}
+use Rattle.retro_base.specs.lemmas.CountedKeys.{all_keys, key_of_row, passed_in, passed_out}
+use Rattle.retro_base.specs.lemmas.CountedLines.{line_failure}
+use Rattle.retro_base.specs.lemmas.Folds.{BothOrNeither, folds_agree, same_failure, fold_rows-nil, fold_rows-some, fold_rows-none}
+use Rattle.retro_base.specs.lemmas.SortedPairs.{sorted_nil}
+use Rattle.timeline_undo.specs.declared.tally.Presence.{Presence}
+use Rattle.timeline_undo.specs.declared.tally.Tally.{Tally}
+use Rattle.timeline_undo.specs.declared.tally.Tally.TheVariants.{Items, Keys}
+use Rattle.timeline_undo.specs.Tallies.{IsUpTo, absent, key_of, presence_after, tallied, tally_after, tally_before, tally_of_keys}
+use Rattle.timeline_undo.proofs.TwoKeys.{counted_key, keyed, tally_of, two_keys}
+
+-- rows in two parts
+pub tallied-some : (row : Row) (rows : List Row) (tally next : Tally) → tally_after tally row.op ≡ Some next → tallied (row ∷ rows) tally ≡ tallied rows next
+unfolding tallied
+tallied-some row rows tally next e = rw e refl
+
+pub tallied-none : (row : Row) (rows : List Row) (tally : Tally) → tally_after tally row.op ≡ None → tallied (row ∷ rows) tally ≡ Err row
+unfolding tallied
+tallied-none row rows tally e = rw e refl
+
+pub tallied-nil : (tally : Tally) → tallied [] tally ≡ Ok tally
+unfolding tallied
+tallied-nil tally = refl
+
+pub tallied-then : (rows more : List Row) (tally next : Tally) → tallied rows tally ≡ Ok next → tallied (rows ++ more) tally ≡ tallied more next
+tallied-then [] more tally next e = let same : tally ≡ next = (let here : ◌≡◌ {A = Result Tally Row} (Ok tally) (Ok next) = sym (tallied-nil tally) ∙ e in cc) in ap (tallied more) same
+tallied-then (row ∷ rows) more tally next e =
+    elim (tally_after tally row.op) as (λ o. tally_after tally row.op ≡ o → tallied (row ∷ (rows ++ more)) tally ≡ tallied more next) [
+      | None ↦ λ stops. absurd (let wrong : ◌≡◌ {A = Result Tally Row} (Err row) (Ok next) = sym (tallied-none row rows tally stops) ∙ e in cc)
+      | Some to ↦ λ goes. tallied-some row (rows ++ more) tally to goes ∙ tallied-then rows more to next (sym (tallied-some row rows tally to goes) ∙ e)
+    ] refl
+
+pub tallied-stops : (rows more : List Row) (tally : Tally) (failing : Row) → tallied rows tally ≡ Err failing → tallied (rows ++ more) tally ≡ Err failing
+tallied-stops [] more tally failing e = absurd (let wrong : ◌≡◌ {A = Result Tally Row} (Ok tally) (Err failing) = sym (tallied-nil tally) ∙ e in cc)
+tallied-stops (row ∷ rows) more tally failing e =
+    elim (tally_after tally row.op) as (λ o. tally_after tally row.op ≡ o → tallied (row ∷ (rows ++ more)) tally ≡ Err failing) [
+      | None ↦ λ stops. tallied-none row (rows ++ more) tally stops ∙ sym (tallied-none row rows tally stops) ∙ e
+      | Some to ↦ λ goes. tallied-some row (rows ++ more) tally to goes ∙ tallied-stops rows more to failing (sym (tallied-some row rows tally to goes) ∙ e)
+    ] refl
+
+-- each row counts one more at the most
+fewer_by : (n m : ℕ) → one_fewer n ≡ Some m → m ≤ suc n
+fewer_by zero m e = absurd (cc)
+fewer_by (suc n) m e = let same : n ≡ m = cc in omega arith
+
+one_more_by : (n m : ℕ) → ◌≡◌ {A = Option ℕ} (Some (suc n)) (Some m) → m ≤ suc n
+one_more_by n m e = let same : suc n ≡ m = cc in omega arith
+
+size_by : (op : Op) (n m : ℕ) → size_after op n ≡ Some m → m ≤ suc n
+size_by (Enq v) n m e = one_more_by n m e
+size_by Deq n m e = fewer_by n m e
+size_by (Push v) n m e = one_more_by n m e
+size_by Pop n m e = fewer_by n m e
+size_by (PushL v) n m e = one_more_by n m e
+size_by (PushR v) n m e = one_more_by n m e
+size_by PopL n m e = fewer_by n m e
+size_by PopR n m e = fewer_by n m e
+size_by (Put k v) n m e = one_more_by n m e
+size_by (Del k) n m e = fewer_by n m e
+size_by (Ins k) n m e = one_more_by n m e
+size_by DelMin n m e = fewer_by n m e
+
+item_by : (op : Op) (n most : ℕ) (next : Tally) → n ≤ most → option_map Items (size_after op n) ≡ Some next → IsUpTo next (suc most)
+item_by op n most next within e =
+    elim (size_after op n) as (λ o. size_after op n ≡ o → IsUpTo next (suc most)) [
+      | None ↦ λ stops. absurd (let wrong : ◌≡◌ {A = Option Tally} None (Some next) = rw stops at e in cc)
+      | Some m ↦ λ goes.
+          let is : Items m ≡ next = (let here : ◌≡◌ {A = Option Tally} (Some (Items m)) (Some next) = rw goes at e in cc) in
+          rw (← is) (omega (arith, size_by op n m goes))
+    ] refl
+
+abbrev is_keys : Tally → Bool
+is_keys (Items n) = false
+is_keys (Keys p q) = true
+
+keys_up_to : (next : Tally) (most : ℕ) → is_keys next ≡ true → IsUpTo next most
+keys_up_to (Items n) most e = absurd (cc)
+keys_up_to (Keys p q) most e = tt
+
+keys_stay : (p q : Presence) (op : Op) (next : Tally) → tally_after (Keys p q) op ≡ Some next → is_keys next ≡ true
+keys_stay p q op next e =
+    elim (presence_after p op) as (λ o. presence_after p op ≡ o → is_keys next ≡ true) [
+      | None ↦ λ stops. absurd (let wrong : ◌≡◌ {A = Option Tally} None (Some next) = rw stops at e in cc)
+      | Some one ↦ λ goes.
+          elim (presence_after q op) as (λ o. presence_after q op ≡ o → is_keys next ≡ true) [
+            | None ↦ λ stops. absurd (let wrong : ◌≡◌ {A = Option Tally} None (Some next) = rw (goes, stops) at e in cc)
+            | Some other ↦ λ too. let is : Keys one other ≡ next = (let here : ◌≡◌ {A = Option Tally} (Some (Keys one other)) (Some next) = rw (goes, too) at e in cc) in rw (← is) refl
+          ] refl
+    ] refl
+
+pub one_row_up_to : (tally next : Tally) (op : Op) (most : ℕ) → IsUpTo tally most → tally_after tally op ≡ Some next → IsUpTo next (suc most)
+one_row_up_to (Items n) next op most within e = item_by op n most next within e
+one_row_up_to (Keys p q) next op most within e = keys_up_to next (suc most) (keys_stay p q op next e)
+
+pub up_to_more : (tally : Tally) (less more : ℕ) → less ≤ more → IsUpTo tally less → IsUpTo tally more
+up_to_more (Items n) less more within up = omega arith
+up_to_more (Keys p q) less more within up = tt
+
+pub rows_up_to : (rows : List Row) (tally next : Tally) (most : ℕ) → IsUpTo tally most → tallied rows tally ≡ Ok next → IsUpTo next (most + length rows)
+rows_up_to [] tally next most up e =
+    let same : tally ≡ next = (let here : ◌≡◌ {A = Result Tally Row} (Ok tally) (Ok next) = sym (tallied-nil tally) ∙ e in cc) in
+    rw (← same) (up_to_more tally most (most + 0) (omega arith) up)
+rows_up_to (row ∷ rows) tally next most up e =
+    elim (tally_after tally row.op) as (λ o. tally_after tally row.op ≡ o → IsUpTo next (most + suc (length rows))) [
+      | None ↦ λ stops. absurd (let wrong : ◌≡◌ {A = Result Tally Row} (Err row) (Ok next) = sym (tallied-none row rows tally stops) ∙ e in cc)
+      | Some to ↦ λ goes.
+          up_to_more next (suc most + length rows) (most + suc (length rows)) (omega arith)
+          (rows_up_to rows to next (suc most) (one_row_up_to tally to row.op most up goes) (sym (tallied-some row rows tally to goes) ∙ e))
+    ] refl
+
+-- the row that the tally names is the one at the index where it stops
+one_later_row : (row : Row) (rows : List Row) (r : Result Tally ℕ)
+    → option_and_then (slice_get (row ∷ rows)) (result_err (one_later r)) ≡ option_and_then (slice_get rows) (result_err r)
+one_later_row row rows (Ok t) = refl
+one_later_row row rows (Err i) = refl
+
+pub names_row : (rows : List Row) (tally : Tally) → result_err (tallied rows tally) ≡ option_and_then (slice_get rows) (result_err (tally_of rows tally))
+names_row [] tally = ap result_err (tallied-nil tally) ∙ sym (ap (λ r. option_and_then (slice_get []) (result_err r)) (fold_rows-nil (λ row t. tally_after t row.op) tally))
+names_row (row ∷ rows) tally =
+    elim (tally_after tally row.op) as (λ o. tally_after tally row.op ≡ o
+        → result_err (tallied (row ∷ rows) tally) ≡ option_and_then (slice_get (row ∷ rows)) (result_err (tally_of (row ∷ rows) tally))) [
+      | None ↦ λ stops.
+          ap result_err (tallied-none row rows tally stops)
+          ∙ sym (ap (λ r. option_and_then (slice_get (row ∷ rows)) (result_err r)) (fold_rows-none (λ r t. tally_after t r.op) row rows tally stops))
+      | Some next ↦ λ goes.
+          ap result_err (tallied-some row rows tally next goes) ∙ names_row rows next ∙ sym (one_later_row row rows (tally_of rows next))
+          ∙ sym (ap (λ r. option_and_then (slice_get (row ∷ rows)) (result_err r)) (fold_rows-some (λ r t. tally_after t r.op) row rows tally next goes))
+    ] refl
+
+-- counting items, and counting them in a tally, keep pace
+abbrev IsItems : Tally → ℕ → Type 0
+IsItems tally n = tally ≡ Items n
+
+both_items : (o : Option ℕ) → BothOrNeither IsItems (option_map Items o) o
+both_items None = tt
+both_items (Some n) = refl
+
+items_keep_pace : (row : Row) (tally : Tally) (n : ℕ) → Unit {0} → IsItems tally n → BothOrNeither IsItems (tally_after tally row.op) (quantity_after (quantity_of Deq) row.op n)
+items_keep_pace row tally n any is = rw is (both_items (size_after row.op n))
+
+all_rows : (rows : List Row) → AllByRecursion (λ row. Unit {0}) rows
+all_rows [] = tt
+all_rows (row ∷ rows) = (tt, all_rows rows)
+
+items_fail : (rows : List Row) → result_err (tally_of rows (Items 0)) ≡ result_err (counted (quantity_of Deq) rows 0)
+items_fail rows =
+    same_failure IsItems _ _ (folds_agree IsItems (λ row. Unit {0}) (λ row t. tally_after t row.op) (λ row n. quantity_after (quantity_of Deq) row.op n)
+    items_keep_pace rows (Items 0) 0 (all_rows rows) refl)
+
+-- the operations of the other kinds have no key
+no_key : (op : Op) → (kind_of op ≡ Dict → ⊥) → key_of op ≡ None
+no_key (Enq v) h = refl
+no_key Deq h = refl
+no_key (Push v) h = refl
+no_key Pop h = refl
+no_key (PushL v) h = refl
+no_key (PushR v) h = refl
+no_key PopL h = refl
+no_key PopR h = refl
+no_key (Put k v) h = absurd (h refl)
+no_key (Del k) h = absurd (h refl)
+no_key (Ins k) h = refl
+no_key DelMin h = refl
+
+counts_items : (old new : Op) → (kind_of old ≡ Dict → ⊥) → (kind_of new ≡ Dict → ⊥) → tally_before old new ≡ Items 0
+counts_items old new h i = ap (λ o. tally_of_keys o (key_of new)) (no_key old h) ∙ ap (λ o. tally_of_keys None o) (no_key new i)
+
+-- an operation of a dictionary has one, and leaves the pairs of the others as they are
+has_key : (op : Op) → kind_of op ≡ Dict → (key : ℤ) × (key_of op ≡ Some key) × ((q : ℤ) (n : ℕ) → int_eq q key ≡ false → pair_after q op n ≡ Some n)
+has_key (Enq v) h = absurd (cc)
+has_key Deq h = absurd (cc)
+has_key (Push v) h = absurd (cc)
+has_key Pop h = absurd (cc)
+has_key (PushL v) h = absurd (cc)
+has_key (PushR v) h = absurd (cc)
+has_key PopL h = absurd (cc)
+has_key PopR h = absurd (cc)
+has_key (Put k v) h = (k, refl, λ q n apart. rw apart refl)
+has_key (Del k) h = (k, refl, λ q n apart. rw apart refl)
+has_key (Ins k) h = absurd (cc)
+has_key DelMin h = absurd (cc)
+
+-- the rows after both edits, made from those that replay
+pub record IsReplaced (kind : Kind) (rows middle after : List Row) (put index : ℕ) (new old : Row) : Type 0 where
+  pub of_kind : AreOfKind kind rows
+  pub valid : IsValid kind rows
+  pub here : kind_of new.op ≡ kind
+  pub middle_is : middle ≡ insert rows put new
+  pub there : slice_get middle index ≡ Some old
+  pub after_is : after ≡ remove middle index
+
+middle_of_kind : (kind : Kind) (rows middle after : List Row) (put index : ℕ) (new old : Row) → IsReplaced kind rows middle after put index new old → AreOfKind kind middle
+middle_of_kind kind rows middle after put index new old made =
+    rw made.middle_is (all_with (λ (r : Row). kind_of r.op ≡ kind) rows put new made.of_kind made.here)
+
+after_of_kind : (kind : Kind) (rows middle after : List Row) (put index : ℕ) (new old : Row) → IsReplaced kind rows middle after put index new old → AreOfKind kind after
+after_of_kind kind rows middle after put index new old made =
+    rw made.after_is (all_without (λ (r : Row). kind_of r.op ≡ kind) middle index (middle_of_kind kind rows middle after put index new old made))
+
+-- the rows of a key that neither row has find their pairs
+others_count : (rows middle after : List Row) (put index : ℕ) (new old : Row) (a b : ℤ) → IsReplaced Dict rows middle after put index new old
+    → ((q : ℤ) (n : ℕ) → int_eq q a ≡ false → pair_after q old.op n ≡ Some n) → ((q : ℤ) (n : ℕ) → int_eq q b ≡ false → pair_after q new.op n ≡ Some n)
+    → (q : ℤ) → int_eq q a ≡ false → int_eq q b ≡ false → result_err (counted_key q after 0) ≡ None
+others_count rows middle after put index new old a b made old_passes new_passes q not_a not_b =
+    let whole : result_err (counted_key q (take put rows ++ drop put rows) 0) ≡ None =
+    rw (take-append-drop put rows) (all_keys rows [] made.of_kind sorted_nil made.valid q) in
+    let with_new : result_err (counted_key q middle 0) ≡ None =
+    rw made.middle_is (passed_in (keyed q) new (λ n. new_passes q n not_b) (take put rows) (drop put rows) 0 whole) in
+    rw made.after_is (passed_out (keyed q) old (λ n. old_passes q n not_a) (take index middle) (drop (suc index) middle) 0
+    (rw (← around middle index old made.there) with_new))
+
+dict_fails : (rows middle after : List Row) (put index : ℕ) (new old : Row) → IsReplaced Dict rows middle after put index new old → kind_of old.op ≡ Dict
+    → result_err (tally_of after (tally_before old.op new.op)) ≡ failure Dict after
+dict_fails rows middle after put index new old made was =
+    let a = has_key old.op was in
+    let b = has_key new.op made.here in
+    let start : tally_before old.op new.op ≡ Keys (absent a.0) (absent b.0) =
+    ap (λ o. tally_of_keys o (key_of new.op)) a.1 ∙ ap (λ o. tally_of_keys (Some a.0) o) b.1 in
+    ap (λ t. result_err (tally_of after t)) start
+    ∙ two_keys a.0 b.0 after (after_of_kind Dict rows middle after put index new old made) (others_count rows middle after put index new old a.0 b.0 made a.2 b.2)
+
+items_start : (old new : Row) (kind : Kind) → (kind ≡ Dict → ⊥) → kind_of old.op ≡ kind → kind_of new.op ≡ kind → (rows : List Row)
+    → result_err (tally_of rows (tally_before old.op new.op)) ≡ result_err (counted (quantity_of Deq) rows 0)
+items_start old new kind other was here rows =
+    ap (λ t. result_err (tally_of rows t)) (counts_items old.op new.op (λ e. other (sym was ∙ e)) (λ e. other (sym here ∙ e))) ∙ items_fail rows
+
+-- the tally stops at the first row that cannot be performed
+tally_fails : (kind : Kind) (rows middle after : List Row) (put index : ℕ) (new old : Row) → IsReplaced kind rows middle after put index new old
+    → kind_of old.op ≡ kind → result_err (tally_of after (tally_before old.op new.op)) ≡ failure kind after
+tally_fails Queue rows middle after put index new old made was =
+    items_start old new Queue (λ e. cc) was made.here after ∙ sym (line_failure after (all_lines Queue after tt (after_of_kind Queue rows middle after put index new old made)))
+tally_fails Stack rows middle after put index new old made was =
+    items_start old new Stack (λ e. cc) was made.here after ∙ sym (line_failure after (all_lines Stack after tt (after_of_kind Stack rows middle after put index new old made)))
+tally_fails Deque rows middle after put index new old made was =
+    items_start old new Deque (λ e. cc) was made.here after ∙ sym (line_failure after (all_lines Deque after tt (after_of_kind Deque rows middle after put index new old made)))
+tally_fails Dict rows middle after put index new old made was = dict_fails rows middle after put index new old made was
+tally_fails Pq rows middle after put index new old made was =
+    items_start old new Pq (λ e. cc) was made.here after ∙ sym (pq_failure after (after_of_kind Pq rows middle after put index new old made))
+
+-- and it names that row
+pub tally_names : (kind : Kind) (rows middle after : List Row) (put index : ℕ) (new old : Row) → IsReplaced kind rows middle after put index new old
+    → kind_of old.op ≡ kind → result_err (tallied after (tally_before old.op new.op)) ≡ failing_row kind after
+tally_names kind rows middle after put index new old made was =
+    names_row after (tally_before old.op new.op) ∙ ap (option_and_then (slice_get after)) (tally_fails kind rows middle after put index new old made was)
