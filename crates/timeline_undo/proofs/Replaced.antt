@@ -54,7 +54,7 @@ within_of [] i x there = absurd (cc)
 within_of (y ∷ ys) zero x there = omega arith
 within_of (y ∷ ys) (suc i) x there = omega (arith, within_of ys i x there)
 
-put_first : (rows : List Row) (r : Replacement) → slice_get rows r.index ≡ Some r.old → r.before ≤ length rows
+pub put_first : (rows : List Row) (r : Replacement) → slice_get rows r.index ≡ Some r.old → r.before ≤ length rows
     → edited_by rows (put_then_cut r.before r.new r.index r.old) ≡ replaced rows r
 put_first rows r there within =
     elim (nat_le r.before r.index) as (λ b. nat_le r.before r.index ≡ b → edited_by rows (put_then_cut r.before r.new r.index r.old) ≡ replaced rows r) [

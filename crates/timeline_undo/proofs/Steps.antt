@@ -49,7 +49,7 @@ stands_after_put rows put index new old there =
       | false ↦ λ e. let here : index_after put index ≡ index = rw e refl in rw here (stays_before rows put index new old (leb-false _ _ e) there)
     ] refl
 
-within_of : {X : Type 0} (xs : List X) (i : ℕ) (x : X) → slice_get xs i ≡ Some x → i ≤ length xs
+pub within_of : {X : Type 0} (xs : List X) (i : ℕ) (x : X) → slice_get xs i ≡ Some x → i ≤ length xs
 within_of [] i x there = absurd (cc)
 within_of (y ∷ ys) zero x there = omega arith
 within_of (y ∷ ys) (suc i) x there = omega (arith, within_of ys i x there)

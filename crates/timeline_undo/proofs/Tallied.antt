@@ -1,16 +1,18 @@
 -- The tally along the rows after a replacement finds the first of them that cannot be performed.
-use Rattle.std.proofs.Common.{◌≡◌, ◌≢◌, ℕ, ℤ, zero, suc, ◌+◌, ◌≤◌, Bool, true, false, cond, List, [], ◌∷◌, ◌++◌, length, take, drop, slice_get, refl, sym, ap, ◌∙◌, arith, Option, Some, None, Result, Ok, Err}
+use Rattle.std.proofs.Common.{◌≡◌, ℕ, ℤ, zero, suc, ◌+◌, ◌-◌, append_assoc, ◌<◌, ◌≤◌, get_or, Bool, true, false, cond, List, [], ◌∷◌, ◌++◌, length, take, drop, slice_get, slice_range, refl, sym, ap, ◌∙◌, arith, Option, Some, None, Result, Ok, Err}
 use Rattle.std.specs.List.{insert, remove, AllByRecursion}
 use Rattle.std.specs.Option.{option_and_then, option_map}
 use Rattle.std.specs.Ordering.{int_eq}
 use Rattle.std.specs.Result.{result_err}
-use Rattle.std.proofs.lemmas.List.{take-append-drop}
+use Rattle.std.proofs.lemmas.Bool.{le-leb, lt-leb}
+use Rattle.std.proofs.lemmas.List.{drop_all, take_all, take-append-drop, take-append-le, length-append, length-drop, length-take, take-take, drop-drop}
+use Rattle.std.proofs.Math.Seq.{drop-cons, take-add}
 use Rattle.retro_base.specs.declared.kind.Kind.{Kind}
 use Rattle.retro_base.specs.declared.kind.Kind.TheVariants.{Queue, Stack, Deque, Dict, Pq}
 use Rattle.retro_base.specs.declared.op.Op.{Op}
 use Rattle.retro_base.specs.declared.op.Op.TheVariants.{Enq, Deq, Push, Pop, PushL, PushR, PopL, PopR, Put, Del, Ins, DelMin}
 use Rattle.retro_base.specs.declared.row.Row.{Row}
-use Rattle.retro_base.specs.Counting.{pair_after, one_fewer, size_after, quantity_of, quantity_after, counted}
+use Rattle.retro_base.specs.Counting.{pair_after, size_after, quantity_of, quantity_after, counted}
 use Rattle.retro_base.specs.Edits.{failing_row}
 use Rattle.retro_base.specs.Kind.{adds, kind_of}
 use Rattle.retro_base.specs.OrderLaws.{all_with, all_without}
@@ -21,8 +23,11 @@ use Rattle.retro_base.specs.lemmas.Counted.{all_lines, around}
 use Rattle.retro_base.specs.lemmas.CountedEntries.{pq_failure}
 use Rattle.retro_base.specs.lemmas.CountedKeys.{all_keys, key_of_row, passed_in, passed_out}
 use Rattle.retro_base.specs.lemmas.CountedLines.{line_failure}
-use Rattle.retro_base.specs.lemmas.Folds.{BothOrNeither, folds_agree, same_failure, fold_rows-nil, fold_rows-some, fold_rows-none}
+use Rattle.retro_base.specs.lemmas.CountedSizes.{quantity_after-le}
+use Rattle.retro_base.specs.lemmas.Folds.{no_row, BothOrNeither, folds_agree, same_failure, fold_rows-nil, fold_rows-some, fold_rows-none}
 use Rattle.retro_base.specs.lemmas.SortedPairs.{sorted_nil}
+use Rattle.timeline_undo.specs.declared.replacement.Replacement.{Replacement}
+use Rattle.timeline_undo.specs.Replaced.{replaced}
 use Rattle.timeline_undo.specs.declared.tally.Presence.{Presence}
 use Rattle.timeline_undo.specs.declared.tally.Tally.{Tally}
 use Rattle.timeline_undo.specs.declared.tally.Tally.TheVariants.{Items, Keys}
@@ -58,27 +63,83 @@ tallied-stops (row ∷ rows) more tally failing e =
       | Some to ↦ λ goes. tallied-some row (rows ++ more) tally to goes ∙ tallied-stops rows more to failing (sym (tallied-some row rows tally to goes) ∙ e)
     ] refl
 
+-- one more turn of a loop over rows
+pub along_next : (rows : List Row) (i : ℕ) (tally next : Tally) → i < length rows → tally_after tally (get_or rows i no_row).op ≡ Some next
+    → tallied (drop i rows) tally ≡ tallied (drop (i + 1) rows) next
+along_next rows i tally next within goes =
+    ap (λ rs. tallied rs tally) (drop-cons rows i no_row within) ∙ tallied-some _ _ tally next goes ∙ (let one : suc i ≡ i + 1 = omega arith in ap (λ n. tallied (drop n rows) next) one)
+
+pub along_stops : (rows : List Row) (i : ℕ) (tally : Tally) → i < length rows → tally_after tally (get_or rows i no_row).op ≡ None
+    → tallied (drop i rows) tally ≡ Err (get_or rows i no_row)
+along_stops rows i tally within stops = ap (λ rs. tallied rs tally) (drop-cons rows i no_row within) ∙ tallied-none _ _ tally stops
+
+pub along_end : (rows : List Row) (i : ℕ) (tally : Tally) → length rows ≤ i → tallied (drop i rows) tally ≡ Ok tally
+along_end rows i tally all = ap (λ rs. tallied rs tally) (drop_all i rows all) ∙ tallied-nil tally
+
+-- rows in three parts
+pub second_stops : (a b c : List Row) (t u : Tally) (failing : Row) → tallied a t ≡ Ok u → tallied b u ≡ Err failing → tallied (a ++ (b ++ c)) t ≡ Err failing
+second_stops a b c t u failing e f = tallied-then a (b ++ c) t u e ∙ tallied-stops b c u failing f
+
+pub all_parts : (a b c : List Row) (t u v : Tally) → tallied a t ≡ Ok u → tallied b u ≡ Ok v → tallied (a ++ (b ++ c)) t ≡ tallied c v
+all_parts a b c t u v e f = tallied-then a (b ++ c) t u e ∙ tallied-then b c u v f
+
+-- the rows of a walk: those that one reading gives come first
+slice_two : (rows : List Row) (place m n : ℕ) → take (m + n) (drop place rows) ≡ take m (drop place rows) ++ take n (drop (place + m) rows)
+slice_two rows place m n = take-add m n (drop place rows) ∙ ap (λ rs. take m (drop place rows) ++ take n rs) (drop-drop m place rows)
+
+pub read_first : (rows : List Row) (place read to : ℕ) → place + read ≤ to → slice_range rows place to ≡ take read (drop place rows) ++ slice_range rows (place + read) to
+read_first rows place read to within =
+    let n : to - place ≡ read + (to - (place + read)) = omega arith in
+    ap (λ k. take k (drop place rows)) n ∙ slice_two rows place read (to - (place + read))
+
+-- the window that was read
+pub window_reads : (rows old window : List Row) (place read count : ℕ) → window ≡ take read (drop place rows) ++ drop read old → count ≤ read
+    → read ≤ length rows - place → take count window ≡ take count (drop place rows)
+window_reads rows old window place read count e within there =
+    ap (take count) e ∙ take-append-le count (take read (drop place rows)) (drop read old) (omega (arith, length-take read (drop place rows), length-drop place rows))
+    ∙ take-take count read (drop place rows) within
+
+-- a turn of a walk
+pub walk_stops : (rows : List Row) (place count to : ℕ) (tally : Tally) (failing : Row) → place + count ≤ to
+    → tallied (take count (drop place rows)) tally ≡ Err failing → tallied (slice_range rows place to) tally ≡ Err failing
+walk_stops rows place count to tally failing within e =
+    ap (λ rs. tallied rs tally) (read_first rows place count to within)
+    ∙ tallied-stops (take count (drop place rows)) (slice_range rows (place + count) to) tally failing e
+
+pub walk_goes : (rows : List Row) (place count to : ℕ) (tally next : Tally) → place + count ≤ to
+    → tallied (take count (drop place rows)) tally ≡ Ok next → tallied (slice_range rows place to) tally ≡ tallied (slice_range rows (place + count) to) next
+walk_goes rows place count to tally next within e =
+    ap (λ rs. tallied rs tally) (read_first rows place count to within)
+    ∙ tallied-then (take count (drop place rows)) (slice_range rows (place + count) to) tally next e
+
+pub walk_ends : (rows : List Row) (place to : ℕ) (tally : Tally) → to ≤ place → tallied (slice_range rows place to) tally ≡ Ok tally
+walk_ends rows place to tally all =
+    let none : to - place ≡ 0 = omega arith in ap (λ n. tallied (take n (drop place rows)) tally) none ∙ tallied-nil tally
+
+-- the parts of the rows after a replacement
+to_the_end : (rows : List Row) (from : ℕ) → from ≤ length rows → slice_range rows from (length rows) ≡ drop from rows
+to_the_end rows from within = take_all (length rows - from) (drop from rows) (omega (arith, length-drop from rows))
+
+from_the_start : (rows : List Row) (to : ℕ) → slice_range rows 0 to ≡ take to rows
+from_the_start rows to = let n : to - 0 ≡ to = omega arith in ap (λ k. take k rows) n
+
+pub new_first : (rows : List Row) (r : Replacement) → r.before ≤ r.index → r.index < length rows
+    → replaced rows r ≡ (slice_range rows 0 r.before ++ r.new ∷ []) ++ (slice_range rows r.before r.index ++ slice_range rows (r.index + 1) (length rows))
+new_first rows r below within =
+    let one : r.index + 1 ≡ suc r.index = omega arith in
+    rw (le-leb r.before r.index below, from_the_start rows r.before, to_the_end rows (r.index + 1) (omega arith), one)
+    (sym (append_assoc (take r.before rows) (r.new ∷ []) (slice_range rows r.before r.index ++ drop (suc r.index) rows)))
+
+pub new_later : (rows : List Row) (r : Replacement) → r.index < r.before → r.before ≤ length rows
+    → replaced rows r ≡ slice_range rows 0 r.index ++ ((slice_range rows (r.index + 1) r.before ++ r.new ∷ []) ++ slice_range rows r.before (length rows))
+new_later rows r above within =
+    let one : r.index + 1 ≡ suc r.index = omega arith in
+    rw (lt-leb r.before r.index above, from_the_start rows r.index, to_the_end rows r.before within, one)
+    (ap (λ rs. take r.index rows ++ rs) (sym (append_assoc (slice_range rows (suc r.index) r.before) (r.new ∷ []) (drop r.before rows))))
+
 -- each row counts one more at the most
-fewer_by : (n m : ℕ) → one_fewer n ≡ Some m → m ≤ suc n
-fewer_by zero m e = absurd (cc)
-fewer_by (suc n) m e = let same : n ≡ m = cc in omega arith
-
-one_more_by : (n m : ℕ) → ◌≡◌ {A = Option ℕ} (Some (suc n)) (Some m) → m ≤ suc n
-one_more_by n m e = let same : suc n ≡ m = cc in omega arith
-
 size_by : (op : Op) (n m : ℕ) → size_after op n ≡ Some m → m ≤ suc n
-size_by (Enq v) n m e = one_more_by n m e
-size_by Deq n m e = fewer_by n m e
-size_by (Push v) n m e = one_more_by n m e
-size_by Pop n m e = fewer_by n m e
-size_by (PushL v) n m e = one_more_by n m e
-size_by (PushR v) n m e = one_more_by n m e
-size_by PopL n m e = fewer_by n m e
-size_by PopR n m e = fewer_by n m e
-size_by (Put k v) n m e = one_more_by n m e
-size_by (Del k) n m e = fewer_by n m e
-size_by (Ins k) n m e = one_more_by n m e
-size_by DelMin n m e = fewer_by n m e
+size_by op n m e = omega (arith, quantity_after-le (quantity_of Deq) op n m e)
 
 item_by : (op : Op) (n most : ℕ) (next : Tally) → n ≤ most → option_map Items (size_after op n) ≡ Some next → IsUpTo next (suc most)
 item_by op n most next within e =
@@ -127,6 +188,25 @@ rows_up_to (row ∷ rows) tally next most up e =
           up_to_more next (suc most + length rows) (most + suc (length rows)) (omega arith)
           (rows_up_to rows to next (suc most) (one_row_up_to tally to row.op most up goes) (sym (tallied-some row rows tally to goes) ∙ e))
     ] refl
+
+-- after a walk, and after one more row
+slice_few : (rows : List Row) (from to : ℕ) → length (slice_range rows from to) ≤ to - from
+slice_few rows from to = omega (arith, length-take (to - from) (drop from rows))
+
+pub walked_up_to : (rows : List Row) (from to : ℕ) (tally next : Tally) (most more : ℕ) → IsUpTo tally most → tallied (slice_range rows from to) tally ≡ Ok next
+    → most + (to - from) ≤ more → IsUpTo next more
+walked_up_to rows from to tally next most more up e within =
+    up_to_more next (most + length (slice_range rows from to)) more (omega (arith, slice_few rows from to)) (rows_up_to (slice_range rows from to) tally next most up e)
+
+pub read_up_to : (rows : List Row) (count most : ℕ) (tally next : Tally) → IsUpTo tally most → tallied (take count rows) tally ≡ Ok next → IsUpTo next (most + count)
+read_up_to rows count most tally next up e =
+    up_to_more next (most + length (take count rows)) (most + count) (omega (arith, length-take count rows)) (rows_up_to (take count rows) tally next most up e)
+
+pub added_up_to : (rows : List Row) (from to : ℕ) (new : Row) (tally next : Tally) (most more : ℕ) → IsUpTo tally most
+    → tallied (slice_range rows from to ++ new ∷ []) tally ≡ Ok next → most + (to - from) + 1 ≤ more → IsUpTo next more
+added_up_to rows from to new tally next most more up e within =
+    up_to_more next (most + length (slice_range rows from to ++ new ∷ [])) more
+    (omega (arith, slice_few rows from to, length-append (slice_range rows from to) (new ∷ []))) (rows_up_to (slice_range rows from to ++ new ∷ []) tally next most up e)
 
 -- the row that the tally names is the one at the index where it stops
 one_later_row : (row : Row) (rows : List Row) (r : Result Tally ℕ)

@@ -1,4 +1,4 @@
-ghost use Rattle.std.specs.Prelude.{◌≡◌, ◌+◌, ◌^◌, ◌∷◌, [], ◌<◌, length, slice_get, Some};
+ghost use Rattle.std.specs.Prelude.{◌≡◌, ◌+◌, ◌^◌, ◌∷◌, [], ◌<◌};
 ghost use Rattle.timeline_undo.specs.Kept.{edit_of};
 ghost use Rattle.timeline_undo.specs.Replaced.{replacement_of, step_of_replacement};
 
@@ -20,11 +20,15 @@ pub(crate) struct Replacement {
 
 impl Replacement {
     /// The replacement of the row at an index by a row with this number.
-    pub(crate) fn of(timeline: &Timeline, index: u32, target: Target, number: u32) -> Replacement
-        requires { index < length timeline.now }
-        ensures { (old : Row) → slice_get timeline.now index ≡ Some old → result ≡ replacement_of timeline.now target number index old }
+    pub(crate) fn of(
+        timeline: &Timeline,
+        index: u32,
+        old: Row,
+        target: Target,
+        number: u32,
+    ) -> Replacement
+        ensures { result ≡ replacement_of timeline.now target number index old }
     {
-        let old = timeline.row_at(index);
         match target {
             Target::At { time } => Replacement {
                 index,

@@ -214,7 +214,8 @@ impl<R: Retro + Drop> Session<R> {
         ensures cause { IfErr result (λ error. IfSome (shift_at self.old.rows target self.old.next place) (λ step. IsStepCause self.old.kind self.old.rows step error)) }
         ensures err { IfErr result (λ error. IfSome (shift_at self.old.rows target self.old.next place) (λ step. IsLeftByShift self.old step self.new error)) }
     {
-        let replacement = Replacement::of(&self.timeline, place, target, self.next);
+        let old = self.timeline.row_at(place);
+        let replacement = Replacement::of(&self.timeline, place, old, target, self.next);
         if let Some(failing) = failing_after(&self.timeline, replacement) {
             return Err(fails_at(failing));
         }

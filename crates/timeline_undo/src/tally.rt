@@ -1,4 +1,5 @@
-ghost use Rattle.std.specs.Prelude.{◌≡◌, ◌+◌, ◌-◌, ◌^◌, ◌<◌};
+ghost use Rattle.std.specs.Prelude.{◌≡◌, ◌+◌, ◌-◌, ◌*◌, ◌^◌, ◌<◌, ◌≤◌, length};
+ghost use Rattle.retro_base.specs.Limits.{most_rows};
 ghost use Rattle.timeline_undo.specs.Tallies.{IsUpTo, absent, key_of, presence_after, tallied, tally_after, tally_before, there_after};
 ghost use Rattle.retro_base.specs.Counting.{size_after};
 
@@ -55,6 +56,8 @@ impl Tally {
 
     /// The tally after rows, or the first of them that finds nothing to take.
     pub(crate) fn along(self, rows: &[Row]) -> Result<Tally, Row>
+        requires few { length rows.now ≤ most_rows }
+        requires room { IsUpTo self (2 * most_rows) }
         ensures { result ≡ tallied rows.now self }
     {
         let mut tally = self;
