@@ -1,5 +1,5 @@
 -- A row that is replaced: which row fails first, and that the list between the two edits is a timeline.
-use Rattle.std.proofs.Common.{◌≡◌, ℕ, zero, suc, ◌+◌, ◌-◌, ◌<◌, ◌≤◌, true, false, List, [], ◌∷◌, length, slice_get, Option, Some, None, Result, Ok, Err, refl, sym, ◌∙◌, ap, subst, arith}
+use Rattle.std.proofs.Common.{◌≡◌, ℕ, zero, suc, ◌+◌, ◌-◌, ◌<◌, ◌≤◌, true, false, List, [], ◌∷◌, length, slice_get, Option, Some, None, IfSome, Result, Ok, Err, refl, sym, ◌∙◌, ap, subst, arith}
 use Rattle.std.specs.List.{insert, remove, AllByRecursion}
 use Rattle.std.specs.Option.{option_and_then, option_map}
 use Rattle.std.specs.Result.{result_err}
@@ -20,6 +20,7 @@ use Rattle.retro_base.specs.TimelineLaws.{next_is_fresh, timeline_with, timeline
 use Rattle.retro_base.specs.lemmas.Counted.{of_kind_at}
 use Rattle.retro_base.specs.lemmas.Folds.{err_within}
 use Rattle.retro_base.specs.lemmas.GivingEdits.{adding_row_replays, taking_row_can_go}
+use Rattle.timeline_undo.specs.declared.replacement.Replacement.{Replacement}
 use Rattle.timeline_undo.specs.declared.shift.Target.{Target}
 use Rattle.timeline_undo.specs.declared.shift.Target.TheVariants.{At, Into}
 use Rattle.timeline_undo.specs.Kept.{StandInTurn}
@@ -44,7 +45,7 @@ new_of_kind : (kind : Kind) (target : Target) (number : ℕ) (old : Row) → kin
 new_of_kind kind (At time) number old was here = was
 new_of_kind kind (Into op) number old was here = here
 
-drawn_number : (target : Target) (number : ℕ) (old : Row) → (replacing target number old).number ≡ number
+pub drawn_number : (target : Target) (number : ℕ) (old : Row) → (replacing target number old).number ≡ number
 drawn_number (At time) number old = refl
 drawn_number (Into op) number old = refl
 
@@ -104,3 +105,119 @@ none_by kind rows (Some index) e none = absurd (there_is rows index (err_within 
 
 pub none_fails : (kind : Kind) (rows : List Row) → failing_row kind rows ≡ None → failure kind rows ≡ None
 none_fails kind rows none = none_by kind rows (failure kind rows) refl none
+
+index_below : {X : Type 0} (xs : List X) (i : ℕ) (x : X) → slice_get xs i ≡ Some x → i < length xs
+index_below [] i x there = absurd (cc)
+index_below (y ∷ ys) zero x there = omega arith
+index_below (y ∷ ys) (suc i) x there = omega (arith, index_below ys i x there)
+
+-- where a time fits once the row that had it is gone
+fits_left : (rows : List Row) (index : ℕ) (old : Row) → TimesNeverFall rows → slice_get rows index ≡ Some old → Fits (remove rows index) index old.time
+fits_left [] index old never there = absurd (cc)
+fits_left (row ∷ rows) zero old never there = let same : row ≡ old = cc in subst (λ (r : Row). AllByRecursion (λ later. r.time ≤ later.time) rows) same never.0
+fits_left (row ∷ rows) (suc index) old never there =
+    (all_at (λ r. row.time ≤ r.time) rows index old never.0 there, fits_left rows index old never.1 there)
+
+fits_present : (target : Target) (rows : List Row) (number index : ℕ) (old : Row) → TimesNeverFall rows → slice_get rows index ≡ Some old
+    → Fits rows (place_for target index rows) (replacing target number old).time
+fits_present (At time) rows number index old never there = time_fits time rows never
+fits_present (Into op) rows number index old never there = fits_before rows index old never there
+
+fits_without : (target : Target) (rows : List Row) (number index : ℕ) (old : Row) → TimesNeverFall rows → slice_get rows index ≡ Some old
+    → Fits (remove rows index) (place_for target index (remove rows index)) (replacing target number old).time
+fits_without (At time) rows number index old never there = time_fits time (remove rows index) (times_without rows index never)
+fits_without (Into op) rows number index old never there = fits_left rows index old never there
+
+-- both edits can be made, and each leaves a timeline, where the rows after both replay
+module _ (kind : Kind) (rows : List Row) (next : ℕ) (target : Target) (index : ℕ) (old : Row) (may : MayShift kind rows next target index old) where
+  new_here : kind_of (replacing target next old).op ≡ kind
+  new_here = new_of_kind kind target next old (of_kind_at kind rows index old may.timeline.replayable.of_kind may.there) may.of_kind
+
+  put_within : place_for target index rows ≤ length rows
+  put_within = place_within target index rows (within_of rows index old may.there)
+
+  put_leads : adds (replacing target next old).op ≡ true → IsTimeline kind (insert rows (place_for target index rows) (replacing target next old)) (next + 1)
+  put_leads adding =
+      timeline_with kind rows next (place_for target index rows) (replacing target next old) may.timeline may.below (drawn_number target next old)
+      (fits_present target rows next index old may.timeline.in_order may.there)
+      (replayable_with kind rows (place_for target index rows) (replacing target next old) may.timeline.replayable may.room put_within
+      (rw (drawn_number target next old) (next_is_fresh kind rows next may.timeline)) new_here
+      (adding_row_replays kind rows (place_for target index rows) (replacing target next old) may.timeline.replayable.of_kind may.timeline.replayable.valid new_here adding))
+
+  pub put_stands : adds (replacing target next old).op ≡ true
+      → IsValid kind (edited_by rows (put_then_cut (place_for target index rows) (replacing target next old) index old))
+      → StandInTurn kind (next + 1) rows (put_then_cut (place_for target index rows) (replacing target next old) index old)
+  put_stands adding valid =
+      let there = stands_after_put rows (place_for target index rows) index (replacing target next old) old may.there in
+      let middle = put_leads adding in (
+        record { within = put_within; timeline = middle },
+        (record {
+          within = there;
+          timeline = timeline_without kind (insert rows (place_for target index rows) (replacing target next old)) (next + 1) (index_after (place_for target index rows) index) middle
+              (replayable_without kind _ (index_after (place_for target index rows) index) middle.replayable valid);
+        }, tt),
+      )
+
+  cut_within : place_for target index (remove rows index) ≤ length (remove rows index)
+  cut_within = place_within target index (remove rows index) (can_go_back rows (cut index old) may.there)
+
+  cut_leads : adds (replacing target next old).op ≡ false
+      → IsValid kind (insert (remove rows index) (place_for target index (remove rows index)) (replacing target next old)) → IsTimeline kind (remove rows index) next
+  cut_leads taking valid =
+      let without_all : AreOfKind kind (remove rows index) = all_without (λ (r : Row). kind_of r.op ≡ kind) rows index may.timeline.replayable.of_kind in
+      let final_all : AreOfKind kind (insert (remove rows index) (place_for target index (remove rows index)) (replacing target next old)) =
+      all_with (λ (r : Row). kind_of r.op ≡ kind) (remove rows index) (place_for target index (remove rows index)) (replacing target next old) without_all new_here in
+      let middle_valid : IsValid kind (remove rows index) =
+      rw (remove-insert (remove rows index) (place_for target index (remove rows index)) (replacing target next old) cut_within) at
+      (taking_row_can_go kind (insert (remove rows index) (place_for target index (remove rows index)) (replacing target next old)) (place_for target index (remove rows index))
+      (replacing target next old) final_all valid
+      (can_go_back (remove rows index) (add (place_for target index (remove rows index)) (replacing target next old)) cut_within) taking) in
+      timeline_without kind rows next index may.timeline (replayable_without kind rows index may.timeline.replayable middle_valid)
+
+  pub cut_stands : adds (replacing target next old).op ≡ false
+      → IsValid kind (edited_by rows (cut_then_put index old (place_for target index (remove rows index)) (replacing target next old)))
+      → StandInTurn kind (next + 1) rows (cut_then_put index old (place_for target index (remove rows index)) (replacing target next old))
+  cut_stands taking valid =
+      let middle = cut_leads taking valid in
+      let fewer : length (remove rows index) < most_rows = omega (arith, length-remove rows index (index_below rows index old may.there), may.room) in (
+        record { within = may.there; timeline = timeline_later kind (remove rows index) next may.below middle },
+        (record {
+          within = cut_within;
+          timeline = timeline_with kind (remove rows index) next (place_for target index (remove rows index)) (replacing target next old) middle may.below (drawn_number target next old)
+              (fits_without target rows next index old may.timeline.in_order may.there)
+              (replayable_with kind (remove rows index) (place_for target index (remove rows index)) (replacing target next old) middle.replayable fewer cut_within
+              (rw (drawn_number target next old) (next_is_fresh kind (remove rows index) next middle)) new_here valid);
+        }, tt),
+      )
+
+-- so it is of the step
+pub shift_stands : (kind : Kind) (rows : List Row) (next : ℕ) (target : Target) (index : ℕ) (old : Row) → MayShift kind rows next target index old
+    → IsValid kind (edited_by rows (shift_of rows target next index old)) → StandInTurn kind (next + 1) rows (shift_of rows target next index old)
+shift_stands kind rows next target index old may valid =
+    elim (adds (replacing target next old).op) as (λ b. adds (replacing target next old).op ≡ b → StandInTurn kind (next + 1) rows (shift_of rows target next index old)) [
+      | true ↦ λ adding.
+          let is : shift_of rows target next index old ≡ put_then_cut (place_for target index rows) (replacing target next old) index old = rw adding refl in
+          subst (StandInTurn kind (next + 1) rows) (sym is) (put_stands kind rows next target index old may adding (rw is at valid))
+      | false ↦ λ taking.
+          let is : shift_of rows target next index old ≡ cut_then_put index old (place_for target index (remove rows index)) (replacing target next old) = rw taking refl in
+          subst (StandInTurn kind (next + 1) rows) (sym is) (cut_stands kind rows next target index old may taking (rw is at valid))
+    ] refl
+
+-- what the walk and the edits of a replacement say of the step
+pub edits_are_shift : (rows : List Row) (target : Target) (next index : ℕ) (old : Row) (r : Replacement) (edits : Step) → TimesNeverFall rows
+    → slice_get rows index ≡ Some old → r ≡ replacement_of rows target next index old → edits ≡ step_of_replacement r → edits ≡ shift_of rows target next index old
+edits_are_shift rows target next index old r edits never there is made =
+    made ∙ ap step_of_replacement is ∙ replacement_is_shift rows target next index old never there
+
+pub walk_names : (kind : Kind) (rows : List Row) (next : ℕ) (target : Target) (index : ℕ) (old : Row) (r : Replacement) (failing : Option Row)
+    → MayShift kind rows next target index old → r ≡ replacement_of rows target next index old
+    → failing ≡ result_err (tallied (replaced rows r) (tally_before r.old.op r.new.op))
+    → failing ≡ failing_row kind (edited_by rows (shift_of rows target next index old))
+walk_names kind rows next target index old r failing may is found =
+    found ∙ ap (λ (q : Replacement). result_err (tallied (replaced rows q) (tally_before q.old.op q.new.op))) is ∙ shift_fails kind rows next target index old may
+
+-- a row stands at the index
+pub if_there : (P : Step → Type 0) (rows : List Row) (target : Target) (next index : ℕ) (old : Row) → slice_get rows index ≡ Some old
+    → P (shift_of rows target next index old) → IfSome (shift_at rows target next index) P
+if_there P rows target next index old there holds =
+    subst (λ (o : Option Row). IfSome (option_map (shift_of rows target next index) o) P) (sym there) holds
