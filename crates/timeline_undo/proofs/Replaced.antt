@@ -1,12 +1,12 @@
 -- The rows after a row was replaced, in whichever order its two edits are made.
-use Rattle.std.proofs.Common.{◌≡◌, ℕ, zero, suc, ◌+◌, ◌-◌, ◌<◌, ◌≤◌, Bool, true, false, cond, List, [], ◌∷◌, ◌++◌, length, take, drop, slice_get, Some, refl, sym, ◌∙◌, ap, arith}
-use Rattle.std.specs.Prelude.{nat_le, slice_range}
+use Rattle.std.proofs.Common.{◌≡◌, ℕ, zero, suc, ◌+◌, ◌-◌, ◌<◌, ◌≤◌, true, false, cond, List, [], ◌∷◌, ◌++◌, length, take, drop, slice_get, Some, refl, sym, ◌∙◌, ap, arith}
+use Rattle.std.specs.Prelude.{nat_le}
 use Rattle.std.specs.List.{insert, remove, AllByRecursion}
 use Rattle.std.proofs.Math.Dec.{leb}
 use Rattle.std.proofs.lemmas.Bool.{leb-true, leb-false, le-leb, lt-leb}
 use Rattle.std.proofs.lemmas.List.Sums.{sum_by-cons}
 use Rattle.retro_base.specs.declared.row.Row.{Row}
-use Rattle.retro_base.specs.Edits.{add, cut, edited, edited_by}
+use Rattle.retro_base.specs.Edits.{edited_by}
 use Rattle.retro_base.specs.Kind.{adds}
 use Rattle.retro_base.specs.OrderLaws.{all_at}
 use Rattle.retro_base.specs.Places.{place_of_time}
@@ -15,7 +15,7 @@ use Rattle.timeline_undo.specs.declared.replacement.Replacement.{Replacement}
 use Rattle.timeline_undo.specs.declared.shift.Target.{Target}
 use Rattle.timeline_undo.specs.declared.shift.Target.TheVariants.{At, Into}
 use Rattle.timeline_undo.specs.Replaced.{before_without, replaced, replacement_of, step_of_replacement}
-use Rattle.timeline_undo.specs.Shift.{index_after, place_for, put_then_cut, cut_then_put, replacing, shift_of}
+use Rattle.timeline_undo.specs.Shift.{place_for, put_then_cut, cut_then_put, shift_of}
 
 -- one is put in before another, which is taken out then
 put_before : {X : Type 0} (xs : List X) (before n index : ℕ) (new old : X) → before + n ≡ index → slice_get xs index ≡ Some old

@@ -1,5 +1,5 @@
 -- A row that is replaced: which row fails first, and that the list between the two edits is a timeline.
-use Rattle.std.proofs.Common.{◌≡◌, ℕ, zero, suc, ◌+◌, ◌-◌, ◌<◌, ◌≤◌, true, false, List, [], ◌∷◌, length, slice_get, Option, Some, None, IfSome, Result, Ok, Err, refl, sym, ◌∙◌, ap, subst, arith}
+use Rattle.std.proofs.Common.{◌≡◌, ℕ, zero, suc, ◌+◌, ◌<◌, ◌≤◌, true, false, List, [], ◌∷◌, length, slice_get, Option, Some, None, IfSome, Result, Ok, Err, refl, sym, ◌∙◌, ap, subst, arith}
 use Rattle.std.specs.List.{insert, remove, AllByRecursion}
 use Rattle.std.specs.Option.{option_and_then, option_map}
 use Rattle.std.specs.Result.{result_err}
@@ -31,7 +31,7 @@ use Rattle.timeline_undo.specs.Tallies.{tallied, tally_before}
 use Rattle.timeline_undo.proofs.InTurn.{timeline_later}
 use Rattle.timeline_undo.proofs.Replaced.{edited_is_replaced, put_first, replacement_is_shift}
 use Rattle.timeline_undo.proofs.Steps.{place_within, stands_after_put, within_of}
-use Rattle.timeline_undo.proofs.Tallied.{tally_names, IsReplaced}
+use Rattle.timeline_undo.proofs.Tallied.{tally_names}
 
 -- a row of a timeline may be replaced
 pub record MayShift (kind : Kind) (rows : List Row) (next : ℕ) (target : Target) (index : ℕ) (old : Row) : Type 0 where
@@ -40,6 +40,11 @@ pub record MayShift (kind : Kind) (rows : List Row) (next : ℕ) (target : Targe
   pub below : next < next_limit
   pub of_kind : IsTargetOf kind target
   pub there : slice_get rows index ≡ Some old
+
+pub may_shift : (kind : Kind) (rows : List Row) (next : ℕ) (target : Target) (index : ℕ) (old : Row) → IsTimeline kind rows next → length rows < most_rows
+    → next < next_limit → IsTargetOf kind target → slice_get rows index ≡ Some old → MayShift kind rows next target index old
+may_shift kind rows next target index old timeline room below of_kind there =
+    record { timeline = timeline; room = room; below = below; of_kind = of_kind; there = there }
 
 new_of_kind : (kind : Kind) (target : Target) (number : ℕ) (old : Row) → kind_of old.op ≡ kind → IsTargetOf kind target → kind_of (replacing target number old).op ≡ kind
 new_of_kind kind (At time) number old was here = was
@@ -151,11 +156,14 @@ module _ (kind : Kind) (rows : List Row) (next : ℕ) (target : Target) (index :
       let there = stands_after_put rows (place_for target index rows) index (replacing target next old) old may.there in
       let middle = put_leads adding in (
         record { within = put_within; timeline = middle },
-        (record {
-          within = there;
-          timeline = timeline_without kind (insert rows (place_for target index rows) (replacing target next old)) (next + 1) (index_after (place_for target index rows) index) middle
-              (replayable_without kind _ (index_after (place_for target index rows) index) middle.replayable valid);
-        }, tt),
+        (
+          record {
+            within = there;
+            timeline = timeline_without kind (insert rows (place_for target index rows) (replacing target next old)) (next + 1) (index_after (place_for target index rows) index) middle
+                (replayable_without kind _ (index_after (place_for target index rows) index) middle.replayable valid);
+          },
+          tt,
+        ),
       )
 
   cut_within : place_for target index (remove rows index) ≤ length (remove rows index)
@@ -181,13 +189,16 @@ module _ (kind : Kind) (rows : List Row) (next : ℕ) (target : Target) (index :
       let middle = cut_leads taking valid in
       let fewer : length (remove rows index) < most_rows = omega (arith, length-remove rows index (index_below rows index old may.there), may.room) in (
         record { within = may.there; timeline = timeline_later kind (remove rows index) next may.below middle },
-        (record {
-          within = cut_within;
-          timeline = timeline_with kind (remove rows index) next (place_for target index (remove rows index)) (replacing target next old) middle may.below (drawn_number target next old)
-              (fits_without target rows next index old may.timeline.in_order may.there)
-              (replayable_with kind (remove rows index) (place_for target index (remove rows index)) (replacing target next old) middle.replayable fewer cut_within
-              (rw (drawn_number target next old) (next_is_fresh kind (remove rows index) next middle)) new_here valid);
-        }, tt),
+        (
+          record {
+            within = cut_within;
+            timeline = timeline_with kind (remove rows index) next (place_for target index (remove rows index)) (replacing target next old) middle may.below (drawn_number target next old)
+                (fits_without target rows next index old may.timeline.in_order may.there)
+                (replayable_with kind (remove rows index) (place_for target index (remove rows index)) (replacing target next old) middle.replayable fewer cut_within
+                (rw (drawn_number target next old) (next_is_fresh kind (remove rows index) next middle)) new_here valid);
+          },
+          tt,
+        ),
       )
 
 -- so it is of the step
@@ -215,6 +226,22 @@ pub walk_names : (kind : Kind) (rows : List Row) (next : ℕ) (target : Target) 
     → failing ≡ failing_row kind (edited_by rows (shift_of rows target next index old))
 walk_names kind rows next target index old r failing may is found =
     found ∙ ap (λ (q : Replacement). result_err (tallied (replaced rows q) (tally_before q.old.op q.new.op))) is ∙ shift_fails kind rows next target index old may
+
+pub walk_passes : (kind : Kind) (rows : List Row) (next : ℕ) (target : Target) (index : ℕ) (old : Row) (r : Replacement) (failing : Option Row)
+    → MayShift kind rows next target index old → r ≡ replacement_of rows target next index old
+    → failing ≡ result_err (tallied (replaced rows r) (tally_before r.old.op r.new.op)) → failing ≡ None
+    → IsValid kind (edited_by rows (shift_of rows target next index old))
+walk_passes kind rows next target index old r failing may is found none =
+    none_fails kind (edited_by rows (shift_of rows target next index old)) (sym (walk_names kind rows next target index old r failing may is found) ∙ none)
+
+-- the edits stand in turn where the walk has found no failing row
+pub walk_stands : (kind : Kind) (rows : List Row) (next : ℕ) (target : Target) (index : ℕ) (old : Row) (r : Replacement) (failing : Option Row) (edits : Step)
+    → MayShift kind rows next target index old → r ≡ replacement_of rows target next index old
+    → failing ≡ result_err (tallied (replaced rows r) (tally_before r.old.op r.new.op)) → failing ≡ None → edits ≡ step_of_replacement r
+    → StandInTurn kind (next + 1) rows edits
+walk_stands kind rows next target index old r failing edits may is found none made =
+    subst (StandInTurn kind (next + 1) rows) (sym (edits_are_shift rows target next index old r edits may.timeline.in_order may.there is made))
+    (shift_stands kind rows next target index old may (walk_passes kind rows next target index old r failing may is found none))
 
 -- a row stands at the index
 pub if_there : (P : Step → Type 0) (rows : List Row) (target : Target) (next index : ℕ) (old : Row) → slice_get rows index ≡ Some old

@@ -1,18 +1,18 @@
 -- The edits of a step, made and taken back, and those of a row that is replaced.
-use Rattle.std.proofs.Common.{◌≡◌, ℕ, zero, suc, ◌+◌, ◌<◌, ◌≤◌, true, false, List, [], ◌∷◌, length, map, reverse, slice_get, Some, refl, sym, ◌∙◌, ap, arith}
+use Rattle.std.proofs.Common.{◌≡◌, ℕ, zero, suc, ◌<◌, ◌≤◌, true, false, List, [], ◌∷◌, length, map, slice_get, Some, refl, ◌∙◌, ap, arith}
 use Rattle.std.specs.Prelude.{nat_le}
-use Rattle.std.specs.List.{insert, remove, fold}
+use Rattle.std.specs.List.{insert, remove}
 use Rattle.std.proofs.lemmas.Bool.{leb-true, leb-false}
 use Rattle.std.proofs.lemmas.List.{reverse-append}
 use Rattle.std.proofs.lemmas.List.Sums.{fold-append, count_by-le-length}
 use Rattle.retro_base.specs.declared.row.Row.{Row}
-use Rattle.retro_base.specs.Edits.{Edit, Step, add, cut, edited, edited_by, inverse, inverse_step}
+use Rattle.retro_base.specs.Edits.{Step, cut, edited, edited_by, inverse, inverse_step}
 use Rattle.retro_base.specs.EditedLists.{can_go_back, there_and_back}
 use Rattle.retro_base.specs.Kind.{adds}
 use Rattle.timeline_undo.specs.declared.shift.Target.{Target}
 use Rattle.timeline_undo.specs.declared.shift.Target.TheVariants.{At, Into}
 use Rattle.timeline_undo.specs.Back.{CanBeMade}
-use Rattle.timeline_undo.specs.Shift.{index_after, place_for, replacing, shift_of, put_then_cut, cut_then_put}
+use Rattle.timeline_undo.specs.Shift.{index_after, place_for, replacing, shift_of}
 
 -- a step that was made and taken back leads to the rows from before it
 pub step_and_back : (rows : List Row) (step : Step) → CanBeMade rows step → edited_by (edited_by rows step) (inverse_step step) ≡ rows
@@ -60,8 +60,8 @@ pub shift_can_be_made : (rows : List Row) (target : Target) (number index : ℕ)
 shift_can_be_made rows target number index old there =
     elim (adds (replacing target number old).op) as (λ b. adds (replacing target number old).op ≡ b → CanBeMade rows (shift_of rows target number index old)) [
       | true ↦ λ e. rw e (
-          place_within target index rows (within_of rows index old there),
-          (stands_after_put rows (place_for target index rows) index (replacing target number old) old there, tt),
-        )
+        place_within target index rows (within_of rows index old there),
+        (stands_after_put rows (place_for target index rows) index (replacing target number old) old there, tt),
+      )
       | false ↦ λ e. rw e (there, (place_within target index (remove rows index) (can_go_back rows (cut index old) there), tt))
     ] refl

@@ -1,5 +1,5 @@
 -- The tally along the rows after a replacement finds the first of them that cannot be performed.
-use Rattle.std.proofs.Common.{◌≡◌, ℕ, ℤ, zero, suc, ◌+◌, ◌-◌, append_assoc, ◌<◌, ◌≤◌, get_or, Bool, true, false, cond, List, [], ◌∷◌, ◌++◌, length, take, drop, slice_get, slice_range, refl, sym, ap, ◌∙◌, arith, Option, Some, None, Result, Ok, Err}
+use Rattle.std.proofs.Common.{◌≡◌, ℕ, ℤ, suc, ◌+◌, ◌-◌, append_assoc, ◌<◌, ◌≤◌, get_or, Bool, true, false, List, [], ◌∷◌, ◌++◌, length, take, drop, slice_get, slice_range, refl, sym, ap, ◌∙◌, arith, Option, Some, None, Result, Ok, Err}
 use Rattle.std.specs.List.{insert, remove, AllByRecursion}
 use Rattle.std.specs.Option.{option_and_then, option_map}
 use Rattle.std.specs.Ordering.{int_eq}
@@ -14,14 +14,13 @@ use Rattle.retro_base.specs.declared.op.Op.TheVariants.{Enq, Deq, Push, Pop, Pus
 use Rattle.retro_base.specs.declared.row.Row.{Row}
 use Rattle.retro_base.specs.Counting.{pair_after, size_after, quantity_of, quantity_after, counted}
 use Rattle.retro_base.specs.Edits.{failing_row}
-use Rattle.retro_base.specs.Kind.{adds, kind_of}
+use Rattle.retro_base.specs.Kind.{kind_of}
 use Rattle.retro_base.specs.OrderLaws.{all_with, all_without}
-use Rattle.retro_base.specs.Replay.{one_later, failure, fold_rows, run, IsValid}
-use Rattle.retro_base.specs.State.{pairs}
+use Rattle.retro_base.specs.Replay.{one_later, failure, IsValid}
 use Rattle.retro_base.specs.Timeline.{AreOfKind}
 use Rattle.retro_base.specs.lemmas.Counted.{all_lines, around}
 use Rattle.retro_base.specs.lemmas.CountedEntries.{pq_failure}
-use Rattle.retro_base.specs.lemmas.CountedKeys.{all_keys, key_of_row, passed_in, passed_out}
+use Rattle.retro_base.specs.lemmas.CountedKeys.{all_keys, passed_in, passed_out}
 use Rattle.retro_base.specs.lemmas.CountedLines.{line_failure}
 use Rattle.retro_base.specs.lemmas.CountedSizes.{quantity_after-le}
 use Rattle.retro_base.specs.lemmas.Folds.{no_row, BothOrNeither, folds_agree, same_failure, fold_rows-nil, fold_rows-some, fold_rows-none}
@@ -218,7 +217,7 @@ pub names_row : (rows : List Row) (tally : Tally) → result_err (tallied rows t
 names_row [] tally = ap result_err (tallied-nil tally) ∙ sym (ap (λ r. option_and_then (slice_get []) (result_err r)) (fold_rows-nil (λ row t. tally_after t row.op) tally))
 names_row (row ∷ rows) tally =
     elim (tally_after tally row.op) as (λ o. tally_after tally row.op ≡ o
-        → result_err (tallied (row ∷ rows) tally) ≡ option_and_then (slice_get (row ∷ rows)) (result_err (tally_of (row ∷ rows) tally))) [
+    → result_err (tallied (row ∷ rows) tally) ≡ option_and_then (slice_get (row ∷ rows)) (result_err (tally_of (row ∷ rows) tally))) [
       | None ↦ λ stops.
           ap result_err (tallied-none row rows tally stops)
           ∙ sym (ap (λ r. option_and_then (slice_get (row ∷ rows)) (result_err r)) (fold_rows-none (λ r t. tally_after t r.op) row rows tally stops))

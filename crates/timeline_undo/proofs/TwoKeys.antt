@@ -3,7 +3,6 @@ use Rattle.std.proofs.Common.{◌≡◌, ℕ, ℤ, suc, true, false, Bool, ◌||
 use Rattle.std.specs.Option.{option_map}
 use Rattle.std.specs.Ordering.{int_eq}
 use Rattle.std.specs.Result.{result_err}
-use Rattle.std.specs.List.{AllByRecursion}
 use Rattle.retro_base.specs.declared.kind.Kind.TheVariants.{Dict}
 use Rattle.retro_base.specs.declared.op.Op.{Op}
 use Rattle.retro_base.specs.declared.op.Op.TheVariants.{Enq, Deq, Push, Pop, PushL, PushR, PopL, PopR, Put, Del, Ins, DelMin}
@@ -11,15 +10,15 @@ use Rattle.retro_base.specs.declared.row.Row.{Row}
 use Rattle.retro_base.specs.Counting.{one_fewer, pair_after, quantity_of, quantity_after, counted}
 use Rattle.retro_base.specs.Kind.{kind_of}
 use Rattle.retro_base.specs.Replay.{one_later, fold_rows, run}
-use Rattle.retro_base.specs.State.{State, pairs, step}
+use Rattle.retro_base.specs.State.{pairs, step}
 use Rattle.retro_base.specs.Timeline.{AreOfKind}
-use Rattle.retro_base.specs.lemmas.CountedKeys.{one_key, key_of_row}
+use Rattle.retro_base.specs.lemmas.CountedKeys.{one_key}
 use Rattle.retro_base.specs.lemmas.Folds.{not_both, ok_same, one_later-ok, err_same, fold_rows-nil, fold_rows-some, fold_rows-none, fold_rows-append_err, fold_rows-last, between_stops, front_possible}
 use Rattle.retro_base.specs.lemmas.SortedPairs.{same_key, sorted_nil}
 use Rattle.timeline_undo.specs.declared.tally.Presence.{Presence}
 use Rattle.timeline_undo.specs.declared.tally.Tally.{Tally}
-use Rattle.timeline_undo.specs.declared.tally.Tally.TheVariants.{Items, Keys}
-use Rattle.timeline_undo.specs.Tallies.{absent, presence_after, tally_after, there_after}
+use Rattle.timeline_undo.specs.declared.tally.Tally.TheVariants.{Keys}
+use Rattle.timeline_undo.specs.Tallies.{absent, tally_after, there_after}
 
 -- the tally after rows, or the index of the first one that finds nothing to take
 abbrev pub tally_of : List Row → Tally → Result Tally ℕ
@@ -80,15 +79,15 @@ stops_at next_of [] s index e = absurd (not_both _ e (fold_rows-nil next_of s))
 stops_at next_of (first ∷ rows) s index e =
     elim (next_of first s) as (λ o. next_of first s ≡ o → StopsAt next_of (first ∷ rows) s index) [
       | None ↦ λ stops. record {
-          before = [];
-          row = first;
-          after = rows;
-          reached = s;
-          split = refl;
-          at = err_same _ (fold_rows-none next_of first rows s stops) e;
-          goes = fold_rows-nil next_of s;
-          stops = stops;
-        }
+        before = [];
+        row = first;
+        after = rows;
+        reached = s;
+        split = refl;
+        at = err_same _ (fold_rows-none next_of first rows s stops) e;
+        goes = fold_rows-nil next_of s;
+        stops = stops;
+      }
       | Some t ↦ λ goes.
           let fails = one_later-err _ index (sym (fold_rows-some next_of first rows s t goes) ∙ e) in
           let rest = stops_at next_of rows t fails.0 fails.1 in record {
@@ -202,8 +201,8 @@ fails_there k before after row there all counts none others =
     let first : result_err (run front (pairs [])) ≡ Some (length before) =
     one_key k front [] (front_of_kind before row after all) sorted_nil
     (λ q apart.
-        let found = ok_of (counted_key q before 0) (others q apart) in
-        err_of _ found.0 (fold_rows-last (keyed q) before row 0 found.0 found.0 found.1 (leaves_others row.op k there (row_of_kind before row after all) none q found.0 apart)))
+    let found = ok_of (counted_key q before 0) (others q apart) in
+    err_of _ found.0 (fold_rows-last (keyed q) before row 0 found.0 found.0 found.1 (leaves_others row.op k there (row_of_kind before row after all) none q found.0 apart)))
     ∙ ap result_err here in
     ap (λ rs. result_err (run rs (pairs []))) (regroup before after row)
     ∙ ap result_err (fold_rows-append_err step front after (pairs []) (length before) (is_err _ _ first))

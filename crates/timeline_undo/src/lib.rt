@@ -6,18 +6,29 @@
 //! takes the newest step back, with the same row at the same place, and `redo` makes it again, until another edit comes.
 //! Of its steps a session keeps the last 1,024; it takes the memory for them when it is made.
 //!
+//! `shift` replaces a row in one step of two list edits: by its operation at another time, or by another operation at its
+//! own place. The new row draws a number. A new row that adds is put in before the old one is cut, and one that takes after
+//! it, so that the rows between the two edits replay wherever those after both do. Only the rows after both are judged:
+//! one walk over the rows counts the items, or looks after the two keys of a dictionary, and names the first row that could
+//! not be performed, before anything is edited and without memory.
+//!
 //! What the layer above may rely on: a session is seen as a kind, rows, the number that the next row draws, and a
-//! history (`specs/Session.antt`, `specs/History.antt`); after every error all is as before; `EditError::Fails` comes
-//! exactly where the edited rows do not replay, and `UndoError::Nothing` exactly where there is no such step. That an
-//! undo always replays is no test but a fact, which the invariant keeps: every step leads to rows that stood before.
+//! history (`specs/Session.antt`, `specs/History.antt`, `specs/Shift.antt`); `EditError::Fails` comes exactly where the
+//! edited rows do not replay, and `UndoError::Nothing` exactly where there is no such step. That an undo always replays is
+//! no test but a fact, which the invariant keeps: every step leads to rows that stood before. After every error all is as
+//! before, but where `spent` is true afterwards: memory ran out between the two list edits of a step. Such a session has
+//! the rows after the first edit and no history, and takes no more calls.
 //!
 //! | Call | Cost |
 //! |---|---|
-//! | `put`, `cut`, `undo`, `redo`, `append` | an edit of the timeline and one of the structure |
+//! | `put`, `cut`, `append` | an edit of the timeline and one of the structure |
+//! | `undo`, `redo` | that for each list edit of the step |
+//! | `shift` | that twice, and a walk over all rows |
 //! | `ask_now`, `ask`, `all` | those of the structure |
 //!
-//! - `session`: the type and its calls. `turn`, `error`: what they answer.
+//! - `session`: the type and its calls. `turn`, `shift`, `error`: what they take and answer.
 //! - `edit`, `noted`, `failing`: an edit in both lists, what the history keeps of it, the row that fails.
+//! - `replacement`, `scan`, `tally`: a row that is to be replaced, the walk that looks for the row that fails, what it counts.
 //! - `laws`: an undo leads back.
 #![tactic(auto)]
 

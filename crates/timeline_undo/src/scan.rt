@@ -31,7 +31,12 @@ fn tally_along(timeline: &Timeline, replacement: Replacement, tally: Tally) -> R
     requires room { IsUpTo tally 0 }
     ensures { result ≡ tallied (replaced timeline.now replacement) tally }
 {
-    let Replacement { index, before, new, .. } = replacement;
+    let Replacement {
+        index,
+        before,
+        new,
+        ..
+    } = replacement;
     if before <= index {
         let tally = match walk_and_add(timeline, 0, before, new, tally) {
             Ok(next) => next,

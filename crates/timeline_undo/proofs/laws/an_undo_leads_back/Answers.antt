@@ -1,7 +1,5 @@
-use Rattle.std.proofs.Common.{◌≡◌, List, [], ◌∷◌, ◌++◌, ap, refl, sym, ◌∙◌}
-use Rattle.retro_base.specs.declared.row.Row.{Row}
-use Rattle.retro_base.specs.Edits.{Step, edited, edited_by, inverse_step}
-use Rattle.timeline_undo.specs.Back.{CanBeMade}
+use Rattle.std.proofs.Common.{ap, refl}
+use Rattle.retro_base.specs.Edits.{edited_by}
 use Rattle.timeline_undo.proofs.Rings.{newest-recorded}
 use Rattle.timeline_undo.proofs.Steps.{step_and_back, shift_can_be_made}
 use Rattle.timeline_undo.proofs.laws.an_undo_leads_back.Goals as goal

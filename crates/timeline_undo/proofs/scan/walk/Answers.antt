@@ -1,4 +1,4 @@
-use Rattle.std.proofs.Common.{◌≡◌, ◌-◌, ◌+◌, ◌≤◌, ap, drop, length, take, sym, ◌∙◌, arith}
+use Rattle.std.proofs.Common.{◌+◌, ap, drop, sym, ◌∙◌, arith}
 use Rattle.timeline_undo.specs.Tallies.{tallied}
 use Rattle.timeline_undo.proofs.Tallied.{read_up_to, up_to_more, walk_ends, walk_goes, walk_stops, window_reads}
 use Rattle.timeline_undo.proofs.scan.walk.Goals as goal

@@ -1,4 +1,4 @@
-use Rattle.std.proofs.Common.{◌≡◌, ◌-◌, ◌+◌, ◌≤◌, [], ◌∷◌, slice_range, sym, ◌∙◌, arith}
+use Rattle.std.proofs.Common.{◌+◌, [], ◌∷◌, slice_range, sym, ◌∙◌, arith}
 use Rattle.timeline_undo.proofs.Tallied.{tallied-stops, tallied-then, up_to_more, walked_up_to}
 use Rattle.timeline_undo.proofs.scan.walk_and_add.Goals as goal
 

@@ -15,11 +15,13 @@ pub invariant_of-self-2 : goal.invariant_of-self-2
 invariant_of-self-2 g c =
     rw (c.in_ok-turn.ensures.kind, c.in_ok-turn.ensures.rows, c.note.ensures.undo, c.note.ensures.redo)
     (session_noted _ _ c.self.inside.timeline c.self.inside.next c.self.inside.undo c.self.inside.redo _ c.self.invariant.undo_room c.self.invariant.redo_room
-    (c.in_ok-turn.ensures.same ∙ c.in_ok-turn.ensures.rows) c.self.invariant.timeline
-    (record {
-      within = c.row_at-row.ensures;
-      timeline = delete_leads _ _ _ _ c.args.place _ c.self.invariant.same c.self.invariant.timeline c.failure_after_remove.ensures.first c.in_default.is;
-    }, tt)
+    (c.in_ok-turn.ensures.same ∙ c.in_ok-turn.ensures.rows) c.self.invariant.timeline (
+      record {
+        within = c.row_at-row.ensures;
+        timeline = delete_leads _ _ _ _ c.args.place _ c.self.invariant.same c.self.invariant.timeline c.failure_after_remove.ensures.first c.in_default.is;
+      },
+      tt,
+    )
     c.self.invariant.undoable)
 
 pub returns-clause-session : goal.returns-clause-session

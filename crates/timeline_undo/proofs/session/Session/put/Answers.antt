@@ -22,13 +22,15 @@ invariant_of-self-2 g c =
     rw (c.in_ok-turn.ensures.kind, c.in_ok-turn.ensures.rows, c.note.ensures.undo, c.note.ensures.redo)
     (session_noted _ _ c.self.inside.timeline (c.self.inside.next + 1) c.self.inside.undo c.self.inside.redo _ c.self.invariant.undo_room c.self.invariant.redo_room
     (c.in_ok-turn.ensures.same ∙ c.in_ok-turn.ensures.rows)
-    (timeline_later _ _ _ below c.self.invariant.timeline)
-    (record {
-      within = rw (← c.self.view_is) at c.requires.within;
-      timeline = insert_leads _ _ _ _ c.args.place _ _ c.self.invariant.same c.self.invariant.timeline (rw (← c.self.view_is) at c.requires.within) (rw (← c.self.view_is) at c.requires.fits)
-          (rw (← c.self.view_is) at c.requires.room) below (rw (← c.self.view_is) at c.requires.of_kind) refl
-          (c.failure_after_insert.ensures.first _ refl) c.in_default.is;
-    }, tt)
+    (timeline_later _ _ _ below c.self.invariant.timeline) (
+      record {
+        within = rw (← c.self.view_is) at c.requires.within;
+        timeline = insert_leads _ _ _ _ c.args.place _ _ c.self.invariant.same c.self.invariant.timeline (rw (← c.self.view_is) at c.requires.within) (rw (← c.self.view_is) at c.requires.fits)
+            (rw (← c.self.view_is) at c.requires.room) below (rw (← c.self.view_is) at c.requires.of_kind) refl
+            (c.failure_after_insert.ensures.first _ refl) c.in_default.is;
+      },
+      tt,
+    )
     (in_turn_later _ _ _ _ below c.self.invariant.undoable))
 
 pub returns-clause-session : goal.returns-clause-session
