@@ -2,17 +2,19 @@
 use Rattle.std.proofs.Common.{◌≡◌, ℕ, ◌+◌, Bool, true, false, cond, nat_le, [], ◌∷◌, length, refl, Option, Some, None}
 use Rattle.retro_base.specs.declared.op.Op.{Op}
 use Rattle.retro_base.specs.Limits.{most_rows, next_limit}
-use Rattle.retro_base.specs.Edits.{Edit, Step, add, edited}
+use Rattle.retro_base.specs.Edits.{Edit, Step, add, edited_by}
 use Rattle.retro_base.specs.Replay.{failure}
 use Rattle.retro_base.specs.Kind.{kind_of, same_kind}
 use Rattle.script_grammar.specs.declared.command.Spot.{Spot}
 use Rattle.timeline_undo.specs.History.{newest_step}
+use Rattle.timeline_undo.specs.declared.shift.Target.{Target}
+use Rattle.timeline_undo.specs.declared.shift.Target.TheVariants.{At, Into}
 use Rattle.workbench.specs.declared.outcome.Outcome.{Outcome}
 use Rattle.workbench.specs.declared.outcome.Outcome.TheVariants.{Accepted, Inserted}
 use Rattle.workbench.specs.declared.outcome.Refusal.TheVariants as refusals
 use Rattle.workbench.specs.declared.position.Position.{Position}
 use Rattle.workbench.specs.Bench.{NamedTimeline}
-use Rattle.workbench.specs.TimelineEffects.{TimelineEffect, refuses, accepted_or_refused, after_edit, edits, tells, new_row, row_named, position_of, inserts_at, cut_of, deletes_by, inserts, deletes, undoes_step, undoes, redoes_step, redoes}
+use Rattle.workbench.specs.TimelineEffects.{TimelineEffect, refuses, accepted_or_refused, after_step, makes, edits, tells, new_row, row_named, position_of, inserts_at, cut_of, deletes_by, inserts, deletes, shift_of_row, shifts_by, shifts, moves, changes, undoes_step, undoes, redoes_step, redoes}
 
 -- the effect keeps the name
 abbrev pub KeepsName : NamedTimeline → TimelineEffect → Type 0
@@ -27,9 +29,12 @@ name_accepted_or_refused : (timeline after : NamedTimeline) (outcome : Outcome) 
 name_accepted_or_refused timeline after outcome None same = same
 name_accepted_or_refused timeline after outcome (Some index) same = refl
 
+name_makes : (timeline : NamedTimeline) (step : Step) (next : ℕ) (outcome : Outcome) → KeepsName timeline (makes timeline step next outcome)
+name_makes timeline step next outcome =
+    name_accepted_or_refused timeline (after_step timeline step next) (tells timeline step outcome) (failure timeline.kind (edited_by timeline.rows step)) refl
+
 name_edits : (timeline : NamedTimeline) (edit : Edit) (next : ℕ) (outcome : Outcome) → KeepsName timeline (edits timeline edit next outcome)
-name_edits timeline edit next outcome =
-    name_accepted_or_refused timeline (after_edit timeline edit next) (tells timeline (edit ∷ []) outcome) (failure timeline.kind (edited timeline.rows edit)) refl
+name_edits timeline edit next outcome = name_makes timeline (edit ∷ []) next outcome
 
 name_inserts_at : (timeline : NamedTimeline) (number : ℕ) (op : Op) (position : Option Position) → KeepsName timeline (inserts_at timeline number op position)
 name_inserts_at timeline number op None = refl
@@ -52,6 +57,27 @@ name_deletes_by timeline number (Some edit) = name_edits timeline edit timeline.
 pub deletes_keeps_name : (number : ℕ) (timeline : NamedTimeline) → KeepsName timeline (deletes timeline number)
 unfolding deletes
 deletes_keeps_name number timeline = name_deletes_by timeline number (cut_of number timeline.rows)
+
+name_shifts_by : (timeline : NamedTimeline) (number : ℕ) (step : Option Step) → KeepsName timeline (shifts_by timeline number step)
+name_shifts_by timeline number None = refl
+name_shifts_by timeline number (Some step) =
+    let made : TimelineEffect = makes timeline step (timeline.next + 1) (Inserted timeline.next) in
+    name_if (nat_le most_rows (length timeline.rows)) timeline (refuses timeline refusals.Full) (cond (nat_le next_limit timeline.next) (refuses timeline refusals.Numbers) made) refl
+    (name_if (nat_le next_limit timeline.next) timeline (refuses timeline refusals.Numbers) made refl
+    (name_makes timeline step (timeline.next + 1) (Inserted timeline.next)))
+
+name_shifts : (timeline : NamedTimeline) (number : ℕ) (target : Target) → KeepsName timeline (shifts timeline number target)
+unfolding shifts
+name_shifts timeline number target = name_shifts_by timeline number (shift_of_row timeline number target)
+
+pub moves_keeps_name : (number time : ℕ) (timeline : NamedTimeline) → KeepsName timeline (moves timeline number time)
+moves_keeps_name number time timeline = name_shifts timeline number (At time)
+
+pub changes_keeps_name : (number : ℕ) (op : Op) (timeline : NamedTimeline) → KeepsName timeline (changes timeline number op)
+unfolding changes
+changes_keeps_name number op timeline =
+    name_if (same_kind (kind_of op) timeline.kind) timeline (shifts timeline number (Into op)) (refuses timeline refusals.Kind)
+    (name_shifts timeline number (Into op)) refl
 
 name_undoes_step : (timeline : NamedTimeline) (step : Option Step) → KeepsName timeline (undoes_step timeline step)
 name_undoes_step timeline None = refl

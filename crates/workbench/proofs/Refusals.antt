@@ -4,7 +4,7 @@ use Rattle.retro_base.specs.declared.kind.Kind.{Kind}
 use Rattle.retro_base.specs.declared.kind.Kind.TheVariants.{Queue, Stack, Deque, Dict, Pq}
 use Rattle.retro_base.specs.declared.op.Op.{Op}
 use Rattle.retro_base.specs.Limits.{most_rows, next_limit}
-use Rattle.retro_base.specs.Edits.{Edit, Step, add, edited, inverse_step}
+use Rattle.retro_base.specs.Edits.{Edit, Step, add, edited_by, inverse_step}
 use Rattle.retro_base.specs.Replay.{failure}
 use Rattle.retro_base.specs.Kind.{kind_of, same_kind}
 use Rattle.script_grammar.specs.declared.command.Command.{Command}
@@ -27,8 +27,10 @@ use Rattle.workbench.specs.declared.position.Position.{Position}
 use Rattle.workbench.specs.Bench.{NamedTimeline, OpenBlock, Bench, fresh, is_named, has_timeline}
 use Rattle.workbench.specs.Outcome.{is_refusal}
 use Rattle.workbench.specs.Reaction.{Effect, BenchEffect, leaves, if_startable, with_timeline, on_named, obeys, opened, outside, happens, loads, closes, ends, with_line, with_block, without_block}
-use Rattle.workbench.specs.TimelineEffects.{TimelineEffect, refuses, accepted_or_refused, after_edit, edits, tells, new_row, row_named, position_of, inserts_there, inserts_at, cut_of, deletes_by, inserts, deletes, unchanged, answers, answers_fate, undoes_step, undoes, redoes_step, redoes, saves}
+use Rattle.workbench.specs.TimelineEffects.{TimelineEffect, refuses, accepted_or_refused, after_step, makes, edits, tells, new_row, row_named, position_of, inserts_there, inserts_at, cut_of, deletes_by, inserts, deletes, shift_of_row, shifts_there, shifts_by, shifts, moves, changes, unchanged, answers, answers_fate, undoes_step, undoes, redoes_step, redoes, saves}
 use Rattle.timeline_undo.specs.History.{newest_step}
+use Rattle.timeline_undo.specs.declared.shift.Target.{Target}
+use Rattle.timeline_undo.specs.declared.shift.Target.TheVariants.{At, Into}
 use Rattle.workbench.specs.Reported.{reported}
 
 -- the effect leaves the timeline as it was, where it is a refusal
@@ -57,10 +59,13 @@ reported_is_no_refusal name Dict rows step plain accepted = accepted
 reported_is_no_refusal name Pq rows [] plain accepted = accepted
 reported_is_no_refusal name Pq rows (edit ∷ more) plain accepted = refl
 
+keeps_makes : (timeline : NamedTimeline) (step : Step) (next : ℕ) (outcome : Outcome) → is_refusal outcome ≡ false → Keeps timeline (makes timeline step next outcome)
+keeps_makes timeline step next outcome accepted =
+    keeps_accepted_or_refused timeline (after_step timeline step next) (tells timeline step outcome) (failure timeline.kind (edited_by timeline.rows step))
+    (reported_is_no_refusal timeline.name timeline.kind timeline.rows step outcome accepted)
+
 keeps_edits : (timeline : NamedTimeline) (edit : Edit) (next : ℕ) (outcome : Outcome) → is_refusal outcome ≡ false → Keeps timeline (edits timeline edit next outcome)
-keeps_edits timeline edit next outcome accepted =
-    keeps_accepted_or_refused timeline (after_edit timeline edit next) (tells timeline (edit ∷ []) outcome) (failure timeline.kind (edited timeline.rows edit))
-    (reported_is_no_refusal timeline.name timeline.kind timeline.rows (edit ∷ []) outcome accepted)
+keeps_edits timeline edit next outcome accepted = keeps_makes timeline (edit ∷ []) next outcome accepted
 
 keeps_inserts_there : (timeline : NamedTimeline) (op : Op) (position : Position) → Keeps timeline (inserts_there timeline op position)
 keeps_inserts_there timeline op position =
@@ -88,6 +93,28 @@ keeps_deletes_by timeline number (Some edit) = keeps_edits timeline edit timelin
 keeps_deletes : (timeline : NamedTimeline) (number : ℕ) → Keeps timeline (deletes timeline number)
 unfolding deletes
 keeps_deletes timeline number = keeps_deletes_by timeline number (cut_of number timeline.rows)
+
+keeps_shifts_there : (timeline : NamedTimeline) (step : Step) → Keeps timeline (shifts_there timeline step)
+keeps_shifts_there timeline step =
+    let made : TimelineEffect = makes timeline step (timeline.next + 1) (Inserted timeline.next) in
+    keeps_if (nat_le most_rows (length timeline.rows)) timeline (refuses timeline refusals.Full) (cond (nat_le next_limit timeline.next) (refuses timeline refusals.Numbers) made)
+    (λ refused. refl)
+    (keeps_if (nat_le next_limit timeline.next) timeline (refuses timeline refusals.Numbers) made (λ refused. refl)
+    (keeps_makes timeline step (timeline.next + 1) (Inserted timeline.next) refl))
+
+keeps_shifts_by : (timeline : NamedTimeline) (number : ℕ) (step : Option Step) → Keeps timeline (shifts_by timeline number step)
+keeps_shifts_by timeline number None = λ refused. refl
+keeps_shifts_by timeline number (Some step) = keeps_shifts_there timeline step
+
+keeps_shifts : (timeline : NamedTimeline) (number : ℕ) (target : Target) → Keeps timeline (shifts timeline number target)
+unfolding shifts
+keeps_shifts timeline number target = keeps_shifts_by timeline number (shift_of_row timeline number target)
+
+keeps_changes : (timeline : NamedTimeline) (number : ℕ) (op : Op) → Keeps timeline (changes timeline number op)
+unfolding changes
+keeps_changes timeline number op =
+    keeps_if (same_kind (kind_of op) timeline.kind) timeline (shifts timeline number (Into op)) (refuses timeline refusals.Kind)
+    (keeps_shifts timeline number (Into op)) (λ refused. refl)
 
 keeps_undoes_step : (timeline : NamedTimeline) (step : Option Step) → Keeps timeline (undoes_step timeline step)
 keeps_undoes_step timeline None = λ refused. refl
@@ -159,8 +186,14 @@ refusal_keeps timelines (Ok (Delete name number)) refused = record {
   kept = named_keeps name (λ timeline. deletes timeline number) (λ timeline. keeps_deletes timeline number) timelines refused;
   opens_nothing = refl;
 }
-refusal_keeps timelines (Ok (Move name number time)) refused = record { kept = refl; opens_nothing = refl }
-refusal_keeps timelines (Ok (Change name number op)) refused = record { kept = refl; opens_nothing = refl }
+refusal_keeps timelines (Ok (Move name number time)) refused = record {
+  kept = named_keeps name (λ timeline. moves timeline number time) (λ timeline. keeps_shifts timeline number (At time)) timelines refused;
+  opens_nothing = refl;
+}
+refusal_keeps timelines (Ok (Change name number op)) refused = record {
+  kept = named_keeps name (λ timeline. changes timeline number op) (λ timeline. keeps_changes timeline number op) timelines refused;
+  opens_nothing = refl;
+}
 refusal_keeps timelines (Ok (Fate name number)) refused = record {
   kept = named_keeps name (λ timeline. unchanged timeline (answers_fate timeline number)) (λ timeline e. refl) timelines refused;
   opens_nothing = refl;

@@ -25,8 +25,8 @@ use Rattle.workbench.specs.Bench.{NamedTimeline, OpenBlock, Bench, fresh, is_nam
 use Rattle.workbench.specs.OwnLines.{name_in, names}
 use Rattle.workbench.specs.Reaction.{Effect, BenchEffect, leaves, if_startable, with_timeline, on_named, obeys, of_block, loads, closes, opened}
 use Rattle.workbench.specs.Reported.{loaded}
-use Rattle.workbench.specs.TimelineEffects.{TimelineEffect, unchanged, inserts, deletes, answers, answers_fate, undoes, redoes, saves}
-use Rattle.workbench.proofs.Names.{KeepsName, inserts_keeps_name, deletes_keeps_name, undoes_keeps_name, redoes_keeps_name}
+use Rattle.workbench.specs.TimelineEffects.{TimelineEffect, unchanged, inserts, deletes, moves, changes, answers, answers_fate, undoes, redoes, saves}
+use Rattle.workbench.proofs.Names.{KeepsName, inserts_keeps_name, deletes_keeps_name, moves_keeps_name, changes_keeps_name, undoes_keeps_name, redoes_keeps_name}
 
 -- the share of a name in the timelines, in the block, and in what becomes of them
 abbrev pub share : List ℕ → List NamedTimeline → List NamedTimeline
@@ -186,8 +186,10 @@ module _ (name : List ℕ) where
       rw (same_name other name is) (own_named (λ timeline. inserts timeline spot op) (inserts_keeps_name spot op) timelines)
   own_obeys timelines (Ok (Delete other number)) is room =
       rw (same_name other name is) (own_named (λ timeline. deletes timeline number) (deletes_keeps_name number) timelines)
-  own_obeys timelines (Ok (Move other number time)) is room = refl
-  own_obeys timelines (Ok (Change other number op)) is room = refl
+  own_obeys timelines (Ok (Move other number time)) is room =
+      rw (same_name other name is) (own_named (λ timeline. moves timeline number time) (moves_keeps_name number time) timelines)
+  own_obeys timelines (Ok (Change other number op)) is room =
+      rw (same_name other name is) (own_named (λ timeline. changes timeline number op) (changes_keeps_name number op) timelines)
   own_obeys timelines (Ok (Fate other number)) is room =
       rw (same_name other name is) (own_named (λ timeline. unchanged timeline (answers_fate timeline number)) (λ timeline. refl) timelines)
   own_obeys timelines (Ok (Ask other moment query)) is room =
@@ -208,8 +210,8 @@ module _ (name : List ℕ) where
       other_startable timelines other (with_timeline timelines (fresh other kind) Accepted) (other_comes timelines (fresh other kind) apart)
   other_obeys timelines (Ok (Insert other spot op)) apart = other_named other (λ timeline. inserts timeline spot op) (inserts_keeps_name spot op) apart timelines
   other_obeys timelines (Ok (Delete other number)) apart = other_named other (λ timeline. deletes timeline number) (deletes_keeps_name number) apart timelines
-  other_obeys timelines (Ok (Move other number time)) apart = refl
-  other_obeys timelines (Ok (Change other number op)) apart = refl
+  other_obeys timelines (Ok (Move other number time)) apart = other_named other (λ timeline. moves timeline number time) (moves_keeps_name number time) apart timelines
+  other_obeys timelines (Ok (Change other number op)) apart = other_named other (λ timeline. changes timeline number op) (changes_keeps_name number op) apart timelines
   other_obeys timelines (Ok (Fate other number)) apart =
       other_named other (λ timeline. unchanged timeline (answers_fate timeline number)) (λ timeline. refl) apart timelines
   other_obeys timelines (Ok (Ask other moment query)) apart =

@@ -5,10 +5,15 @@ use Rattle.std.proofs.Math.Seq.{take-length}
 use Rattle.retro_base.specs.declared.op.Op.{Op}
 use Rattle.retro_base.specs.declared.question.Question.{Question}
 use Rattle.retro_base.specs.declared.row.Row.{Row}
-use Rattle.retro_base.specs.Edits.{Edit, Step, add, cut, edited}
+use Rattle.retro_base.specs.Edits.{Edit, Step, add, cut, edited, edited_by, inverse_step}
 use Rattle.retro_base.specs.Limits.{most_rows, next_limit}
 use Rattle.timeline_undo.specs.History.{newest_step}
-use Rattle.timeline_undo.specs.Session.{FailsFirst, IsCause}
+use Rattle.timeline_undo.specs.Shift.{shift_at, shift_of}
+use Rattle.timeline_undo.specs.declared.shift.Target.{Target}
+use Rattle.timeline_undo.specs.declared.shift.Target.TheVariants.{Into}
+use Rattle.timeline_undo.specs.Session.{SessionState, FailsFirst, IsCause, IsLeftByShift, IsLeftByUndo, IsStepCause}
+use Rattle.timeline_undo.specs.declared.error.UndoError.{UndoError}
+use Rattle.timeline_undo.specs.declared.error.UndoError.TheVariants as undos
 use Rattle.timeline_undo.specs.declared.error.EditError.{EditError}
 use Rattle.timeline_undo.specs.declared.error.EditError.TheVariants as errors
 use Rattle.retro_base.specs.declared.memory.NoMemory.{NoMemory}
@@ -27,9 +32,10 @@ use Rattle.workbench.specs.declared.outcome.Outcome.{Outcome}
 use Rattle.workbench.specs.declared.outcome.Outcome.TheVariants.{Accepted, Answered, Inserted, Listed, Refused}
 use Rattle.workbench.specs.declared.outcome.Refusal.TheVariants as refusals
 use Rattle.workbench.specs.declared.position.Position.{Position}
-use Rattle.workbench.specs.Bench.{NamedTimeline}
+use Rattle.workbench.specs.Bench.{NamedTimeline, named}
+use Rattle.std.proofs.lemmas.Bool.{lt-leb}
 use Rattle.retro_base.specs.Order.{Fits}
-use Rattle.workbench.specs.TimelineEffects.{refuses, row_named, position_before, next_position, position_of, inserts_there, new_row, after_edit, edits, tells, inserts, deletes, answers, undoes_step, undoes, redoes_step, redoes}
+use Rattle.workbench.specs.TimelineEffects.{TimelineEffect, refuses, row_named, position_before, next_position, position_of, inserts_there, new_row, after_step, makes, edits, tells, inserts, deletes, shifts_there, shifts_by, shifts, changes, answers, undoes_step, undoes, redoes_step, redoes}
 use Rattle.retro_base.specs.OrderLaws.{time_fits, fits_before, fits_after}
 
 pub inserts_other_kind : (t : NamedTimeline) (spot : Spot) (op : Op) → same_kind (kind_of op) t.kind ≡ false → inserts t spot op ≡ refuses t refusals.Kind
@@ -57,8 +63,117 @@ edits_fails t edit next outcome number time (index, row, fails, at, same_number,
     rw (fails, at, ← same_number, ← same_time) refl
 
 pub edits_accepted : (t : NamedTimeline) (edit : Edit) (next : ℕ) (outcome : Outcome) → failure t.kind (edited t.rows edit) ≡ None
-    → edits t edit next outcome ≡ record { timeline = after_edit t edit next; outcome = tells t (edit ∷ []) outcome }
+    → edits t edit next outcome ≡ record { timeline = after_step t (edit ∷ []) next; outcome = tells t (edit ∷ []) outcome }
 edits_accepted t edit next outcome none = rw none refl
+
+-- and so is a step
+pub makes_fails : (t : NamedTimeline) (step : Step) (next : ℕ) (outcome : Outcome) (number time : ℕ) → FailsFirst t.kind (edited_by t.rows step) number time
+    → makes t step next outcome ≡ refuses t (refusals.At number time)
+makes_fails t step next outcome number time (index, row, fails, at, same_number, same_time) =
+    rw (fails, at, ← same_number, ← same_time) refl
+
+pub makes_accepted : (t : NamedTimeline) (step : Step) (next : ℕ) (outcome : Outcome) → failure t.kind (edited_by t.rows step) ≡ None
+    → makes t step next outcome ≡ record { timeline = after_step t step next; outcome = tells t step outcome }
+makes_accepted t step next outcome none = rw none refl
+
+-- a row is replaced where it stands, and there is room and a number
+pub shifts_nothing : (t : NamedTimeline) (number : ℕ) (target : Target) → place_of_row number t.rows ≡ None → shifts t number target ≡ refuses t (refusals.NoRow number)
+unfolding shifts
+shifts_nothing t number target nowhere = rw nowhere refl
+
+pub shifts_step : (t : NamedTimeline) (number place : ℕ) (target : Target) (step : Step) → place_of_row number t.rows ≡ Some place
+    → shift_at t.rows target t.next place ≡ Some step → shifts t number target ≡ shifts_there t step
+unfolding shifts
+shifts_step t number place target step there at = ap (λ p. shifts_by t number (option_and_then (shift_at t.rows target t.next) p)) there ∙ ap (shifts_by t number) at
+
+pub shifts_full : (t : NamedTimeline) (step : Step) → nat_le most_rows (length t.rows) ≡ true → shifts_there t step ≡ refuses t refusals.Full
+shifts_full t step full = rw full refl
+
+pub shifts_numbers : (t : NamedTimeline) (step : Step) → nat_le most_rows (length t.rows) ≡ false → nat_le next_limit t.next ≡ true
+    → shifts_there t step ≡ refuses t refusals.Numbers
+shifts_numbers t step room none = rw (room, none) refl
+
+pub shifts_makes : (t : NamedTimeline) (step : Step) → nat_le most_rows (length t.rows) ≡ false → nat_le next_limit t.next ≡ false
+    → shifts_there t step ≡ makes t step (t.next + 1) (Inserted t.next)
+shifts_makes t step room number = rw (room, number) refl
+
+-- an index without an element is past the end
+slice_get_none : {X : Type 0} (xs : List X) (i : ℕ) → slice_get xs i ≡ None → length xs ≤ i
+slice_get_none [] i none = omega arith
+slice_get_none (x ∷ xs) zero none = absurd (cc)
+slice_get_none (x ∷ xs) (suc i) none = omega (arith, slice_get_none xs i none)
+
+-- a step stands there
+step_there : (t : NamedTimeline) (target : Target) (place : ℕ) → place < length t.rows → (step : Step) × (shift_at t.rows target t.next place ≡ Some step)
+step_there t target place within =
+    elim (slice_get t.rows place) as (λ o. slice_get t.rows place ≡ o → (step : Step) × (shift_at t.rows target t.next place ≡ Some step)) [
+      | None ↦ λ none. absurd (omega (arith, slice_get_none t.rows place none))
+      | Some row ↦ λ there. (shift_of t.rows target t.next place row, ap (option_map (shift_of t.rows target t.next place)) there)
+    ] refl
+
+-- what becomes of the row at a place, where there is a step that replaces it
+abbrev pub ShiftsAt : NamedTimeline → Target → ℕ → TimelineEffect → Type 0
+ShiftsAt t target place effect = (step : Step) → shift_at t.rows target t.next place ≡ Some step → shifts_there t step ≡ effect
+
+pub shifts_at_place : (t : NamedTimeline) (number place : ℕ) (target : Target) (effect : TimelineEffect) → place_of_row number t.rows ≡ Some place → place < length t.rows
+    → ShiftsAt t target place effect → shifts t number target ≡ effect
+shifts_at_place t number place target effect there within leads =
+    let step = step_there t target place within in
+    shifts_step t number place target step.0 there step.1 ∙ leads step.0 step.1
+
+pub shifted_ok : {E : Type 0} (result : Result Outcome E) (t after : NamedTimeline) (number place : ℕ) (target : Target) → place_of_row number t.rows ≡ Some place → place < length t.rows
+    → IfOk result (λ outcome. ShiftsAt t target place (record { timeline = after; outcome = outcome }))
+    → IfOk result (λ outcome. shifts t number target ≡ record { timeline = after; outcome = outcome })
+shifted_ok (Ok outcome) t after number place target there within leads = shifts_at_place t number place target (record { timeline = after; outcome = outcome }) there within leads
+shifted_ok (Err e) t after number place target there within leads = tt
+
+-- what holds of the step that is there
+same_step : {X : Type 0} (o : Option X) (x y : X) → o ≡ Some x → o ≡ Some y → x ≡ y
+same_step o x y e f = cc
+
+at_step : (P : Step → Type 0) (step : Step) (found : Option Step) → found ≡ Some step → IfSome found P → P step
+at_step P step None same holds = absurd (cc)
+at_step P step (Some other) same holds = let is : other ≡ step = cc in subst P is holds
+
+-- the refusal of a step by the cause that it has
+pub shift_refused : (name : List ℕ) (s after : SessionState) (target : Target) (place : ℕ) (error : EditError) (result : Result Outcome NoMemory)
+    → length s.rows < most_rows → s.next < next_limit
+    → IfSome (shift_at s.rows target s.next place) (λ step. IsStepCause s.kind s.rows step error)
+    → IfSome (shift_at s.rows target s.next place) (λ step. IsLeftByShift s step after error) → IsRefusedBy error result
+    → IfOk result (λ outcome. ShiftsAt (named name s) target place (record { timeline = named name after; outcome = outcome }))
+shift_refused name s after target place (errors.Fails failing time) result room number cause left refused =
+    rw refused (λ step at.
+    let same : after ≡ s = at_step (λ q. IsLeftByShift s q after (errors.Fails failing time)) step (shift_at s.rows target s.next place) at left in
+    rw same (shifts_makes (named name s) step (lt-leb most_rows (length s.rows) room) (lt-leb next_limit s.next number)
+    ∙ makes_fails (named name s) step (s.next + 1) (Inserted s.next) failing time
+    (at_step (λ q. IsStepCause s.kind s.rows q (errors.Fails failing time)) step (shift_at s.rows target s.next place) at cause)))
+shift_refused name s after target place errors.NoMemory (Ok outcome) room number cause left refused = absurd (refused outcome refl)
+shift_refused name s after target place errors.NoMemory (Err error) room number cause left refused = tt
+
+pub shift_accepted : (t : NamedTimeline) (target : Target) (place : ℕ) (done : Step) → nat_le most_rows (length t.rows) ≡ false → nat_le next_limit t.next ≡ false
+    → shift_at t.rows target t.next place ≡ Some done → failure t.kind (edited_by t.rows done) ≡ None
+    → ShiftsAt t target place (record { timeline = after_step t done (t.next + 1); outcome = tells t done (Inserted t.next) })
+shift_accepted t target place done room number is valid =
+    λ step at.
+    let same = same_step (shift_at t.rows target t.next place) step done at is in
+    rw same (shifts_makes t done room number ∙ makes_accepted t done (t.next + 1) (Inserted t.next) valid)
+
+pub shifted_told : {E : Type 0} (result : Result Outcome E) (t after : NamedTimeline) (target : Target) (place : ℕ) (done : Step)
+    → length t.rows < most_rows → t.next < next_limit → shift_at t.rows target t.next place ≡ Some done
+    → failure t.kind (edited_by t.rows done) ≡ None → after ≡ after_step t done (t.next + 1)
+    → IfOk result (λ outcome. outcome ≡ tells t done (Inserted t.next))
+    → IfOk result (λ outcome. ShiftsAt t target place (record { timeline = after; outcome = outcome }))
+shifted_told (Ok outcome) t after target place done room number is valid same told =
+    rw (same, told) (shift_accepted t target place done (lt-leb most_rows (length t.rows) room) (lt-leb next_limit t.next number) is valid)
+shifted_told (Err e) t after target place done room number is valid same told = tt
+
+pub changes_other_kind : (t : NamedTimeline) (number : ℕ) (op : Op) → same_kind (kind_of op) t.kind ≡ false → changes t number op ≡ refuses t refusals.Kind
+unfolding changes
+changes_other_kind t number op other = rw other refl
+
+pub changes_into : (t : NamedTimeline) (number : ℕ) (op : Op) → same_kind (kind_of op) t.kind ≡ true → changes t number op ≡ shifts t number (Into op)
+unfolding changes
+changes_into t number op same = rw same refl
 
 -- a row is deleted that stands at a place
 pub deletes_there : (t : NamedTimeline) (number place : ℕ) (row : Row) → place_of_row number t.rows ≡ Some place → slice_get t.rows place ≡ Some row
@@ -74,12 +189,6 @@ refused_there t number place row (errors.Fails failing time) result there at cau
     rw refused (deletes_there t number place row there at ∙ edits_fails t (cut place row) t.next Accepted failing time cause)
 refused_there t number place row errors.NoMemory (Ok outcome) there at cause refused = absurd (refused outcome refl)
 refused_there t number place row errors.NoMemory (Err error) there at cause refused = tt
-
--- an index without an element is past the end
-slice_get_none : {X : Type 0} (xs : List X) (i : ℕ) → slice_get xs i ≡ None → length xs ≤ i
-slice_get_none [] i none = omega arith
-slice_get_none (x ∷ xs) zero none = absurd (cc)
-slice_get_none (x ∷ xs) (suc i) none = omega (arith, slice_get_none xs i none)
 
 refused_found : (t : NamedTimeline) (number place : ℕ) (found : Option Row) (error : EditError) (result : Result Outcome NoMemory) → place_of_row number t.rows ≡ Some place
     → place < length t.rows → slice_get t.rows place ≡ found → IfSome found (λ row. IsCause t.kind t.rows (cut place row) error) → IsRefusedBy error result
@@ -114,6 +223,17 @@ pub undoes_newest : (t : NamedTimeline) (step : Step) → newest_step t.history.
 unfolding undoes
 undoes_newest t step there = rw there refl
 
+pub undone_told : {E : Type 0} (result : Result Outcome E) (t after : NamedTimeline) (step : Step) → newest_step t.history.undo ≡ Some step
+    → after ≡ (undoes_step t (Some step)).timeline → IfOk result (λ outcome. outcome ≡ tells t (inverse_step step) Accepted)
+    → IfOk result (λ outcome. undoes t ≡ record { timeline = after; outcome = outcome })
+undone_told (Ok outcome) t after step there same told = rw (same, told) (undoes_newest t step there)
+undone_told (Err e) t after step there same told = tt
+
+-- after a refusal the session is as before
+pub left_by_nothing : (before after : SessionState) (step : Option Step) (error : UndoError) → error ≡ undos.Nothing → IsLeftByUndo before step after error → after ≡ before
+left_by_nothing before after step undos.Nothing is left = left.1
+left_by_nothing before after step undos.NoMemory is left = absurd (cc)
+
 pub redoes_nothing : (t : NamedTimeline) → t.history.redo ≡ [] → redoes t ≡ refuses t refusals.NothingToRedo
 unfolding redoes
 redoes_nothing t none = rw none refl
@@ -121,6 +241,12 @@ redoes_nothing t none = rw none refl
 pub redoes_newest : (t : NamedTimeline) (step : Step) → newest_step t.history.redo ≡ Some step → redoes t ≡ redoes_step t (Some step)
 unfolding redoes
 redoes_newest t step there = rw there refl
+
+pub redone_told : {E : Type 0} (result : Result Outcome E) (t after : NamedTimeline) (step : Step) → newest_step t.history.redo ≡ Some step
+    → after ≡ (redoes_step t (Some step)).timeline → IfOk result (λ outcome. outcome ≡ tells t step Accepted)
+    → IfOk result (λ outcome. redoes t ≡ record { timeline = after; outcome = outcome })
+redone_told (Ok outcome) t after step there same told = rw (same, told) (redoes_newest t step there)
+redone_told (Err e) t after step there same told = tt
 
 pub answers_unsuited : (t : NamedTimeline) (moment : Rattle.script_grammar.specs.declared.command.Moment.Moment) (question : Question) → suits question t.kind ≡ false
     → answers t moment (One question) ≡ Refused refusals.Kind

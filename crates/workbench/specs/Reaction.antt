@@ -20,7 +20,7 @@ use Rattle.retro_base.specs.Limits.{most_timelines}
 use Rattle.workbench.specs.Bench.{NamedTimeline, OpenBlock, Bench, fresh, with_rows, is_named, has_timeline}
 use Rattle.workbench.specs.Outcome.{block_refusal, reply_text, is_refusal}
 use Rattle.workbench.specs.Reported.{loaded}
-use Rattle.workbench.specs.TimelineEffects.{TimelineEffect, unchanged, inserts, deletes, answers, answers_fate, undoes, redoes, saves}
+use Rattle.workbench.specs.TimelineEffects.{TimelineEffect, unchanged, inserts, deletes, moves, changes, answers, answers_fate, undoes, redoes, saves}
 
 -- what becomes of the timelines: themselves afterwards, and the outcome
 pub record Effect : Type 0 where
@@ -65,8 +65,8 @@ obeys timelines (Ok Nothing) = leaves timelines Silent
 obeys timelines (Ok (New name kind)) = starts timelines name kind
 obeys timelines (Ok (Insert name spot op)) = on_named name (λ timeline. inserts timeline spot op) timelines
 obeys timelines (Ok (Delete name number)) = on_named name (λ timeline. deletes timeline number) timelines
-obeys timelines (Ok (Move name number time)) = leaves timelines (Refused refusals.Syntax)
-obeys timelines (Ok (Change name number op)) = leaves timelines (Refused refusals.Syntax)
+obeys timelines (Ok (Move name number time)) = on_named name (λ timeline. moves timeline number time) timelines
+obeys timelines (Ok (Change name number op)) = on_named name (λ timeline. changes timeline number op) timelines
 obeys timelines (Ok (Fate name number)) = on_named name (λ timeline. unchanged timeline (answers_fate timeline number)) timelines
 obeys timelines (Ok (Ask name moment query)) = on_named name (λ timeline. unchanged timeline (answers timeline moment query)) timelines
 obeys timelines (Ok (Undo name)) = on_named name undoes timelines

@@ -11,6 +11,9 @@ use Rattle.retro_base.specs.Questions.{suits}
 use Rattle.retro_base.specs.Edits.{Edit, Step, add, cut, edited, edited_by, inverse_step}
 use Rattle.retro_base.specs.Places.{place_of_time, place_of_row}
 use Rattle.timeline_undo.specs.History.{newest_step, recorded, redone, undone}
+use Rattle.timeline_undo.specs.Shift.{shift_at}
+use Rattle.timeline_undo.specs.declared.shift.Target.{Target}
+use Rattle.timeline_undo.specs.declared.shift.Target.TheVariants.{At, Into}
 use Rattle.fates.specs.Fates.{holders, holds}
 use Rattle.script_grammar.specs.declared.command.Spot.{Spot}
 use Rattle.script_grammar.specs.declared.command.Spot.TheVariants as spots
@@ -70,19 +73,23 @@ abbrev pub accepted_or_refused : NamedTimeline → NamedTimeline → Outcome →
 accepted_or_refused timeline after outcome None = record { timeline = after; outcome = outcome }
 accepted_or_refused timeline after outcome (Some index) = refuses timeline (refusal_at (slice_get after.rows index))
 
--- the timeline after an accepted edit, which is recorded as a step, with the number that it draws next
-abbrev pub after_edit : NamedTimeline → Edit → ℕ → NamedTimeline
-after_edit timeline edit next =
-    record timeline { rows = edited timeline.rows edit; next = next; history = recorded (edit ∷ []) timeline.history }
+-- the timeline after an accepted step, which is recorded, with the number that it draws next
+abbrev pub after_step : NamedTimeline → Step → ℕ → NamedTimeline
+after_step timeline step next =
+    record timeline { rows = edited_by timeline.rows step; next = next; history = recorded step timeline.history }
 
 -- the answer to an accepted step of a timeline
 abbrev pub tells : NamedTimeline → Step → Outcome → Outcome
 tells timeline step plain = reported timeline.name timeline.kind timeline.rows step plain
 
--- what becomes of an edit
+-- what becomes of a step: the rows after all its edits decide
+abbrev pub makes : NamedTimeline → Step → ℕ → Outcome → TimelineEffect
+makes timeline step next outcome =
+    accepted_or_refused timeline (after_step timeline step next) (tells timeline step outcome) (failure timeline.kind (edited_by timeline.rows step))
+
+-- what becomes of an edit, which is a step of its own
 abbrev pub edits : NamedTimeline → Edit → ℕ → Outcome → TimelineEffect
-edits timeline edit next outcome =
-    accepted_or_refused timeline (after_edit timeline edit next) (tells timeline (edit ∷ []) outcome) (failure timeline.kind (edited timeline.rows edit))
+edits timeline edit next outcome = makes timeline (edit ∷ []) next outcome
 
 -- the row of an operation at a position, which draws the timeline's next number
 abbrev pub new_row : NamedTimeline → Position → Op → Row
@@ -118,6 +125,35 @@ deletes_by timeline number (Some edit) = edits timeline edit timeline.next Accep
 -- `NAME delete #N`
 unfoldable pub deletes : NamedTimeline → ℕ → TimelineEffect
 deletes timeline number = deletes_by timeline number (cut_of number timeline.rows)
+
+-- the step that replaces the row with this number, if there is one
+abbrev pub shift_of_row : NamedTimeline → ℕ → Target → Option Step
+shift_of_row timeline number target = option_and_then (shift_at timeline.rows target timeline.next) (place_of_row number timeline.rows)
+
+-- a row is replaced: there has to be room for one more, and a number
+abbrev pub shifts_there : NamedTimeline → Step → TimelineEffect
+shifts_there timeline step =
+    if nat_le most_rows (length timeline.rows) then refuses timeline refusals.Full
+    else (if nat_le next_limit timeline.next then refuses timeline refusals.Numbers
+    else makes timeline step (timeline.next + 1) (Inserted timeline.next))
+
+-- a row is replaced, if there is one
+abbrev pub shifts_by : NamedTimeline → ℕ → Option Step → TimelineEffect
+shifts_by timeline number None = refuses timeline (refusals.NoRow number)
+shifts_by timeline number (Some step) = shifts_there timeline step
+
+-- the row with this number is replaced
+unfoldable pub shifts : NamedTimeline → ℕ → Target → TimelineEffect
+shifts timeline number target = shifts_by timeline number (shift_of_row timeline number target)
+
+-- `NAME move #N at T`
+abbrev pub moves : NamedTimeline → ℕ → ℕ → TimelineEffect
+moves timeline number time = shifts timeline number (At time)
+
+-- `NAME change #N OP`
+unfoldable pub changes : NamedTimeline → ℕ → Op → TimelineEffect
+changes timeline number op =
+    if same_kind (kind_of op) timeline.kind then shifts timeline number (Into op) else refuses timeline refusals.Kind
 
 -- the newest step is undone, if there is one
 abbrev pub undoes_step : NamedTimeline → Option Step → TimelineEffect

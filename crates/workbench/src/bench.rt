@@ -64,8 +64,8 @@ impl Bench {
     }
 
     /// Does what a line asks for. Of a line that is too long its first bytes are given, as many as a line may
-    /// have, and `long` says that it has more. After `NoMemory` the line is done or not, its answer is lost, and
-    /// the bench is spent.
+    /// have, and `long` says that it has more. After `NoMemory` the line is done, or not, or in part, its answer is
+    /// lost, and the bench is spent.
     pub fn line(&mut self, line: &[u8], long: bool) -> Result<Reply, NoMemory>
         requires within { length line.now ≤ longest_line }
         requires full { IsTrue long → length line.now ≡ longest_line }
@@ -74,8 +74,6 @@ impl Bench {
             ≡ record { bench = self.new.bench; answer = reply.text; refused = reply.refused }) }
         ensures keeps { IfOk result (λ reply. reply.refused ≡ true → self.new.bench ≡ without_block self.old.bench) }
         ensures spent { self.new.spent ≡ is_err result }
-        ensures err { OnErr result ((self.new.bench.timelines ≡ self.old.bench.timelines)
-            ⊎ (self.new.bench.timelines ≡ (reacts_to self.old.bench line.now long).bench.timelines)) }
     {
         let reply = self.react(line, long);
         self.spent = reply.is_err();
@@ -135,8 +133,6 @@ impl Bench {
         ensures reacts { IfOk result (λ reply. reacts_to self.old.bench line.now long
             ≡ record { bench = self.new.bench; answer = reply.text; refused = reply.refused }) }
         ensures keeps { IfOk result (λ reply. reply.refused ≡ true → self.new.bench ≡ without_block self.old.bench) }
-        ensures err { OnErr result ((self.new.bench.timelines ≡ self.old.bench.timelines)
-            ⊎ (self.new.bench.timelines ≡ (reacts_to self.old.bench line.now long).bench.timelines)) }
     {
         let outcome = self.obey(line, long)?;
         tell(self.alloc, &outcome)
@@ -158,9 +154,8 @@ impl Bench {
     fn obey(&mut self, line: &[u8], long: bool) -> Result<Outcome, NoMemory>
         requires within { length line.now ≤ longest_line }
         requires full { IsTrue long → length line.now ≡ longest_line }
-        ensures ok { IfOk result (λ outcome. happens self.old.bench.timelines self.old.bench.block line.now long
+        ensures { IfOk result (λ outcome. happens self.old.bench.timelines self.old.bench.block line.now long
             ≡ record { bench = self.new.bench; outcome = outcome }) }
-        ensures err { OnErr result (self.new.bench.timelines ≡ self.old.bench.timelines) }
     {
         if self.block.is_none() {
             return self.obey_outside(read_line(line, long));
@@ -175,9 +170,8 @@ impl Bench {
     /// Does what a line outside a block asks for.
     fn obey_outside(&mut self, line: Result<Command, LineError>) -> Result<Outcome, NoMemory>
         requires { IfOk line IsNextInRange }
-        ensures ok { IfOk result (λ outcome. outside self.old.bench.timelines line
+        ensures { IfOk result (λ outcome. outside self.old.bench.timelines line
             ≡ record { bench = self.new.bench; outcome = outcome }) }
-        ensures err { OnErr result (self.new.bench.timelines ≡ self.old.bench.timelines) }
     {
         self.block = opened(self.alloc, &line);
         self.timelines.obey(line)

@@ -1,25 +1,27 @@
-ghost use Rattle.std.specs.Prelude.{◌≡◌, ◌≤◌, true, length, List, [], ◌∷◌, IfOk, OnErr};
+ghost use Rattle.std.specs.Prelude.{◌≡◌, ◌≤◌, ◌<◌, true, length, List, Some, [], ◌∷◌, IfOk, OnErr};
 ghost use Rattle.retro_base.specs.Kind.{kind_of, same_kind};
 ghost use Rattle.retro_base.specs.Answers.{content};
 ghost use Rattle.retro_base.specs.declared.row.Row.{Row};
-ghost use Rattle.retro_base.specs.Edits.{add};
+ghost use Rattle.retro_base.specs.Edits.{Step, add};
 ghost use Rattle.retro_base.specs.MadeEdits.{IsMade};
 ghost use Rattle.retro_base.specs.Order.{Fits};
-ghost use Rattle.timeline_undo.specs.Session.{edit_reported};
+ghost use Rattle.timeline_undo.specs.Session.{AreMade, edit_reported, step_reported};
+ghost use Rattle.timeline_undo.specs.Shift.{IsTargetOf, shift_at};
+ghost use Rattle.timeline_undo.specs.declared.turn.Turns.TheVariants.{Double};
 ghost use Rattle.workbench.specs.Reported.{loaded_evidence, reported};
 ghost use Rattle.retro_base.specs.Questions.{suits};
 ghost use Rattle.retro_base.specs.Replay.{state_at};
 ghost use Rattle.retro_base.specs.Timeline.{IsTimeline};
 ghost use Rattle.script_grammar.specs.declared.command.Moment.TheVariants.{Then};
 ghost use Rattle.script_grammar.specs.declared.command.Query.TheVariants.{One, All};
-ghost use Rattle.workbench.specs.declared.outcome.Outcome.TheVariants.{Listed, Refused, Taken};
+ghost use Rattle.workbench.specs.declared.outcome.Outcome.TheVariants.{Accepted, Listed, Refused, Taken};
 ghost use Rattle.workbench.specs.declared.outcome.Refusal.TheVariants.{NoRow};
 ghost use Rattle.workbench.specs.EditErrors.{IsRefusedBy};
 
 use crate::evidence_lines::EvidenceLines;
 use crate::outcome::{Outcome, Refusal};
 use crate::position::{Position, position_of, row_named};
-use crate::reported::{note, reported};
+use crate::reported::{note, reported, reported_both};
 use engine::Engine;
 use fates::{Fate, fate_of};
 use order_timeline::Timeline;
@@ -27,7 +29,7 @@ use retro_base::{Change, Kind, MAX_NEXT, MAX_ROWS, Name, NoMemory, Op, Question,
 use script_grammar::{Moment, Query, Spot};
 use std::alloc::Global;
 use std::marker::Model;
-use timeline_undo::{EditError, Session, Turn, UndoError};
+use timeline_undo::{EditError, Session, Target, Turn, Turns, UndoError};
 
 /// A timeline of the bench: its name, and the session that keeps and performs its rows.
 #[derive(Drop)]
@@ -54,7 +56,7 @@ impl Model for NamedTimeline {
 
 impl NamedTimeline {
     ghost use Rattle.workbench.specs.Bench.{fresh, named, with_rows};
-    ghost use Rattle.workbench.specs.TimelineEffects.{deletes, inserts, inserts_there, unchanged, answers, answers_fate, undoes, redoes, saves};
+    ghost use Rattle.workbench.specs.TimelineEffects.{changes, deletes, inserts, inserts_there, moves, shifts, shifts_there, unchanged, answers, answers_fate, undoes, redoes, saves};
 
     /// A timeline without rows.
     pub(crate) fn new(alloc: Global, name: Name, kind: Kind) -> Result<NamedTimeline, NoMemory>
@@ -175,25 +177,75 @@ impl NamedTimeline {
         }
     }
 
-    /// Undoes the newest step. After a refusal and after `NoMemory` all is as before.
+    /// Puts the row with this number at another time, as a row that draws the next number, where the rows replay whole
+    /// after that. After a refusal all is as before.
+    pub(crate) fn move_row(&mut self, number: u32, time: u64) -> Result<Outcome, NoMemory>
+        ensures { IfOk result (λ outcome. moves self.old number time ≡ record { timeline = self.new; outcome = outcome }) }
+    {
+        self.shift(number, Target::At { time })
+    }
+
+    /// Gives the row with this number another operation, as a row that draws the next number, where the rows replay whole
+    /// after that. After a refusal all is as before.
+    pub(crate) fn change(&mut self, number: u32, op: Op) -> Result<Outcome, NoMemory>
+        ensures { IfOk result (λ outcome. changes self.old number op ≡ record { timeline = self.new; outcome = outcome }) }
+    {
+        if !self.takes(op) {
+            return Ok(Outcome::refused(Refusal::Kind));
+        }
+        self.shift(number, Target::Into { op })
+    }
+
+    /// Replaces the row with this number.
+    fn shift(&mut self, number: u32, target: Target) -> Result<Outcome, NoMemory>
+        requires { IsTargetOf self.old.kind target }
+        ensures { IfOk result (λ outcome. shifts self.old number target ≡ record { timeline = self.new; outcome = outcome }) }
+    {
+        match self.session.timeline().place_of(number) {
+            Some(place) => self.shift_at(place, target),
+            None => Ok(no_row(number)),
+        }
+    }
+
+    /// Replaces the row at a place, where there is room and a number.
+    fn shift_at(&mut self, place: u32, target: Target) -> Result<Outcome, NoMemory>
+        requires within { place < length self.old.rows }
+        requires of_kind { IsTargetOf self.old.kind target }
+        ensures { IfOk result (λ outcome. (step : Step) → shift_at self.old.rows target self.old.next place ≡ Some step
+            → shifts_there self.old step ≡ record { timeline = self.new; outcome = outcome }) }
+    {
+        if self.session.timeline().len() >= MAX_ROWS {
+            return Ok(Outcome::refused(Refusal::Full));
+        }
+        if self.session.next() >= MAX_NEXT {
+            return Ok(Outcome::refused(Refusal::Numbers));
+        }
+        match self.session.shift(place, target) {
+            Ok(shift) => {
+                let number = shift.number;
+                self.tell_both(shift.first, shift.second, Outcome::Inserted { number })
+            }
+            Err(error) => refused_by(error),
+        }
+    }
+
+    /// Undoes the newest step. After a refusal all is as before.
     pub(crate) fn undo(&mut self) -> Result<Outcome, NoMemory>
-        ensures ok { IfOk result (λ outcome. undoes self.old ≡ record { timeline = self.new; outcome = outcome }) }
-        ensures err { OnErr result (self.new ≡ self.old) }
+        ensures { IfOk result (λ outcome. undoes self.old ≡ record { timeline = self.new; outcome = outcome }) }
     {
         match self.session.undo() {
-            Ok(turn) => Ok(self.tell(turn, Outcome::Accepted)),
+            Ok(turns) => self.tell_all(turns),
             Err(UndoError::Nothing) => Ok(Outcome::refused(Refusal::NothingToUndo)),
             Err(UndoError::NoMemory) => Err(NoMemory),
         }
     }
 
-    /// Makes the step again that was undone last. After a refusal and after `NoMemory` all is as before.
+    /// Makes the step again that was undone last. After a refusal all is as before.
     pub(crate) fn redo(&mut self) -> Result<Outcome, NoMemory>
-        ensures ok { IfOk result (λ outcome. redoes self.old ≡ record { timeline = self.new; outcome = outcome }) }
-        ensures err { OnErr result (self.new ≡ self.old) }
+        ensures { IfOk result (λ outcome. redoes self.old ≡ record { timeline = self.new; outcome = outcome }) }
     {
         match self.session.redo() {
-            Ok(turn) => Ok(self.tell(turn, Outcome::Accepted)),
+            Ok(turns) => self.tell_all(turns),
             Err(UndoError::Nothing) => Ok(Outcome::refused(Refusal::NothingToRedo)),
             Err(UndoError::NoMemory) => Err(NoMemory),
         }
@@ -205,6 +257,25 @@ impl NamedTimeline {
             → result ≡ reported self.now.name self.now.kind rows (edit_reported turn ∷ []) plain }
     {
         reported(self.alloc, self.name, self.session.kind(), turn, plain)
+    }
+
+    /// The outcome of two list edits that were accepted as one step.
+    fn tell_both(&self, first: Turn, second: Turn, plain: Outcome) -> Result<Outcome, NoMemory>
+        ensures { (rows : List Row) → AreMade self.now.kind rows (Double first second)
+            → IfOk result (λ outcome. outcome ≡ reported self.now.name self.now.kind rows (step_reported (Double first second)) plain) }
+    {
+        reported_both(self.alloc, self.name, self.session.kind(), first, second, plain)
+    }
+
+    /// The outcome of the list edits of an undo or a redo.
+    fn tell_all(&self, turns: Turns) -> Result<Outcome, NoMemory>
+        ensures { (rows : List Row) → AreMade self.now.kind rows turns
+            → IfOk result (λ outcome. outcome ≡ reported self.now.name self.now.kind rows (step_reported turns) Accepted) }
+    {
+        match turns {
+            Turns::Single { turn } => Ok(self.tell(turn, Outcome::Accepted)),
+            Turns::Double { first, second } => self.tell_both(first, second, Outcome::Accepted),
+        }
     }
 
     /// The answer at a moment. The timeline stays as it is, whatever the answer.

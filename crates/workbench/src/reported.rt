@@ -1,7 +1,8 @@
-ghost use Rattle.std.specs.Prelude.{◌≡◌, List, [], ◌∷◌, ◌++◌, OnOk};
+ghost use Rattle.std.specs.Prelude.{◌≡◌, List, [], ◌∷◌, ◌++◌, IfOk, OnOk};
 ghost use Rattle.retro_base.specs.declared.row.Row.{Row};
 ghost use Rattle.retro_base.specs.MadeEdits.{IsMade};
-ghost use Rattle.timeline_undo.specs.Session.{edit_reported};
+ghost use Rattle.timeline_undo.specs.Session.{AreMade, edit_reported, step_reported};
+ghost use Rattle.timeline_undo.specs.declared.turn.Turns.TheVariants.{Double};
 ghost use Rattle.workbench.specs.Reported.{evidence_with, noted, reported};
 
 use crate::evidence_lines::EvidenceLines;
@@ -24,6 +25,32 @@ pub(crate) fn reported(alloc: Global, name: Name, kind: Kind, turn: Turn, plain:
             more: EvidenceLines::new(alloc),
         },
         _ => plain,
+    }
+}
+
+/// The outcome of two list edits that were accepted as one step: of a priority queue the evidence of both.
+pub(crate) fn reported_both(
+    alloc: Global,
+    name: Name,
+    kind: Kind,
+    first: Turn,
+    second: Turn,
+    plain: Outcome,
+) -> Result<Outcome, NoMemory>
+    ensures { (rows : List Row) → AreMade kind rows (Double first second)
+        → IfOk result (λ outcome. outcome ≡ reported name kind rows (step_reported (Double first second)) plain) }
+{
+    one_change_is_named();
+    match kind {
+        Kind::Pq => {
+            let mut more = EvidenceLines::new(alloc);
+            more.push(evidence_of(name, second))?;
+            Ok(Outcome::Changed {
+                first: evidence_of(name, first),
+                more,
+            })
+        }
+        _ => Ok(plain),
     }
 }
 

@@ -5,7 +5,7 @@ ghost use Rattle.script_grammar.specs.Command.{IsNextInRange};
 ghost use Rattle.timeline_file.specs.Block.{finished};
 ghost use Rattle.workbench.specs.Bench.{has_timeline, is_named, named, timeline_of};
 ghost use Rattle.workbench.specs.Reaction.{closes, loads, obeys, of_block, on_named, starts};
-ghost use Rattle.workbench.specs.TimelineEffects.{answers, answers_fate, deletes, inserts, redoes, saves, undoes, unchanged};
+ghost use Rattle.workbench.specs.TimelineEffects.{changes, moves, answers, answers_fate, deletes, inserts, redoes, saves, undoes, unchanged};
 
 use crate::named_timeline::NamedTimeline;
 use crate::open_block::OpenBlock;
@@ -47,12 +47,10 @@ impl Timelines {
         }
     }
 
-    /// Does what a command asks for, or refuses a line that has none. After a refusal and after `NoMemory`
-    /// all is as before.
+    /// Does what a command asks for, or refuses a line that has none. After a refusal all is as before.
     pub(crate) fn obey(&mut self, line: Result<Command, LineError>) -> Result<Outcome, NoMemory>
         requires { IfOk line IsNextInRange }
-        ensures ok { IfOk result (λ outcome. obeys self.old line ≡ record { timelines = self.new; outcome = outcome }) }
-        ensures err { OnErr result (self.new ≡ self.old) }
+        ensures { IfOk result (λ outcome. obeys self.old line ≡ record { timelines = self.new; outcome = outcome }) }
     {
         match line {
             Err(LineError::Long) => Ok(Outcome::refused(Refusal::Long)),
@@ -64,15 +62,15 @@ impl Timelines {
     /// Does what a command asks for, by its form.
     fn perform(&mut self, command: &Command) -> Result<Outcome, NoMemory>
         requires { IsNextInRange command.now }
-        ensures ok { IfOk result (λ outcome. obeys self.old (Ok command.now) ≡ record { timelines = self.new; outcome = outcome }) }
-        ensures err { OnErr result (self.new ≡ self.old) }
+        ensures { IfOk result (λ outcome. obeys self.old (Ok command.now) ≡ record { timelines = self.new; outcome = outcome }) }
     {
         match command {
             Command::Nothing => Ok(Outcome::Silent),
             Command::New { name, kind } => self.start(*name, *kind),
             Command::Insert { name, spot, op } => self.insert(*name, *spot, *op),
             Command::Delete { name, number } => self.delete(*name, *number),
-            Command::Move { .. } | Command::Change { .. } => Ok(Outcome::refused(Refusal::Syntax)),
+            Command::Move { name, number, time } => self.move_row(*name, *number, *time),
+            Command::Change { name, number, op } => self.change(*name, *number, *op),
             Command::Fate { name, number } => Ok(self.fate(*name, *number)),
             Command::Ask {
                 name,
@@ -124,10 +122,29 @@ impl Timelines {
         }
     }
 
+    /// Puts a row of the timeline of this name at another time.
+    fn move_row(&mut self, name: Name, number: u32, time: u64) -> Result<Outcome, NoMemory>
+        ensures { IfOk result (λ outcome. on_named name (λ timeline. moves timeline number time) self.old ≡ record { timelines = self.new; outcome = outcome }) }
+    {
+        match self.index_of(name) {
+            Some(index) => self.timelines[index].move_row(number, time),
+            None => Ok(Outcome::refused(Refusal::NoTimeline { name })),
+        }
+    }
+
+    /// Gives a row of the timeline of this name another operation.
+    fn change(&mut self, name: Name, number: u32, op: Op) -> Result<Outcome, NoMemory>
+        ensures { IfOk result (λ outcome. on_named name (λ timeline. changes timeline number op) self.old ≡ record { timelines = self.new; outcome = outcome }) }
+    {
+        match self.index_of(name) {
+            Some(index) => self.timelines[index].change(number, op),
+            None => Ok(Outcome::refused(Refusal::NoTimeline { name })),
+        }
+    }
+
     /// Undoes the newest step of the timeline of this name.
     fn undo(&mut self, name: Name) -> Result<Outcome, NoMemory>
-        ensures ok { IfOk result (λ outcome. on_named name undoes self.old ≡ record { timelines = self.new; outcome = outcome }) }
-        ensures err { OnErr result (self.new ≡ self.old) }
+        ensures { IfOk result (λ outcome. on_named name undoes self.old ≡ record { timelines = self.new; outcome = outcome }) }
     {
         match self.index_of(name) {
             Some(index) => self.timelines[index].undo(),
@@ -137,8 +154,7 @@ impl Timelines {
 
     /// Makes the step of the timeline of this name again that was undone last.
     fn redo(&mut self, name: Name) -> Result<Outcome, NoMemory>
-        ensures ok { IfOk result (λ outcome. on_named name redoes self.old ≡ record { timelines = self.new; outcome = outcome }) }
-        ensures err { OnErr result (self.new ≡ self.old) }
+        ensures { IfOk result (λ outcome. on_named name redoes self.old ≡ record { timelines = self.new; outcome = outcome }) }
     {
         match self.index_of(name) {
             Some(index) => self.timelines[index].redo(),
