@@ -26,7 +26,7 @@ ROWS = {
 
 def block(kind, rows):
     """A timeline of so many rows as text."""
-    lines = ["timeline g %s next %d" % (kind, rows + 1)]
+    lines = ["timeline g %s next %d rows %d" % (kind, rows + 1, rows)]
     lines += ["#%d %d %s" % (i, i, ROWS[kind](i)) for i in range(1, rows + 1)]
     return "\n".join(lines + ["end", ""]).encode()
 

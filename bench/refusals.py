@@ -74,7 +74,7 @@ JOBS += ["j ask min", "j ask at 105 min", "j at 102 ins 100", "j ask at 105 min"
 SCRIPTS = {
     "first script": lines("new q queue", "q at 10 enq 5", "q at 20 enq 7", "q ask front", "q at 15 deq", "q ask front", "q at 5 enq 9", "q ask front"),
     "pairs": lines("new d dict", "d at 1 put 1 10", "d at 2 del 1", "d ask get 1", "d delete #1", "d delete #2", "d ask get 1"),
-    "block": lines("timeline q queue next 3", "#1 10 enq 5", "#2 20 deq", "end", "save q"),
+    "block": lines("timeline q queue next 3 rows 2", "#1 10 enq 5", "#2 20 deq", "end", "save q"),
     "job list": lines(*JOBS),
     "queue": mixed("queue", lambda i: "enq %d" % i, lambda i: "enq %d" % -i, lambda i: "deq", ["front", "back", "nth 3", "size"]),
     "stack": mixed("stack", lambda i: "push %d" % i, lambda i: "push %d" % -i, lambda i: "pop", ["top", "nth 3", "size"]),

@@ -13,7 +13,17 @@ fn outcome(
     lines: &[u8],
     ended: bool,
 ) -> Result<Result<u32, BlockError>, NoMemory> {
-    let mut reader = BlockReader::new(alloc, kind, next);
+    let reader = BlockReader::new(alloc, kind, next, None);
+    read_on(rt, reader, lines, ended)
+}
+
+/// What a block comes to, of which these lines are left.
+fn read_on(
+    rt: &impl Abort,
+    mut reader: BlockReader,
+    lines: &[u8],
+    ended: bool,
+) -> Result<Result<u32, BlockError>, NoMemory> {
     for line in lines.split(|byte| *byte == b'\n') {
         assert!(rt; line.len() <= 4096);
         reader.take(line, false)?;
@@ -52,6 +62,28 @@ fn what_a_queue_comes_to(rt: HostRuntime) -> Result<(), Fail> {
 }
 
 #[test]
+fn how_many_row_lines_a_block_has(rt: HostRuntime) -> Result<(), Fail> {
+    let rows: &[u8] = b"#1 10 enq 5\n; two\n\n#2 20 deq";
+    let cases: [(u32, u32, &[u8], bool, Result<u32, BlockError>); 8] = [
+        (3, 2, rows, true, Ok(2)),
+        (1, 0, b"", true, Ok(0)),
+        (3, 3, rows, true, Err(BlockError::Rows)),
+        (3, 1, rows, true, Err(BlockError::Rows)),
+        (1, 131072, b"", true, Err(BlockError::Rows)),
+        // The other causes come first.
+        (2, 3, rows, true, Err(BlockError::Next)),
+        (3, 3, rows, false, Err(BlockError::Unfinished)),
+        (3, 3, b"#1 10 enq 5\nx", true, bad(2, RowCause::Syntax)),
+    ];
+    for (next, count, lines, ended, expected) in cases {
+        let reader = BlockReader::new(rt.alloc(), Kind::Queue, next, Some(count));
+        let found = read_on(&rt, reader, lines, ended)?;
+        assert_eq!(rt; found, expected, "{next} {count}");
+    }
+    Ok(())
+}
+
+#[test]
 fn how_a_block_ends(rt: HostRuntime) -> Result<(), Fail> {
     let pairs = b"#2 7 put 1 10\n #1  7 del 01 ";
     let found = outcome(&rt, rt.alloc(), (Kind::Dict, 3), pairs, true)?;
@@ -63,7 +95,7 @@ fn how_a_block_ends(rt: HostRuntime) -> Result<(), Fail> {
     let entries = b"#1 3 ins 4\n#3 3 delmin\n#2 8 ins -4";
     let found = outcome(&rt, rt.alloc(), (Kind::Pq, 4), entries, true)?;
     assert_eq!(rt; found, Ok(3));
-    let mut reader = BlockReader::new(rt.alloc(), Kind::Queue, 9);
+    let mut reader = BlockReader::new(rt.alloc(), Kind::Queue, 9, None);
     reader.take(b"#1 5 enq 1", false)?;
     reader.take(&[b' '; 4096], true)?;
     let found = reader.finish(true).map(|rows| rows.len());
@@ -93,7 +125,7 @@ fn what_is_saved(rt: HostRuntime) -> Result<(), Fail> {
     }
     let mut out = Text::new(rt.alloc());
     print_block(&name, Kind::Dict, 16777216, &rows, &mut out)?;
-    let expected = b"timeline stock dict next 16777216
+    let expected = b"timeline stock dict next 16777216 rows 3
 #2 1000 put -1 7
 #16777215 1000 put -9223372036854775808 0
 #3 1000 del -1

@@ -24,7 +24,7 @@ fn commands(rt: HostRuntime) -> Result<(), Fail> {
     let q = Name::read(b"q").ok_or("q")?;
     let at = Name::read(b"at").ok_or("at")?;
     let long = Name::read(b"Abcdefghijklmnopqrstuvwxyz-_0123").ok_or("32 bytes")?;
-    let lines: [(&[u8], Command); 24] = [
+    let lines: [(&[u8], Command); 30] = [
         (b"", Command::Nothing),
         (b"   ", Command::Nothing),
         (b";note", Command::Nothing),
@@ -92,6 +92,31 @@ fn commands(rt: HostRuntime) -> Result<(), Fail> {
             },
         ),
         (b"q delete #007", Command::Delete { name: q, number: 7 }),
+        (
+            b"q move #1 at 25",
+            Command::Move {
+                name: q,
+                number: 1,
+                time: 25,
+            },
+        ),
+        (
+            b" at move  #16777215 at 018446744073709551615 ",
+            Command::Move {
+                name: at,
+                number: 16777215,
+                time: u64::MAX,
+            },
+        ),
+        (
+            b"q change #2 put 1 -2",
+            Command::Change {
+                name: q,
+                number: 2,
+                op: Op::Put { key: 1, value: -2 },
+            },
+        ),
+        (b"q fate #3", Command::Fate { name: q, number: 3 }),
         (b"q undo", Command::Undo { name: q }),
         (b" at  redo ", Command::Redo { name: at }),
         (
@@ -108,6 +133,7 @@ fn commands(rt: HostRuntime) -> Result<(), Fail> {
                 name: at,
                 kind: Kind::Queue,
                 next: 16777216,
+                rows: None,
             },
         ),
         (
@@ -116,6 +142,25 @@ fn commands(rt: HostRuntime) -> Result<(), Fail> {
                 name: q,
                 kind: Kind::Dict,
                 next: 1,
+                rows: None,
+            },
+        ),
+        (
+            b"timeline q dict next 1 rows 0",
+            Command::Header {
+                name: q,
+                kind: Kind::Dict,
+                next: 1,
+                rows: Some(0),
+            },
+        ),
+        (
+            b" timeline at  pq next 2 rows 0131072 ",
+            Command::Header {
+                name: at,
+                kind: Kind::Pq,
+                next: 2,
+                rows: Some(131072),
             },
         ),
         (
@@ -232,7 +277,7 @@ fn questions(rt: HostRuntime) -> Result<(), Fail> {
 
 #[test]
 fn no_commands(rt: HostRuntime) {
-    let lines: [&[u8]; 62] = [
+    let lines: [&[u8]; 77] = [
         b"new",
         b"new q",
         b"new q heap",
@@ -256,6 +301,21 @@ fn no_commands(rt: HostRuntime) {
         b"timeline q queue 1",
         b"timeline q queue next 1 ;",
         b"timeline save queue next 1",
+        b"timeline q queue next 1 rows",
+        b"timeline q queue next 1 rows 131073",
+        b"timeline q queue next 1 rows #1",
+        b"timeline q queue next 1 rows 1 1",
+        b"timeline q queue rows 1 next 1",
+        b"timeline q queue rows 1",
+        b"q move #1",
+        b"q move #1 25",
+        b"q move #1 at",
+        b"q move #1 at 5 enq 1",
+        b"q move #1 before #2",
+        b"q change #1",
+        b"q change 1 deq",
+        b"q fate",
+        b"q fate #1 now",
         b"end",
         b"#1 10 enq 5",
         b"q ;note",

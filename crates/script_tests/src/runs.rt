@@ -3,6 +3,7 @@ ghost use Rattle.retro_io.specs.Faults.{last_count};
 
 mod blocks;
 mod evidence_files;
+mod fates;
 mod outboxes;
 mod priority_queues;
 

@@ -5,12 +5,40 @@ use std::alloc::Global;
 
 #[test]
 fn blocks_are_read_and_saved(rt: HostRuntime) -> Result<(), NoMemory> {
-    let scripts: [(&[u8], &[u8], Status); 13] = [
+    let scripts: [(&[u8], &[u8], Status); 18] = [
         // A whole timeline is read, and saved again.
         (
             b"timeline q queue next 3\n#1 10 enq 5\n#2 20 deq\nend\nsave q\n",
-            b"ok\ntimeline q queue next 3\n#1 10 enq 5\n#2 20 deq\nend\n",
+            b"ok\ntimeline q queue next 3 rows 2\n#1 10 enq 5\n#2 20 deq\nend\n",
             Status::Done,
+        ),
+        // The header says how many row lines there are: what is saved is read, and saved again.
+        (
+            b"timeline q queue next 3 rows 2\n#1 10 enq 5\n#2 20 deq\nend\nsave q\n",
+            b"ok\ntimeline q queue next 3 rows 2\n#1 10 enq 5\n#2 20 deq\nend\n",
+            Status::Done,
+        ),
+        // There is a row line too few, or one too many.
+        (
+            b"timeline q queue next 3 rows 3\n#1 10 enq 5\n#2 20 deq\nend\nsave q\n",
+            b"refused rows\nrefused no timeline q\n",
+            Status::Refused,
+        ),
+        (
+            b"timeline q queue next 3 rows 1\n#1 10 enq 5\n#2 20 deq\nend\nsave q\n",
+            b"refused rows\nrefused no timeline q\n",
+            Status::Refused,
+        ),
+        // A number that is not below the next one comes before that, and so does an end that is missing.
+        (
+            b"timeline q queue next 2 rows 3\n#1 10 enq 5\n#2 20 deq\nend\nsave q\n",
+            b"refused next\nrefused no timeline q\n",
+            Status::Refused,
+        ),
+        (
+            b"timeline q queue next 3 rows 3\n#1 10 enq 5\n#2 20 deq\n",
+            b"refused unfinished\n",
+            Status::Refused,
         ),
         // The input ends in it.
         (
@@ -83,7 +111,7 @@ fn blocks_are_read_and_saved(rt: HostRuntime) -> Result<(), NoMemory> {
         // What is loaded cannot be undone, and a zero has no sign.
         (
             b"timeline s stack next 7\n #3  05 push -0\nend\ns undo\ns at 6 pop\ns undo\nsave s\n",
-            b"ok\nrefused nothing to undo\nok #7\nok\ntimeline s stack next 8\n#3 5 push 0\nend\n",
+            b"ok\nrefused nothing to undo\nok #7\nok\ntimeline s stack next 8 rows 1\n#3 5 push 0\nend\n",
             Status::Refused,
         ),
     ];
