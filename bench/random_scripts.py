@@ -25,7 +25,8 @@ ASKING = {"queue": ["front", "back", "nth %d"], "stack": ["top", "nth %d"], "deq
           "dict": ["get {k}", "succ {k}", "pred {k}", "count {k} %d", "sum {k} %d"], "pq": ["min", "nth %d"]}
 ODD = [b"", b"  ", b"; a remark", b"\xff", b"q", b"q ask", b"new", b"new end queue", b"new x heap", b"q at 1", b"q at -1 enq 1", b"q ask nth -1",
        b"q\tat 1 enq 1", b"end", b"save", b"q undo now", b"q at 18446744073709551616 enq 1", b"q at 1 enq 9223372036854775808", b"timeline q queue next 0",
-       b"a" * 4097, b"q ask size" + b" " * 4087, b"#1 1 enq 1", b"edit p add 0 #1 ins 1 bridge 0 gain #1 1", b"q ask front\r", b"mute 0"]
+       b"a" * 4097, b"q ask size" + b" " * 4087, b"#1 1 enq 1", b"edit p add 0 #1 ins 1 bridge 0 gain #1 1", b"q ask front\r", b"mute 0",
+       b"q move #1 5", b"q move #1 at", b"q change #1", b"q fate", b"timeline q queue next 3 rows", b"timeline q queue next 3 rows 131073"]
 
 
 class Script:
@@ -51,9 +52,11 @@ class Script:
     def block(self):
         name, kind = "b%d" % self.draws.randint(0, 9), self.draws.choice(list(ADDING))
         self.names.setdefault(name, kind)
-        self.lines.append("timeline %s %s next %d" % (name, kind, self.draws.randint(1, 30)))
+        rows = self.draws.randint(0, 12)
+        count = " rows %d" % (rows if self.draws.random() < 0.8 else self.draws.randint(0, 12)) if self.draws.random() < 0.6 else ""
+        self.lines.append("timeline %s %s next %d%s" % (name, kind, self.draws.randint(1, 30), count))
         moment = 0
-        for i in range(self.draws.randint(0, 12)):
+        for i in range(rows):
             moment += self.draws.choice([0, 1, 3, 3, -1] if self.draws.random() < 0.1 else [0, 1, 3])
             self.lines.append("#%d %d %s" % (i + 1 if self.draws.random() < 0.97 else 1, moment, self.op(kind)))
         if self.draws.random() < 0.95:
@@ -68,8 +71,14 @@ class Script:
             return
         name = self.draws.choice(list(self.names))
         kind = self.names[name]
-        if draw < 0.52:
+        if draw < 0.40:
             self.lines.append("%s %s %s" % (name, self.moment(), self.op(kind)))
+        elif draw < 0.44:
+            self.lines.append("%s move #%d at %d" % (name, self.draws.randint(1, 40), self.draws.randint(0, 40)))
+        elif draw < 0.48:
+            self.lines.append("%s change #%d %s" % (name, self.draws.randint(1, 40), self.op(kind)))
+        elif draw < 0.52:
+            self.lines.append("%s fate #%d" % (name, self.draws.randint(1, 40)))
         elif draw < 0.60:
             self.lines.append("%s delete #%d" % (name, self.draws.randint(1, 40)))
         elif draw < 0.70:

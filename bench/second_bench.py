@@ -7,6 +7,7 @@ import re
 KINDS = ("queue", "stack", "deque", "dict", "pq")
 OPS = {"enq": ("queue", 1), "deq": ("queue", 0), "push": ("stack", 1), "pop": ("stack", 0), "pushl": ("deque", 1), "pushr": ("deque", 1),
        "popl": ("deque", 0), "popr": ("deque", 0), "put": ("dict", 2), "del": ("dict", 1), "ins": ("pq", 1), "delmin": ("pq", 0)}
+ADDING = ("enq", "push", "pushl", "pushr", "put", "ins")
 QUESTIONS = {"size": (KINDS, 0), "all": (KINDS, 0), "front": (("queue",), 0), "back": (("queue",), 0), "top": (("stack",), 0),
              "left": (("deque",), 0), "right": (("deque",), 0), "get": (("dict",), 1), "succ": (("dict",), 1), "pred": (("dict",), 1),
              "count": (("dict",), 2), "sum": (("dict",), 2), "min": (("pq",), 0), "nth": (("queue", "stack", "deque", "pq"), 1)}
@@ -111,6 +112,25 @@ def replay(rows):
     return state, None
 
 
+def numbered(row):
+    """The row with its number in place of its value; an entry has its number beside its key."""
+    word, values = row[2][0], row[2][1:]
+    if word == "put":
+        return row[:2] + ((word, values[0], row[0]),)
+    return row[:2] + ((word, row[0]),) if word in ADDING and word != "ins" else row
+
+
+def edited(rows, edits):
+    """The rows after some list edits, one after another."""
+    for added, place, row in edits:
+        rows = rows[:place] + [row] + rows[place:] if added else rows[:place] + rows[place + 1:]
+    return rows
+
+
+def place_at(rows, time):
+    return bisect.bisect_right([row[1] for row in rows], time)
+
+
 def answer(kind, state, question):
     word = question[0]
     if word == "all":
@@ -137,8 +157,7 @@ def answer(kind, state, question):
 def evidence(name, rows, edit):
     """The line of an accepted edit of a priority queue, by two replays and every place."""
     added, place, row = edit
-    after = rows[:place] + [row] + rows[place:] if added else rows[:place] + rows[place + 1:]
-    before, then = replay(rows)[0], replay(after)[0]
+    before, then = replay(rows)[0], replay(edited(rows, [edit]))[0]
     gained, lost = [e for e in then if e not in before], [e for e in before if e not in then]
     survives = set(before)
     bridges, state = [0], []
@@ -166,40 +185,67 @@ class Timeline:
 
     def place(self, moment):
         if moment[0] == "at":
-            return bisect.bisect_right([row[1] for row in self.rows], moment[1]), moment[1]
+            return place_at(self.rows, moment[1]), moment[1]
         for index, row in enumerate(self.rows):
             if row[0] == moment[1]:
                 return index + (moment[0] == "after"), row[1]
         raise Refused("refused no row #%d" % moment[1])
 
-    def make(self, edit):
-        added, place, row = edit
-        told = evidence(self.name, self.rows, edit) if self.kind == "pq" else None
-        if added:
-            self.rows.insert(place, row)
-        else:
-            del self.rows[place]
+    def make(self, edits):
+        """Makes list edits, and gives the evidence of each over the rows before it."""
+        told = []
+        for edit in edits:
+            if self.kind == "pq":
+                told.append(evidence(self.name, self.rows, edit))
+            self.rows = edited(self.rows, [edit])
         return told
 
-    def edit(self, edit, plain):
-        added, place, row = edit
-        after = self.rows[:place] + [row] + self.rows[place:] if added else self.rows[:place] + self.rows[place + 1:]
+    def step(self, edits, plain):
+        """A step of one list edit or two. Where a row is put in, it draws a number."""
+        after = edited(self.rows, edits)
         fails = replay(after)[1]
         if fails is not None:
             raise Refused("refused at #%d %d" % after[fails][:2])
-        told = self.make(edit)
-        self.done = (self.done + [edit])[-KEPT:]
+        told = self.make(edits)
+        self.done = (self.done + [edits])[-KEPT:]
         self.undone = []
-        self.next += added
-        return told or plain
+        self.next += any(added for added, _, _ in edits)
+        return told or [plain]
+
+    def room(self):
+        if len(self.rows) >= MOST_ROWS:
+            raise Refused("refused full")
+        if self.next >= NEXT_LIMIT:
+            raise Refused("refused numbers")
+
+    def correct(self, place, time, op, target):
+        """Puts a new row in place of the one at a place; `target` says where, in the rows that stand when it is put in."""
+        old, row = self.rows[place], (self.next, time, op)
+        if op[0] in ADDING:
+            at = target(self.rows)
+            edits = [(True, at, row), (False, place + (at <= place), old)]
+        else:
+            edits = [(False, place, old), (True, target(edited(self.rows, [(False, place, old)])), row)]
+        return self.step(edits, "ok #%d" % self.next)
 
     def back(self, undo):
         source, target = (self.done, self.undone) if undo else (self.undone, self.done)
         if not source:
             raise Refused("refused nothing to %s" % ("undo" if undo else "redo"))
-        added, place, row = source.pop()
-        target.append((added, place, row))
-        return self.make((added != undo, place, row)) or "ok"
+        edits = source.pop()
+        target.append(edits)
+        return self.make([(not added, place, row) for added, place, row in reversed(edits)] if undo else edits) or ["ok"]
+
+    def fate(self, place):
+        own = self.rows[place]
+        if own[2][0] not in ADDING:
+            raise Refused("refused no item #%d" % own[0])
+        state = []
+        for index, row in enumerate(self.rows):
+            state = perform(state, numbered(row))
+            if index > place and own[0] not in [held[1] if isinstance(held, tuple) else held for held in state]:
+                return "= taken #%d %d" % row[:2]
+        return "= stays"
 
 
 class Bench:
@@ -214,7 +260,7 @@ class Bench:
             if not long and words == [b"end"]:
                 return self.close(True)
             if long or (words and not words[0].startswith(b";")):
-                self.block[3].append(None if long else words)
+                self.block[4].append(None if long else words)
             return []
         if long:
             return ["refused long"]
@@ -249,28 +295,44 @@ class Bench:
             return ["ok"]
         if first == b"save" and len(words) == 2:
             return self.saved(self.named(name_of(words[1])))
-        if first == b"timeline" and len(words) == 5 and words[3] == b"next":
-            self.block = (name_of(words[1]), kind_of(words[2]), natural(words[4], 1, NEXT_LIMIT), [])
+        if first == b"timeline" and words[3] == b"next" and (len(words) == 5 or (len(words) == 7 and words[5] == b"rows")):
+            count = natural(words[6], 0, MOST_ROWS) if len(words) == 7 else None
+            self.block = (name_of(words[1]), kind_of(words[2]), natural(words[4], 1, NEXT_LIMIT), count, [])
             return []
         name, verb = name_of(first), words[1]
         if verb in (b"undo", b"redo") and len(words) == 2:
-            return [self.named(name).back(verb == b"undo")]
+            return self.named(name).back(verb == b"undo")
         if verb == b"delete" and len(words) == 3:
             wanted = row_number(words[2])
             timeline = self.named(name)
             place, _ = timeline.place(("before", wanted))
-            return [timeline.edit((False, place, timeline.rows[place]), "ok")]
+            return timeline.step([(False, place, timeline.rows[place])], "ok")
+        if verb == b"move" and len(words) == 5 and words[3] == b"at":
+            wanted, time = row_number(words[2]), natural(words[4], 0, 2**64 - 1)
+            timeline = self.named(name)
+            place, _ = timeline.place(("before", wanted))
+            timeline.room()
+            return timeline.correct(place, time, timeline.rows[place][2], lambda rows: place_at(rows, time))
+        if verb == b"change":
+            wanted, op = row_number(words[2]), op_of(words[3:])
+            timeline = self.named(name)
+            if OPS[op[0]][0] != timeline.kind:
+                raise Refused("refused kind")
+            place, time = timeline.place(("before", wanted))
+            timeline.room()
+            return timeline.correct(place, time, op, lambda rows: place)
+        if verb == b"fate" and len(words) == 3:
+            wanted = row_number(words[2])
+            timeline = self.named(name)
+            return [timeline.fate(timeline.place(("before", wanted))[0])]
         if verb in (b"at", b"before", b"after"):
             moment, op = moment_of(words[1:3]), op_of(words[3:])
             timeline = self.named(name)
             if OPS[op[0]][0] != timeline.kind:
                 raise Refused("refused kind")
             place, time = timeline.place(moment)
-            if len(timeline.rows) >= MOST_ROWS:
-                raise Refused("refused full")
-            if timeline.next >= NEXT_LIMIT:
-                raise Refused("refused numbers")
-            return [timeline.edit((True, place, (timeline.next, time, op)), "ok #%d" % timeline.next)]
+            timeline.room()
+            return timeline.step([(True, place, (timeline.next, time, op))], "ok #%d" % timeline.next)
         if verb == b"ask":
             moment = None
             asked = words[2:]
@@ -285,14 +347,14 @@ class Bench:
         raise NotInGrammar
 
     def saved(self, timeline):
-        head = "timeline %s %s next %d" % (timeline.name, timeline.kind, timeline.next)
+        head = "timeline %s %s next %d rows %d" % (timeline.name, timeline.kind, timeline.next, len(timeline.rows))
         return [head] + ["#%d %d %s" % (row[0], row[1], op_text(row[2])) for row in timeline.rows] + ["end"]
 
     def close(self, ended):
         """The answers of a block at its close, or at the end of the input."""
         if self.block is None:
             return []
-        name, kind, following, lines = self.block
+        name, kind, following, count, lines = self.block
         self.block = None
         try:
             self.free(name)
@@ -321,6 +383,8 @@ class Bench:
                 raise Refused("refused unfinished")
             if any(n >= following for n in seen):
                 raise Refused("refused next")
+            if count is not None and count != len(rows):
+                raise Refused("refused rows")
         except Refused as refusal:
             return [str(refusal)]
         self.timelines[name] = Timeline(name, kind, rows, following)
