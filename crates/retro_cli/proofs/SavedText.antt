@@ -9,7 +9,7 @@ use Rattle.retro_base.specs.declared.kind.Kind.TheVariants.{Queue, Stack, Deque,
 use Rattle.retro_base.specs.declared.op.Op.{Op}
 use Rattle.retro_base.specs.declared.op.Op.TheVariants.{Enq, Deq, Push, Pop, PushL, PushR, PopL, PopR, Put, Del, Ins, DelMin}
 use Rattle.retro_base.specs.declared.row.Row.{Row}
-use Rattle.retro_base.specs.Limits.{longest_name, next_limit}
+use Rattle.retro_base.specs.Limits.{longest_name, most_rows, next_limit}
 use Rattle.retro_base.specs.Name.{is_name, is_name_byte, is_reserved, starts_with_letter}
 use Rattle.retro_base.specs.OpText.{op_text}
 use Rattle.retro_base.specs.Timeline.{IsTimeline}
@@ -31,8 +31,8 @@ rows_cut (row ∷ rows) rest =
 text_cut : (name : List ℕ) (kind : Kind) (next : ℕ) (rows : List Row) → is_name name ≡ true → lines (saved name kind next rows) ≡ block_lines name kind next rows
 unfolding saved
 text_cut name kind next rows named =
-    line_first (header_text name kind next) (row_lines rows ++ with_feed end_text) (header_printable name kind next named)
-    ∙ ap (λ more. header_text name kind next ∷ more) (rows_cut rows (with_feed end_text))
+    line_first (header_text name kind next (length rows)) (row_lines rows ++ with_feed end_text) (header_printable name kind next (length rows) named)
+    ∙ ap (λ more. header_text name kind next (length rows) ∷ more) (rows_cut rows (with_feed end_text))
 
 -- their lengths
 name_short : (name : List ℕ) → is_name name ≡ true → length name ≤ 32
@@ -76,11 +76,13 @@ op_short (Del key) of = let short = value_short key of in omega arith
 op_short (Ins key) of = let short = value_short key of in omega arith
 op_short DelMin of = omega arith
 
-header_short : (name : List ℕ) (kind : Kind) (next : ℕ) → is_name name ≡ true → next ≤ next_limit → length (header_text name kind next) ≤ longest_line
-header_short name kind next named small =
+header_short : (name : List ℕ) (kind : Kind) (next count : ℕ) → is_name name ≡ true → next ≤ next_limit → count ≤ most_rows
+    → length (header_text name kind next count) ≤ longest_line
+header_short name kind next count named small few =
     let of_name = name_short name named in
     let of_kind = kind_short kind in
     let of_next = number_short next small in
+    let of_count = number_short count (omega (arith, few)) in
     simp length-append (omega arith)
 
 row_short : (row : Row) → row.number ≤ next_limit → IsInRange row → length (row_text row) ≤ longest_line
@@ -100,6 +102,6 @@ pub text_reads_back : SavedReadsBack → (name : List ℕ) (kind : Kind) (next :
     → AllByRecursion IsInRange rows → TextReadsBack name kind next rows
 text_reads_back back name kind next rows named timeline range = record {
   cut = text_cut name kind next rows named;
-  short = (header_short name kind next named timeline.next_in_range.1, rows_short rows next timeline.next_in_range.1 timeline.numbered range);
+  short = (header_short name kind next (length rows) named timeline.next_in_range.1 timeline.replayable.few, rows_short rows next timeline.next_in_range.1 timeline.numbered range);
   back = back name kind next rows named timeline range;
 }

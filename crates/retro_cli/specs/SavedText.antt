@@ -11,7 +11,7 @@ use Rattle.timeline_file.specs.Saved.{end_text, header_text, row_text, saved}
 
 -- the lines of a block: the header, a line for each row, and the end
 abbrev pub block_lines : List ℕ → Kind → ℕ → List Row → List (List ℕ)
-block_lines name kind next rows = header_text name kind next ∷ (map row_text rows ++ end_text ∷ [])
+block_lines name kind next rows = header_text name kind next (length rows) ∷ (map row_text rows ++ end_text ∷ [])
 
 -- the saved text has these lines and no other, none of them is long, and they read back to what was saved
 pub record TextReadsBack (name : List ℕ) (kind : Kind) (next : ℕ) (rows : List Row) : Type 0 where

@@ -10,7 +10,7 @@ use Rattle.evidence.specs.Laws.{LinesAreShort, PrintedReadsBack}
 use Rattle.evidence_check.specs.Judgement.{Judge, Reported}
 use Rattle.evidence_check.specs.Laws.{EditsAreSpelled, EditsAreReported}
 use Rattle.script_grammar.specs.declared.command.Command.{Command}
-use Rattle.script_grammar.specs.declared.command.Command.TheVariants.{Nothing, New, Insert, Delete, Ask, Undo, Redo, Save, Header}
+use Rattle.script_grammar.specs.declared.command.Command.TheVariants.{Nothing, New, Insert, Delete, Move, Change, Fate, Ask, Undo, Redo, Save, Header}
 use Rattle.script_grammar.specs.declared.command.LineError.{LineError}
 use Rattle.script_grammar.specs.declared.command.LineError.TheVariants as errors
 use Rattle.script_grammar.specs.BlockLines.{is_end}
@@ -22,10 +22,10 @@ use Rattle.workbench.specs.declared.outcome.Refusal.TheVariants as refusals
 use Rattle.workbench.specs.Bench.{Bench, NamedTimeline, OpenBlock, has_timeline}
 use Rattle.workbench.specs.Outcome.{block_refusal, evidence_lines, reply_text}
 use Rattle.workbench.specs.Reaction.{BenchEffect, Effect, closes, ends, happens, inside, leaves, loads, obeys, of_block, opened, spelled, with_block, with_line}
-use Rattle.workbench.specs.TimelineEffects.{answers, deletes, inserts, redoes, saves, unchanged, undoes}
+use Rattle.workbench.specs.TimelineEffects.{answers, answers_fate, deletes, inserts, redoes, saves, unchanged, undoes}
 use Rattle.workbench.specs.Reported.{appends_from, loaded, loaded_evidence}
 use Rattle.retro_cli.proofs.accepted.Blocks.{IsGoodBlock, begun_is_good, good_loaded, sound_closed, taken_good}
-use Rattle.retro_cli.proofs.accepted.Effects.{answer_stays, delete_stays, insert_stays, put_same, redo_stays, save_stays, reported_rows, undo_stays}
+use Rattle.retro_cli.proofs.accepted.Effects.{answer_stays, delete_stays, fate_stays, insert_stays, put_same, redo_stays, save_stays, reported_rows, undo_stays}
 use Rattle.retro_cli.proofs.accepted.Passing.{accepted_passes, refusal_passes, silent_passes}
 use Rattle.retro_cli.proofs.accepted.Made.{IsSound, appends_made}
 use Rattle.retro_cli.proofs.accepted.Printable.{NamesTimeline}
@@ -40,6 +40,7 @@ names_none (faults.Row place cause) = tt
 names_none faults.Full = tt
 names_none faults.Unfinished = tt
 names_none faults.Next = tt
+names_none faults.Rows = tt
 
 -- the evidence of the rows of a block
 module _ (truth : EditsAreReported) (spells : EditsAreSpelled) (back : PrintedReadsBack) (short : LinesAreShort) where
@@ -99,13 +100,17 @@ module _ (truth : EditsAreReported) (spells : EditsAreSpelled) (back : PrintedRe
       named_kept name (λ timeline. inserts timeline spot op) is.0 (λ timeline good. insert_stays truth spells back short timeline good spot op is.1) timelines judge kept
   obeys_kept timelines judge (Ok (Delete name number)) kept is =
       named_kept name (λ timeline. deletes timeline number) is (λ timeline good. delete_stays truth spells back short timeline good number) timelines judge kept
+  obeys_kept timelines judge (Ok (Move name number time)) kept is = left_kept timelines judge (Refused refusals.Syntax) kept (refusal_passes refusals.Syntax tt)
+  obeys_kept timelines judge (Ok (Change name number op)) kept is = left_kept timelines judge (Refused refusals.Syntax) kept (refusal_passes refusals.Syntax tt)
+  obeys_kept timelines judge (Ok (Fate name number)) kept is =
+      named_kept name (λ timeline. unchanged timeline (answers_fate timeline number)) is (λ timeline good. fate_stays truth spells back short timeline good number) timelines judge kept
   obeys_kept timelines judge (Ok (Ask name moment query)) kept is =
       named_kept name (λ timeline. unchanged timeline (answers timeline moment query)) is (λ timeline good. answer_stays truth spells back short timeline good moment query) timelines judge kept
   obeys_kept timelines judge (Ok (Undo name)) kept is = named_kept name undoes is (λ timeline good. undo_stays truth spells back short timeline good) timelines judge kept
   obeys_kept timelines judge (Ok (Redo name)) kept is = named_kept name redoes is (λ timeline good. redo_stays truth spells back short timeline good) timelines judge kept
   obeys_kept timelines judge (Ok (Save name)) kept is =
       named_kept name (λ timeline. unchanged timeline (saves timeline)) is (λ timeline good. save_stays truth spells back short timeline good) timelines judge kept
-  obeys_kept timelines judge (Ok (Header name kind next)) kept is = left_kept timelines judge Silent kept silent_passes
+  obeys_kept timelines judge (Ok (Header name kind next rows)) kept is = left_kept timelines judge Silent kept silent_passes
 
   opened_good : (line : Result Command LineError) → IfOk line IsSpelled → IsGoodOpen (opened line)
   opened_good (Err error) is = tt
@@ -113,11 +118,14 @@ module _ (truth : EditsAreReported) (spells : EditsAreSpelled) (back : PrintedRe
   opened_good (Ok (New name kind)) is = tt
   opened_good (Ok (Insert name spot op)) is = tt
   opened_good (Ok (Delete name number)) is = tt
+  opened_good (Ok (Move name number time)) is = tt
+  opened_good (Ok (Change name number op)) is = tt
+  opened_good (Ok (Fate name number)) is = tt
   opened_good (Ok (Ask name moment query)) is = tt
   opened_good (Ok (Undo name)) is = tt
   opened_good (Ok (Redo name)) is = tt
   opened_good (Ok (Save name)) is = tt
-  opened_good (Ok (Header name kind next)) is = (is.0, begun_is_good kind next is.1.0 is.1.1)
+  opened_good (Ok (Header name kind next rows)) is = (is.0, begun_is_good kind next rows is.1.0 is.1.1)
 
   line_spelled : (bytes : List ℕ) (long : Bool) → IfOk (spelled bytes long) IsSpelled
   line_spelled bytes true = tt

@@ -17,7 +17,7 @@ use Rattle.timeline_file.specs.declared.block.BlockError.{BlockError}
 use Rattle.timeline_file.specs.declared.block.BlockError.TheVariants as errors
 use Rattle.timeline_file.specs.declared.block.RowCause.{RowCause}
 use Rattle.timeline_file.specs.declared.block.RowCause.TheVariants as causes
-use Rattle.timeline_file.specs.Block.{Block, after_row_line, are_below, begun, cause_of_row, decided, fault_of, finished, grown, has_number, last_time, row_line, taken, whole}
+use Rattle.timeline_file.specs.Block.{Block, after_row_line, are_below, begun, cause_of_row, decided, fault_of, finished, grown, has_count, has_number, last_time, row_line, taken, whole}
 use Rattle.workbench.specs.Bench.{OpenBlock}
 use Rattle.workbench.specs.Reaction.{of_block}
 use Rattle.retro_cli.proofs.accepted.Effects.{IsGood}
@@ -32,9 +32,9 @@ pub record IsGoodBlock (block : Block) : Type 0 where
   pub replayable : IsReplayable block.kind block.rows
   pub spelled : AllByRecursion IsRowSpelled block.rows
 
-pub begun_is_good : (kind : Kind) (next : ℕ) → 1 ≤ next → next ≤ next_limit → IsGoodBlock (begun kind next)
+pub begun_is_good : (kind : Kind) (next : ℕ) (count : Option ℕ) → 1 ≤ next → next ≤ next_limit → IsGoodBlock (begun kind next count)
 unfolding fold_rows
-begun_is_good kind next least most = record {
+begun_is_good kind next count least most = record {
   least = least;
   most = most;
   replayable = record { few = omega arith; of_kind = tt; own_numbers = tt; valid = refl };
@@ -158,13 +158,16 @@ record IsWhole (block : Block) (rows : List Row) : Type 0 where
   same : block.rows ≡ rows
   below : are_below block.next block.rows ≡ true
 
+counted_is : (counted : Bool) (all rows : List Row) → ◌≡◌ {A = Result (List Row) BlockError} (cond counted (Ok all) (Err errors.Rows)) (Ok rows) → all ≡ rows
+counted_is true all rows is = cc
+counted_is false all rows is = absurd (cc)
+
 whole_is : (block : Block) (ended : Bool) (rows : List Row) → whole block ended ≡ Ok rows → IsWhole block rows
 whole_is block false rows is = absurd (cc)
 whole_is block true rows is =
     elim (are_below block.next block.rows) as (λ b. are_below block.next block.rows ≡ b → IsWhole block rows) [
       | true ↦ λ below.
-          let all : ◌≡◌ {A = Result (List Row) BlockError} (Ok block.rows) (Ok rows) = rw below at is in
-          record { same = cc; below = below }
+          record { same = counted_is (has_count block.count block.rows) block.rows rows (rw below at is); below = below }
       | false ↦ λ out. let wrong : ◌≡◌ {A = Result (List Row) BlockError} (Err errors.Next) (Ok rows) = rw out at is in absurd (cc)
     ] refl
 

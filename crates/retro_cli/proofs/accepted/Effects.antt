@@ -32,13 +32,13 @@ use Rattle.workbench.specs.declared.outcome.Refusal.TheVariants as refusals
 use Rattle.workbench.specs.declared.position.Position.{Position}
 use Rattle.workbench.specs.Bench.{NamedTimeline}
 use Rattle.workbench.specs.Outcome.{reply_text}
-use Rattle.workbench.specs.TimelineEffects.{TimelineEffect, accepted_or_refused, after_edit, answers, cut_of, deletes, deletes_by, edits, inserts, inserts_at, inserts_there, new_row, position_of, redoes, redoes_step, refusal_at, refuses, row_named, saves, unchanged, undoes, undoes_step}
+use Rattle.workbench.specs.TimelineEffects.{TimelineEffect, accepted_or_refused, after_edit, answers, answers_fate, cut_of, deletes, deletes_by, edits, inserts, inserts_at, inserts_there, new_row, position_of, redoes, redoes_step, refusal_at, refuses, row_named, saves, unchanged, undoes, undoes_step}
 use Rattle.workbench.specs.Reported.{evidence_of_step, reported}
 use Rattle.retro_cli.proofs.accepted.Leads.{Leads, leads_last, leads_later, leads_more, leads_so}
 use Rattle.retro_cli.proofs.accepted.Made.{IsRanged, IsSound, Makes, MakesStep, TakesBack, leads_to, sound_after, sound_later, step_back, step_later}
 use Rattle.retro_cli.proofs.accepted.Printable.{NamesTimeline}
 use Rattle.retro_cli.proofs.accepted.Telling.{Agrees, HasReported, agrees_as, is_listed, put, same_name, tells_step}
-use Rattle.retro_cli.proofs.accepted.Passing.{IsPassedOver, accepted_passes, answer_passes, inserted_passes, refusal_passes, saved_passes}
+use Rattle.retro_cli.proofs.accepted.Passing.{IsPassedOver, accepted_passes, answer_passes, fate_passes, inserted_passes, refusal_passes, saved_passes}
 use Rattle.retro_cli.proofs.accepted.Positions.{IsCutOf, cut_is, position_within, same_kind_is}
 
 -- the rows of which evidence tells
@@ -288,9 +288,12 @@ module _ (truth : EditsAreReported) (spells : EditsAreSpelled) (back : PrintedRe
     unfolding redoes
     redo_stays = redo_step (newest_step timeline.history.redo) refl
 
-    -- a question, and the saved text
+    -- a question, a fate, and the saved text
     pub answer_stays : (moment : Moment) (query : Query) → StaysGood timeline (unchanged timeline (answers timeline moment query))
     answer_stays moment query = stays_as_it_was timeline (answers timeline moment query) good (answer_passes timeline moment query)
+
+    pub fate_stays : (number : ℕ) → StaysGood timeline (unchanged timeline (answers_fate timeline number))
+    fate_stays number = stays_as_it_was timeline (answers_fate timeline number) good (fate_passes timeline number)
 
     pub save_stays : StaysGood timeline (unchanged timeline (saves timeline))
     save_stays = stays_as_it_was timeline (saves timeline) good (saved_passes timeline.name timeline.kind timeline.next timeline.rows good.named)

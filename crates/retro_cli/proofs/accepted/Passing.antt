@@ -18,14 +18,15 @@ use Rattle.script_grammar.specs.declared.command.Query.{Query}
 use Rattle.script_grammar.specs.declared.command.Query.TheVariants.{One, All}
 use Rattle.timeline_file.specs.Saved.{end_text, header_text, row_line_text, row_lines, row_text, saved, with_feed}
 use Rattle.workbench.specs.declared.outcome.Outcome.{Outcome}
-use Rattle.workbench.specs.declared.outcome.Outcome.TheVariants.{Silent, Accepted, Inserted, Answered, Listed, Saved, Refused}
+use Rattle.workbench.specs.declared.outcome.Outcome.TheVariants.{Silent, Accepted, Inserted, Answered, Listed, Saved, Taken, Stays, Refused}
 use Rattle.workbench.specs.declared.outcome.Refusal.{Refusal}
 use Rattle.workbench.specs.declared.outcome.Refusal.TheVariants as refusals
 use Rattle.workbench.specs.declared.position.Position.{Position}
 use Rattle.workbench.specs.Bench.{NamedTimeline}
 use Rattle.workbench.specs.Outcome.{refusal_text, reply_text}
-use Rattle.workbench.specs.TimelineEffects.{answers, answers_at, answers_then, position_of, row_named}
-use Rattle.retro_cli.proofs.accepted.Printable.{NamesTimeline, answer_printable, decimal_printable, header_printable, listing_printable, refusal_printable, row_printable}
+use Rattle.workbench.specs.ReactionLaws.{answers_fate-each}
+use Rattle.workbench.specs.TimelineEffects.{answers, answers_at, answers_fate, answers_then, position_of, row_named}
+use Rattle.retro_cli.proofs.accepted.Printable.{NamesTimeline, answer_printable, decimal_printable, header_printable, listing_printable, refusal_printable, row_printable, taken_printable}
 use Rattle.retro_cli.proofs.accepted.ReadLines.{Reads, reads-append, reads_nothing, reads_other}
 
 -- a judge that reads this answer is as before
@@ -49,6 +50,8 @@ begins_other refusals.NothingToRedo = refl
 begins_other (refusals.RowLine place cause) = refl
 begins_other refusals.Unfinished = refl
 begins_other refusals.Next = refl
+begins_other refusals.Rows = refl
+begins_other (refusals.NoItem number) = refl
 
 pub refusal_passes : (refusal : Refusal) → NamesTimeline refusal → IsPassedOver (Refused refusal)
 refusal_passes refusal named judge = reads_other judge (refusal_text refusal) (refusal_printable refusal named) (begins_other refusal)
@@ -97,6 +100,17 @@ answer_passes timeline moment (One question) =
 answer_passes timeline moment All =
     then_passes timeline (λ place. Listed (content (state_at timeline.kind timeline.rows place))) (λ place. listed_passes (content (state_at timeline.kind timeline.rows place))) moment
 
+-- the fate of what a row put in
+taken_passes : (number time : ℕ) → IsPassedOver (Taken number time)
+taken_passes number time judge = reads_other judge (codes "= taken #" ++ decimal number ++ codes " " ++ decimal time) (taken_printable number time) refl
+
+stays_passes : IsPassedOver Stays
+stays_passes judge = reads_other judge (codes "= stays") refl refl
+
+pub fate_passes : (timeline : NamedTimeline) (number : ℕ) → IsPassedOver (answers_fate timeline number)
+fate_passes timeline number =
+    answers_fate-each IsPassedOver taken_passes stays_passes (λ missing. refusal_passes (refusals.NoRow missing) tt) (λ taking. refusal_passes (refusals.NoItem taking) tt) timeline number
+
 -- the lines of a saved timeline
 rows_passed : (judge : Judge) (rows : List Row) → Reads judge (row_lines rows) judge
 rows_passed judge [] = reads_nothing judge
@@ -106,6 +120,6 @@ rows_passed judge (row ∷ rows) =
 pub saved_passes : (name : List ℕ) (kind : Kind) (next : ℕ) (rows : List Row) → is_name name ≡ true → IsPassedOver (Saved name kind next rows)
 unfolding saved
 saved_passes name kind next rows named judge =
-    reads-append judge judge judge (with_feed (header_text name kind next)) (row_lines rows ++ with_feed end_text)
-    (reads_other judge (header_text name kind next) (header_printable name kind next named) refl)
+    reads-append judge judge judge (with_feed (header_text name kind next (length rows))) (row_lines rows ++ with_feed end_text)
+    (reads_other judge (header_text name kind next (length rows)) (header_printable name kind next (length rows) named) refl)
     (reads-append judge judge judge (row_lines rows) (with_feed end_text) (rows_passed judge rows) (reads_other judge end_text refl refl))

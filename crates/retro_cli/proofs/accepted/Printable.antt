@@ -25,7 +25,7 @@ use Rattle.evidence.specs.Spelling.{spelling, spaced, edit_text, row_text, bridg
 use Rattle.script_grammar.specs.AnswerText.{answer_text, item_text, listing_text}
 use Rattle.timeline_file.specs.declared.block.RowCause.{RowCause}
 use Rattle.timeline_file.specs.declared.block.RowCause.TheVariants as causes
-use Rattle.timeline_file.specs.Saved.{header_text, kind_text, next_text}
+use Rattle.timeline_file.specs.Saved.{count_text, header_text, kind_text, next_text}
 use Rattle.timeline_file.specs.Saved as files
 use Rattle.workbench.specs.declared.outcome.Refusal.{Refusal}
 use Rattle.workbench.specs.declared.outcome.Refusal.TheVariants as refusals
@@ -156,15 +156,22 @@ kind_printable Deque = refl
 kind_printable Dict = refl
 kind_printable Pq = refl
 
-pub header_printable : (name : List ℕ) (kind : Kind) (next : ℕ) → is_name name ≡ true → is_printable (header_text name kind next) ≡ true
-header_printable name kind next named =
-    printable-append name (files.spaced (kind_text kind) ++ next_text next) (name_printable name named)
-    (printable-append (files.spaced (kind_text kind)) (next_text next) (kind_printable kind) (decimal_printable next))
+pub header_printable : (name : List ℕ) (kind : Kind) (next count : ℕ) → is_name name ≡ true → is_printable (header_text name kind next count) ≡ true
+header_printable name kind next count named =
+    printable-append name (files.spaced (kind_text kind) ++ (next_text next ++ count_text count)) (name_printable name named)
+    (printable-append (files.spaced (kind_text kind)) (next_text next ++ count_text count) (kind_printable kind)
+    (printable-append (next_text next) (count_text count) (decimal_printable next) (decimal_printable count)))
 
 pub row_printable : (row : Row) → is_printable (files.row_text row) ≡ true
 row_printable row =
     printable-append (decimal row.number) _ (decimal_printable row.number)
     (printable-append (files.spaced (decimal row.time)) (files.spaced (op_text row.op)) (decimal_printable row.time) (op_printable row.op))
+
+-- the fate of what a row put in
+pub taken_printable : (number time : ℕ) → is_printable (codes "= taken #" ++ decimal number ++ codes " " ++ decimal time) ≡ true
+taken_printable number time =
+    printable-append (codes "= taken #" ++ decimal number ++ codes " ") (decimal time)
+    (printable-append (codes "= taken #" ++ decimal number) (codes " ") (decimal_printable number) refl) (decimal_printable time)
 
 -- refusals
 row_cause_printable : (cause : RowCause) → is_printable (cause_text cause) ≡ true
@@ -196,6 +203,8 @@ refusal_printable (refusals.RowLine place cause) named =
     (printable-append (codes "refused row " ++ decimal place) (codes " ") (decimal_printable place) refl) (row_cause_printable cause)
 refusal_printable refusals.Unfinished named = refl
 refusal_printable refusals.Next named = refl
+refusal_printable refusals.Rows named = refl
+refusal_printable (refusals.NoItem number) named = decimal_printable number
 refusal_printable (refusals.At number time) named =
     printable-append (codes "refused at #" ++ decimal number ++ codes " ") (decimal time)
     (printable-append (codes "refused at #" ++ decimal number) (codes " ") (decimal_printable number) refl) (decimal_printable time)

@@ -11,15 +11,15 @@ use Rattle.retro_base.specs.Limits.{next_limit}
 use Rattle.retro_base.specs.Name.{is_name, name_of}
 use Rattle.evidence.specs.Evidence.{IsRowNumber}
 use Rattle.script_grammar.specs.declared.command.Command.{Command}
-use Rattle.script_grammar.specs.declared.command.Command.TheVariants.{Nothing, New, Insert, Delete, Ask, Undo, Redo, Save, Header}
+use Rattle.script_grammar.specs.declared.command.Command.TheVariants.{Nothing, New, Insert, Delete, Move, Change, Fate, Ask, Undo, Redo, Save, Header}
 use Rattle.script_grammar.specs.declared.command.LineError.TheVariants.{Syntax}
 use Rattle.script_grammar.specs.declared.command.Spot.{Spot}
 use Rattle.script_grammar.specs.declared.command.Moment.TheVariants.{Now, Then}
 use Rattle.script_grammar.specs.declared.operands.Operands.{Operands}
 use Rattle.script_grammar.specs.declared.operands.Operands.TheVariants.{Bare, Unary, Binary}
 use Rattle.script_grammar.specs.BlockLines.{row_of, row_spelled, row_with}
-use Rattle.script_grammar.specs.Command.{about, ask_at, ask_of, ask_then, begins_comment, begins_spot, command, command_of, delete_of, header_end, header_kind, header_next, header_of, insert_of, kind_named, kind_of_word, new_of, save_of, spot_of}
-use Rattle.script_grammar.specs.Numbers.{between, natural_of, next_of, row_number_of, time_of, up_to, value_of}
+use Rattle.script_grammar.specs.Command.{about, ask_at, ask_of, ask_then, begins_comment, begins_spot, change_of, command, command_of, delete_of, fate_of, header_count, header_end, header_kind, header_next, header_of, header_rows, insert_of, kind_named, kind_of_word, move_at, move_of, move_time, new_of, save_of, spot_of}
+use Rattle.script_grammar.specs.Numbers.{between, count_of, natural_of, next_of, row_number_of, time_of, up_to, value_of}
 use Rattle.script_grammar.specs.Operands.{alone, operands_after, operands_of}
 use Rattle.script_grammar.specs.Operations.{op_of, op_with}
 use Rattle.script_grammar.specs.Queries.{query_of}
@@ -38,11 +38,14 @@ IsSpelled Nothing = Unit {0}
 IsSpelled (New name kind) = IsNamed name
 IsSpelled (Insert name spot op) = IsNamed name × HasValues op
 IsSpelled (Delete name number) = IsNamed name
+IsSpelled (Move name number time) = IsNamed name
+IsSpelled (Change name number op) = IsNamed name × HasValues op
+IsSpelled (Fate name number) = IsNamed name
 IsSpelled (Ask name moment query) = IsNamed name
 IsSpelled (Undo name) = IsNamed name
 IsSpelled (Redo name) = IsNamed name
 IsSpelled (Save name) = IsNamed name
-IsSpelled (Header name kind next) = IsNamed name × IsNext next
+IsSpelled (Header name kind next rows) = IsNamed name × IsNext next
 
 -- and the row of a row line
 abbrev pub IsRowSpelled : Row → Type 0
@@ -191,6 +194,28 @@ module _ (name : List ℕ) (named : IsNamed name) where
   delete_spelled [] = tt
   delete_spelled (word ∷ rest) = chained IsSpelled (λ number. alone (Delete name number) rest) (row_number_of word) (λ number. last IsSpelled (Delete name number) rest named)
 
+  move_time_spelled : (number : ℕ) (rest : List (List ℕ)) → IfSome (move_time name number rest) IsSpelled
+  move_time_spelled number [] = tt
+  move_time_spelled number (word ∷ rest) = chained IsSpelled (λ time. alone (Move name number time) rest) (time_of word) (λ time. last IsSpelled (Move name number time) rest named)
+
+  move_at_spelled : (number : ℕ) (rest : List (List ℕ)) → IfSome (move_at name number rest) IsSpelled
+  move_at_spelled number [] = tt
+  move_at_spelled number (word ∷ rest) = chosen IsSpelled (bytes_eq word (codes "at")) (move_time name number rest) None (move_time_spelled number rest) tt
+
+  move_spelled : (rest : List (List ℕ)) → IfSome (move_of name rest) IsSpelled
+  move_spelled [] = tt
+  move_spelled (word ∷ rest) = chained IsSpelled (λ number. move_at name number rest) (row_number_of word) (λ number. move_at_spelled number rest)
+
+  change_spelled : (rest : List (List ℕ)) → IfSome (change_of name rest) IsSpelled
+  change_spelled [] = tt
+  change_spelled (word ∷ rest) =
+      chained IsSpelled (λ number. option_map (Change name number) (op_of rest)) (row_number_of word)
+      (λ number. mapped_from IsSpelled HasValues (Change name number) (op_of rest) (op_spelled rest) (λ op values. (named, values)))
+
+  fate_spelled : (rest : List (List ℕ)) → IfSome (fate_of name rest) IsSpelled
+  fate_spelled [] = tt
+  fate_spelled (word ∷ rest) = chained IsSpelled (λ number. alone (Fate name number) rest) (row_number_of word) (λ number. last IsSpelled (Fate name number) rest named)
+
   ask_at_spelled : (spot : Spot) (rest : List (List ℕ)) → IfSome (ask_at name spot rest) IsSpelled
   ask_at_spelled spot [] = tt
   ask_at_spelled spot (word ∷ rest) = mapped IsSpelled (Ask name (Then spot)) (query_of word rest) (λ query. named)
@@ -210,13 +235,26 @@ module _ (name : List ℕ) (named : IsNamed name) where
   about_spelled (word ∷ rest) =
       chosen IsSpelled (bytes_eq word (codes "ask")) _ _ (ask_spelled rest)
       (chosen IsSpelled (bytes_eq word (codes "delete")) _ _ (delete_spelled rest)
+      (chosen IsSpelled (bytes_eq word (codes "move")) _ _ (move_spelled rest)
+      (chosen IsSpelled (bytes_eq word (codes "change")) _ _ (change_spelled rest)
+      (chosen IsSpelled (bytes_eq word (codes "fate")) _ _ (fate_spelled rest)
       (chosen IsSpelled (bytes_eq word (codes "undo")) _ _ (last IsSpelled (Undo name) rest named)
-      (chosen IsSpelled (bytes_eq word (codes "redo")) _ _ (last IsSpelled (Redo name) rest named) (insert_spelled word rest))))
+      (chosen IsSpelled (bytes_eq word (codes "redo")) _ _ (last IsSpelled (Redo name) rest named) (insert_spelled word rest)))))))
+
+  header_count_spelled : (kind : Kind) (next : ℕ) (rest : List (List ℕ)) → IsNext next → IfSome (header_count name kind next rest) IsSpelled
+  header_count_spelled kind next [] range = tt
+  header_count_spelled kind next (word ∷ rest) range =
+      chained IsSpelled (λ rows. alone (Header name kind next (Some rows)) rest) (count_of word) (λ rows. last IsSpelled (Header name kind next (Some rows)) rest (named, range))
+
+  header_rows_spelled : (kind : Kind) (next : ℕ) (rest : List (List ℕ)) → IsNext next → IfSome (header_rows name kind next rest) IsSpelled
+  header_rows_spelled kind next [] range = (named, range)
+  header_rows_spelled kind next (word ∷ rest) range =
+      chosen IsSpelled (bytes_eq word (codes "rows")) (header_count name kind next rest) None (header_count_spelled kind next rest range) tt
 
   header_next_spelled : (kind : Kind) (rest : List (List ℕ)) → IfSome (header_next name kind rest) IsSpelled
   header_next_spelled kind [] = tt
   header_next_spelled kind (word ∷ rest) =
-      chained_from IsSpelled IsNext (λ next. alone (Header name kind next) rest) (next_of word) (next_spelled word) (λ next range. last IsSpelled (Header name kind next) rest (named, range))
+      chained_from IsSpelled IsNext (λ next. header_rows name kind next rest) (next_of word) (next_spelled word) (λ next range. header_rows_spelled kind next rest range)
 
   header_end_spelled : (kind : Kind) (rest : List (List ℕ)) → IfSome (header_end name kind rest) IsSpelled
   header_end_spelled kind [] = tt
