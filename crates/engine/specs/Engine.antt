@@ -5,7 +5,7 @@ use Rattle.retro_base.specs.declared.kind.Kind.{Kind}
 use Rattle.retro_base.specs.declared.kind.Kind.TheVariants as kinds
 use Rattle.retro_base.specs.declared.row.Row.{Row}
 use Rattle.engine.specs.declared.engine.Engine.{Engine}
-use Rattle.engine.specs.declared.engine.Engine.TheVariants.{Queue, Stack, Deque, Dict, Pq}
+use Rattle.engine.specs.declared.engine.Engine.TheVariants.{Queue, Stack, Deque, Dict, Pq, Fused}
 
 -- the kind of the structure inside
 abbrev pub kind_inside : Engine → Kind
@@ -14,6 +14,7 @@ kind_inside (Stack inner) = kinds.Stack
 kind_inside (Deque inner) = kinds.Deque
 kind_inside (Dict inner) = kinds.Dict
 kind_inside (Pq inner) = inner.kind
+kind_inside (Fused inner) = kinds.Pq
 
 -- its rows
 abbrev pub rows_inside : Engine → List Row
@@ -22,6 +23,7 @@ rows_inside (Stack inner) = inner
 rows_inside (Deque inner) = inner
 rows_inside (Dict inner) = inner
 rows_inside (Pq inner) = inner.rows
+rows_inside (Fused inner) = inner
 
 -- a queue, a stack or a deque, whose past is asked in a few visits and without memory
 abbrev pub is_line : Engine → Bool
@@ -30,14 +32,25 @@ is_line (Stack inner) = true
 is_line (Deque inner) = true
 is_line (Dict inner) = false
 is_line (Pq inner) = false
+is_line (Fused inner) = false
 
--- a priority queue, whose past is asked by checkpoints
+-- a priority queue whose past is asked by checkpoints
 abbrev pub is_pq : Engine → Bool
 is_pq (Queue inner) = false
 is_pq (Stack inner) = false
 is_pq (Deque inner) = false
 is_pq (Dict inner) = false
 is_pq (Pq inner) = true
+is_pq (Fused inner) = false
+
+-- a priority queue whose past is one product
+abbrev pub is_fused : Engine → Bool
+is_fused (Queue inner) = false
+is_fused (Stack inner) = false
+is_fused (Deque inner) = false
+is_fused (Dict inner) = false
+is_fused (Pq inner) = false
+is_fused (Fused inner) = true
 
 -- its checkpoints were made
 abbrev pub made_inside : Engine → Bool
@@ -46,6 +59,7 @@ made_inside (Stack inner) = false
 made_inside (Deque inner) = false
 made_inside (Dict inner) = false
 made_inside (Pq inner) = inner.made
+made_inside (Fused inner) = false
 
 -- their places
 abbrev pub places_inside : Engine → List ℕ
@@ -54,6 +68,7 @@ places_inside (Stack inner) = []
 places_inside (Deque inner) = []
 places_inside (Dict inner) = []
 places_inside (Pq inner) = inner.places
+places_inside (Fused inner) = []
 
 -- and the most rows between neighbours among them
 abbrev pub width_inside : Engine → ℕ
@@ -62,3 +77,4 @@ width_inside (Stack inner) = 0
 width_inside (Deque inner) = 0
 width_inside (Dict inner) = 0
 width_inside (Pq inner) = inner.width
+width_inside (Fused inner) = 0

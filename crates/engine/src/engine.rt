@@ -1,5 +1,6 @@
 ghost use Rattle.std.specs.Prelude.{◌≡◌, ◌+◌, ◌*◌, ◌<◌, ◌≤◌, [], length, slice_get, true, false, Some, IsOk, IfOk, OnOk, OnErr};
 ghost use Rattle.std.specs.List.{insert, remove};
+ghost use Rattle.retro_base.specs.declared.kind.Kind.TheVariants.{Pq};
 ghost use Rattle.retro_base.specs.Answers.{answer_of, content};
 ghost use Rattle.retro_base.specs.Changes.{IsChange};
 ghost use Rattle.retro_base.specs.Edits.{add, cut};
@@ -9,10 +10,11 @@ ghost use Rattle.retro_base.specs.Questions.{suits};
 ghost use Rattle.retro_base.specs.Replay.{IsValid, state_at};
 ghost use Rattle.retro_base.specs.Timeline.{IsFresh, IsReplayable};
 ghost use Rattle.retro_base.specs.Visits.{VisitsWithin};
-ghost use Rattle.engine.specs.Engine.{kind_inside, rows_inside, is_line, is_pq, made_inside, places_inside, width_inside};
+ghost use Rattle.engine.specs.Engine.{kind_inside, rows_inside, is_line, is_pq, is_fused, made_inside, places_inside, width_inside};
 
 use bridge_pq::BridgeQueue;
 use checkpoint_full::Full;
+use pq_fusion::FusedQueue;
 use retro_base::{Answer, Change, Kind, Listing, NoMemory, Op, Question, Retro, Row, Steps};
 use retro_deque::RetroDeque;
 use retro_dictionary::RetroDictionary;
@@ -22,14 +24,17 @@ use std::alloc::Global;
 use std::marker::Brand;
 use std::sync::ledger::{Blank, Ledger};
 
-/// The structure of a kind. No call changes the variant.
+/// The structure of a kind; a priority queue has two. No call changes the variant.
 #[derive(Drop)]
 pub enum Engine {
     Queue { inner: RetroQueue },
     Stack { inner: RetroStack },
     Deque { inner: RetroDeque },
     Dict { inner: RetroDictionary },
+    /// A priority queue whose past is asked by checkpoints.
     Pq { inner: Full<BridgeQueue> },
+    /// A priority queue whose past is one product.
+    Fused { inner: FusedQueue },
 }
 
 impl Engine {
@@ -57,12 +62,23 @@ impl Engine {
         }
     }
 
+    /// An empty priority queue whose past is one product.
+    pub fn fused(alloc: Global) -> Engine
+        ensures kind { kind_inside result ≡ Pq }
+        ensures rows { rows_inside result ≡ [] }
+        ensures fused { is_fused result ≡ true }
+    {
+        Engine::Fused {
+            inner: FusedQueue::new(alloc),
+        }
+    }
+
     /// The answer to a question about the state at a place, after so many rows. The rows stay, whatever the answer.
     ///
     /// A queue, a stack and a deque visit at most 144 nodes for each binary digit of one more than the number of rows, and
     /// always answer. A priority queue whose checkpoints were made visits at most 432 for each row of their width and one
     /// more, and each digit; the first question about its past makes them, and no question moves them or their width. Of a
-    /// dictionary no bound is stated.
+    /// dictionary and of a fused priority queue no bound is stated.
     pub fn ask_past<L: Ledger>(
         &mut self,
         place: u32,
@@ -87,6 +103,7 @@ impl Engine {
             Engine::Deque { inner } => Ok(inner.ask_past(place, question, steps)),
             Engine::Dict { inner } => inner.ask(place, question),
             Engine::Pq { inner } => inner.ask_past(place, question, steps),
+            Engine::Fused { inner } => inner.ask(place, question),
         }
     }
 
@@ -126,6 +143,7 @@ impl Retro for Engine {
             Engine::Deque { inner } => inner.kind(),
             Engine::Dict { inner } => inner.kind(),
             Engine::Pq { inner } => inner.kind(),
+            Engine::Fused { inner } => inner.kind(),
         }
     }
 
@@ -136,6 +154,7 @@ impl Retro for Engine {
             Engine::Deque { inner } => inner.len(),
             Engine::Dict { inner } => inner.len(),
             Engine::Pq { inner } => inner.len(),
+            Engine::Fused { inner } => inner.len(),
         }
     }
 
@@ -146,6 +165,7 @@ impl Retro for Engine {
             Engine::Deque { inner } => inner.failure_after_insert(place, op),
             Engine::Dict { inner } => inner.failure_after_insert(place, op),
             Engine::Pq { inner } => inner.failure_after_insert(place, op),
+            Engine::Fused { inner } => inner.failure_after_insert(place, op),
         }
     }
 
@@ -156,6 +176,7 @@ impl Retro for Engine {
             Engine::Deque { inner } => inner.failure_after_remove(place),
             Engine::Dict { inner } => inner.failure_after_remove(place),
             Engine::Pq { inner } => inner.failure_after_remove(place),
+            Engine::Fused { inner } => inner.failure_after_remove(place),
         }
     }
 
@@ -179,6 +200,7 @@ impl Retro for Engine {
             Engine::Deque { inner } => inner.insert(place, row),
             Engine::Dict { inner } => inner.insert(place, row),
             Engine::Pq { inner } => inner.insert(place, row),
+            Engine::Fused { inner } => inner.insert(place, row),
         }
     }
 
@@ -200,6 +222,7 @@ impl Retro for Engine {
             Engine::Deque { inner } => inner.remove(place),
             Engine::Dict { inner } => inner.remove(place),
             Engine::Pq { inner } => inner.remove(place),
+            Engine::Fused { inner } => inner.remove(place),
         }
     }
 
@@ -210,6 +233,7 @@ impl Retro for Engine {
             Engine::Deque { inner } => inner.ask_now(question),
             Engine::Dict { inner } => inner.ask_now(question),
             Engine::Pq { inner } => inner.ask_now(question),
+            Engine::Fused { inner } => inner.ask_now(question),
         }
     }
 
@@ -241,6 +265,7 @@ impl Retro for Engine {
             Engine::Deque { inner } => inner.all(place),
             Engine::Dict { inner } => inner.all(place),
             Engine::Pq { inner } => inner.all(place),
+            Engine::Fused { inner } => inner.all(place),
         }
     }
 }

@@ -3,7 +3,6 @@ ghost use Rattle.engine.specs.Engine.{rows_inside};
 
 use engine::Engine;
 use retro_base::{Answer, Item, Kind, Op, Question, Retro, Row};
-use std::alloc::Global;
 use std::process::Abort;
 
 /// A first row of a kind, a question that it answers, and the item that it leaves.
@@ -57,8 +56,9 @@ fn remove_first(rt: &impl Abort, engine: &mut Engine, first: First) {
     assert_eq!(rt; taken, row_of(first));
 }
 
-fn perform_first(rt: &impl Abort, alloc: Global, first: First) {
-    let mut engine = Engine::new(alloc, first.kind);
+fn perform_first(rt: &impl Abort, mut engine: Engine, first: First)
+    requires { rows_inside engine ≡ [] }
+{
     assert_eq!(rt; engine.kind(), first.kind);
     insert_first(rt, &mut engine, first);
     ask_first(rt, &mut engine, first);
@@ -103,6 +103,19 @@ fn each_kind_performs_its_first_row(rt: HostRuntime) {
         },
     ];
     for first in firsts {
-        perform_first(&rt, rt.alloc(), first);
+        perform_first(&rt, Engine::new(rt.alloc(), first.kind), first);
     }
+}
+
+#[test]
+fn a_fused_queue_performs_its_first_row(rt: HostRuntime) {
+    let first = First {
+        kind: Kind::Pq,
+        op: Op::Ins { key: 7 },
+        question: Question::Min,
+        item: Item::Single { value: 7 },
+    };
+    let engine = Engine::fused(rt.alloc());
+    assert!(&rt; matches!(&engine, Engine::Fused { .. }));
+    perform_first(&rt, engine, first);
 }
