@@ -1,6 +1,7 @@
 -- A node of which one side was edited, with its size and its piece renewed, is a node of the edited rows.
-use Rattle.std.proofs.Common.{◌≡◌, ℕ, zero, suc, ◌+◌, ◌-◌, ◌<◌, ◌≤◌, List, [], ◌∷◌, length, refl, sym, ap, ◌∙◌, arith, subst, length-append, true, false, Result, Ok, Err, Box, Global}
+use Rattle.std.proofs.Common.{◌≡◌, ℕ, zero, suc, ◌+◌, ◌-◌, ◌<◌, ◌≤◌, List, [], ◌∷◌, length, refl, sym, ap, ◌∙◌, arith, subst, length-append, true, false, Result, Ok, Err, Box, Global, inl, inr, Some, ◌++◌}
 use Rattle.std.specs.Prelude.{OnOk, OnErr, is_ok}
+use Rattle.std.specs.Prelude.{slice_get}
 use Rattle.std.specs.List.{insert, remove}
 use Rattle.std.proofs.lemmas.List.Edits.{length-insert}
 use Rattle.retro_base.specs.declared.kind.Kind.TheVariants.{Pq}
@@ -11,7 +12,7 @@ use Rattle.retro_base.specs.OrderLaws.{all_with, all_without}
 use Rattle.retro_base.specs.Timeline.{AreOfKind}
 use Rattle.pq_fusion.specs.declared.subtree.Link.TheVariants.{Full}
 use Rattle.pq_fusion.specs.declared.subtree.Node.{Node}
-use Rattle.pq_fusion.specs.Nodes.{weight, IsBalanced, node_rows, IsNode, Bears, Spares}
+use Rattle.pq_fusion.specs.Nodes.{weight, IsBalanced, node_rows, IsNode, Bears, Replaces, Spares}
 use Rattle.pq_fusion.specs.Pieces.{PieceParts, tolerant}
 use Rattle.pq_fusion.proofs.Ranges.{insert-before, insert-after, remove-before, remove-after}
 
@@ -96,6 +97,27 @@ module _ (node new : Node) (place : ℕ) (sound : IsNode node) (size : new.size 
       shrunk within (rw (left, here, right) (sym (remove-after node.left node.right node.row place beyond)))
       (record { left_light = omega (arith, shorter, same, spared); right_light = omega (arith, shorter, same, sound.balanced.right_light) })
 
+own_replaced : (left right : List Row) (row next : Row) → slice_get right 0 ≡ Some next → left ++ next ∷ remove right 0 ≡ remove (left ++ row ∷ right) (length left)
+own_replaced [] [] row next there = absurd (cc)
+own_replaced [] (x ∷ xs) row next there = let same : x ≡ next = cc in ap (λ r. r ∷ xs) (sym same)
+own_replaced (l ∷ left) right row next there = ap (λ rows. l ∷ rows) (own_replaced left right row next there)
+
+some_there : (rows : List Row) (row : Row) → slice_get rows 0 ≡ Some row → 0 < length rows
+some_there [] row there = absurd (cc)
+some_there (x ∷ xs) row there = omega arith
+
+module _ (node new : Node) (place : ℕ) (sound : IsNode node) (size : new.size ≡ node.size - 1) (piece : new.piece ≡ tolerant (remove (node_rows node) place)) where
+  pub shrunk_own : (next : Row) → new.left ≡ node.left → new.row ≡ next → new.right ≡ remove node.right 0 → slice_get node.right 0 ≡ Some next → place ≡ length node.left
+      → Spares node (place + 1) → IsRenewed new (remove (node_rows node) place)
+  shrunk_own next left here right there own spares =
+      let some : 0 < length node.right = some_there node.right next there in
+      let shorter : length new.right + 1 ≡ length node.right = ap (λ xs. length xs + 1) right ∙ length-remove node.right 0 some in
+      let same : length new.left ≡ length node.left = ap length left in
+      let spared = spares.right (omega (arith, own)) in
+      shrunk node new place sound size piece (omega (arith, own, all_rows node new place sound size piece))
+      (rw (left, here, right) (own_replaced node.left node.right node.row next there) ∙ ap (remove (node_rows node)) (sym own))
+      (record { left_light = omega (arith, shorter, same, spared); right_light = omega (arith, shorter, same, sound.balanced.right_light) })
+
 -- what holds on one of two outcomes
 pub on_ok : {E : Type 0} {P : Type 0} (outcome : Result (Unit {0}) E) → OnOk outcome P → is_ok outcome ≡ true → P
 on_ok (Ok u) there ok = there
@@ -127,6 +149,10 @@ with_right node rows = record { left = node.left; row = node.row; right = rows; 
 abbrev pub renewed : Node → ℕ → PieceParts → Node
 renewed node size piece = record { left = node.left; row = node.row; right = node.right; size = size; piece = piece }
 
+-- and with another row of its own
+abbrev pub replaced : Node → Row → ℕ → PieceParts → Node
+replaced node row size piece = record { left = node.left; row = row; right = node.right; size = size; piece = piece }
+
 module _ (node : Node) (rows : List Row) (sound : IsNode node) (seen : node_rows node ≡ rows) (place : ℕ) where
   module _ (row : Row) (few : length rows < most_rows) (of_kind : kind_of row.op ≡ Pq) (bears : Bears node place)
       (piece : PieceParts) (piece_is : piece ≡ tolerant (insert rows place row)) (side : List Row) (middle new : Node) (new_is : new ≡ renewed middle (middle.size + 1) piece) where
@@ -147,19 +173,33 @@ module _ (node : Node) (rows : List Row) (sound : IsNode node) (seen : node_rows
         (rw (new_is, middle_is) refl) (rw (new_is, piece_is, seen) refl)
         (rw (new_is, middle_is) refl) (rw (new_is, middle_is) refl) (rw (new_is, middle_is, side_is) refl) beyond (omega (arith, ap length seen, within)) bears)
 
-  module _ (spares : Spares node place) (piece : PieceParts) (piece_is : piece ≡ tolerant (remove rows place)) (side : List Row) (middle new : Node)
-      (new_is : new ≡ renewed middle (middle.size - 1) piece) where
-    pub removed_left : place < length node.left → side ≡ remove node.left place → middle ≡ with_left node side → IsRenewed new (remove rows place)
-    removed_left within side_is middle_is =
-        subst (λ xs. IsRenewed new (remove xs place)) seen
-        (shrunk_left node new place sound
-        (rw (new_is, middle_is) refl) (rw (new_is, piece_is, seen) refl)
-        (rw (new_is, middle_is, side_is) refl) (rw (new_is, middle_is) refl) (rw (new_is, middle_is) refl) within spares)
+  module _ (from : ℕ) (row : Row) (replaces : Replaces node place from row) (spares : Spares node from) (piece : PieceParts) (piece_is : piece ≡ tolerant (remove rows place))
+      (side : List Row) (middle new : Node) (new_is : new ≡ replaced middle row (middle.size - 1) piece) where
+    pub removed_left : from < length node.left → side ≡ remove node.left from → middle ≡ with_left node side → IsRenewed new (remove rows place)
+    removed_left within side_is middle_is = elim replaces [
+      | inl same ↦
+          subst (λ xs. IsRenewed new (remove xs place)) seen
+          (shrunk_left node new place sound
+          (rw (new_is, middle_is) refl) (rw (new_is, piece_is, seen) refl)
+          (rw (new_is, middle_is, side_is, same.0) refl) (rw (new_is, same.1) refl) (rw (new_is, middle_is) refl) (omega (arith, same.0, within))
+          (subst (Spares node) same.0 spares))
+      | inr own ↦ absurd (omega (arith, own.0, own.1, within))
+    ]
 
-    pub removed_right : length node.left < place → place < length rows → side ≡ remove node.right (place - length node.left - 1) → middle ≡ with_right node side
+    pub removed_right : length node.left < from → place < length rows → side ≡ remove node.right (from - length node.left - 1) → middle ≡ with_right node side
         → IsRenewed new (remove rows place)
-    removed_right beyond within side_is middle_is =
-        subst (λ xs. IsRenewed new (remove xs place)) seen
-        (shrunk_right node new place sound
-        (rw (new_is, middle_is) refl) (rw (new_is, piece_is, seen) refl)
-        (rw (new_is, middle_is) refl) (rw (new_is, middle_is) refl) (rw (new_is, middle_is, side_is) refl) beyond (omega (arith, ap length seen, within)) spares)
+    removed_right beyond within side_is middle_is = elim replaces [
+      | inl same ↦
+          subst (λ xs. IsRenewed new (remove xs place)) seen
+          (shrunk_right node new place sound
+          (rw (new_is, middle_is) refl) (rw (new_is, piece_is, seen) refl)
+          (rw (new_is, middle_is) refl) (rw (new_is, same.1) refl) (rw (new_is, middle_is, side_is, same.0) refl) (omega (arith, same.0, beyond))
+          (omega (arith, ap length seen, within)) (subst (Spares node) same.0 spares))
+      | inr own ↦
+          let first : from - length node.left - 1 ≡ 0 = omega (arith, own.0, own.1) in
+          subst (λ xs. IsRenewed new (remove xs place)) seen
+          (shrunk_own node new place sound
+          (rw (new_is, middle_is) refl) (rw (new_is, piece_is, seen) refl) row
+          (rw (new_is, middle_is) refl) (rw new_is refl) (rw (new_is, middle_is, side_is, first) refl) own.2 own.0
+          (subst (Spares node) own.1 spares))
+    ]

@@ -1,5 +1,5 @@
 -- What a link of the tree of rows leads to.
-use Rattle.std.specs.Prelude.{◌≡◌, ◌≢◌, ℕ, zero, suc, ◌+◌, ◌*◌, ◌<◌, ◌≤◌, List, [], ◌∷◌, ◌++◌, length}
+use Rattle.std.specs.Prelude.{◌≡◌, ◌≢◌, ℕ, zero, suc, ◌+◌, ◌*◌, ◌<◌, ◌≤◌, ◌⊎◌, List, [], ◌∷◌, ◌++◌, length, slice_get, Some}
 use Rattle.retro_base.specs.declared.kind.Kind.TheVariants.{Pq}
 use Rattle.retro_base.specs.declared.row.Row.{Row}
 use Rattle.retro_base.specs.Limits.{most_rows}
@@ -27,11 +27,16 @@ pub record Bears (node : Node) (place : ℕ) : Type 0 where
   pub left : place ≤ length node.left → weight node.left < 3 * weight node.right
   pub right : length node.left < place → weight node.right < 3 * weight node.left
 
--- they do where the row at the place is taken out, which is not the node's own
+-- they do where the row at the place goes, which is not the node's own
 pub record Spares (node : Node) (place : ℕ) : Type 0 where
   pub elsewhere : place ≢ length node.left
   pub left : place < length node.left → weight node.right + 3 ≤ 3 * weight node.left
   pub right : length node.left < place → weight node.left + 3 ≤ 3 * weight node.right
+
+-- where the row at a place is taken out, a row goes from here, and the node has this one then: that place and the node's own, or, at the
+-- place of the node's own, the next place and the row there
+abbrev pub Replaces : Node → ℕ → ℕ → Row → Type 0
+Replaces node place from row = ((from ≡ place) × (row ≡ node.row)) ⊎ ((place ≡ length node.left) × (from ≡ place + 1) × (slice_get node.right 0 ≡ Some row))
 
 -- the rows that a link leads to, in order
 abbrev pub rows_of : Link → List Row

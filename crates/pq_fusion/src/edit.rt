@@ -4,7 +4,7 @@ ghost use Rattle.retro_base.specs.declared.kind.Kind.TheVariants.{Pq};
 ghost use Rattle.retro_base.specs.Kind.{kind_of};
 ghost use Rattle.retro_base.specs.Limits.{most_rows};
 ghost use Rattle.retro_base.specs.Timeline.{AreOfKind};
-ghost use Rattle.pq_fusion.specs.Nodes.{Bears, Spares};
+ghost use Rattle.pq_fusion.specs.Nodes.{Bears, Replaces, Spares};
 ghost use Rattle.pq_fusion.specs.Pieces.{tolerant};
 
 use crate::Piece;
@@ -27,7 +27,7 @@ impl Node {
         }
     }
 
-    /// Whether they do where the row at a place is taken out, and it is not the node's own.
+    /// Whether they do where the row at the place goes, and it is not the node's own.
     fn spares(&self, place: u32) -> bool
         ensures { result ≡ true → Spares self.now place }
     {
@@ -36,6 +36,18 @@ impl Node {
             place + 1 < left && right + 3 <= 3 * left
         } else {
             left + 3 <= 3 * right
+        }
+    }
+
+    /// The place from which a row goes where the one at `place` is taken out, and the row that the node has then. Where its own is
+    /// taken out, the next one takes its place.
+    fn replacement(&self, place: u32) -> (u32, Row)
+        ensures rows { Replaces self.now place result.0 result.1 }
+        ensures within { place ≤ length self.now.left + length self.now.right → result.0 ≤ length self.now.left + length self.now.right }
+    {
+        match self.right.first() {
+            Some(next) if place == self.left.len() => (place + 1, next),
+            _ => (place, self.row),
         }
     }
 }
@@ -147,7 +159,8 @@ impl Subtree {
             unreachable!()
         };
         let before = node.left.len();
-        if !node.spares(place) {
+        let (from, row) = node.replacement(place);
+        if !node.spares(from) {
             *self = self.without_row(alloc, place)?;
             return Ok(());
         }
@@ -155,12 +168,13 @@ impl Subtree {
         let Link::Full(mut node) = mem::replace(&mut self.link, Link::Empty) else {
             unreachable!()
         };
-        let outcome = if place < before {
-            node.left.remove(alloc, place)
+        let outcome = if from < before {
+            node.left.remove(alloc, from)
         } else {
-            node.right.remove(alloc, place - before - 1)
+            node.right.remove(alloc, from - before - 1)
         };
         if outcome.is_ok() {
+            node.row = row;
             node.size -= 1;
             node.piece = piece;
         }

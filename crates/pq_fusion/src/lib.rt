@@ -11,8 +11,8 @@
 //! `FusedQueue` is a priority queue of `retro_base`'s trait `Retro`. It keeps its rows in a weight-balanced tree of which each node
 //! has the piece of all rows below it, so what the rows before a place come to is a product of a few pieces; what they leave is the
 //! state there. Verdicts, changes and the present are those of a `BridgeQueue` beside the tree. An edit makes the pieces of its path
-//! anew, so it is dearer than by bridges alone. Where a side would weigh over 3 times the other, or the row of a node is taken out,
-//! the part of the tree below that node is made anew, as light as it can be on both sides of each node.
+//! anew, so it is dearer than by bridges alone. Where a side would weigh over 3 times the other, the part of the tree below that node
+//! is made anew, as light as it can be on both sides of each node; a share of its rows have come or gone before that is so again.
 //!
 //! | Call | Cost, with m rows | Memory |
 //! |---|---|---|

@@ -1,4 +1,4 @@
-ghost use Rattle.std.specs.Prelude.{◌≡◌, ℕ, ◌+◌, ◌*◌, ◌≤◌, [], ◌∷◌, ◌++◌, length, take, drop, IfOk, OnOk, MatchOption};
+ghost use Rattle.std.specs.Prelude.{◌≡◌, ℕ, ◌+◌, ◌*◌, ◌≤◌, [], ◌∷◌, ◌++◌, length, slice_get, take, drop, IfOk, OnOk, MatchOption};
 ghost use Rattle.std.specs.List.{slice_range};
 ghost use Rattle.retro_base.specs.declared.kind.Kind.TheVariants.{Pq};
 ghost use Rattle.retro_base.specs.BridgeTable.{added};
@@ -39,6 +39,18 @@ impl Subtree {
         match self.root() {
             None => 0,
             Some(node) => node.size,
+        }
+    }
+
+    /// The first row, where there is one.
+    pub(crate) fn first(&self) -> Option<Row>
+        ensures { result ≡ slice_get self.now 0 }
+    {
+        let node = self.root()?;
+        if node.left.len() > 0 {
+            node.left.first()
+        } else {
+            Some(node.row)
         }
     }
 
