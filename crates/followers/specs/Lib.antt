@@ -1,3 +1,4 @@
 pub mod Followers
 pub mod Totals
 pub mod Mirrors
+pub mod TakenLaws

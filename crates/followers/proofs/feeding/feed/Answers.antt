@@ -1,6 +1,6 @@
 -- What was done to the followers as a slice was done to them.
 use Rattle.std.proofs.Common.{rules}
-use Rattle.followers.proofs.Taken.{written_back}
+use Rattle.followers.specs.TakenLaws.{written_back}
 use Rattle.followers.proofs.feeding.feed.Goals as goal
 
 pub returns-clause-ok : goal.returns-clause-ok

@@ -1,6 +1,6 @@
 use Rattle.std.proofs.Common.{rules, map, set, add-one}
 use Rattle.followers.specs.Followers.{FirstHaveTaken}
-use Rattle.followers.proofs.Taken.{all_taken, later, one_more, stopped}
+use Rattle.followers.specs.TakenLaws.{all_taken, later, one_more, stopped}
 use Rattle.followers.proofs.feeding.feed_each.Goals as goal
 
 pub loop-follower-preserved : goal.loop-follower-preserved

@@ -1,4 +1,4 @@
--- Followers of which the first ones have taken an event.
+-- Laws of followers of which the first ones have taken an event, which the proofs of the layers above may cite.
 use Rattle.std.proofs.Common.{◌≡◌, ℕ, zero, suc, ◌+◌, ◌<◌, List, [], ◌∷◌, length, get_or, set, map, take, drop, refl, sym, ap, ◌∙◌, ◌≤◌, ◌++◌, arith, append-nil, length-drop}
 use Rattle.std.proofs.lemmas.Grind.{drop_more_same}
 use Rattle.std.proofs.lemmas.List.{drop-set-lt, drop_all, take_all}
