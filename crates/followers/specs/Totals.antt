@@ -37,3 +37,7 @@ totals_after t (event ∷ events) = totals_after (counted event.change t) events
 -- `gains G losses L sum S`
 abbrev pub totals_text : Totals → List ℕ
 totals_text t = codes "gains " ++ (decimal t.gains ++ (codes " losses " ++ (decimal t.losses ++ (codes " sum " ++ signed_decimal t.sum))))
+
+-- what a tally reports after events
+abbrev pub tally : List Evidence → List ℕ
+tally events = totals_text (totals_after no_changes events)

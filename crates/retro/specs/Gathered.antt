@@ -1,15 +1,15 @@
--- What is claimed of a run over an outbox before a sink.
-use Rattle.std.specs.Prelude.{◌≡◌, ◌<◌, ◌-◌, ◌↔◌, [], false, ℕ, List, IsSome}
+-- What is claimed of a run over an outbox before a sink, with one tally as follower.
+use Rattle.std.specs.Prelude.{◌≡◌, ◌<◌, ◌-◌, ◌↔◌, [], ◌∷◌, false, ℕ, List}
 use Rattle.retro_base.specs.Limits.{most_bytes}
 use Rattle.retro_io.specs.declared.outbox.Outbox.{Outbox}
 use Rattle.retro_io.specs.declared.sink.Sink as sinks
 use Rattle.retro_io.specs.declared.source.Source as sources
 use Rattle.retro_io.specs.Faults.{CountsFaults, HasRisen, last_count}
 use Rattle.retro_io.specs.Outbox.{sink_of, waiting_of}
-use Rattle.retro_cli.specs.Forms.{form_of}
+use Rattle.followers.specs.Totals.{tally}
 use Rattle.retro_cli.specs.declared.status.Status.{Status}
 use Rattle.retro_cli.specs.declared.status.Status.TheVariants as statuses
-use Rattle.retro_cli.specs.Program.{Runs}
+use Rattle.retro_cli.specs.FollowedProgram.{HasForm, RunsFollowed}
 use Rattle.retro_cli.specs.Run.{EndsWithoutFault, is_read_fault, is_write_fault}
 
 -- the source before and after, the sink before, the outbox after, the status, and the words
@@ -21,12 +21,12 @@ pub record RunsGathered {S K : Type 0} (I : sources.Ghosts S) (O : sinks.Ghosts 
   pub empty : waiting_of first ≡ []
   pub unflushed : G.flushed first ≡ false
   pub no_faults : G.faults first ≡ 0
-  pub runs : Runs I G source source' first outbox status (form_of words)
+  pub runs : RunsFollowed I G (tally ∷ []) source source' first outbox status words
   -- the counts rise where a read or a write failed, and else both stay; without a fault it ends with an output, out of memory, or at an
   -- input that is too long
   pub source_faults : CountsFaults (is_read_fault status) (I.faults source) (I.faults source')
   pub sink_faults : CountsFaults (is_write_fault status) (G.faults first) (G.faults outbox)
-  pub complete : IsSome (form_of words) → (HasRisen (I.faults source) (I.faults source') → ⊥) → (HasRisen (G.faults first) (G.faults outbox) → ⊥)
+  pub complete : HasForm words → (HasRisen (I.faults source) (I.faults source') → ⊥) → (HasRisen (G.faults first) (G.faults outbox) → ⊥)
       → EndsWithoutFault (I.left source) status
   pub too_long : I.taken source' < last_count → (status ≡ statuses.TooLong) ↔ (most_bytes < I.taken source' - I.taken source)
   -- where no bytes wait at the sink before, all that was written is in the sink in the end, unless that failed

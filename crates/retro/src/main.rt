@@ -1,20 +1,21 @@
 //! The program `retro`: it reads a script from standard input and writes the answers to standard
-//! output. All that it does is the call of `retro_cli::run` on the words of its command line; this is
-//! the one place where the real streams are handed in. `run` writes to an outbox before standard output, so that answers
+//! output. All that it does is the call of `retro_cli::run_followed` on the words of its command line; this is
+//! the one place where the real streams are handed in. It writes to an outbox before standard output, so that answers
 //! go out together, and sends what waits there before each read and where it ends: whoever waits for an answer gets it before
 //! the next line is asked for.
 #![tactic(auto)]
 
-ghost use Rattle.std.specs.Prelude.{◌≡◌, ◌≢◌, ◌<◌, ◌-◌, ◌^◌, ◌⊎◌, ◌↔◌, length, None, IfOk, IfErr};
+ghost use Rattle.std.specs.Prelude.{◌≡◌, ◌≢◌, ◌<◌, ◌-◌, ◌^◌, ◌⊎◌, ◌↔◌, length, IfOk, IfErr};
 ghost use Rattle.std.specs.IoError.{error_kind};
 ghost use Rattle.std.specs.Process.{exit_status};
 ghost use Rattle.retro.specs.Gathered.{EndsARun, RunsGathered};
 ghost use Rattle.retro.specs.Words.{words_after_name, words_refused};
-ghost use Rattle.retro_cli.specs.Forms.{form_of};
+ghost use Rattle.retro_cli.specs.FollowedProgram.{HasNoForm};
 ghost use Rattle.retro_cli.specs.Status.{code_of};
 
+use followers::{Follower, Tally};
 use retro_base::NoMemory;
-use retro_cli::{Status, Words, run};
+use retro_cli::{Status, Words, run_followed};
 use retro_io::{Outbox, Sink, Source, StdSink, StdSource};
 use std::alloc::Global;
 use std::env::{self, Args};
@@ -35,8 +36,8 @@ fn main(rt: HostRuntime) -> ExitCode {
 fn status_of(rt: &HostRuntime, args: Args) -> Status
     ensures runs { (result ≡ Status.NoMemory) ⊎ ((result ≡ Status.Words) ⊎ EndsARun ⟦<StdSource<Stdin> as Source>⟧ ⟦<StdSink<Stdout> as Sink>⟧
         ⟦<Outbox<StdSink<Stdout>> as Sink>⟧ result (words_after_name args)) }
-    ensures words { result ≡ Status.Words → form_of (words_after_name args) ≡ None }
-    ensures no_form { form_of (words_after_name args) ≡ None → (result ≡ Status.Words) ⊎ (result ≡ Status.NoMemory) }
+    ensures words { result ≡ Status.Words → HasNoForm (words_after_name args) }
+    ensures no_form { HasNoForm (words_after_name args) → (result ≡ Status.Words) ⊎ (result ≡ Status.NoMemory) }
 {
     match words_of(rt.alloc(), args) {
         Ok(words) => answer(rt, &words),
@@ -48,8 +49,8 @@ fn status_of(rt: &HostRuntime, args: Args) -> Status
 fn answer(rt: &HostRuntime, words: &Words) -> Status
     ensures runs { (result ≡ Status.NoMemory) ⊎ EndsARun ⟦<StdSource<Stdin> as Source>⟧ ⟦<StdSink<Stdout> as Sink>⟧
         ⟦<Outbox<StdSink<Stdout>> as Sink>⟧ result words.now }
-    ensures words { result ≡ Status.Words → form_of words.now ≡ None }
-    ensures no_form { form_of words.now ≡ None → (result ≡ Status.Words) ⊎ (result ≡ Status.NoMemory) }
+    ensures words { result ≡ Status.Words → HasNoForm words.now }
+    ensures no_form { HasNoForm words.now → (result ≡ Status.Words) ⊎ (result ≡ Status.NoMemory) }
 {
     let mut source = StdSource::new(rt.stdin());
     let sink = StdSink::new(rt.stdout());
@@ -59,8 +60,8 @@ fn answer(rt: &HostRuntime, words: &Words) -> Status
     }
 }
 
-/// Runs the program over an outbox before this sink, and gives the outbox back. All that `run` promises holds of the outbox, and
-/// where the sink did not fail, all that was written to it has gone on to the sink.
+/// Runs the program over an outbox before this sink, with one tally as follower, and gives the outbox back. All that `run_followed` promises
+/// holds of the outbox, and where the sink did not fail, all that was written to it has gone on to the sink.
 fn run_gathered<S: Source, K: Sink + Drop>(
     alloc: Global,
     words: &Words,
@@ -69,10 +70,12 @@ fn run_gathered<S: Source, K: Sink + Drop>(
 ) -> Result<(Status, Outbox<K>), NoMemory>
     ensures runs { IfOk result (λ ended. RunsGathered ⟦<S as Source>⟧ ⟦<K as Sink>⟧ ⟦<Outbox<K> as Sink>⟧
         source.old source.new sink ended.1 ended.0 words.now) }
-    ensures words { IfOk result (λ ended. (ended.0 ≡ Status.Words) ↔ (form_of words.now ≡ None)) }
+    ensures words { IfOk result (λ ended. (ended.0 ≡ Status.Words) ↔ HasNoForm words.now) }
 {
     let mut outbox = Outbox::new(alloc, sink)?;
-    let status = run(alloc, words, source, &mut outbox);
+    let mut followers: Vec<Box<dyn Follower>> = Vec::new(alloc);
+    followers.push(Box::new(alloc, Tally::new())?)?;
+    let status = run_followed(alloc, words, source, &mut outbox, followers);
     Ok((status, outbox))
 }
 

@@ -46,7 +46,7 @@ appends_no_output None written = tt
 appends_no_output (Some bytes) written = AppendsPrefixOf-from written (output bytes) [] (output bytes) written refl (Appends-none written)
 
 -- the whole answers to some first lines are a prefix of the output
-prefix_of_answers : (script before after : Option (List ℕ)) → AppendsFirstAnswers script before after → AppendsOutputPrefix script before after
+pub prefix_of_answers : (script before after : Option (List ℕ)) → AppendsFirstAnswers script before after → AppendsOutputPrefix script before after
 prefix_of_answers None before after answers = tt
 prefix_of_answers (Some bytes) before after answers =
     AppendsPrefixOf-from before (output bytes) (answers_to answers.answered) _ after
@@ -66,7 +66,7 @@ prefix_of_all None before after all = tt
 prefix_of_all (Some bytes) before after all = AppendsPrefixOf-from before (output bytes) (output bytes) [] after (sym (append-nil (output bytes))) all
 
 -- a prefix of an answer that is not all of it, after the answers so far, is one of all
-prefix_between : (first written written' : Option (List ℕ)) (so_far answer later all : List ℕ) → all ≡ (so_far ++ answer) ++ later
+pub prefix_between : (first written written' : Option (List ℕ)) (so_far answer later all : List ℕ) → all ≡ (so_far ++ answer) ++ later
     → Appends first so_far written → AppendsProperPrefix written answer written' → AppendsProperPrefix first all written'
 prefix_between first written written' so_far answer later all whole before part =
     let parts = AppendsPrefixOf-parts written (without_last answer) written' part.1 in
@@ -117,7 +117,7 @@ prefix_of_part (Some bytes) before after part =
     AppendsPrefixOf-from before (output bytes) parts.0 (parts.1 ++ last) after
     (sym (take-append-drop (length (output bytes) - 1) (output bytes)) ∙ ap (λ xs. xs ++ last) parts.2 ∙ append_assoc parts.0 parts.1 last) parts.3
 
-nothing_left : (shown : List ℕ) (ended : Bool) (rest rest' : Option (List ℕ)) (left : List ℕ) → GivesNextOf End shown ended rest rest' → rest ≡ Some left → rest ≡ Some []
+pub nothing_left : (shown : List ℕ) (ended : Bool) (rest rest' : Option (List ℕ)) (left : List ℕ) → GivesNextOf End shown ended rest rest' → rest ≡ Some left → rest ≡ Some []
 nothing_left shown ended None rest' left next e = absurd (none_is_not_some e)
 nothing_left shown ended (Some now) None left next e = absurd next
 nothing_left shown ended (Some now) (Some after) left next e = ap (λ xs. Some xs) next.0

@@ -14,3 +14,9 @@ pub mod Results
 pub mod ByCount
 pub mod SavedText
 pub mod Unhidden
+pub mod AnswerLines
+pub mod Handed
+pub mod Reports
+pub mod Follows
+pub mod FollowedEnds
+pub mod FollowedStatuses

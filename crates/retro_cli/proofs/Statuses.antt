@@ -74,7 +74,7 @@ ends_without_fault script (Err stops.WriteFault) reads reads' writes writes' of_
 ends_without_fault script (Err stops.NoMemory) reads reads' writes writes' of_reads of_writes longer no_read no_write = tt
 ends_without_fault script (Err stops.TooLong) reads reads' writes writes' of_reads of_writes longer no_read no_write = longer refl
 
-matches : (script : Option (List ℕ)) (refused : Bool) → MatchesRefusal script refused → IfSome script (λ bytes. status_of refused ≡ status_of (has_refusal bytes))
+pub matches : (script : Option (List ℕ)) (refused : Bool) → MatchesRefusal script refused → IfSome script (λ bytes. status_of refused ≡ status_of (has_refusal bytes))
 matches None refused is = tt
 matches (Some bytes) refused is = ap status_of is
 

@@ -15,3 +15,6 @@ pub mod Judging
 pub mod Verdicts
 pub mod Summary
 pub mod Program
+pub mod Events
+pub mod Followed
+pub mod FollowedProgram

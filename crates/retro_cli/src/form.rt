@@ -1,5 +1,5 @@
 ghost use Rattle.std.specs.Prelude.{◌≡◌, ◌^◌, IfSome};
-ghost use Rattle.retro_cli.specs.Forms.{IsWithin, form_of, form_of_word, form_of_words, generation};
+ghost use Rattle.retro_cli.specs.Forms.{IsWithin, form_of, form_of_word, form_of_words, generation, is_follow};
 
 use crate::Words;
 use retro_base::Kind;
@@ -66,4 +66,11 @@ fn generation(kind: &[u8], lines: &[u8], start: &[u8]) -> Option<Form>
     let lines = read_natural_up_to(lines, MAX_GENERATED)? as u32;
     let start = read_natural_up_to(start, u64::MAX)?;
     Some(Form::Gen { kind, lines, start })
+}
+
+/// Whether the words are the one word `follow`, which is a form of a followed run alone.
+pub(crate) fn is_follow(words: &Words) -> bool
+    ensures { result ≡ is_follow words.now }
+{
+    words.len() == 1 && words.word(0) == b"follow".as_slice()
 }

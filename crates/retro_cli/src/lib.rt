@@ -14,8 +14,11 @@
 //! The lines and the faults are those of `retro_io`, what becomes of a line is the workbench's, and whether evidence is true
 //! is said by `evidence_check`, which shares no code with them: this crate holds nothing but the loops between them.
 //!
-//! - `program`: the top call `run`. `form`, `words`, `status`, `stop`: the words of the command line, and how a run ends.
-//! - `script`: a script is answered, line by line.
+//! `run_followed` is the top call with followers (`specs/FollowedProgram.antt`): with the word `follow` it answers a script by the same
+//! loop, hands the followers the events among the answers, and writes their reports at the end; with other words it is `run`.
+//!
+//! - `program`: the top calls `run` and `run_followed`. `form`, `words`, `status`, `stop`: the words of the command line, and how a run ends.
+//! - `script`: a script is answered, line by line. `follow`: what followers are handed, and their reports. `followed`: a followed script.
 //! - `check`, `judging`: evidence is judged, up to the first line that is refused.
 //! - `generated`: a generated script is answered and summed up.
 //! - `deliver`: how a text is written, what waits is sent, and all arrives.
@@ -24,6 +27,8 @@
 
 mod check;
 mod deliver;
+mod follow;
+mod followed;
 mod form;
 mod generated;
 mod judging;
@@ -34,7 +39,7 @@ mod status;
 mod stop;
 mod words;
 
-pub use program::run;
+pub use program::{run, run_followed};
 pub use status::Status;
 pub use words::Words;
 

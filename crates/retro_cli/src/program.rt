@@ -1,17 +1,20 @@
-ghost use Rattle.std.specs.Prelude.{◌≡◌, ◌-◌, ◌<◌, ◌↔◌, [], false, IsSome, None};
+ghost use Rattle.std.specs.Prelude.{◌≡◌, ◌-◌, ◌<◌, ◌≤◌, ◌↔◌, [], false, length, map, IsSome, None};
 ghost use Rattle.retro_base.specs.Limits.{most_bytes};
 ghost use Rattle.retro_io.specs.Faults.{CountsFaults, HasRisen, last_count};
+ghost use Rattle.retro_cli.specs.FollowedProgram.{HasForm, HasNoForm, RunsFollowed, most_followers};
 ghost use Rattle.retro_cli.specs.Forms.{form_of};
 ghost use Rattle.retro_cli.specs.Program.{Runs};
 ghost use Rattle.retro_cli.specs.Run.{EndsWithoutFault, is_read_fault, is_write_fault};
 ghost use Rattle.retro_cli.specs.Stop.{status_after};
 
 use crate::check::run_check;
-use crate::form::{Form, form_of};
+use crate::followed::follow_script;
+use crate::form::{Form, form_of, is_follow};
 use crate::generated::run_generated;
 use crate::script::run_script;
 use crate::stop::Stop;
 use crate::{Status, Words};
+use followers::Follower;
 use retro_io::{Sink, Source};
 use std::alloc::Global;
 
@@ -43,6 +46,38 @@ pub fn run<S: Source, K: Sink>(alloc: Global, words: &Words, source: &mut S, sin
             status_after(run_generated(alloc, kind, lines, start, sink))
         }
         None => Status::Words,
+    }
+}
+
+/// Runs the program as `run` does, and with the one word `follow` as with the word `run`, whose changes of priority queues the followers
+/// are handed; what each of them reports then stands after the answers, one line a follower, `report I TEXT`. With the other words
+/// no follower is asked.
+pub fn run_followed<S: Source, K: Sink>(
+    alloc: Global,
+    words: &Words,
+    source: &mut S,
+    sink: &mut K,
+    mut followers: Vec<Box<dyn Follower>>,
+) -> Status
+    requires { length followers.items ≤ most_followers }
+    // What stands at each status: with `follow` the output and the reports, else what a run leaves.
+    ensures form { RunsFollowed ⟦<S as Source>⟧ ⟦<K as Sink>⟧ (map (λ f. report_after f) followers.items)
+        source.old source.new sink.old sink.new result words.now }
+    // When each other status comes, as of a run.
+    ensures words { (result ≡ Status.Words) ↔ HasNoForm words.now }
+    ensures too_long { S.taken source.new < last_count →
+        ((result ≡ Status.TooLong) ↔ (most_bytes < S.taken source.new - S.taken source.old)) }
+    ensures complete { HasForm words.now
+        → (HasRisen (S.faults source.old) (S.faults source.new) → ⊥) → (HasRisen (K.faults sink.old) (K.faults sink.new) → ⊥)
+        → EndsWithoutFault (S.left source.old) result }
+    ensures source_faults { CountsFaults (is_read_fault result) (S.faults source.old) (S.faults source.new) }
+    ensures sink_faults { CountsFaults (is_write_fault result) (K.faults sink.old) (K.faults sink.new) }
+    ensures sent { K.waiting sink.old ≡ [] → is_write_fault result ≡ false → K.waiting sink.new ≡ [] }
+{
+    if is_follow(words) {
+        status_after(follow_script(alloc, source, &mut followers, sink))
+    } else {
+        run(alloc, words, source, sink)
     }
 }
 

@@ -1,4 +1,4 @@
-ghost use Rattle.std.specs.Prelude.{◌≡◌, [], ◌+◌, ◌-◌, ◌<◌, ◌↔◌, ◌≤◌, false, true, IsTrue, IfOk, IfErr, Ok, OnErr, OnOk, IsErrOf, is_err, length};
+ghost use Rattle.std.specs.Prelude.{◌≡◌, [], ◌+◌, ◌-◌, ◌<◌, ◌↔◌, ◌≤◌, false, true, IsTrue, IfOk, IfErr, Ok, OnErr, OnOk, IsErrOf, is_err, length, map};
 ghost use Rattle.retro_base.specs.Limits.{longest_line, most_bytes};
 ghost use Rattle.retro_io.specs.Faults.{CountsFaults, last_count};
 ghost use Rattle.retro_io.specs.Sink.{Appends, AppendsProperPrefix};
@@ -7,6 +7,8 @@ ghost use Rattle.retro_io.specs.LineReader.{GivesLine, MovesOn, StopsAt, TookFor
 ghost use Rattle.retro_io.specs.Lines.{has_line_feed};
 ghost use Rattle.retro_io.specs.Marks.{is_fault};
 ghost use Rattle.retro_cli.specs.Ends.{Answers, Stands};
+ghost use Rattle.retro_cli.specs.Events.{HaveTakenAll, events_among};
+ghost use Rattle.retro_cli.specs.Followed.{HaveTakenScript};
 ghost use Rattle.retro_cli.specs.OutOfMemory.{AppendsAnswersOfEarlier};
 ghost use Rattle.retro_cli.specs.Run.{AppendsOutput, MayBeTooLong, MatchesRefusal};
 ghost use Rattle.retro_cli.specs.Stop.{StopsReading, stops_at_read, stops_at_write};
@@ -14,16 +16,19 @@ ghost use Rattle.workbench.specs.Reaction.{closing, reacts_to};
 
 use crate::MAX_BYTES;
 use crate::deliver::{append, send};
+use crate::follow::hand_on;
 use crate::stop::Stop;
+use followers::Follower;
 use retro_io::{Failed, LineBuffer, LineReader, Mark, ReadError, Sink, Source};
 use std::alloc::Global;
 use workbench::Bench;
 
-/// Does what one line asks for, and writes the answer.
+/// Does what one line asks for, hands the events of the answer to the followers, and writes it.
 fn answer_line<K: Sink>(
     line: &[u8],
     long: bool,
     bench: &mut Bench,
+    followers: &mut [Box<dyn Follower>],
     sink: &mut K,
 ) -> Result<bool, Stop>
     requires within { length line.now ≤ longest_line }
@@ -32,6 +37,8 @@ fn answer_line<K: Sink>(
     ensures answered { IfOk result (λ refused. let reaction = reacts_to bench.old.bench line.now long in
         (bench.new ≡ record { bench = reaction.bench; spent = false }) × (refused ≡ reaction.refused)
         × Appends (K.written sink.old) reaction.answer (K.written sink.new)) }
+    ensures handed { OnOk result (HaveTakenAll (events_among (reacts_to bench.old.bench line.now long).answer)
+        (map (λ f. report_after f) followers.old) (map (λ f. report_after f) followers.new)) }
     ensures part { IsErrOf result Stop.WriteFault → (let reaction = reacts_to bench.old.bench line.now long in
         AppendsProperPrefix (K.written sink.old) reaction.answer (K.written sink.new)) }
     ensures untouched { OnErr result (stops_at_write result ≡ false → sink.new ≡ sink.old) }
@@ -41,6 +48,7 @@ fn answer_line<K: Sink>(
     ensures reads_nothing { (IsErrOf result Stop.ReadFault → ⊥) × (IsErrOf result Stop.TooLong → ⊥) }
 {
     let reply = bench.line(line, long)?;
+    hand_on(reply.text.as_bytes(), followers)?;
     append(reply.text.as_bytes(), sink)?;
     Ok(reply.refused)
 }
@@ -107,6 +115,7 @@ fn next_line<S: Source, K: Sink>(
 fn answer_lines<S: Source, K: Sink>(
     alloc: Global,
     reader: &mut LineReader<'_, S>,
+    followers: &mut [Box<dyn Follower>],
     sink: &mut K,
 ) -> Result<bool, Stop>
     requires open { has_failed reader.old ≡ false }
@@ -115,6 +124,7 @@ fn answer_lines<S: Source, K: Sink>(
     ensures ended { OnOk result (S.ended (source_of reader.new) ≡ true) }
     ensures output { OnOk result (AppendsOutput (rest_of reader.old) (K.written sink.old) (K.written sink.new)) }
     ensures refusal { IfOk result (MatchesRefusal (rest_of reader.old)) }
+    ensures handed { OnOk result (HaveTakenScript (rest_of reader.old) (map (λ f. report_after f) followers.old) (map (λ f. report_after f) followers.new)) }
     ensures unflushed { OnOk result (StaysUnflushed ⟦<K as Sink>⟧ sink.old sink.new) }
     ensures stands { IfErr result (Stands ⟦<K as Sink>⟧ (rest_of reader.old) (S.left (source_of reader.new)) sink.old sink.new
         (limit_of reader.old - given reader.old)) }
@@ -137,8 +147,36 @@ fn answer_lines<S: Source, K: Sink>(
                 return Ok(refused);
             }
         };
-        refused |= answer_line(reader.line(), long, &mut bench, sink)?;
+        refused |= answer_line(reader.line(), long, &mut bench, followers, sink)?;
     }
+}
+
+/// Reads a script and answers its lines, whose events the followers are handed.
+pub(crate) fn answer_source<S: Source, K: Sink>(
+    alloc: Global,
+    source: &mut S,
+    followers: &mut [Box<dyn Follower>],
+    sink: &mut K,
+) -> Result<bool, Stop>
+    ensures ended { OnOk result (S.ended source.new ≡ true) }
+    ensures output { OnOk result (AppendsOutput (S.left source.old) (K.written sink.old) (K.written sink.new)) }
+    ensures refusal { IfOk result (MatchesRefusal (S.left source.old)) }
+    ensures handed { OnOk result (HaveTakenScript (S.left source.old) (map (λ f. report_after f) followers.old) (map (λ f. report_after f) followers.new)) }
+    ensures unflushed { OnOk result (StaysUnflushed ⟦<K as Sink>⟧ sink.old sink.new) }
+    ensures stands { IfErr result (Stands ⟦<K as Sink>⟧ (S.left source.old) (S.left source.new) sink.old sink.new most_bytes) }
+    ensures earlier { IsErrOf result Stop.NoMemory → AppendsAnswersOfEarlier ⟦<S as Source>⟧ source.old source.new (S.left source.old) (S.left source.new)
+        (K.written sink.old) (K.written sink.new) }
+    ensures source_faults { CountsFaults (stops_at_read result) (S.faults source.old) (S.faults source.new) }
+    ensures sink_faults { CountsFaults (stops_at_write result) (K.faults sink.old) (K.faults sink.new) }
+    ensures too_long { S.taken source.new < last_count → (IsErrOf result Stop.TooLong ↔ (most_bytes < S.taken source.new - S.taken source.old)) }
+    ensures longer { IsErrOf result Stop.TooLong → MayBeTooLong (S.left source.old) }
+    ensures sent { IfErr result (λ stop. StopsReading stop → K.waiting sink.new ≡ []) }
+{
+    let buffer = LineBuffer::new(alloc)?;
+    let mut reader = LineReader::with_buffer(buffer, source, MAX_BYTES);
+    let answered = answer_lines(alloc, &mut reader, followers, sink);
+    let _source = reader.into_inner();
+    answered
 }
 
 /// Reads a script, answers its lines and sees to it that the answers arrive. Where it ends early, the whole answers before have
@@ -159,10 +197,7 @@ pub(crate) fn run_script<S: Source, K: Sink>(
     ensures longer { IsErrOf result Stop.TooLong → MayBeTooLong (S.left source.old) }
     ensures sent { K.waiting sink.old ≡ [] → stops_at_write result ≡ false → K.waiting sink.new ≡ [] }
 {
-    let buffer = LineBuffer::new(alloc)?;
-    let mut reader = LineReader::with_buffer(buffer, source, MAX_BYTES);
-    let answered = answer_lines(alloc, &mut reader, sink);
-    let _source = reader.into_inner();
+    let answered = answer_source(alloc, source, &mut [], sink);
     let refused = match answered {
         Ok(refused) => refused,
         Err(Stop::NoMemory) => {

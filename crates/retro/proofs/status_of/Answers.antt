@@ -1,5 +1,5 @@
 -- The status is that of the run with these words.
-use Rattle.std.proofs.Common.{inl, inr, ◌≡◌}
+use Rattle.std.proofs.Common.{inl, inr}
 use Rattle.retro.proofs.status_of.Goals as goal
 
 pub returns-in-Ok-clause-runs : goal.returns-in-Ok-clause-runs

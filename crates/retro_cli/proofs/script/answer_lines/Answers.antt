@@ -4,6 +4,7 @@ use Rattle.retro_io.specs.FlushLaws.{StaysUnflushed-more, StaysUnflushed-none}
 use Rattle.retro_io.specs.LineReader.{held, line_of, has_ended, source_of, taken}
 use Rattle.retro_io.specs.ReaderLaws.{MovesOn-none, MovesOn-then}
 use Rattle.retro_cli.proofs.Ends.{answers_of_first, answers_of_taken, appends_output, first_answers, part_at_end, part_in_line, stands_at_answer, stands_at_error, stands_at_send}
+use Rattle.retro_cli.proofs.Follows.{follows_all, follows_first, follows_next}
 use Rattle.retro_cli.proofs.GoesOn.{GivenAs, before_end, goes_on_first, goes_on_next, goes_on_sent, some_same}
 use Rattle.retro_cli.proofs.OutOfMemory.{all_left, at_close, at_line, memory_is, reads_no_memory, answers_of_earlier, unwritten, writes_no_memory}
 use Rattle.retro_cli.proofs.ReadSoFar.{IsRead}
@@ -115,6 +116,11 @@ returns-in-End-clause-refusal g c =
     (appends_output _ _ _ _ _ _ _ _ _ (line_of c.next_line.new.reader) (has_ended c.next_line.new.reader) (goes_on_sent _ _ _ _ _ _ _ _ c.send_before_read.ensures.written c.loop-bench.invariant.answers)
     (rw c.in-End.is at c.in_ok-next_line.ensures.gives.lines) c.in_ok-refused-in-End.ensures.answered.1).1
 
+pub returns-in-End-clause-handed : goal.returns-in-End-clause-handed
+returns-in-End-clause-handed g c =
+    follows_all _ _ _ _ (line_of c.next_line.new.reader) (has_ended c.next_line.new.reader) _ _ c.loop-bench.invariant.followed
+    (rw c.in-End.is at c.in_ok-next_line.ensures.gives.lines)
+
 pub returns-in-End-clause-unflushed : goal.returns-in-End-clause-unflushed
 returns-in-End-clause-unflushed g c = StaysUnflushed-more g.K.Sink _ _ _ (StaysUnflushed-more g.K.Sink _ _ _ c.loop-bench.invariant.unflushed c.in_ok-send_before_read.ensures.unflushed) c.in_ok-refused-in-End.ensures.unflushed
 
@@ -137,6 +143,7 @@ loop-bench-init g c = record {
   sink_faults = refl;
   unflushed = StaysUnflushed-none g.K.Sink _;
   answers = λ bytes e. rw c.new-bench.ensures (goes_on_first bytes _ _ _ e);
+  followed = λ bytes e. rw c.new-bench.ensures (follows_first bytes _ _ e);
   so_far = λ script left from at. inl (refl, c.requires.fresh);
 }
 
@@ -157,6 +164,10 @@ loop-bench-preserved g c =
           rw (answered.0, answered.1)
           (goes_on_next c.in_ok-next_line.field-0 c.match-branch-3.long (line_of c.next_line.new.reader) (has_ended c.next_line.new.reader) bytes _ _ _ _ _ _ _
           as_given c.in_ok-next_line.ensures.gives.lines (before_end _ _ _ _ _ _ _ not_ended (goes_on_sent _ _ _ _ _ _ _ _ c.send_before_read.ensures.written c.loop-bench.invariant.answers) bytes e) answered.2);
+      followed = λ bytes e.
+          rw answered.0
+          (follows_next c.in_ok-next_line.field-0 c.match-branch-3.long (line_of c.next_line.new.reader) (has_ended c.next_line.new.reader) bytes _ _ _ _ _ _
+          as_given c.in_ok-next_line.ensures.gives.lines (c.loop-bench.invariant.followed bytes e) (rw c.line.ensures at c.in_ok-refused.ensures.handed));
       so_far = λ script left from is.
           let now = c.next_line.new.reader in
           let at = at_line g.S.Source (source_of c.args.reader.now) (source_of c.loop-bench.reader) (source_of now) _ _ script (held c.loop-bench.reader) (held now)

@@ -1,0 +1,57 @@
+-- The events among answers, and the lines in which followers report of them.
+use Rattle.std.specs.Prelude.{◌≡◌, ℕ, ◌+◌, ◌<◌, List, [], ◌∷◌, ◌++◌, length, take, codes, decimal, filter_map, Option}
+use Rattle.retro_io.specs.declared.sink.Sink.{Ghosts}
+use Rattle.retro_io.specs.Flushes.{EndsWithFailedWrite, StaysUnflushed}
+use Rattle.retro_io.specs.Lines.{line_feed, lines}
+use Rattle.retro_io.specs.Sink.{Appends, AppendsProperPrefix}
+use Rattle.evidence.specs.declared.evidence.Evidence.{Evidence}
+use Rattle.evidence.specs.Reading.{evidence_of}
+use Rattle.followers.specs.Followers.{Reporting, reports_after}
+use Rattle.retro_cli.specs.declared.stop.Stop.{Stop}
+use Rattle.retro_cli.specs.declared.stop.Stop.TheVariants as stops
+
+-- the events that lines spell: other lines are passed over
+abbrev pub events_spelled : List (List ℕ) → List Evidence
+events_spelled all = filter_map evidence_of all
+
+-- the events among the lines of an answer, which is cut into lines as an input is
+abbrev pub events_among : List ℕ → List Evidence
+events_among answer = events_spelled (lines answer)
+
+-- followers have taken these events, one after another
+abbrev pub HaveTakenAll : List Evidence → List Reporting → List Reporting → Type 0
+HaveTakenAll taken before after = (events : List Evidence) → reports_after events after ≡ reports_after (taken ++ events) before
+
+-- the line `report I TEXT`
+abbrev pub report_line : ℕ → List ℕ → List ℕ
+report_line number text = codes "report " ++ (decimal number ++ (codes " " ++ (text ++ line_feed ∷ [])))
+
+-- a line for each report, numbered from this number on
+abbrev pub report_lines : ℕ → List (List ℕ) → List ℕ
+report_lines number [] = []
+report_lines number (text ∷ texts) = report_line number text ++ report_lines (number + 1) texts
+
+-- the whole lines of some first reports, and not of all, were appended
+pub record AppendsFirstReports (texts : List (List ℕ)) (before after : Option (List ℕ)) : Type 0 where
+  pub count : ℕ
+  pub few : count < length texts
+  pub appended : Appends before (report_lines 0 (take count texts)) after
+
+-- the sink before the reports and where they stop
+module _ {K : Type 0} (G : Ghosts K) (texts : List (List ℕ)) (before after : K) where
+  -- some first reports were appended, and not flushed
+  pub record StopsAfterReport : Type 0 where
+    pub whole : AppendsFirstReports texts (G.written before) (G.written after)
+    pub unflushed : StaysUnflushed G before after
+
+  -- a write failed within the reports, and that was the last call
+  pub record StopsWithinReport : Type 0 where
+    pub part : AppendsProperPrefix (G.written before) (report_lines 0 texts) (G.written after)
+    pub last : EndsWithFailedWrite G before after
+
+  -- what stands where the reports stop so: nothing is read for them
+  abbrev pub ReportsStand : Stop → Type 0
+  ReportsStand stops.ReadFault = ⊥
+  ReportsStand stops.TooLong = ⊥
+  ReportsStand stops.NoMemory = StopsAfterReport
+  ReportsStand stops.WriteFault = StopsWithinReport

@@ -1,0 +1,151 @@
+ghost use Rattle.std.specs.Prelude.{◌≡◌, ◌<◌, ◌≤◌, ◌==◌, ◌∷◌, [], ◌++◌, false, length, map, IfErr, IsErrOf, OnErr, OnOk};
+ghost use Rattle.retro_io.specs.Faults.{CountsFaults};
+ghost use Rattle.retro_io.specs.Flushes.{EndsWithFailedWrite, StaysUnflushed};
+ghost use Rattle.std.specs.List.{position_or_len};
+ghost use Rattle.retro_io.specs.Lines.{line_feed, lines, without_return};
+ghost use Rattle.retro_io.specs.Sink.{Appends, AppendsProperPrefix};
+ghost use Rattle.followers.specs.Followers.{HasTaken, HaveTaken, reports_after};
+ghost use Rattle.retro_cli.specs.Events.{HaveTakenAll, ReportsStand, events_among, events_spelled, report_line, report_lines};
+ghost use Rattle.retro_cli.specs.Stop.{stops_at_write};
+
+use crate::deliver::append;
+use crate::stop::Stop;
+use evidence::{Evidence, read_evidence};
+use followers::Follower;
+use retro_base::{NoMemory, Text};
+use retro_io::Sink;
+use std::alloc::Global;
+
+/// Hands the events among the lines of an answer to the followers, one after another.
+pub(crate) fn hand_on(answer: &[u8], followers: &mut [Box<dyn Follower>]) -> Result<(), NoMemory>
+    ensures { OnOk result (HaveTakenAll (events_among answer.now) (map (λ f. report_after f) followers.old) (map (λ f. report_after f) followers.new)) }
+{
+    let mut rest = answer;
+    while !rest.is_empty() {
+        let (line, after) = cut_line(rest);
+        hand_on_line(line, followers)?;
+        rest = after;
+    }
+    Ok(())
+}
+
+/// Hands the event that a line spells to the followers, if it spells one.
+fn hand_on_line(line: &[u8], followers: &mut [Box<dyn Follower>]) -> Result<(), NoMemory>
+    ensures { OnOk result (HaveTakenAll (events_spelled (line.now ∷ [])) (map (λ f. report_after f) followers.old) (map (λ f. report_after f) followers.new)) }
+{
+    match read_evidence(line) {
+        Some(event) => hand_out(&event, followers),
+        None => Ok(()),
+    }
+}
+
+/// Lets each follower take an event, in their order, as `followers::feed` does. It stands here, since a function that hands boxed
+/// followers by `&mut` to another crate would hide from the check what that crate may put among them.
+fn hand_out(event: &Evidence, followers: &mut [Box<dyn Follower>]) -> Result<(), NoMemory>
+    ensures { OnOk result (HaveTaken event.now (map (λ f. report_after f) followers.old) (map (λ f. report_after f) followers.new)) }
+{
+    for follower in followers {
+        hand_to(follower, event)?;
+    }
+    Ok(())
+}
+
+/// Lets one follower take an event.
+fn hand_to(follower: &mut Box<dyn Follower>, event: &Evidence) -> Result<(), NoMemory>
+    ensures { OnOk result (HasTaken event.now (report_after follower.old) (report_after follower.new)) }
+{
+    follower.take(event)
+}
+
+/// The first line of a text, and the bytes after it. Lines are those of an input.
+fn cut_line(text: &[u8]) -> (&[u8], &[u8])
+    requires { 0 < length text.now }
+    ensures cut { lines text.now ≡ result.0.now ∷ lines result.1.now }
+    ensures shorter { length result.1.now < length text.now }
+{
+    let at = line_size(text);
+    if at < text.len() {
+        (without_return(&text[..at]), &text[at + 1..])
+    } else {
+        (without_return(text), &[])
+    }
+}
+
+/// How many bytes stand before the first line feed, or how many there are.
+fn line_size(text: &[u8]) -> usize
+    ensures value { result ≡ position_or_len (λ byte. byte == line_feed) text.now }
+    ensures within { result ≤ length text.now }
+{
+    text.iter().take_while(|byte| **byte != b'\n').count()
+}
+
+/// A line without the one carriage return at its very end, if it ends in one.
+fn without_return(line: &[u8]) -> &[u8]
+    ensures { result.now ≡ without_return line.now }
+{
+    let size = line.len();
+    if size > 0 && line[size - 1] == b'\r' {
+        &line[..size - 1]
+    } else {
+        line
+    }
+}
+
+/// Writes a line for each follower, with its number and what it reports.
+pub(crate) fn write_reports<K: Sink>(
+    alloc: Global,
+    followers: &[Box<dyn Follower>],
+    sink: &mut K,
+) -> Result<(), Stop>
+    ensures appended { OnOk result (Appends (K.written sink.old) (report_lines 0 (reports_after [] (map (λ f. report_after f) followers.now))) (K.written sink.new)) }
+    ensures unflushed { OnOk result (StaysUnflushed ⟦<K as Sink>⟧ sink.old sink.new) }
+    ensures stands { IfErr result (ReportsStand ⟦<K as Sink>⟧ (reports_after [] (map (λ f. report_after f) followers.now)) sink.old sink.new) }
+    ensures sink_faults { CountsFaults (stops_at_write result) (K.faults sink.old) (K.faults sink.new) }
+{
+    for (number, follower) in followers.iter().enumerate() {
+        write_report(alloc, number, follower, sink)?;
+    }
+    Ok(())
+}
+
+/// Writes the line of one follower.
+fn write_report<K: Sink>(
+    alloc: Global,
+    number: usize,
+    follower: &Box<dyn Follower>,
+    sink: &mut K,
+) -> Result<(), Stop>
+    ensures appended { OnOk result (Appends (K.written sink.old) (report_line number (report_after follower.now [])) (K.written sink.new)) }
+    ensures part { IsErrOf result Stop.WriteFault → AppendsProperPrefix (K.written sink.old) (report_line number (report_after follower.now [])) (K.written sink.new) }
+    ensures untouched { OnErr result (stops_at_write result ≡ false → sink.new ≡ sink.old) }
+    ensures unflushed { OnOk result (StaysUnflushed ⟦<K as Sink>⟧ sink.old sink.new) }
+    ensures last { IsErrOf result Stop.WriteFault → EndsWithFailedWrite ⟦<K as Sink>⟧ sink.old sink.new }
+    ensures sink_faults { CountsFaults (stops_at_write result) (K.faults sink.old) (K.faults sink.new) }
+    ensures reads_nothing { (IsErrOf result Stop.ReadFault → ⊥) × (IsErrOf result Stop.TooLong → ⊥) }
+{
+    let mut line = Text::new(alloc);
+    print_report(number, follower, &mut line)?;
+    append(line.as_bytes(), sink)
+}
+
+/// Appends the line of one follower.
+fn print_report(
+    number: usize,
+    follower: &Box<dyn Follower>,
+    line: &mut Text,
+) -> Result<(), NoMemory>
+    ensures { OnOk result (line.new ≡ line.old ++ report_line number (report_after follower.now [])) }
+{
+    line.push_all(b"report ")?;
+    line.push_number(number)?;
+    line.push_all(b" ")?;
+    report(follower, line)?;
+    line.push_all(b"\n")
+}
+
+/// Appends what a follower reports.
+fn report(follower: &Box<dyn Follower>, out: &mut Text) -> Result<(), NoMemory>
+    ensures { OnOk result (out.new ≡ out.old ++ report_after follower.now []) }
+{
+    follower.report(out)
+}

@@ -1,0 +1,73 @@
+ghost use Rattle.std.specs.Prelude.{◌≡◌, [], ◌-◌, ◌<◌, ◌↔◌, false, true, map, IfErr, IfOk, IsErrOf, OnOk};
+ghost use Rattle.retro_base.specs.Limits.{most_bytes};
+ghost use Rattle.retro_io.specs.Faults.{CountsFaults, last_count};
+ghost use Rattle.retro_io.specs.Flushes.{StaysUnflushed};
+ghost use Rattle.retro_cli.specs.Followed.{AnswersFollowed, AppendsFollowed, FollowedStands};
+ghost use Rattle.retro_cli.specs.Run.{MatchesRefusal, MayBeTooLong};
+ghost use Rattle.retro_cli.specs.Stop.{StopsReading, stops_at_read, stops_at_write};
+
+use crate::deliver::send;
+use crate::follow::write_reports;
+use crate::script::answer_source;
+use crate::stop::Stop;
+use followers::Follower;
+use retro_io::{Failed, Sink, Source};
+use std::alloc::Global;
+
+/// Reads a script and answers its lines, whose events the followers are handed, and then writes what each of them reports.
+fn answer_and_report<S: Source, K: Sink>(
+    alloc: Global,
+    source: &mut S,
+    followers: &mut [Box<dyn Follower>],
+    sink: &mut K,
+) -> Result<bool, Stop>
+    ensures ended { OnOk result (S.ended source.new ≡ true) }
+    ensures output { OnOk result (AppendsFollowed (map (λ f. report_after f) followers.old) (S.left source.old) (K.written sink.old) (K.written sink.new)) }
+    ensures refusal { IfOk result (MatchesRefusal (S.left source.old)) }
+    ensures unflushed { OnOk result (StaysUnflushed ⟦<K as Sink>⟧ sink.old sink.new) }
+    ensures stands { IfErr result (FollowedStands ⟦<S as Source>⟧ ⟦<K as Sink>⟧ (map (λ f. report_after f) followers.old)
+        source.old source.new sink.old sink.new) }
+    ensures source_faults { CountsFaults (stops_at_read result) (S.faults source.old) (S.faults source.new) }
+    ensures sink_faults { CountsFaults (stops_at_write result) (K.faults sink.old) (K.faults sink.new) }
+    ensures too_long { S.taken source.new < last_count → (IsErrOf result Stop.TooLong ↔ (most_bytes < S.taken source.new - S.taken source.old)) }
+    ensures longer { IsErrOf result Stop.TooLong → MayBeTooLong (S.left source.old) }
+    ensures sent { IfErr result (λ stop. StopsReading stop → K.waiting sink.new ≡ []) }
+{
+    let refused = answer_source(alloc, source, followers, sink)?;
+    write_reports(alloc, followers, sink)?;
+    Ok(refused)
+}
+
+/// Reads a script, answers its lines, reports, and sees to it that all arrives. Where it ends early, what was written whole before has
+/// gone on, unless the sink fails.
+pub(crate) fn follow_script<S: Source, K: Sink>(
+    alloc: Global,
+    source: &mut S,
+    followers: &mut [Box<dyn Follower>],
+    sink: &mut K,
+) -> Result<bool, Stop>
+    ensures ended { OnOk result ((S.ended source.new ≡ true) × (K.flushed sink.new ≡ true)) }
+    ensures answers { IfOk result (AnswersFollowed ⟦<S as Source>⟧ ⟦<K as Sink>⟧ (map (λ f. report_after f) followers.old)
+        source.old source.new sink.old sink.new) }
+    ensures stands { IfErr result (FollowedStands ⟦<S as Source>⟧ ⟦<K as Sink>⟧ (map (λ f. report_after f) followers.old)
+        source.old source.new sink.old sink.new) }
+    ensures source_faults { CountsFaults (stops_at_read result) (S.faults source.old) (S.faults source.new) }
+    ensures sink_faults { CountsFaults (stops_at_write result) (K.faults sink.old) (K.faults sink.new) }
+    ensures too_long { S.taken source.new < last_count → (IsErrOf result Stop.TooLong ↔ (most_bytes < S.taken source.new - S.taken source.old)) }
+    ensures longer { IsErrOf result Stop.TooLong → MayBeTooLong (S.left source.old) }
+    ensures sent { K.waiting sink.old ≡ [] → stops_at_write result ≡ false → K.waiting sink.new ≡ [] }
+{
+    let answered = answer_and_report(alloc, source, followers, sink);
+    let refused = match answered {
+        Ok(refused) => refused,
+        Err(Stop::NoMemory) => {
+            send(sink)?;
+            return Err(Stop::NoMemory);
+        }
+        Err(stop) => return Err(stop),
+    };
+    match sink.flush() {
+        Ok(()) => Ok(refused),
+        Err(Failed) => Err(Stop::WriteFault),
+    }
+}
