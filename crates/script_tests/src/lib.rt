@@ -1,7 +1,7 @@
 //! Tests of the script and of the program over streams in memory. They see only what is public, and stand apart so that a
 //! change of a test proves none of the crates anew.
 //!
-//! One file for each crate: `grammar` of `script_grammar`, `blocks` of `timeline_file`, `evidence_lines` of `evidence`, `judging` of
+//! One file for each crate: `grammar` of `script_grammar`, `blocks` of `timeline_file`, `evidence_lines` of `evidence`, `following` of `followers`, `judging` of
 //! `evidence_check`, `sessions` of `timeline_undo`, `benches` of `workbench`, `runs` of `retro_cli`.
 #![tactic(auto)]
 
@@ -11,6 +11,8 @@ mod benches;
 mod blocks;
 #[cfg(test)]
 mod evidence_lines;
+#[cfg(test)]
+mod following;
 #[cfg(test)]
 mod grammar;
 #[cfg(test)]

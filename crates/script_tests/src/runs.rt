@@ -5,6 +5,7 @@ mod blocks;
 mod corrections;
 mod evidence_files;
 mod fates;
+mod followed_runs;
 mod outboxes;
 mod priority_queues;
 
