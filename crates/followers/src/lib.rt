@@ -11,10 +11,12 @@
 //! - `follower`: the trait.
 //! - `feeding`: `feed` hands an event to each of a list of boxed followers.
 //! - `tally`, `mirror`: the two followers that are here.
+//! - `laws`: a mirror that sees the changes alone holds the present.
 #![tactic(auto)]
 
 mod feeding;
 mod follower;
+pub mod laws;
 mod mirror;
 mod tally;
 
