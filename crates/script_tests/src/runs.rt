@@ -2,6 +2,7 @@ ghost use Rattle.std.specs.Prelude.{◌≤◌, [], None};
 ghost use Rattle.retro_io.specs.Faults.{last_count};
 
 mod blocks;
+mod correction_tables;
 mod corrections;
 mod evidence_files;
 mod fates;

@@ -1,7 +1,7 @@
 use retro_base::{Change, Item, Kind, Listing, MAX_NEXT, MAX_ROWS, NoMemory, Op, PlainList, Row};
 use std::process::Abort;
 use std::test::Fail;
-use timeline_undo::{EditError, MAX_STEPS, Put, Session, Turn, UndoError};
+use timeline_undo::{EditError, MAX_STEPS, Put, Session, Shift, Target, Turn, Turns, UndoError};
 
 const PUSH: Op = Op::Push { value: 1 };
 
@@ -50,6 +50,32 @@ fn turn(added: bool, place: u32, number: u32, time: u64, op: Op) -> Turn {
     }
 }
 
+/// The one list edit of an undo or a redo.
+fn single(added: bool, place: u32, number: u32, time: u64, op: Op) -> Turns {
+    Turns::Single {
+        turn: turn(added, place, number, time, op),
+    }
+}
+
+/// Replaces the row with this number.
+fn shift_row(
+    rt: &impl Abort,
+    session: &mut Session<PlainList>,
+    number: u32,
+    target: Target,
+) -> Result<Shift, EditError> {
+    if let Target::Into { op } = target {
+        assert!(rt; op.kind() == session.kind());
+    }
+    assert!(rt; session.next() < MAX_NEXT);
+    assert!(rt; session.timeline().len() < MAX_ROWS);
+    let place = session
+        .timeline()
+        .place_of(number)
+        .expect(rt, "a row has the number");
+    session.shift(place, target)
+}
+
 #[test]
 fn steps_are_undone_and_made_again(rt: HostRuntime) -> Result<(), Fail> {
     let stack = PlainList::new(rt.alloc(), Kind::Stack);
@@ -78,18 +104,80 @@ fn steps_are_undone_and_made_again(rt: HostRuntime) -> Result<(), Fail> {
             time: 20
         })
     );
-    assert_eq!(rt; session.undo(), Ok(turn(false, 1, 2, 20, Op::Pop)));
-    assert_eq!(rt; session.undo(), Ok(turn(false, 0, 1, 10, PUSH)));
+    assert_eq!(rt; session.undo(), Ok(single(false, 1, 2, 20, Op::Pop)));
+    assert_eq!(rt; session.undo(), Ok(single(false, 0, 1, 10, PUSH)));
     assert_eq!(rt; session.undo(), Err(UndoError::Nothing));
-    assert_eq!(rt; session.redo(), Ok(turn(true, 0, 1, 10, PUSH)));
+    assert_eq!(rt; session.redo(), Ok(single(true, 0, 1, 10, PUSH)));
     assert_eq!(rt;
         cut_row(&rt, &mut session, 1),
         Ok(turn(false, 0, 1, 10, PUSH))
     );
     assert_eq!(rt; session.redo(), Err(UndoError::Nothing));
-    assert_eq!(rt; session.undo(), Ok(turn(true, 0, 1, 10, PUSH)));
+    assert_eq!(rt; session.undo(), Ok(single(true, 0, 1, 10, PUSH)));
     expect_numbers(&rt, &session, &[1]);
     assert_eq!(rt; session.next(), 3);
+    Ok(())
+}
+
+/// A row that adds is put in before the old one is cut, and one that takes after it. Undo and redo make both edits.
+#[test]
+fn rows_are_replaced_in_one_step(rt: HostRuntime) -> Result<(), Fail> {
+    let stack = PlainList::new(rt.alloc(), Kind::Stack);
+    let mut session = Session::new(rt.alloc(), stack, 1)?;
+    put_at(&rt, &mut session, 10, PUSH).expect(&rt, "accepted");
+    put_at(&rt, &mut session, 20, Op::Pop).expect(&rt, "accepted");
+    assert_eq!(rt;
+        shift_row(&rt, &mut session, 1, Target::At { time: 15 }),
+        Ok(Shift {
+            number: 3,
+            first: turn(true, 1, 3, 15, PUSH),
+            second: turn(false, 0, 1, 10, PUSH),
+        })
+    );
+    assert_eq!(rt;
+        shift_row(&rt, &mut session, 2, Target::At { time: 30 }),
+        Ok(Shift {
+            number: 4,
+            first: turn(false, 1, 2, 20, Op::Pop),
+            second: turn(true, 1, 4, 30, Op::Pop),
+        })
+    );
+    assert_eq!(rt;
+        shift_row(&rt, &mut session, 4, Target::At { time: 5 }),
+        Err(EditError::Fails { number: 5, time: 5 })
+    );
+    assert_eq!(rt;
+        shift_row(&rt, &mut session, 3, Target::Into { op: Op::Pop }),
+        Err(EditError::Fails {
+            number: 5,
+            time: 15
+        })
+    );
+    assert_eq!(rt;
+        session.undo(),
+        Ok(Turns::Double {
+            first: turn(false, 1, 4, 30, Op::Pop),
+            second: turn(true, 1, 2, 20, Op::Pop),
+        })
+    );
+    assert_eq!(rt;
+        session.undo(),
+        Ok(Turns::Double {
+            first: turn(true, 0, 1, 10, PUSH),
+            second: turn(false, 1, 3, 15, PUSH),
+        })
+    );
+    expect_numbers(&rt, &session, &[1, 2]);
+    assert_eq!(rt;
+        session.redo(),
+        Ok(Turns::Double {
+            first: turn(true, 1, 3, 15, PUSH),
+            second: turn(false, 0, 1, 10, PUSH),
+        })
+    );
+    expect_numbers(&rt, &session, &[3, 2]);
+    assert_eq!(rt; session.next(), 5);
+    assert!(rt; !session.spent());
     Ok(())
 }
 

@@ -8,7 +8,7 @@ use Rattle.retro_base.specs.Kind.{adds, kind_of, same_kind}
 use Rattle.retro_base.specs.Replay.{failure, state_at}
 use Rattle.retro_base.specs.Answers.{answer_of, content}
 use Rattle.retro_base.specs.Questions.{suits}
-use Rattle.retro_base.specs.Edits.{Edit, Step, add, cut, edited, edited_by, inverse_step}
+use Rattle.retro_base.specs.Edits.{Edit, Step, add, cut, edited_by, inverse_step}
 use Rattle.retro_base.specs.Places.{place_of_time, place_of_row}
 use Rattle.timeline_undo.specs.History.{newest_step, recorded, redone, undone}
 use Rattle.timeline_undo.specs.Shift.{shift_at}

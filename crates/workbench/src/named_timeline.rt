@@ -264,7 +264,14 @@ impl NamedTimeline {
         ensures { (rows : List Row) → AreMade self.now.kind rows (Double first second)
             → IfOk result (λ outcome. outcome ≡ reported self.now.name self.now.kind rows (step_reported (Double first second)) plain) }
     {
-        reported_both(self.alloc, self.name, self.session.kind(), first, second, plain)
+        reported_both(
+            self.alloc,
+            self.name,
+            self.session.kind(),
+            first,
+            second,
+            plain,
+        )
     }
 
     /// The outcome of the list edits of an undo or a redo.

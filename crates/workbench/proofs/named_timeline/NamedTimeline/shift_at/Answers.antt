@@ -1,4 +1,4 @@
-use Rattle.std.proofs.Common.{◌≡◌, ◌<◌, ap, arith, length}
+use Rattle.std.proofs.Common.{◌<◌, ap, arith, length}
 use Rattle.retro_base.specs.Limits.{most_rows, next_limit}
 use Rattle.workbench.specs.Bench.{named}
 use Rattle.workbench.proofs.TimelineEffects.{shift_refused, shifted_told}
