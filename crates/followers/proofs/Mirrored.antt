@@ -1,18 +1,16 @@
 -- A change takes the entries of one present to those of the next.
-use Rattle.std.proofs.Common.{◌≡◌, ◌≢◌, ℕ, zero, suc, ◌<◌, true, false, cond, Contains, List, [], ◌∷◌, length, refl, sym, ap, ◌∙◌, arith}
-use Rattle.std.specs.Str.{bytes_eq}
+use Rattle.std.proofs.Common.{◌≡◌, ◌≢◌, suc, true, false, cond, Contains, List, [], ◌∷◌, refl, sym, ap, arith}
 use Rattle.retro_base.specs.declared.row.Change.{Change}
 use Rattle.retro_base.specs.declared.row.Change.TheVariants.{Plain, Gain, Lose}
 use Rattle.retro_base.specs.declared.row.Entry.{Entry}
 use Rattle.retro_base.specs.declared.row.Row.{Row}
-use Rattle.retro_base.specs.Bridges.{same_entry, survivors}
+use Rattle.retro_base.specs.Bridges.{survivors}
 use Rattle.retro_base.specs.Changes.{IsPqChange}
 use Rattle.retro_base.specs.Edits.{Edit, edited}
 use Rattle.retro_base.specs.State.{comes_before, with_entry}
 use Rattle.retro_base.specs.lemmas.bridges.EntryOrder.{not_same, same_entry-refl}
-use Rattle.evidence.specs.declared.evidence.Evidence.{Evidence}
 use Rattle.followers.specs.MirrorLaws.{MirrorsHoldThePresent, TellsEdits}
-use Rattle.followers.specs.Mirrors.{changed, held_after, without_entry}
+use Rattle.followers.specs.Mirrors.{changed, without_entry}
 
 -- an entry that is not there, put in and taken out again
 back_out : (entry : Entry) (entries : List Entry) → (Contains entries entry → ⊥) → without_entry entry (with_entry entry entries) ≡ entries
