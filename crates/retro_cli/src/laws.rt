@@ -6,6 +6,7 @@ ghost use Rattle.retro_cli.specs.SavedText.{SavedTextReadsBack};
 use evidence::laws::{lines_are_short, lines_are_values};
 use evidence_check::laws::accepted_edits_are_reported;
 use timeline_file::laws::saved_reads_back;
+use timeline_undo::laws::an_undo_leads_back;
 
 /// A law that closes the circle: whatever the script, the judgement of the lines that it writes is that all lines of
 /// evidence among them are accepted.
@@ -15,6 +16,7 @@ pub fn what_is_written_is_accepted()
     accepted_edits_are_reported();
     lines_are_values();
     lines_are_short();
+    an_undo_leads_back();
 }
 
 /// The text that is saved of a timeline reads back: its lines are those of a block, none of them is long, and the block

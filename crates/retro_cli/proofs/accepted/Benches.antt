@@ -17,15 +17,16 @@ use Rattle.script_grammar.specs.BlockLines.{is_end}
 use Rattle.timeline_file.specs.declared.block.BlockError.{BlockError}
 use Rattle.timeline_file.specs.declared.block.BlockError.TheVariants as faults
 use Rattle.timeline_file.specs.Block.{finished}
+use Rattle.timeline_undo.specs.Back.{ShiftsCanBeMade}
 use Rattle.workbench.specs.declared.outcome.Outcome.TheVariants.{Silent, Accepted, Refused}
 use Rattle.workbench.specs.declared.outcome.Refusal.TheVariants as refusals
 use Rattle.workbench.specs.Bench.{Bench, NamedTimeline, OpenBlock, has_timeline}
 use Rattle.workbench.specs.Outcome.{block_refusal, evidence_lines, reply_text}
 use Rattle.workbench.specs.Reaction.{BenchEffect, Effect, closes, ends, happens, inside, leaves, loads, obeys, of_block, opened, spelled, with_block, with_line}
-use Rattle.workbench.specs.TimelineEffects.{answers, answers_fate, deletes, inserts, redoes, saves, unchanged, undoes}
+use Rattle.workbench.specs.TimelineEffects.{answers, answers_fate, changes, deletes, inserts, moves, redoes, saves, unchanged, undoes}
 use Rattle.workbench.specs.Reported.{appends_from, loaded, loaded_evidence}
 use Rattle.retro_cli.proofs.accepted.Blocks.{IsGoodBlock, begun_is_good, good_loaded, sound_closed, taken_good}
-use Rattle.retro_cli.proofs.accepted.Effects.{answer_stays, delete_stays, fate_stays, insert_stays, put_same, redo_stays, save_stays, reported_rows, undo_stays}
+use Rattle.retro_cli.proofs.accepted.Effects.{answer_stays, delete_stays, fate_stays, insert_stays, move_stays, change_stays, put_same, redo_stays, save_stays, reported_rows, undo_stays}
 use Rattle.retro_cli.proofs.accepted.Passing.{accepted_passes, refusal_passes, silent_passes}
 use Rattle.retro_cli.proofs.accepted.Made.{IsSound, appends_made}
 use Rattle.retro_cli.proofs.accepted.Printable.{NamesTimeline}
@@ -43,7 +44,7 @@ names_none faults.Next = tt
 names_none faults.Rows = tt
 
 -- the evidence of the rows of a block
-module _ (truth : EditsAreReported) (spells : EditsAreSpelled) (back : PrintedReadsBack) (short : LinesAreShort) where
+module _ (truth : EditsAreReported) (spells : EditsAreSpelled) (back : PrintedReadsBack) (short : LinesAreShort) (shifts_made : ShiftsCanBeMade) where
   tells_nothing : (name : List ℕ) (names : List (List ℕ)) (judge : Judge) (by : List ℕ → List Row) → Agrees names by judge.reported → by name ≡ [] → HasReported names by name [] judge []
   tells_nothing name names judge by agrees own = record { later = judge; reads = reads_nothing judge; agrees = agrees_as names by (put name [] by) judge.reported (put_same name by [] own) agrees }
 
@@ -97,19 +98,21 @@ module _ (truth : EditsAreReported) (spells : EditsAreSpelled) (back : PrintedRe
   obeys_kept timelines judge (Ok Nothing) kept is = left_kept timelines judge Silent kept silent_passes
   obeys_kept timelines judge (Ok (New name kind)) kept is = starts_kept timelines name kind judge kept is
   obeys_kept timelines judge (Ok (Insert name spot op)) kept is =
-      named_kept name (λ timeline. inserts timeline spot op) is.0 (λ timeline good. insert_stays truth spells back short timeline good spot op is.1) timelines judge kept
+      named_kept name (λ timeline. inserts timeline spot op) is.0 (λ timeline good. insert_stays truth spells back short shifts_made timeline good spot op is.1) timelines judge kept
   obeys_kept timelines judge (Ok (Delete name number)) kept is =
-      named_kept name (λ timeline. deletes timeline number) is (λ timeline good. delete_stays truth spells back short timeline good number) timelines judge kept
-  obeys_kept timelines judge (Ok (Move name number time)) kept is = left_kept timelines judge (Refused refusals.Syntax) kept (refusal_passes refusals.Syntax tt)
-  obeys_kept timelines judge (Ok (Change name number op)) kept is = left_kept timelines judge (Refused refusals.Syntax) kept (refusal_passes refusals.Syntax tt)
+      named_kept name (λ timeline. deletes timeline number) is (λ timeline good. delete_stays truth spells back short shifts_made timeline good number) timelines judge kept
+  obeys_kept timelines judge (Ok (Move name number time)) kept is =
+      named_kept name (λ timeline. moves timeline number time) is (λ timeline good. move_stays truth spells back short shifts_made timeline good number time) timelines judge kept
+  obeys_kept timelines judge (Ok (Change name number op)) kept is =
+      named_kept name (λ timeline. changes timeline number op) is.0 (λ timeline good. change_stays truth spells back short shifts_made timeline good number op is.1) timelines judge kept
   obeys_kept timelines judge (Ok (Fate name number)) kept is =
-      named_kept name (λ timeline. unchanged timeline (answers_fate timeline number)) is (λ timeline good. fate_stays truth spells back short timeline good number) timelines judge kept
+      named_kept name (λ timeline. unchanged timeline (answers_fate timeline number)) is (λ timeline good. fate_stays truth spells back short shifts_made timeline good number) timelines judge kept
   obeys_kept timelines judge (Ok (Ask name moment query)) kept is =
-      named_kept name (λ timeline. unchanged timeline (answers timeline moment query)) is (λ timeline good. answer_stays truth spells back short timeline good moment query) timelines judge kept
-  obeys_kept timelines judge (Ok (Undo name)) kept is = named_kept name undoes is (λ timeline good. undo_stays truth spells back short timeline good) timelines judge kept
-  obeys_kept timelines judge (Ok (Redo name)) kept is = named_kept name redoes is (λ timeline good. redo_stays truth spells back short timeline good) timelines judge kept
+      named_kept name (λ timeline. unchanged timeline (answers timeline moment query)) is (λ timeline good. answer_stays truth spells back short shifts_made timeline good moment query) timelines judge kept
+  obeys_kept timelines judge (Ok (Undo name)) kept is = named_kept name undoes is (λ timeline good. undo_stays truth spells back short shifts_made timeline good) timelines judge kept
+  obeys_kept timelines judge (Ok (Redo name)) kept is = named_kept name redoes is (λ timeline good. redo_stays truth spells back short shifts_made timeline good) timelines judge kept
   obeys_kept timelines judge (Ok (Save name)) kept is =
-      named_kept name (λ timeline. unchanged timeline (saves timeline)) is (λ timeline good. save_stays truth spells back short timeline good) timelines judge kept
+      named_kept name (λ timeline. unchanged timeline (saves timeline)) is (λ timeline good. save_stays truth spells back short shifts_made timeline good) timelines judge kept
   obeys_kept timelines judge (Ok (Header name kind next rows)) kept is = left_kept timelines judge Silent kept silent_passes
 
   opened_good : (line : Result Command LineError) → IfOk line IsSpelled → IsGoodOpen (opened line)

@@ -1,6 +1,6 @@
 -- What becomes of one timeline at a line: what is answered is reported truly, and the timeline stays a good one.
 use Rattle.std.proofs.Common.{◌≡◌, ◌≢◌, ℕ, ◌+◌, ◌-◌, ◌<◌, ◌≤◌, true, false, nat_le, cond, List, [], ◌∷◌, ◌++◌, length, slice_get, refl, sym, ap, ◌∙◌, subst, arith, Option, Some, None}
-use Rattle.std.specs.Prelude.{IfSome}
+use Rattle.std.specs.Prelude.{IfSome, option_map, option_and_then}
 use Rattle.std.specs.List.{insert}
 use Rattle.std.specs.Str.{bytes_eq}
 use Rattle.std.proofs.lemmas.Bool.{leb-false}
@@ -8,7 +8,7 @@ use Rattle.retro_base.specs.declared.kind.Kind.{Kind}
 use Rattle.retro_base.specs.declared.kind.Kind.TheVariants.{Queue, Stack, Deque, Dict, Pq}
 use Rattle.retro_base.specs.declared.op.Op.{Op}
 use Rattle.retro_base.specs.declared.row.Row.{Row}
-use Rattle.retro_base.specs.Edits.{Edit, Step, add, cut, edited, inverse_step}
+use Rattle.retro_base.specs.Edits.{Edit, Step, add, cut, edited, edited_by, inverse_step}
 use Rattle.retro_base.specs.Kind.{kind_of, same_kind}
 use Rattle.retro_base.specs.Limits.{most_rows, most_steps, most_timelines, next_limit}
 use Rattle.retro_base.specs.Name.{is_name}
@@ -25,6 +25,11 @@ use Rattle.script_grammar.specs.declared.command.Moment.{Moment}
 use Rattle.script_grammar.specs.declared.command.Query.{Query}
 use Rattle.script_grammar.specs.declared.command.Spot.{Spot}
 use Rattle.timeline_undo.specs.History.{newest, newest_step, older_steps}
+use Rattle.timeline_undo.specs.Back.{ShiftsCanBeMade}
+use Rattle.timeline_undo.specs.Shift.{IsTargetOf, shift_at, shift_of}
+use Rattle.timeline_undo.specs.declared.shift.Target.{Target}
+use Rattle.timeline_undo.specs.declared.shift.Target.TheVariants.{At, Into}
+use Rattle.retro_cli.proofs.accepted.Shifts.{HasTarget, shift_made}
 use Rattle.workbench.specs.declared.outcome.Outcome.{Outcome}
 use Rattle.workbench.specs.declared.outcome.Outcome.TheVariants.{Accepted, Inserted, Refused}
 use Rattle.workbench.specs.declared.outcome.Refusal.{Refusal}
@@ -32,7 +37,7 @@ use Rattle.workbench.specs.declared.outcome.Refusal.TheVariants as refusals
 use Rattle.workbench.specs.declared.position.Position.{Position}
 use Rattle.workbench.specs.Bench.{NamedTimeline}
 use Rattle.workbench.specs.Outcome.{reply_text}
-use Rattle.workbench.specs.TimelineEffects.{TimelineEffect, accepted_or_refused, after_edit, answers, answers_fate, cut_of, deletes, deletes_by, edits, inserts, inserts_at, inserts_there, new_row, position_of, redoes, redoes_step, refusal_at, refuses, row_named, saves, unchanged, undoes, undoes_step}
+use Rattle.workbench.specs.TimelineEffects.{TimelineEffect, accepted_or_refused, after_step, makes, shifts_there, shifts_by, shifts, moves, changes, answers, answers_fate, cut_of, deletes, deletes_by, edits, inserts, inserts_at, inserts_there, new_row, position_of, redoes, redoes_step, refusal_at, refuses, row_named, saves, unchanged, undoes, undoes_step}
 use Rattle.workbench.specs.Reported.{evidence_of_step, reported}
 use Rattle.retro_cli.proofs.accepted.Leads.{Leads, leads_last, leads_later, leads_more, leads_so}
 use Rattle.retro_cli.proofs.accepted.Made.{IsRanged, IsSound, Makes, MakesStep, TakesBack, leads_to, sound_after, sound_later, step_back, step_later}
@@ -95,7 +100,7 @@ refused_stays : (timeline : NamedTimeline) (refusal : Refusal) → IsGood timeli
 refused_stays timeline refusal good named = stays_as_it_was timeline (Refused refusal) good (refusal_passes refusal named)
 
 -- A step that is made.
-module _ (truth : EditsAreReported) (spells : EditsAreSpelled) (back : PrintedReadsBack) (short : LinesAreShort) where
+module _ (truth : EditsAreReported) (spells : EditsAreSpelled) (back : PrintedReadsBack) (short : LinesAreShort) (shifts_made : ShiftsCanBeMade) where
   module _ (names : List (List ℕ)) (few : length names ≤ most_timelines) (name : List ℕ) (named : is_name name ≡ true) (listed : is_listed name names ≡ true) where
     tells_other : (judge : Judge) (by : List ℕ → List Row) (plain : Outcome) → IsPassedOver plain → Agrees names by judge.reported → by name ≡ [] → HasReported names by name [] judge (reply_text plain)
     tells_other judge by plain passes agrees own = record {
@@ -125,41 +130,47 @@ module _ (truth : EditsAreReported) (spells : EditsAreSpelled) (back : PrintedRe
 
   -- an accepted edit, where this number comes next
   module _ (timeline : NamedTimeline) (good : IsGood timeline) where
-    good_edited : (edit : Edit) (next : ℕ) → timeline.next ≤ next → next ≤ next_limit → Makes timeline.kind next timeline.rows edit (edited timeline.rows edit)
-        → IsGood (after_edit timeline edit next)
-    good_edited edit next more most made =
+    good_made : (step : Step) (next : ℕ) → timeline.next ≤ next → next ≤ next_limit → MakesStep timeline.kind next timeline.rows step (edited_by timeline.rows step)
+        → IsGood (after_step timeline step next)
+    good_made step next more most made =
+        let after : List Row = edited_by timeline.rows step in
+        let before : IsSound timeline.kind next timeline.rows = sound_later timeline.kind timeline.next next more timeline.rows good.sound in
         let lifted : Leads (MakesStep timeline.kind next) good.undo_start timeline.history.undo timeline.rows =
         leads_so (MakesStep timeline.kind timeline.next) (MakesStep timeline.kind next) (step_later timeline.kind timeline.next next more) timeline.history.undo good.undo_start timeline.rows good.undo in
-        let one : MakesStep timeline.kind next timeline.rows (edit ∷ []) (edited timeline.rows edit) = (edited timeline.rows edit, made, refl) in
-        let all : List Step = timeline.history.undo ++ (edit ∷ []) ∷ [] in
-        let kept = leads_later (MakesStep timeline.kind next) (length all - most_steps) all good.undo_start (edited timeline.rows edit)
-        (leads_more (MakesStep timeline.kind next) timeline.history.undo (edit ∷ []) good.undo_start timeline.rows (edited timeline.rows edit) lifted one) in
+        let all : List Step = timeline.history.undo ++ step ∷ [] in
+        let kept = leads_later (MakesStep timeline.kind next) (length all - most_steps) all good.undo_start after
+        (leads_more (MakesStep timeline.kind next) timeline.history.undo step good.undo_start timeline.rows after lifted made) in
         record {
           named = good.named;
           least = omega (arith, good.least, more);
           most = most;
-          sound = made.later;
+          sound = sound_after timeline.kind next step timeline.rows after made before;
           undo_start = kept.0;
           undo = kept.1;
-          redo_start = edited timeline.rows edit;
+          redo_start = after;
           redo = refl;
         }
+
+    make_stays : (step : Step) (next : ℕ) (plain : Outcome) → IsPassedOver plain → timeline.next ≤ next → next ≤ next_limit
+        → (IsValid timeline.kind (edited_by timeline.rows step) → MakesStep timeline.kind next timeline.rows step (edited_by timeline.rows step))
+        → StaysGood timeline (makes timeline step next plain)
+    make_stays step next plain passes more most made =
+        elim (failure timeline.kind (edited_by timeline.rows step)) as (λ o. failure timeline.kind (edited_by timeline.rows step) ≡ o
+        → StaysGood timeline (accepted_or_refused timeline (after_step timeline step next) (reported timeline.name timeline.kind timeline.rows step plain) o)) [
+          | None ↦ λ valid. record {
+            same_name = refl;
+            good = good_made step next more most (made valid);
+            tells = λ names few listed judge by agrees own.
+                tells_made names few timeline.name good.named listed timeline.kind next step judge by timeline.rows (edited_by timeline.rows step) plain passes agrees own (made valid);
+          }
+          | Some index ↦ λ fails. refused_stays timeline (refusal_at (slice_get (edited_by timeline.rows step) index)) good (names_no_timeline (slice_get (edited_by timeline.rows step) index))
+        ] refl
 
     edit_stays : (edit : Edit) (next : ℕ) (plain : Outcome) → IsPassedOver plain → timeline.next ≤ next → next ≤ next_limit
         → (IsValid timeline.kind (edited timeline.rows edit) → Makes timeline.kind next timeline.rows edit (edited timeline.rows edit))
         → StaysGood timeline (edits timeline edit next plain)
     edit_stays edit next plain passes more most made =
-        elim (failure timeline.kind (edited timeline.rows edit)) as (λ o. failure timeline.kind (edited timeline.rows edit) ≡ o
-        → StaysGood timeline (accepted_or_refused timeline (after_edit timeline edit next) (reported timeline.name timeline.kind timeline.rows (edit ∷ []) plain) o)) [
-          | None ↦ λ valid. record {
-            same_name = refl;
-            good = good_edited edit next more most (made valid);
-            tells = λ names few listed judge by agrees own.
-                tells_made names few timeline.name good.named listed timeline.kind next (edit ∷ []) judge by timeline.rows (edited timeline.rows edit) plain passes agrees own
-                (edited timeline.rows edit, made valid, refl);
-          }
-          | Some index ↦ λ fails. refused_stays timeline (refusal_at (slice_get (edited timeline.rows edit) index)) good (names_no_timeline (slice_get (edited timeline.rows edit) index))
-        ] refl
+        make_stays (edit ∷ []) next plain passes more most (λ valid. (edited timeline.rows edit, made valid, refl))
 
     -- a row is put in
     new_row_made : (position : Position) (op : Op) → kind_of op ≡ timeline.kind → HasValues op → position.place ≤ length timeline.rows → length timeline.rows < most_rows → timeline.next < next_limit
@@ -229,6 +240,59 @@ module _ (truth : EditsAreReported) (spells : EditsAreSpelled) (back : PrintedRe
     pub delete_stays : (number : ℕ) → StaysGood timeline (deletes timeline number)
     unfolding deletes
     delete_stays number = delete_by number (cut_of number timeline.rows) (cut_is timeline.rows (place_of_row number timeline.rows))
+
+    -- a row is replaced
+    shift_there : (target : Target) (place : ℕ) (old : Row) → IsTargetOf timeline.kind target → HasTarget target → slice_get timeline.rows place ≡ Some old
+        → StaysGood timeline (shifts_there timeline (shift_of timeline.rows target timeline.next place old))
+    shift_there target place old kind values there =
+        let step : Step = shift_of timeline.rows target timeline.next place old in
+        let made : TimelineEffect = makes timeline step (timeline.next + 1) (Inserted timeline.next) in
+        elim (nat_le most_rows (length timeline.rows)) as (λ b. nat_le most_rows (length timeline.rows) ≡ b
+        → StaysGood timeline (cond b (refuses timeline refusals.Full) (cond (nat_le next_limit timeline.next) (refuses timeline refusals.Numbers) made))) [
+          | true ↦ λ full. refused_stays timeline refusals.Full good tt
+          | false ↦ λ room.
+              elim (nat_le next_limit timeline.next) as (λ b. nat_le next_limit timeline.next ≡ b → StaysGood timeline (cond b (refuses timeline refusals.Numbers) made)) [
+                | true ↦ λ out. refused_stays timeline refusals.Numbers good tt
+                | false ↦ λ below.
+                    let lower : timeline.next < next_limit = leb-false next_limit timeline.next below in
+                    make_stays step (timeline.next + 1) (Inserted timeline.next) (inserted_passes timeline.next) (omega arith) (omega arith)
+                    (shift_made shifts_made timeline.kind timeline.rows timeline.next target place old (record {
+                      sound = good.sound;
+                      least = good.least;
+                      room = leb-false most_rows (length timeline.rows) room;
+                      below = lower;
+                      of_kind = kind;
+                      values = values;
+                      there = there;
+                    }))
+              ] refl
+        ] refl
+
+    shift_from : (number : ℕ) (target : Target) (place : ℕ) (row : Option Row) → IsTargetOf timeline.kind target → HasTarget target → slice_get timeline.rows place ≡ row
+        → StaysGood timeline (shifts_by timeline number (option_map (shift_of timeline.rows target timeline.next place) row))
+    shift_from number target place None kind values there = refused_stays timeline (refusals.NoRow number) good tt
+    shift_from number target place (Some old) kind values there = shift_there target place old kind values there
+
+    shift_by : (number : ℕ) (target : Target) (place : Option ℕ) → IsTargetOf timeline.kind target → HasTarget target
+        → StaysGood timeline (shifts_by timeline number (option_and_then (shift_at timeline.rows target timeline.next) place))
+    shift_by number target None kind values = refused_stays timeline (refusals.NoRow number) good tt
+    shift_by number target (Some place) kind values = shift_from number target place (slice_get timeline.rows place) kind values refl
+
+    shift_stays : (number : ℕ) (target : Target) → IsTargetOf timeline.kind target → HasTarget target → StaysGood timeline (shifts timeline number target)
+    unfolding shifts
+    shift_stays number target kind values = shift_by number target (place_of_row number timeline.rows) kind values
+
+    pub move_stays : (number time : ℕ) → StaysGood timeline (moves timeline number time)
+    move_stays number time = shift_stays number (At time) tt tt
+
+    pub change_stays : (number : ℕ) (op : Op) → HasValues op → StaysGood timeline (changes timeline number op)
+    unfolding changes
+    change_stays number op values =
+        elim (same_kind (kind_of op) timeline.kind) as (λ b. same_kind (kind_of op) timeline.kind ≡ b
+        → StaysGood timeline (cond b (shifts timeline number (Into op)) (refuses timeline refusals.Kind))) [
+          | true ↦ λ is. shift_stays number (Into op) (same_kind_is (kind_of op) timeline.kind is) values
+          | false ↦ λ other. refused_stays timeline refusals.Kind good tt
+        ] refl
 
     -- a step that leads to these rows, after which these steps can be undone and redone
     abbrev stepped : List Row → List Step → List Step → Step → TimelineEffect

@@ -6,6 +6,7 @@ use Rattle.retro_io.specs.Lines.{lines}
 use Rattle.evidence.specs.Laws.{LinesAreShort, PrintedReadsBack}
 use Rattle.evidence_check.specs.Judgement.{Judge, nothing_reported}
 use Rattle.evidence_check.specs.Laws.{EditsAreSpelled, EditsAreReported}
+use Rattle.timeline_undo.specs.Back.{ShiftsCanBeMade}
 use Rattle.workbench.specs.Answers.{bench_after, reactions}
 use Rattle.workbench.specs.Bench.{Bench, empty_bench}
 use Rattle.workbench.specs.Reaction.{Reaction, closing, reacts}
@@ -18,18 +19,18 @@ use Rattle.retro_cli.proofs.accepted.ReadLines.{Reads, reads-append, reads_nothi
 abbrev answers_of : Bench → List (List ℕ) → List ℕ
 answers_of bench script = concat (map (λ (reaction : Reaction). reaction.answer) (reactions bench script))
 
-module _ (truth : EditsAreReported) (spells : EditsAreSpelled) (back : PrintedReadsBack) (short : LinesAreShort) where
+module _ (truth : EditsAreReported) (spells : EditsAreSpelled) (back : PrintedReadsBack) (short : LinesAreShort) (shifts_made : ShiftsCanBeMade) where
   -- what the judge is after the answers to some lines
   record ReadsAnswers (bench : Bench) (script : List (List ℕ)) (judge : Judge) : Type 0 where
     later : Judge
     reads : Reads judge (answers_of bench script) later
-    kept : IsKept truth spells back short (bench_after bench script) later.reported
+    kept : IsKept truth spells back short shifts_made (bench_after bench script) later.reported
 
-  reads_answers : (script : List (List ℕ)) (bench : Bench) (judge : Judge) → IsKept truth spells back short bench judge.reported → ReadsAnswers bench script judge
+  reads_answers : (script : List (List ℕ)) (bench : Bench) (judge : Judge) → IsKept truth spells back short shifts_made bench judge.reported → ReadsAnswers bench script judge
   unfolding reactions bench_after
   reads_answers [] bench judge kept = record { later = judge; reads = reads_nothing judge; kept = kept }
   reads_answers (line ∷ script) bench judge kept =
-      let one : StaysKept truth spells back short _ judge = happens_kept truth spells back short bench.timelines judge bench.block line (is_long line) kept.timelines kept.block in
+      let one : StaysKept truth spells back short shifts_made _ judge = happens_kept truth spells back short shifts_made bench.timelines judge bench.block line (is_long line) kept.timelines kept.block in
       let rest = reads_answers script (reacts bench line).bench one.later one.kept in
       record {
         later = rest.later;
@@ -37,7 +38,7 @@ module _ (truth : EditsAreReported) (spells : EditsAreSpelled) (back : PrintedRe
         kept = rest.kept;
       }
 
-  nothing_kept : IsKept truth spells back short empty_bench []
+  nothing_kept : IsKept truth spells back short shifts_made empty_bench []
   nothing_kept = record {
     timelines = record { few = omega arith; good = tt; agrees = record { same = λ name. refl; few = omega arith } };
     block = tt;
@@ -48,6 +49,6 @@ module _ (truth : EditsAreReported) (spells : EditsAreSpelled) (back : PrintedRe
       let script : List (List ℕ) = lines bytes in
       let answered = reads_answers script empty_bench nothing_reported nothing_kept in
       let bench : Bench = bench_after empty_bench script in
-      let closed = ends_kept truth spells back short bench.timelines answered.later bench.block false answered.kept.timelines answered.kept.block in
+      let closed = ends_kept truth spells back short shifts_made bench.timelines answered.later bench.block false answered.kept.timelines answered.kept.block in
       reads_whole (output bytes) closed.later
       (reads-append nothing_reported answered.later closed.later (answers_to script) (closing bench).answer answered.reads closed.reads)
