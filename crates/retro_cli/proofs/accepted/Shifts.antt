@@ -3,7 +3,6 @@ use Rattle.std.proofs.Common.{◌≡◌, ◌≢◌, ℕ, ◌+◌, ◌<◌, ◌�
 use Rattle.std.specs.List.{insert, remove}
 use Rattle.std.proofs.lemmas.List.Edits.{length-remove}
 use Rattle.retro_base.specs.declared.kind.Kind.{Kind}
-use Rattle.retro_base.specs.declared.op.Op.{Op}
 use Rattle.retro_base.specs.declared.row.Row.{Row}
 use Rattle.retro_base.specs.EditedLists.{can_go_back, remove-insert}
 use Rattle.retro_base.specs.Edits.{add, cut, edited_by}
@@ -118,9 +117,16 @@ module _ (shifts : ShiftsCanBeMade) (kind : Kind) (rows : List Row) (next : ℕ)
       subst (IsValid kind) (remove-insert middle put new within.1.0)
       (taking_row_can_go kind (insert middle put new) put new all valid (can_go_back middle (add put new) within.1.0) taking) in
       let first : Makes kind (next + 1) rows (cut index old) middle = goes kind rows (next + 1) index old lifted may.there middle_valid in
-      let fewer : length middle < most_rows = omega (arith, length-remove rows index (index_below rows index old may.there), may.room) in
-      (middle, first, (insert middle put new, comes kind middle next put new first.later (all_without (λ (r : Row). r.number ≢ next) rows index fresh) may.least may.below fewer
-      (drawn_number target next old) here values within.1.0 valid, refl))
+      let fewer : length middle < most_rows = omega (arith, length-remove rows index (index_below rows index old may.there), may.room) in (
+        middle,
+        first,
+        (
+          insert middle put new,
+          comes kind middle next put new first.later (all_without (λ (r : Row). r.number ≢ next) rows index fresh) may.least may.below fewer
+              (drawn_number target next old) here values within.1.0 valid,
+          refl,
+        ),
+      )
 
   pub shift_made : IsValid kind (edited_by rows (shift_of rows target next index old))
       → MakesStep kind (next + 1) rows (shift_of rows target next index old) (edited_by rows (shift_of rows target next index old))
