@@ -5,4 +5,5 @@ pub mod AtKeys
 pub mod BeforeOwn
 pub mod Numbering
 pub mod Steps
+pub mod Windows
 pub mod Counts

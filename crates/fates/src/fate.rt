@@ -4,9 +4,12 @@ ghost use Rattle.retro_base.specs.Kind.{adds, kind_of};
 ghost use Rattle.retro_base.specs.Timeline.{IsReplayable};
 ghost use Rattle.fates.specs.Holding.{StandsAfterOwn};
 
-use crate::standing::{Standing, count_after};
+use crate::standing::{Standing, count_along};
 use order_timeline::Timeline;
-use retro_base::Row;
+use retro_base::{Op, Row};
+
+/// How many rows are read at a time.
+const WINDOW: usize = 64;
 
 /// What became of what a row put in.
 #[derive(Clone, Copy, Debug, PartialEq, Eq)]
@@ -19,7 +22,7 @@ pub enum Fate {
 
 /// What became of what the row at a place put in, which adds, in rows of one kind that replay whole.
 ///
-/// It walks the rows once and keeps a few numbers; it takes no memory.
+/// It walks the rows once, with one search in the tree for each 64 of them, and keeps a few numbers; it takes no memory.
 pub fn fate_of(rows: &Timeline, place: u32) -> Fate
     requires within { place < length rows.now }
     requires adding { (row : Row) → slice_get rows.now place ≡ Some row → adds row.op ≡ true }
@@ -28,11 +31,19 @@ pub fn fate_of(rows: &Timeline, place: u32) -> Fate
 {
     let own = rows.row_at(place);
     let mut standing = standing_after(rows, place, own);
-    for index in place + 1..rows.len() {
-        standing = match standing.after(rows.row_at(index)) {
-            Some(next) => next,
-            None => return Fate::Taken { place: index },
+    let mut window = [NO_ROW; WINDOW];
+    let mut from = place + 1;
+    while from < rows.len() {
+        let read = rows.read_rows(from, &mut window);
+        standing = match standing.along(&window[..read as usize]) {
+            Ok(next) => next,
+            Err(index) => {
+                return Fate::Taken {
+                    place: from + index,
+                };
+            }
         };
+        from += read;
     }
     Fate::Stays
 }
@@ -45,9 +56,21 @@ fn standing_after(rows: &Timeline, place: u32, own: Row) -> Standing
     requires replayable { IsReplayable (kind_of own.op) rows.now }
     ensures { StandsAfterOwn rows.now place own result }
 {
+    let mut window = [NO_ROW; WINDOW];
     let mut count = 0;
-    for index in 0..place {
-        count = count_after(own, count, rows.row_at(index));
+    let mut from = 0;
+    while from < place {
+        let read = rows.read_rows(from, &mut window);
+        let before = read.min(place - from);
+        count = count_along(own, count, &window[..before as usize]);
+        from += before;
     }
     Standing::of(own, count)
 }
+
+/// What a window holds before it is read into.
+const NO_ROW: Row = Row {
+    number: 1,
+    time: 0,
+    op: Op::Deq,
+};

@@ -1,6 +1,9 @@
-ghost use Rattle.std.specs.Prelude.{◌≡◌, ◌+◌, ◌-◌, ◌^◌, ◌<◌, ◌≤◌};
+ghost use Rattle.std.specs.Prelude.{◌≡◌, ◌+◌, ◌-◌, ◌^◌, ◌<◌, ◌≤◌, length};
+ghost use Rattle.std.specs.List.{fold};
 ghost use Rattle.fates.specs.Standings.{IsUpTo, after_row, count_after, counts, entry_after, line_after, pair_after, standing_of};
 ghost use Rattle.retro_base.specs.Kind.{adds};
+ghost use Rattle.retro_base.specs.Limits.{most_rows};
+ghost use Rattle.retro_base.specs.Replay.{fold_rows};
 
 use retro_base::{Entry, Op, Row};
 
@@ -25,8 +28,20 @@ fn counts(own: Row, row: Row) -> bool
     }
 }
 
+/// How many are counted after these rows before its own.
+pub(crate) fn count_along(own: Row, count: u32, rows: &[Row]) -> u32
+    requires { count + length rows.now < 2 ^ 32 }
+    ensures { result ≡ fold (count_after own) count rows.now }
+{
+    let mut count = count;
+    for row in rows {
+        count = count_after(own, count, *row);
+    }
+    count
+}
+
 /// How many are counted after one more row before its own.
-pub(crate) fn count_after(own: Row, count: u32, row: Row) -> u32
+fn count_after(own: Row, count: u32, row: Row) -> u32
     requires { count + 1 < 2 ^ 32 }
     ensures { result ≡ count_after own count row }
 {
@@ -64,8 +79,24 @@ impl Standing {
         }
     }
 
+    /// Where it stands after these rows, or the index of the first of them that takes it.
+    pub(crate) fn along(self, rows: &[Row]) -> Result<Standing, u32>
+        requires few { length rows.now ≤ most_rows }
+        requires room { IsUpTo self most_rows }
+        ensures { result ≡ fold_rows (λ row standing. after_row standing row) rows.now self }
+    {
+        let mut standing = self;
+        for (index, row) in rows.iter().enumerate() {
+            standing = match standing.after(*row) {
+                Some(next) => next,
+                None => return Err(index as u32),
+            };
+        }
+        Ok(standing)
+    }
+
     /// Where it stands after a row, or nothing where the row takes it.
-    pub(crate) fn after(self, row: Row) -> Option<Standing>
+    fn after(self, row: Row) -> Option<Standing>
         requires { IsUpTo self (2 ^ 32 - 2) }
         ensures { result ≡ after_row self row }
     {

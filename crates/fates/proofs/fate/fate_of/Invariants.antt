@@ -1,15 +1,15 @@
 -- What the row put in is there after each row so far.
-use Rattle.std.specs.Prelude.{◌≡◌, ℕ, ◌<◌, ◌≤◌, true, slice_get, Some}
+use Rattle.std.specs.Prelude.{◌≡◌, ◌-◌, ◌<◌, ◌≤◌, length, slice_get, Some}
 use Rattle.retro_base.specs.declared.row.Row.{Row}
-use Rattle.retro_base.specs.Kind.{kind_of}
-use Rattle.fates.specs.Fates.{holders, holds}
-use Rattle.fates.specs.Holding.{Stands}
-use Rattle.fates.specs.Standings.{IsUpTo}
+use Rattle.fates.proofs.Windows.{IsWalked}
 use Rattle.fates.proofs.fate.fate_of.Given as goal
 
-abbrev pub invariant-loop-index : goal.invariant-loop-index
-invariant-loop-index l = record {
-  stands : (own : Row) → slice_get l.rows l.fn.place ≡ Some own → Stands l.standing own.number (holders (kind_of own.op) l.rows l.index);
-  few : IsUpTo l.standing l.index;
-  there : (own : Row) → slice_get l.rows l.fn.place ≡ Some own → (q : ℕ) → l.fn.place < q → q ≤ l.index → holds own.number (holders (kind_of own.op) l.rows q) ≡ true;
+abbrev pub invariant-loop-from : goal.invariant-loop-from
+invariant-loop-from l = record {
+  later : l.fn.place < l.from;
+  within : l.from ≤ length l.rows;
+  walked : (own : Row) → slice_get l.rows l.fn.place ≡ Some own → IsWalked l.rows l.fn.place own l.from l.standing;
 }
+
+abbrev pub decreases-loop-from : goal.decreases-loop-from
+decreases-loop-from l = length l.rows - l.from
