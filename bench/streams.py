@@ -48,7 +48,7 @@ def long_script():
     """The script, and its answers."""
     script = [b"new q queue"]
     answers = [b"ok"]
-    saved = [b"timeline q queue next %d" % (ROWS + 1)]
+    saved = [b"timeline q queue next %d rows %d" % (ROWS + 1, ROWS)]
     for i in range(1, ROWS + 1):
         script.append(b"q at %d enq %d" % (FIRST_TIME + i, FIRST_VALUE + i))
         answers.append(b"ok #%d" % i)
