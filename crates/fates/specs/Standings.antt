@@ -42,7 +42,7 @@ entry_after entry lesser number (Ins key) =
 entry_after entry lesser number DelMin = without_least entry lesser
 entry_after entry lesser number op = Some (AfterLesser entry lesser)
 
--- the pair of a key after an operation: a row on its key takes it, a put that gives the key another value among them
+-- the pair of a key after an operation: a row on its key takes it, a put among them, whatever its value
 abbrev pub pair_after : ℤ → Op → Option Standing
 pair_after key (Put other value) = if int_eq key other then None else Some (AtKey key)
 pair_after key (Del other) = if int_eq key other then None else Some (AtKey key)

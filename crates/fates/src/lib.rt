@@ -8,7 +8,7 @@
 //! The definition is `specs/Fates.antt`: the replay in which each row puts in its own number in place of its value. It holds of
 //! rows of one kind that replay whole.
 //!
-//! - `laws`: how the number of entries that are at most a given one rises and falls along a replay, which the walk counts for a priority queue.
+//! - `laws`: how the number of entries that are at most a given one rises and falls along a replay.
 //! - `Fate`, `fate_of`. Inside: `standing` (where something stands among what is there).
 #![tactic(auto)]
 

@@ -29,8 +29,7 @@ use std::marker::Model;
 pub const MAX_STEPS: usize = 1024;
 
 /// A timeline with the structure that performs it, and with what can be undone of it. A session that met out of memory
-/// between the two list edits of a step is spent: it has the rows after the first one and no history, and each call
-/// holds of those.
+/// between the two list edits of a step is spent: it has the rows after the first one, and each call holds of those.
 #[derive(Drop)]
 pub struct Session<R: Retro + Drop> {
     timeline: Timeline,

@@ -33,7 +33,7 @@ fn fates_of_rows(rt: HostRuntime) -> Result<(), NoMemory> {
             b"ok\nok #1\nok #2\nok #3\nok #4\nok #5\nok #6\n= taken #5 5\n= taken #4 4\n= taken #6 6\n",
             Status::Done,
         ),
-        // A dictionary: a row that puts another value under the key takes the first one out.
+        // A dictionary: a row that puts a value under the key once more takes the first one out.
         (
             b"new k dict\nk at 1 put 1 10\nk at 2 put 2 20\nk at 3 put 1 30\nk at 4 del 2\nk at 5 del 1\n\
               k at 6 put 2 40\nk fate #1\nk fate #2\nk fate #3\nk fate #6\nk fate #4\n",
