@@ -38,10 +38,11 @@ pub enum Engine {
 }
 
 impl Engine {
-    /// An empty structure of the kind.
+    /// An empty structure of the kind; of a priority queue that by checkpoints.
     pub fn new(alloc: Global, kind: Kind) -> Engine
         ensures kind { kind_inside result ≡ kind }
         ensures rows { rows_inside result ≡ [] }
+        ensures unfused { is_fused result ≡ false }
     {
         match kind {
             Kind::Queue => Engine::Queue {
@@ -88,6 +89,7 @@ impl Engine {
         requires within { place ≤ length (rows_inside self.old) }
         requires suited { suits question (kind_inside self.old) ≡ true }
         ensures kind { kind_inside self.new ≡ kind_inside self.old }
+        ensures variant { is_fused self.new ≡ is_fused self.old }
         ensures rows { rows_inside self.new ≡ rows_inside self.old }
         ensures answer { IfOk result (λ answer. answer ≡ answer_of (state_at (kind_inside self.old) (rows_inside self.old) place) question) }
         ensures line { is_line self.old ≡ true → IsOk result }
@@ -120,6 +122,7 @@ impl Engine {
         requires parts { blank.parts ≡ L.parts }
         requires shared { 0 < blank.parts }
         ensures kind { kind_inside self.new ≡ kind_inside self.old }
+        ensures variant { is_fused self.new ≡ is_fused self.old }
         ensures rows { rows_inside self.new ≡ rows_inside self.old }
         ensures answer { IfOk result (λ answer. answer ≡ answer_of (state_at (kind_inside self.old) (rows_inside self.old) place) question) }
         ensures made { is_pq self.old ≡ true → OnOk result (made_inside self.new ≡ true) }
@@ -187,6 +190,7 @@ impl Retro for Engine {
         requires of_kind { kind_of row.op ≡ kind_inside self.old }
         requires replays { IsValid (kind_inside self.old) (insert (rows_inside self.old) place row) }
         ensures kind { kind_inside self.new ≡ kind_inside self.old }
+        ensures variant { is_fused self.new ≡ is_fused self.old }
         ensures rows { OnOk result (rows_inside self.new ≡ insert (rows_inside self.old) place row) }
         ensures replayable { OnOk result (IsReplayable (kind_inside self.new) (rows_inside self.new)) }
         ensures change { IfOk result (IsChange (kind_inside self.old) (rows_inside self.old) (add place row)) }
@@ -208,6 +212,7 @@ impl Retro for Engine {
         requires within { place < length (rows_inside self.old) }
         requires replays { IsValid (kind_inside self.old) (remove (rows_inside self.old) place) }
         ensures kind { kind_inside self.new ≡ kind_inside self.old }
+        ensures variant { is_fused self.new ≡ is_fused self.old }
         ensures row { IfOk result (λ taken. slice_get (rows_inside self.old) place ≡ Some taken.0) }
         ensures rows { OnOk result (rows_inside self.new ≡ remove (rows_inside self.old) place) }
         ensures replayable { OnOk result (IsReplayable (kind_inside self.new) (rows_inside self.new)) }
@@ -241,6 +246,7 @@ impl Retro for Engine {
         requires within { place ≤ length (rows_inside self.old) }
         requires suited { suits question (kind_inside self.old) ≡ true }
         ensures kind { kind_inside self.new ≡ kind_inside self.old }
+        ensures variant { is_fused self.new ≡ is_fused self.old }
         ensures rows { rows_inside self.new ≡ rows_inside self.old }
         ensures answer { IfOk result (λ answer. answer ≡ answer_of (state_at (kind_inside self.old) (rows_inside self.old) place) question) }
         ensures made { is_pq self.old ≡ true → OnOk result (made_inside self.new ≡ true) }
@@ -253,6 +259,7 @@ impl Retro for Engine {
     fn all(&mut self, place: u32) -> Result<Listing, NoMemory>
         requires { place ≤ length (rows_inside self.old) }
         ensures kind { kind_inside self.new ≡ kind_inside self.old }
+        ensures variant { is_fused self.new ≡ is_fused self.old }
         ensures rows { rows_inside self.new ≡ rows_inside self.old }
         ensures content { IfOk result (λ listing. listing ≡ content (state_at (kind_inside self.old) (rows_inside self.old) place)) }
         ensures made { is_pq self.old ≡ true → OnOk result (made_inside self.new ≡ true) }
