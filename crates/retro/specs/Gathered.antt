@@ -29,7 +29,8 @@ pub record RunsGathered {S K : Type 0} (I : sources.Ghosts S) (O : sinks.Ghosts 
   pub complete : HasForm words → (HasRisen (I.faults source) (I.faults source') → ⊥) → (HasRisen (G.faults first) (G.faults outbox) → ⊥)
       → EndsWithoutFault (I.left source) status
   pub too_long : I.taken source' < last_count → (status ≡ statuses.TooLong) ↔ (most_bytes < I.taken source' - I.taken source)
-  -- where no bytes wait at the sink before, all that was written is in the sink in the end, unless that failed
+  -- where no bytes wait at the sink before, nothing waits in the outbox in the end, and all that was written is in the sink, unless that failed
+  pub sent : O.waiting sink ≡ [] → is_write_fault status ≡ false → waiting_of outbox ≡ []
   pub all : O.waiting sink ≡ [] → is_write_fault status ≡ false → O.written (sink_of outbox) ≡ G.written outbox
 
 -- some run of these words over some streams ended with this status

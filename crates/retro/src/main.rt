@@ -5,7 +5,7 @@
 //! the next line is asked for.
 #![tactic(auto)]
 
-ghost use Rattle.std.specs.Prelude.{◌≡◌, ◌≢◌, ◌<◌, ◌-◌, ◌^◌, ◌⊎◌, ◌↔◌, length, IfOk, IfErr};
+ghost use Rattle.std.specs.Prelude.{◌≡◌, ◌≢◌, ◌<◌, ◌-◌, ◌^◌, ◌⊎◌, ◌↔◌, length, IfOk, IfErr, OnErr};
 ghost use Rattle.std.specs.IoError.{error_kind};
 ghost use Rattle.std.specs.Process.{exit_status};
 ghost use Rattle.retro.specs.Gathered.{EndsARun, RunsGathered};
@@ -61,7 +61,7 @@ fn answer(rt: &HostRuntime, words: &Words) -> Status
 }
 
 /// Runs the program over an outbox before this sink, with one tally as follower, and gives the outbox back. All that `run_followed` promises
-/// holds of the outbox, and where the sink did not fail, all that was written to it has gone on to the sink.
+/// holds of the outbox, and where the sink did not fail, all that was written to it has gone on to the sink. After `NoMemory` nothing was read.
 fn run_gathered<S: Source, K: Sink + Drop>(
     alloc: Global,
     words: &Words,
@@ -71,6 +71,7 @@ fn run_gathered<S: Source, K: Sink + Drop>(
     ensures runs { IfOk result (λ ended. RunsGathered ⟦<S as Source>⟧ ⟦<K as Sink>⟧ ⟦<Outbox<K> as Sink>⟧
         source.old source.new sink ended.1 ended.0 words.now) }
     ensures words { IfOk result (λ ended. (ended.0 ≡ Status.Words) ↔ HasNoForm words.now) }
+    ensures err { OnErr result (source.new ≡ source.old) }
 {
     let mut outbox = Outbox::new(alloc, sink)?;
     let mut followers: Vec<Box<dyn Follower>> = Vec::new(alloc);

@@ -2,7 +2,7 @@
 use Rattle.std.proofs.Common.{◌≡◌, [], ◌∷◌, ◌++◌, ap, ◌∙◌, refl, map, subst}
 use Rattle.followers.specs.Totals.{tally, totals_after, totals_text}
 use Rattle.retro_cli.specs.FollowedProgram.{RunsFollowed}
-use Rattle.retro.proofs.Waiting.{all_is_in, none_and_none}
+use Rattle.retro.proofs.Waiting.{all_is_in, none_and_none, second_is_none}
 use Rattle.retro.proofs.run_gathered.OwnLists.{at-1-1, own-1}
 use Rattle.retro_io.specs.contracts.outbox.OutboxSink.TheImpl.{ghosts}
 use denote.Param.Object.{read_made}
@@ -28,5 +28,6 @@ returns-clause-runs g c =
       sink_faults = c.run_followed-status.ensures.sink_faults;
       complete = c.run_followed-status.ensures.complete;
       too_long = c.run_followed-status.ensures.too_long;
+      sent = λ none succeeds. second_is_none _ _ (c.run_followed-status.ensures.sent (none_and_none _ _ (rw c.in_ok-outbox.ensures.sink none) c.in_ok-outbox.ensures.waiting) succeeds);
       all = λ none succeeds. all_is_in _ _ _ (c.run_followed-status.ensures.sent (none_and_none _ _ (rw c.in_ok-outbox.ensures.sink none) c.in_ok-outbox.ensures.waiting) succeeds);
     }
