@@ -117,3 +117,55 @@ fn streams_are_handed_all_of_every_size(rt: HostRuntime) -> Result<(), Fail> {
     }
     Ok(())
 }
+
+/// A stream whose every second call fails, and which else gives half of what is asked for and takes half of what it is handed.
+#[derive(Drop)]
+struct FailsInTurn {
+    fails: bool,
+}
+
+impl FailsInTurn {
+    /// Notes one call more.
+    fn turn(&mut self) -> io::Result<()> {
+        self.fails = !self.fails;
+        if self.fails {
+            Err(ErrorKind::BrokenPipe.into())
+        } else {
+            Ok(())
+        }
+    }
+}
+
+impl Read for FailsInTurn {
+    fn read(&mut self, buffer: &mut [u8]) -> io::Result<usize> {
+        self.turn()?;
+        Ok(buffer.len() / 2)
+    }
+}
+
+impl Write for FailsInTurn {
+    fn write(&mut self, piece: &[u8]) -> io::Result<usize> {
+        self.turn()?;
+        Ok(piece.len() / 2)
+    }
+
+    fn flush(&mut self) -> io::Result<()> {
+        self.turn()
+    }
+}
+
+#[test]
+fn a_call_is_one_call_of_the_stream(rt: HostRuntime) -> Result<(), Fail> {
+    let mut source = StdSource::new(FailsInTurn { fails: true });
+    let mut writer = StdSink::new(FailsInTurn { fails: true });
+    let mut flusher = StdSink::new(FailsInTurn { fails: true });
+    for _ in 0..2 {
+        assert_eq!(rt; source.read(&mut [0; 16]), Ok(8));
+        assert_eq!(rt; source.read(&mut [0; 16]), Err(Failed));
+        assert_eq!(rt; writer.write(b"abcdef"), Ok(3));
+        assert_eq!(rt; writer.write(b"abcdef"), Err(Failed));
+        assert_eq!(rt; flusher.flush(), Ok(()));
+        assert_eq!(rt; flusher.flush(), Err(Failed));
+    }
+    Ok(())
+}
