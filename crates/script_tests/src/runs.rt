@@ -5,10 +5,10 @@ mod blocks;
 mod correction_tables;
 mod corrections;
 mod evidence_files;
-mod fates;
 mod followed_runs;
 mod outboxes;
 mod priority_queues;
+mod what_became;
 
 use retro_base::{NoMemory, Text};
 use retro_cli::{Status, Words, run};
