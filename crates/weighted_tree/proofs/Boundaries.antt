@@ -7,7 +7,7 @@ use Rattle.std.specs.Borrow.{Bor}
 use Rattle.monoid_laws.specs.Laws.{MonoidLaws}
 use Rattle.monoid_laws.specs.Measure.{measure_of}
 use Rattle.weighted_tree.specs.Search.{Tells}
-use Rattle.weighted_tree.specs.SearchSteps.{IsBoundary, IsSought, IsBoundaryWithin}
+use Rattle.weighted_tree.specs.SearchSteps.{IsBoundary, IsSought, IsBoundaryWithin, joined_after}
 use Rattle.weighted_tree.specs.declared.search.Search.{Search}
 use Rattle.weighted_tree.specs.declared.search.Search.TheVariants.{Found, Open}
 use Rattle.weighted_tree.proofs.Joins.{join_around}
@@ -21,7 +21,7 @@ pub record IsParted {A : Type 0} (items near far : List A) (item : A) (to here b
 
 -- the place after one where a test fails, and later places
 module _ (holds : ℕ → Bool) (place : ℕ) where
-  boundary_there : holds place ≡ false → holds (place + 1) ≡ true → IsBoundary holds (place + 1)
+  pub boundary_there : holds place ≡ false → holds (place + 1) ≡ true → IsBoundary holds (place + 1)
   boundary_there fails holding = record {
     holds_there = holding;
     not_before = λ before is. subst (λ k. holds k ≡ false) (let same : place ≡ before = omega arith in same) fails;
@@ -34,12 +34,17 @@ module _ (holds : ℕ → Bool) (place : ℕ) where
     not_before = λ before is. subst (λ k. holds k ≡ false) (let same : place + count ≡ before = omega arith in same) (boundary.not_before count (omega arith));
   }
 
--- where no place is left
-pub none_within : {F M : Type 0} (calls : Shared F (Bor M × Unit {0}) Bool) (test : F) (measures : ℕ → M) (to : ℕ) → to ≡ 0 → IsBoundaryWithin calls test measures to 0
-none_within calls test measures to none = record {
-  boundary = λ holds tells end. record { holds_there = ap holds (sym none) ∙ end; not_before = λ before is. absurd (omega arith) };
-  within = omega arith;
-}
+-- what a search that may come to the end answers where the test holds there
+pub found_within : {F M : Type 0} (calls : Shared F (Bor M × Unit {0}) Bool) (test : F) (counts : M → ℕ) (measures : ℕ → M) (to end place : ℕ) → to ≡ end → IsSought calls test counts measures to (Found place) → IsBoundaryWithin calls test measures end place
+found_within calls test counts measures to end place same sought = subst (λ k. IsBoundaryWithin calls test measures k place) same (record { boundary = λ holds tells end. sought.boundary holds tells; within = sought.end })
+
+pub open_within : {F M : Type 0} (calls : Shared F (Bor M × Unit {0}) Bool) (test : F) (counts : M → ℕ) (measures : ℕ → M) (to end : ℕ) (measure : M) → to ≡ end → IsSought calls test counts measures to (Open measure) → IsBoundaryWithin calls test measures end end
+open_within calls test counts measures to end measure same sought = subst (λ k. IsBoundaryWithin calls test measures k k) same (record { boundary = λ holds tells end. absurd (cc (sought.boundary holds tells, end)); within = omega arith })
+
+-- before the first item, as many were joined as there are
+pub from_start : {F M : Type 0} (calls : Shared F (Bor M × Unit {0}) Bool) (test : F) (counts : M → ℕ) (measures : M → ℕ → M) (to : ℕ) (start unit : M) (answer : Search M) → start ≡ unit → counts unit ≡ 0 → IsSought calls test (joined_after counts start) (measures start) to answer → IsSought calls test counts (measures unit) to answer
+from_start calls test counts measures to start unit (Found place) start_is none sought = subst (λ m. IsSought calls test counts (measures m) to (Found place)) start_is (record { boundary = sought.boundary; end = sought.end })
+from_start calls test counts measures to start unit (Open measure) start_is none sought = subst (λ m. IsSought calls test counts (measures m) to (Open measure)) start_is (record { boundary = sought.boundary; end = (sought.end.0, omega (arith, sought.end.1, ap counts start_is)) })
 
 module _ {A M : Type 0} {count : M → ℕ} {unit : M} {join : M → M → M} (laws : MonoidLaws count unit join) (measured : A → M) (before : M) where
   abbrev passed : M → List A → ℕ → M
@@ -70,26 +75,6 @@ module _ {A M : Type 0} {count : M → ℕ} {unit : M} {join : M → M → M} (l
 
       pub whole_open : answer ≡ false → count all ≡ to → IsSought calls test count (passed before items) to (Open all)
       whole_open is counts = record { boundary = λ holds tells. at_whole holds tells ∙ is; end = (whole_same, counts) }
-
-    -- no item is left
-    module _ (items : List A) (to : ℕ) (none : to ≡ 0) (start : M) (answer : Bool) (start_is : start ≡ before) (call : FnReturnsAt calls test start answer) where
-      same_start : start ≡ passed before items 0
-      same_start = start_is ∙ sym (laws.right_unit before)
-
-      at_start : (holds : ℕ → Bool) → Tells calls test (passed before items) holds 0 to → holds 0 ≡ answer
-      at_start holds tells = said items holds to tells 0 (omega arith) start answer same_start call
-
-      pub start_found : answer ≡ true → IsSought calls test count (passed before items) to (Found 0)
-      start_found is = record {
-        boundary = λ holds tells. record { holds_there = at_start holds tells ∙ is; not_before = λ k same. absurd (omega arith) };
-        end = omega arith;
-      }
-
-      pub start_open : answer ≡ false → count before ≡ 0 → IsSought calls test count (passed before items) to (Open start)
-      start_open is uncounted = record {
-        boundary = λ holds tells. ap holds none ∙ at_start holds tells ∙ is;
-        end = (same_start ∙ ap (passed before items) (sym none), ap count start_is ∙ uncounted ∙ sym none);
-      }
 
   module _ {items near far : List A} {item : A} {to here beyond : ℕ} (parts : IsParted items near far item to here beyond) where
     abbrev through : M

@@ -1,8 +1,9 @@
 -- A balanced tree has at most three levels for each digit of its weight.
-use Rattle.std.proofs.Common.{◌≡◌, ℕ, zero, suc, ◌+◌, ◌*◌, ◌^◌, ◌<◌, ◌≤◌, List, ◌∷◌, ◌++◌, length, length-append, ap, ◌∙◌, subst, arith}
+use Rattle.std.proofs.Common.{◌≡◌, ℕ, zero, suc, ◌+◌, ◌*◌, ◌^◌, ◌<◌, ◌≤◌, refl, subst, arith}
+use Rattle.std.specs.Prelude.{Result, Ok, Err, OnOk}
 use Rattle.std.proofs.lemmas.Nat.{pow-add}
 use Rattle.std.proofs.Math.Nat.{one-le-pow}
-use Rattle.weighted_tree.specs.Balance.{weight}
+use Rattle.weighted_tree.specs.Balance.{Part, weight}
 use Rattle.weighted_tree.specs.Nodes.{IsRoot}
 use Rattle.weighted_tree.specs.declared.subtree.Node.{Node}
 use Rattle.retro_base.specs.Digits.{digits}
@@ -24,21 +25,21 @@ unfolding triple
 triple-is zero = omega arith
 triple-is (suc n) = omega (arith, triple-is n)
 
-three_levels : (digits whole : ℕ) → whole < 2 ^ digits → IsWithinLevels whole (triple digits)
+three_levels : (digits whole : ℕ) → whole < 2 ^ suc digits → IsWithinLevels whole (triple digits)
 unfolding triple
 three_levels zero whole below = omega arith
-three_levels (suc digits) whole below = λ first a second b third c. three_levels digits third (omega (arith, pow-add 2 digits 1))
+three_levels (suc digits) whole below = λ first a second b third c. three_levels digits third (omega (arith, pow-add 2 (suc digits) 1))
 
--- the levels of a tree of this weight
-pub levels-of_digits : (whole : ℕ) → IsWithinLevels whole (3 * digits whole)
-levels-of_digits whole = subst (IsWithinLevels whole) (triple-is (digits whole)) (three_levels (digits whole) whole (below-digits whole))
+-- the levels of a tree of this weight: three for each digit but the first
+pub levels-of_digits : (whole fewer : ℕ) → digits whole ≡ suc fewer → IsWithinLevels whole (3 * fewer)
+levels-of_digits whole fewer is = subst (IsWithinLevels whole) (triple-is fewer) (three_levels fewer whole (subst (λ d. whole < 2 ^ d) is (below-digits whole)))
 
--- four visits a level are twelve a digit
-pub few-by_levels : (whole length before after : ℕ) → whole ≤ length + 1 → before ≤ after → FourALevel whole before after → VisitsWithin 12 length before after
-few-by_levels whole length before after light none_lost visits = record {
-  none_lost = none_lost;
-  few = omega (arith, visits (3 * digits whole) (levels-of_digits whole), digits-monotone whole (length + 1) light);
-}
+-- four visits a level, and four at the end, are no more than twelve a digit
+pub few-by_levels : (whole length before after : ℕ) → 1 ≤ whole → whole ≤ length + 1 → before ≤ after → FourALevel whole before after → VisitsWithin 12 length before after
+few-by_levels whole length before after some light none_lost visits = record { none_lost = none_lost; few = by_digits (digits whole) refl } where
+  by_digits : (count : ℕ) → digits whole ≡ count → after ≤ before + 12 * digits (length + 1)
+  by_digits zero is = absurd (omega (arith, subst (λ d. whole < 2 ^ d) is (below-digits whole)))
+  by_digits (suc fewer) is = omega (arith, visits (3 * fewer) (levels-of_digits whole fewer is), digits-monotone whole (length + 1) light, is)
 
 -- a level more: the node is visited on the way down and on the way back, where a rotation visits two more
 pub level_more : (whole side start visited middle end : ℕ) → visited ≡ start + 1 → 2 ≤ whole → 4 * side ≤ 3 * whole → FourALevel side visited middle → end ≤ middle + 3 → FourALevel whole start end
@@ -65,38 +66,34 @@ counted_one whole before after few both (suc zero) within = omega arith
 counted_one whole before after few both (suc (suc levels)) within = absurd (omega (arith, pow-add 4 levels 2, one-le-pow levels 4 (omega arith)))
 
 -- the left side is a level down, and the right one
-module _ {A M : Type 0} (items : List A) (node : Node A M) (start visited middle end : ℕ) (root : IsRoot items node) where
-  pub level_left : visited ≡ start + 1 → FourALevel (weight node.left) visited middle → end ≤ middle + 3 → FourALevel (weight items) start end
+module _ {A M : Type 0} (part : Part A) (node : Node A M) (start visited middle end : ℕ) (root : IsRoot part node) where
+  pub level_left : visited ≡ start + 1 → FourALevel (weight node.left) visited middle → end ≤ middle + 3 → FourALevel (weight part) start end
   level_left visit below up =
-      let whole = ap length root.items_are ∙ length-append node.left (node.item ∷ node.right) in
-      level_more (weight items) (weight node.left) start visited middle end visit (omega arith) (omega arith) below up
+      let whole = root.nodes_are in
+      level_more (weight part) (weight node.left) start visited middle end visit (omega arith) (omega arith) below up
 
-  pub level_right : visited ≡ start + 1 → FourALevel (weight node.right) visited middle → end ≤ middle + 3 → FourALevel (weight items) start end
+  pub level_right : visited ≡ start + 1 → FourALevel (weight node.right) visited middle → end ≤ middle + 3 → FourALevel (weight part) start end
   level_right visit below up =
-      let whole = ap length root.items_are ∙ length-append node.left (node.item ∷ node.right) in
-      level_more (weight items) (weight node.right) start visited middle end visit (omega arith) (omega arith) below up
+      let whole = root.nodes_are in
+      level_more (weight part) (weight node.right) start visited middle end visit (omega arith) (omega arith) below up
 
-  pub counted_left : TwoALevel (weight node.left) visited middle → start + 2 + middle ≤ visited + end → TwoALevel (weight items) start end
+  pub counted_left : TwoALevel (weight node.left) visited middle → start + 2 + middle ≤ visited + end → TwoALevel (weight part) start end
   counted_left below up =
-      let whole = ap length root.items_are ∙ length-append node.left (node.item ∷ node.right) in
-      two_a_level_more (weight items) (weight node.left) start visited middle end (omega arith) (omega (arith, root.balanced)) below up
+      let whole = root.nodes_are in
+      two_a_level_more (weight part) (weight node.left) start visited middle end (omega arith) (omega (arith, root.balanced)) below up
 
-  pub counted_right : TwoALevel (weight node.right) visited middle → start + 2 + middle ≤ visited + end → TwoALevel (weight items) start end
+  pub counted_right : TwoALevel (weight node.right) visited middle → start + 2 + middle ≤ visited + end → TwoALevel (weight part) start end
   counted_right below up =
-      let whole = ap length root.items_are ∙ length-append node.left (node.item ∷ node.right) in
-      two_a_level_more (weight items) (weight node.right) start visited middle end (omega arith) (omega (arith, root.balanced)) below up
+      let whole = root.nodes_are in
+      two_a_level_more (weight part) (weight node.right) start visited middle end (omega arith) (omega (arith, root.balanced)) below up
 
   -- the node alone
-  pub level_end : visited ≡ start + 1 → end ≤ visited + 3 → FourALevel (weight items) start end
-  level_end visit up = level_here (weight items) start end (let whole = ap length root.items_are ∙ length-append node.left (node.item ∷ node.right) in omega arith) (omega arith)
+  pub level_end : visited ≡ start + 1 → end ≤ visited + 3 → FourALevel (weight part) start end
+  level_end visit up = level_here (weight part) start end (omega (arith, root.nodes_are)) (omega arith)
 
--- there is an item below each node
-pub some_items : {A : Type 0} (left right : List A) (item : A) → 0 < length (left ++ item ∷ right)
-some_items left right item = omega (arith, length-append left (item ∷ right))
-
--- where one side has no items, the whole weighs no more than this
-pub few_items : {A M : Type 0} {items : List A} {node : Node A M} → IsRoot items node → length node.left ≡ 0 → weight items ≤ 4
-few_items {node} root none = omega (arith, ap length root.items_are, length-append node.left (node.item ∷ node.right), root.balanced)
+-- where one side has no nodes, the whole weighs no more than this
+pub few_nodes : {A M : Type 0} {part : Part A} {node : Node A M} → IsRoot part node → node.right.nodes ≡ 0 → weight part ≤ 4
+few_nodes root none = omega (arith, root.nodes_are, root.balanced)
 
 -- one visit a level
 pub one_more : (whole side start visited end : ℕ) → visited ≡ start + 1 → 2 ≤ whole → 4 * side ≤ 3 * whole → OneALevel side visited end → OneALevel whole start end
@@ -108,36 +105,36 @@ pub two_more : (whole near far start visited middle end : ℕ) → visited ≡ s
 two_more whole near far start visited middle end visit some light_near light_far first second zero within = absurd (omega arith)
 two_more whole near far start visited middle end visit some light_near light_far first second (suc levels) within = omega (arith, first levels (within near light_near), second levels (within far light_far))
 
-module _ {A M : Type 0} (items : List A) (node : Node A M) (start visited : ℕ) (root : IsRoot items node) (visit : visited ≡ start + 1) where
-  sides : weight items ≡ weight node.left + weight node.right
-  sides = omega (arith, ap length root.items_are, length-append node.left (node.item ∷ node.right))
+module _ {A M : Type 0} (part : Part A) (node : Node A M) (start visited : ℕ) (root : IsRoot part node) (visit : visited ≡ start + 1) where
+  sides : weight part ≡ weight node.left + weight node.right
+  sides = omega (arith, root.nodes_are)
 
-  pub one_left : (end : ℕ) → OneALevel (weight node.left) visited end → OneALevel (weight items) start end
-  one_left end below = one_more (weight items) (weight node.left) start visited end visit (omega (arith, sides)) (omega (arith, sides, root.balanced)) below
+  pub one_left : (end : ℕ) → OneALevel (weight node.left) visited end → OneALevel (weight part) start end
+  one_left end below = one_more (weight part) (weight node.left) start visited end visit (omega (arith, sides)) (omega (arith, sides, root.balanced)) below
 
-  pub one_right : (end : ℕ) → OneALevel (weight node.right) visited end → OneALevel (weight items) start end
-  one_right end below = one_more (weight items) (weight node.right) start visited end visit (omega (arith, sides)) (omega (arith, sides, root.balanced)) below
+  pub one_right : (end : ℕ) → OneALevel (weight node.right) visited end → OneALevel (weight part) start end
+  one_right end below = one_more (weight part) (weight node.right) start visited end visit (omega (arith, sides)) (omega (arith, sides, root.balanced)) below
 
-  pub both_sides : (middle end : ℕ) → OneALevel (weight node.left) visited middle → OneALevel (weight node.right) middle end → FourALevel (weight items) start end
-  both_sides middle end left right = two_more (weight items) (weight node.left) (weight node.right) start visited middle end visit (omega (arith, sides)) (omega (arith, sides, root.balanced)) (omega (arith, sides, root.balanced)) left right
+  pub both_sides : (middle end : ℕ) → OneALevel (weight node.left) visited middle → OneALevel (weight node.right) middle end → FourALevel (weight part) start end
+  both_sides middle end left right = two_more (weight part) (weight node.left) (weight node.right) start visited middle end visit (omega (arith, sides)) (omega (arith, sides, root.balanced)) (omega (arith, sides, root.balanced)) left right
 
 -- of a root that is seen from a side
-module _ {A M : Type 0} {side : Side} {items near far : List A} {node : Node A M} (root : IsOpened side items near far node) (start visited : ℕ) (visit : visited ≡ start + 1) where
-  pub one_near : (end : ℕ) → OneALevel (weight near) visited end → OneALevel (weight items) start end
-  one_near end below = one_more (weight items) (weight near) start visited end visit (omega (arith, root.sizes)) (omega (arith, root.sizes, root.balanced)) below
+module _ {A M : Type 0} {side : Side} {part near far : Part A} {node : Node A M} (root : IsOpened side part near far node) (start visited : ℕ) (visit : visited ≡ start + 1) where
+  pub one_near : (end : ℕ) → OneALevel (weight near) visited end → OneALevel (weight part) start end
+  one_near end below = one_more (weight part) (weight near) start visited end visit (omega (arith, root.counts)) (omega (arith, root.counts, root.balanced)) below
 
-  pub one_far : (end : ℕ) → OneALevel (weight far) visited end → OneALevel (weight items) start end
-  one_far end below = one_more (weight items) (weight far) start visited end visit (omega (arith, root.sizes)) (omega (arith, root.sizes, root.balanced)) below
+  pub one_far : (end : ℕ) → OneALevel (weight far) visited end → OneALevel (weight part) start end
+  one_far end below = one_more (weight part) (weight far) start visited end visit (omega (arith, root.counts)) (omega (arith, root.counts, root.balanced)) below
 
-  pub four_near : (end : ℕ) → FourALevel (weight near) visited end → FourALevel (weight items) start end
-  four_near end below = level_more (weight items) (weight near) start visited end end visit (omega (arith, root.sizes)) (omega (arith, root.sizes, root.balanced)) below (omega arith)
+  pub four_near : (end : ℕ) → FourALevel (weight near) visited end → FourALevel (weight part) start end
+  four_near end below = level_more (weight part) (weight near) start visited end end visit (omega (arith, root.counts)) (omega (arith, root.counts, root.balanced)) below (omega arith)
 
-  pub near_then_far : (middle end : ℕ) → OneALevel (weight near) visited middle → OneALevel (weight far) middle end → FourALevel (weight items) start end
-  near_then_far middle end first second = two_more (weight items) (weight near) (weight far) start visited middle end visit (omega (arith, root.sizes)) (omega (arith, root.sizes, root.balanced)) (omega (arith, root.sizes, root.balanced)) first second
+  pub near_then_far : (middle end : ℕ) → OneALevel (weight near) visited middle → OneALevel (weight far) middle end → FourALevel (weight part) start end
+  near_then_far middle end first second = two_more (weight part) (weight near) (weight far) start visited middle end visit (omega (arith, root.counts)) (omega (arith, root.counts, root.balanced)) (omega (arith, root.counts, root.balanced)) first second
 
   -- whatever the search of the far side answers
-  pub search_far : (end : ℕ) (answer : Search M) → VisitsOfSearch (weight far) visited end answer → VisitsOfSearch (weight items) start end answer
-  search_far end (Found count) below = level_more (weight items) (weight far) start visited end end visit (omega (arith, root.sizes)) (omega (arith, root.sizes, root.balanced)) below (omega arith)
+  pub search_far : (end : ℕ) (answer : Search M) → VisitsOfSearch (weight far) visited end answer → VisitsOfSearch (weight part) start end answer
+  search_far end (Found count) below = level_more (weight part) (weight far) start visited end end visit (omega (arith, root.counts)) (omega (arith, root.counts, root.balanced)) below (omega arith)
   search_far end (Open measure) below = one_far end below
 
 -- one visit a level is no more than four
@@ -148,3 +145,13 @@ few_of_one whole before after visits levels within = omega (arith, visits levels
 pub once_more : (whole start visited end : ℕ) → visited ≡ start + 1 → 2 ≤ whole → OneALevel whole visited end → FourALevel whole start end
 once_more whole start visited end visit some below zero within = absurd (omega arith)
 once_more whole start visited end visit some below (suc levels) within = omega (arith, below (suc levels) within)
+
+-- a leaf is one visit
+pub leaf_search : {M : Type 0} (whole before after : ℕ) (answer : Search M) → after ≤ before + 1 → VisitsOfSearch whole before after answer
+leaf_search whole before after (Found count) few = λ levels within. omega arith
+leaf_search whole before after (Open measure) few = λ levels within. omega arith
+
+-- what holds whatever is answered
+pub on_ok : {T E P : Type 0} (answer : Result T E) → P → OnOk answer P
+on_ok (Ok value) fact = fact
+on_ok (Err error) fact = tt

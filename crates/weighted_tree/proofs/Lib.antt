@@ -2,6 +2,7 @@ pub mod Descents
 pub mod FoundPlaces
 pub mod InPlace
 pub mod Joins
+pub mod Leaves
 pub mod Levels
 pub mod Middles
 pub mod Partitions

@@ -1,9 +1,10 @@
 -- Lists around a middle item: where a place falls before it, at it, or after it.
-use Rattle.std.proofs.Common.{◌≡◌, ℕ, zero, suc, ◌+◌, ◌-◌, ◌<◌, ◌≤◌, List, [], ◌∷◌, ◌++◌, length, refl, ap, ◌∙◌, arith}
+use Rattle.std.proofs.Common.{◌≡◌, ℕ, zero, suc, ◌+◌, ◌-◌, ◌<◌, ◌≤◌, List, [], ◌∷◌, ◌++◌, length, refl, sym, ap, ◌∙◌, arith}
 use Rattle.std.specs.Prelude.{Some, slice_get, slice_set}
 use Rattle.std.specs.List.{insert, remove}
 use Rattle.std.proofs.lemmas.List.{set-append_left, set-append_right}
 use Rattle.std.proofs.Math.Seq.{set-append_seam}
+use Rattle.std.proofs.lemmas.Option.{slice_get_within, get_or_from_slice_get}
 use Rattle.std.proofs.lemmas.List.Edits.{insert-append_left, insert-append_right, remove-append_left, remove-append_right}
 
 module _ {A : Type 0} (before after : List A) (middle : A) where
@@ -64,3 +65,8 @@ pub get-after : {A : Type 0} (before after : List A) (middle : A) (place : ℕ) 
 get-after before after middle place beyond =
     ap (slice_get (before ++ middle ∷ after)) (let s : place ≡ length before + suc (place - length before - 1) = omega arith in s)
     ∙ get_shift before (middle ∷ after) (suc (place - length before - 1))
+
+-- the first item, in front of the others
+pub next-then-rest : {A : Type 0} (after : List A) (next : A) → slice_get after 0 ≡ Some next → next ∷ remove after 0 ≡ after
+next-then-rest [] next is = absurd (omega (arith, slice_get_within [] 0 next is))
+next-then-rest (x ∷ after) next is = ap (λ y. y ∷ after) (sym (get_or_from_slice_get (x ∷ after) 0 next next is))

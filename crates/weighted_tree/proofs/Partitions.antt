@@ -82,3 +82,9 @@ own_boundary holds whole parted none none_is = record {
   parted = parted;
   boundary = λ place within point. subst (IsPartitionPoint (λ item. holds item ≡ true) (λ item. holds item ≡ false) whole) (let same : place ≡ none + place = omega arith in same) point;
 }
+
+-- the turn of what is left is that of the whole
+pub turned : {A : Type 0} {holds : A → Bool} {whole part : List A} {count : ℕ} → HasBoundary holds whole count part → (leaf : List A) → leaf ≡ part → (place : ℕ) → place ≤ length leaf → (IsPartitionedBy holds leaf → IsPartitionPoint (λ item. holds item ≡ true) (λ item. holds item ≡ false) leaf place) → (found : ℕ) → found ≡ count + place → IsPartitionPoint (λ item. holds item ≡ true) (λ item. holds item ≡ false) whole found
+turned {holds} {whole} outer leaf same place within point found is =
+    let parted = subst (IsPartitionedBy holds) (sym same) outer.parted in
+    subst (IsPartitionPoint (λ item. holds item ≡ true) (λ item. holds item ≡ false) whole) (sym is) (outer.boundary place (omega (arith, ap length same)) (subst (λ xs. IsPartitionPoint (λ item. holds item ≡ true) (λ item. holds item ≡ false) xs place) same (point parted)))

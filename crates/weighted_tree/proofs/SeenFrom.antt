@@ -6,6 +6,7 @@ use Rattle.std.proofs.lemmas.List.{reverse-append, length-reverse, length-drop, 
 use Rattle.monoid_laws.specs.Laws.{MonoidLaws}
 use Rattle.monoid_laws.specs.Measure.{measure_of}
 use Rattle.monoid_laws.specs.MeasureLaws.{measure_of-append}
+use Rattle.weighted_tree.specs.Balance.{Part}
 use Rattle.weighted_tree.specs.Nodes.{IsRoot}
 use Rattle.weighted_tree.specs.Sides.{seen_from, join_from, IsOpened}
 use Rattle.weighted_tree.specs.declared.node.Side.{Side}
@@ -40,40 +41,41 @@ pub length-seen : {A : Type 0} (side : Side) (xs : List A) → length (seen_from
 length-seen Left xs = refl
 length-seen Right xs = length-reverse xs
 
-module _ {A M : Type 0} (items : List A) (node : Node A M) (root : IsRoot items node) where
-  sizes : length items ≡ length node.left + 1 + length node.right
-  sizes = omega (arith, ap length root.items_are, length-append node.left (node.item ∷ node.right))
+module _ {A M : Type 0} (part : Part A) (node : Node A M) (root : IsRoot part node) where
+  sizes : length part.items ≡ length node.left.items + 1 + length node.right.items
+  sizes = omega (arith, ap length root.items_are, length-append node.left.items (node.item ∷ node.right.items))
 
-  pub opened_left : IsOpened Left items node.left node.right node
-  opened_left = record { seen = root.items_are; sizes = sizes; balanced = root.balanced }
+  pub opened_left : IsOpened Left part node.left node.right node
+  opened_left = record { seen = root.items_are; sizes = sizes; counts = root.nodes_are; balanced = root.balanced }
 
-  pub opened_right : IsOpened Right items node.right node.left node
+  pub opened_right : IsOpened Right part node.right node.left node
   opened_right = record {
     seen =
         ap reverse root.items_are
-        ∙ reverse-append node.left (node.item ∷ node.right)
-        ∙ ap (λ xs. xs ++ reverse node.left) (reverse_onto node.right node.item [])
-        ∙ append_snoc (reverse node.right) node.item (reverse node.left);
+        ∙ reverse-append node.left.items (node.item ∷ node.right.items)
+        ∙ ap (λ xs. xs ++ reverse node.left.items) (reverse_onto node.right.items node.item [])
+        ∙ append_snoc (reverse node.right.items) node.item (reverse node.left.items);
     sizes = omega (arith, sizes);
+    counts = omega (arith, root.nodes_are);
     balanced = record { left_light = root.balanced.right_light; right_light = root.balanced.left_light };
   }
 
-module _ {A M : Type 0} {side : Side} {items near far : List A} {node : Node A M} (root : IsOpened side items near far node) where
+module _ {A M : Type 0} {side : Side} {part near far : Part A} {node : Node A M} (root : IsOpened side part near far node) where
   -- beyond the node, the far side is left
-  pub left_beyond : (from : ℕ) → length near < from → drop from (seen_from side items) ≡ drop (from - length near - 1) (seen_from side far)
+  pub left_beyond : (from : ℕ) → length near.items < from → drop from (seen_from side part.items) ≡ drop (from - length near.items - 1) (seen_from side far.items)
   left_beyond from beyond =
       ap (drop from) root.seen
-      ∙ drop-after (seen_from side near) (seen_from side far) node.item from (omega (arith, length-seen side near))
-      ∙ ap (λ n. drop (from - n - 1) (seen_from side far)) (length-seen side near)
+      ∙ drop-after (seen_from side near.items) (seen_from side far.items) node.item from (omega (arith, length-seen side near.items))
+      ∙ ap (λ n. drop (from - n - 1) (seen_from side far.items)) (length-seen side near.items)
 
   -- the items from a place on, parted at the node
-  pub parted_from : (from : ℕ) → from ≤ length near → IsParted (drop from (seen_from side items)) (drop from (seen_from side near)) (seen_from side far) node.item (length items - from) (length near - from) (length far)
+  pub parted_from : (from : ℕ) → from ≤ length near.items → IsParted (drop from (seen_from side part.items)) (drop from (seen_from side near.items)) (seen_from side far.items) node.item (length part.items - from) (length near.items - from) (length far.items)
   parted_from from within = record {
-    split = ap (drop from) root.seen ∙ drop-append-le from (seen_from side near) (node.item ∷ seen_from side far) (omega (arith, length-seen side near));
+    split = ap (drop from) root.seen ∙ drop-append-le from (seen_from side near.items) (node.item ∷ seen_from side far.items) (omega (arith, length-seen side near.items));
     ends = omega (arith, root.sizes);
-    near_size = omega (arith, length-drop from (seen_from side near), length-seen side near);
-    far_size = length-seen side far;
+    near_size = omega (arith, length-drop from (seen_from side near.items), length-seen side near.items);
+    far_size = length-seen side far.items;
   }
 
-  pub parted : IsParted (seen_from side items) (seen_from side near) (seen_from side far) node.item (length items) (length near) (length far)
-  parted = record { split = root.seen; ends = root.sizes; near_size = length-seen side near; far_size = length-seen side far }
+  pub parted : IsParted (seen_from side part.items) (seen_from side near.items) (seen_from side far.items) node.item (length part.items) (length near.items) (length far.items)
+  parted = record { split = root.seen; ends = root.sizes; near_size = length-seen side near.items; far_size = length-seen side far.items }

@@ -1,9 +1,9 @@
 -- A read of the items of a node, put together from its two sides: what it writes, and the nodes that it visits.
-use Rattle.std.proofs.Common.{◌≡◌, ℕ, zero, suc, ◌+◌, ◌-◌, ◌*◌, ◌<◌, ◌≤◌, List, [], ◌∷◌, ◌++◌, map, take, drop, length, length-append, refl, sym, ap, ◌∙◌, arith}
+use Rattle.std.proofs.Common.{◌≡◌, ℕ, zero, suc, ◌+◌, ◌-◌, ◌<◌, ◌≤◌, List, [], ◌∷◌, ◌++◌, map, take, drop, length, length-append, refl, sym, ap, ◌∙◌, arith}
 use Rattle.std.specs.Prelude.{slice_set}
 use Rattle.std.proofs.Math.Seq.{take-append-add, take-append_seam, drop-append-add}
 use Rattle.std.proofs.lemmas.List.{append_assoc, map-append, length-map, set_split, length-take-le, length-drop, drop-drop}
-use Rattle.weighted_tree.specs.Balance.{weight}
+use Rattle.weighted_tree.specs.Balance.{Part, weight}
 use Rattle.weighted_tree.specs.Nodes.{IsRoot}
 use Rattle.weighted_tree.specs.Reads.{overwritten, edge, VisitsOfRead}
 use Rattle.weighted_tree.specs.declared.subtree.Node.{Node}
@@ -13,7 +13,7 @@ use Rattle.weighted_tree.proofs.Ranges.{drop-before, drop-after}
 
 module _ {A : Type 0} (former : List A) where
   -- two writes side by side are one
-  overwritten_on : (place : ℕ) (first second : List A) (next : ℕ) → place ≤ length former → next ≡ place + length first → overwritten (overwritten former place first) next second ≡ overwritten former place (first ++ second)
+  pub overwritten_on : (place : ℕ) (first second : List A) (next : ℕ) → place ≤ length former → next ≡ place + length first → overwritten (overwritten former place first) next second ≡ overwritten former place (first ++ second)
   overwritten_on place first second next within next_is =
       let front = take place former ++ first in
       let rest = drop (place + length first) former in
@@ -25,7 +25,7 @@ module _ {A : Type 0} (former : List A) where
       ap (λ xs. xs ++ second ++ drop (next + length second) (front ++ rest)) start ∙ ap (λ xs. front ++ second ++ xs) end
       ∙ ap (λ xs. xs ++ drop (place + length (first ++ second)) former) (append_assoc (take place former) first second)
 
-  set_overwritten : (place : ℕ) (x : A) → place < length former → slice_set former place x ≡ overwritten former place (x ∷ [])
+  pub set_overwritten : (place : ℕ) (x : A) → place < length former → slice_set former place x ≡ overwritten former place (x ∷ [])
   set_overwritten place x within =
       set_split former place x within
       ∙ ap (λ n. take place former ++ x ∷ drop n former) (let next : suc place ≡ place + length (x ∷ []) = omega arith in next)
@@ -79,25 +79,25 @@ edge_some : (beyond levels : ℕ) → 0 < beyond → edge beyond levels ≡ leve
 edge_some zero levels some = absurd (omega arith)
 edge_some (suc beyond) levels some = refl
 
-module _ {A M : Type 0} (items : List A) (node : Node A M) (start visited : ℕ) (root : IsRoot items node) (visit : visited ≡ start + 1) (from rest end : ℕ) where
-  sides : weight items ≡ weight node.left + weight node.right
-  sides = omega (arith, ap length root.items_are, length-append node.left (node.item ∷ node.right))
+module _ {A M : Type 0} (part : Part A) (node : Node A M) (start visited : ℕ) (root : IsRoot part node) (visit : visited ≡ start + 1) (from rest end : ℕ) where
+  sides : weight part ≡ weight node.left + weight node.right
+  sides = omega (arith, root.nodes_are)
 
   -- in the right side alone
-  pub read_right : (inner read left : ℕ) → 0 < from → left ≡ rest → VisitsOfRead (weight node.right) inner left (visited + read) end → VisitsOfRead (weight items) from rest (start + read) end
+  pub read_right : (inner read left : ℕ) → 0 < from → left ≡ rest → VisitsOfRead (weight node.right) inner left (visited + read) end → VisitsOfRead (weight part) from rest (start + read) end
   read_right inner read left some left_is below zero within = absurd (omega (arith, sides))
   read_right inner read left some left_is below (suc levels) within =
       omega (arith, below levels (within (weight node.right) (omega (arith, sides, root.balanced))), edge_within inner levels, edge_some from (suc levels) some, ap (λ n. edge n levels) left_is, edge_more rest levels)
 
   -- in the left side alone
-  pub read_left : (inner read : ℕ) → 0 < rest → VisitsOfRead (weight node.left) from inner (visited + read) end → VisitsOfRead (weight items) from rest (start + read) end
+  pub read_left : (inner read : ℕ) → 0 < rest → VisitsOfRead (weight node.left) from inner (visited + read) end → VisitsOfRead (weight part) from rest (start + read) end
   read_left inner read some below zero within = absurd (omega (arith, sides))
   read_left inner read some below (suc levels) within =
       omega (arith, below levels (within (weight node.left) (omega (arith, sides, root.balanced))), edge_within inner levels, edge_some rest (suc levels) some, edge_more from levels)
 
   -- to the end of the left side, and on into the right one
   pub read_both : (none first middle second left read : ℕ) → none ≡ 0 → left ≡ rest → read ≡ first + 1 + second → VisitsOfRead (weight node.left) from none (visited + first) middle
-      → VisitsOfRead (weight node.right) 0 left (middle + second) end → VisitsOfRead (weight items) from rest (start + read) end
+      → VisitsOfRead (weight node.right) 0 left (middle + second) end → VisitsOfRead (weight part) from rest (start + read) end
   read_both none first middle second left read none_is left_is read_is near far zero within = absurd (omega (arith, sides))
   read_both none first middle second left read none_is left_is read_is near far (suc levels) within =
       omega (
@@ -111,6 +111,6 @@ module _ {A M : Type 0} (items : List A) (node : Node A M) (start visited : ℕ)
       )
 
 -- beside one visit an item, two nodes a level are no more than twelve a digit
-pub few_by_read : (whole length from rest before after : ℕ) → whole ≤ length + 1 → before ≤ after → VisitsOfRead whole from rest before after → VisitsWithin 12 length before after
-few_by_read whole length from rest before after light none_lost visits =
-    few-by_levels whole length before after light none_lost (λ levels within. omega (arith, visits levels within, edge_within from levels, edge_within rest levels))
+pub few_by_read : (whole length from rest before after : ℕ) → 1 ≤ whole → whole ≤ length + 1 → before ≤ after → VisitsOfRead whole from rest before after → VisitsWithin 12 length before after
+few_by_read whole length from rest before after some light none_lost visits =
+    few-by_levels whole length before after some light none_lost (λ levels within. omega (arith, visits levels within, edge_within from levels, edge_within rest levels))

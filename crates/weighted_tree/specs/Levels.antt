@@ -6,13 +6,13 @@ abbrev pub IsWithinLevels : ℕ → ℕ → Type 0
 IsWithinLevels whole zero = whole ≤ 1
 IsWithinLevels whole (suc levels) = (side : ℕ) → 4 * side ≤ 3 * whole → IsWithinLevels side levels
 
--- at most four visits a level
+-- at most four visits a level, and four at the end of the way
 abbrev pub FourALevel : ℕ → ℕ → ℕ → Type 0
-FourALevel whole before after = (levels : ℕ) → IsWithinLevels whole levels → after ≤ before + 4 * levels
+FourALevel whole before after = (levels : ℕ) → IsWithinLevels whole levels → after ≤ before + 4 * levels + 4
 
--- at most one visit a level
+-- at most one visit a level, and one at the end of the way
 abbrev pub OneALevel : ℕ → ℕ → ℕ → Type 0
-OneALevel whole before after = (levels : ℕ) → IsWithinLevels whole levels → after ≤ before + levels
+OneALevel whole before after = (levels : ℕ) → IsWithinLevels whole levels → after ≤ before + levels + 1
 
 -- at least two visits a level, on the way down and on the way back: a side weighs at least a quarter of the whole
 abbrev pub TwoALevel : ℕ → ℕ → ℕ → Type 0

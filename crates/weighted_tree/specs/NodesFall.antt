@@ -2,7 +2,7 @@
 use Rattle.std.specs.Prelude.{◌≤◌, max, ◌∷◌, length}
 use Rattle.std.proofs.Common.{arith, length-append}
 use Rattle.weighted_tree.specs.declared.subtree.Link.{Link}
-use Rattle.weighted_tree.specs.declared.subtree.Link.TheVariants.{Empty, Full}
+use Rattle.weighted_tree.specs.declared.subtree.Link.TheVariants.{Empty, Leaf, Full}
 use Rattle.weighted_tree.specs.declared.subtree.Subtree.TheDeep.{deep-Link}
 use Rattle.monoid_laws.specs.declared.monoid.Measured as Measured
 use Rattle.monoid_laws.specs.declared.monoid.Monoid as Monoid
@@ -11,4 +11,5 @@ use Rattle.weighted_tree.specs.Nodes.{items_of}
 -- no side is deeper than the link has items
 pub depth_le-length-items : {A M : Type 0} (measured : Measured.Ghosts A M) (monoid : Monoid.Ghosts M) (link : Link A M) → max (deep-Link A M measured monoid link) 0 ≤ length (items_of link)
 depth_le-length-items measured monoid Empty = omega arith
-depth_le-length-items measured monoid (Full size closed measure) = omega (arith, length-append closed.node.value.left (closed.node.value.item ∷ closed.node.value.right))
+depth_le-length-items measured monoid (Leaf closed measure) = omega arith
+depth_le-length-items measured monoid (Full size nodes closed measure) = omega (arith, length-append closed.node.value.left.items (closed.node.value.item ∷ closed.node.value.right.items))

@@ -1,5 +1,5 @@
 -- How far a search came. It counts items from where it starts.
-use Rattle.std.specs.Prelude.{◌≡◌, ℕ, ◌+◌, ◌≤◌, Bool, true, false}
+use Rattle.std.specs.Prelude.{◌≡◌, ℕ, ◌+◌, ◌-◌, ◌≤◌, Bool, true, false}
 use Rattle.std.specs.Fn.{Shared}
 use Rattle.std.specs.Borrow.{Bor}
 use Rattle.weighted_tree.specs.Search.{Tells}
@@ -21,6 +21,10 @@ HasBoundaryAt holds to (Open measure) = holds to ≡ false
 abbrev pub EndsAt : {M : Type 0} → (M → ℕ) → (ℕ → M) → ℕ → Search M → Type 0
 EndsAt items measures to (Found place) = place ≤ to
 EndsAt items measures to (Open measure) = (measure ≡ measures to) × (items measure ≡ to)
+
+-- how many items were joined after a measure
+abbrev pub joined_after : {M : Type 0} → (M → ℕ) → M → M → ℕ
+joined_after items before measure = items measure - items before
 
 -- what a search answers of the places up to `to`
 pub record IsSought {F M : Type 0} (calls : Shared F (Bor M × Unit {0}) Bool) (test : F) (items : M → ℕ) (measures : ℕ → M) (to : ℕ) (answer : Search M) : Type 0 where

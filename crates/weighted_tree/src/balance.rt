@@ -1,6 +1,6 @@
 ghost use Rattle.std.specs.Prelude.{◌≡◌, ◌+◌, ◌^◌, ◌<◌, ◌≤◌, length};
 ghost use Rattle.weighted_tree.specs.Balance.{weight, IsNearlyBalanced, IsTooHeavy};
-ghost use Rattle.weighted_tree.specs.Nodes.{node_items, items_of, HasBalance, IsSound, IsUnsettled};
+ghost use Rattle.weighted_tree.specs.Nodes.{node_items, node_count, items_of, nodes_of, HasBalance, IsSound, IsUnsettled};
 ghost use Rattle.weighted_tree.specs.Sides.{other, side_of};
 
 use crate::node::Side;
@@ -17,22 +17,24 @@ impl<T: Measured> Link<T> {
         requires nearly { IsUnsettled self.old }
         ensures sound { IsSound T.Measure.unit_value T.Measure.joined T.measured self.new }
         ensures items { items_of self.new ≡ items_of self.old }
-        ensures none_lost { steps.old ≤ steps.new }
-        ensures some { 0 < length (items_of self.old) → steps.old + 1 ≤ steps.new }
+        ensures nodes { nodes_of self.new ≡ nodes_of self.old }
+        ensures some { steps.old + 1 ≤ steps.new }
         ensures visits { steps.new ≤ steps.old + 3 }
     {
         let Link::Full {
             size,
+            nodes,
             node,
             measure,
         } = self
         else {
-            return;
+            unreachable!()
         };
         let root = node.open_mut(steps);
         balance(root, steps);
         let node = &mut **root;
         *size = node.size();
+        *nodes = node.nodes();
         *measure = node.measure();
     }
 }
@@ -43,13 +45,14 @@ pub(crate) fn balance<T: Measured, L: Ledger>(root: &mut Box<Node<T>>, steps: &m
     requires fits { length (node_items root.old.value) < 2 ^ 32 }
     ensures balanced { HasBalance root.new.value }
     ensures items { node_items root.new.value ≡ node_items root.old.value }
+    ensures nodes { node_count root.new.value ≡ node_count root.old.value }
     ensures none_lost { steps.old ≤ steps.new }
     ensures visits { steps.new ≤ steps.old + 2 }
 {
     if root.is_balanced() {
         return;
     }
-    if root.left.len() > root.right.len() {
+    if root.left.nodes() > root.right.nodes() {
         rotate(Side::Left, root, steps);
     } else {
         rotate(Side::Right, root, steps);
@@ -63,6 +66,7 @@ fn rotate<T: Measured, L: Ledger>(side: Side, root: &mut Box<Node<T>>, steps: &m
     requires fits { length (node_items root.old.value) < 2 ^ 32 }
     ensures balanced { HasBalance root.new.value }
     ensures items { node_items root.new.value ≡ node_items root.old.value }
+    ensures nodes { node_count root.new.value ≡ node_count root.old.value }
     ensures none_lost { steps.old ≤ steps.new }
     ensures visits { steps.new ≤ steps.old + 2 }
 {

@@ -1,4 +1,4 @@
-ghost use Rattle.std.specs.Prelude.{◌≡◌, ◌+◌};
+ghost use Rattle.std.specs.Prelude.{◌≡◌, ◌+◌, length};
 ghost use Rattle.std.specs.Borrow.{sem};
 
 use crate::subtree::Node;
@@ -54,5 +54,49 @@ impl<T: Measured> Closed<T> {
     {
         steps.tick();
         self.node
+    }
+}
+
+/// The items of a leaf as its link holds them, closed in the same way.
+#[derive(Drop)]
+pub(crate) struct ClosedItems<T: Copy> {
+    items: Vec<T>,
+}
+
+impl<T: Copy> ClosedItems<T> {
+    /// Closes the items.
+    #[inline(always)]
+    pub(crate) fn new(items: Vec<T>) -> ClosedItems<T>
+        ensures { result.items ≡ items }
+    {
+        ClosedItems { items }
+    }
+
+    /// How many there are: the link itself tells it, without a visit.
+    #[inline(always)]
+    pub(crate) fn len(&self) -> usize
+        ensures { result ≡ length self.now.items.items }
+    {
+        self.items.as_slice().len()
+    }
+
+    /// Visits the leaf, to read it.
+    #[inline(always)]
+    pub(crate) fn open<L: Ledger>(&self, steps: &mut Steps<L>) -> &[T]
+        ensures items { result.now ≡ self.now.items.items }
+        ensures visit { steps.new ≡ steps.old + 1 }
+    {
+        steps.tick();
+        self.items.as_slice()
+    }
+
+    /// Visits the leaf, and takes its items out of the link.
+    #[inline(always)]
+    pub(crate) fn into_open<L: Ledger>(self, steps: &mut Steps<L>) -> Vec<T>
+        ensures items { result ≡ self.items }
+        ensures visit { steps.new ≡ steps.old + 1 }
+    {
+        steps.tick();
+        self.items
     }
 }

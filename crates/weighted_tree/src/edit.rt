@@ -1,59 +1,124 @@
-ghost use Rattle.std.specs.Prelude.{◌≡◌, ℕ, ◌+◌, ◌*◌, ◌^◌, ◌<◌, ◌≤◌, [], ◌∷◌, ◌++◌, length, slice_get, slice_set, Some};
+ghost use Rattle.std.specs.Prelude.{◌≡◌, ◌+◌, ◌^◌, ◌<◌, ◌≤◌, length, slice_get, slice_set, Some, OnOk, OnErr};
 ghost use Rattle.std.specs.List.{insert, remove};
-ghost use Rattle.weighted_tree.specs.Balance.{weight, IsBalanced};
-ghost use Rattle.weighted_tree.specs.Levels.{IsWithinLevels, TwoALevel, FourALevel};
+ghost use Rattle.weighted_tree.specs.Balance.{weight, IsUpToOneMore};
+ghost use Rattle.weighted_tree.specs.Levels.{TwoALevel, FourALevel};
 
-use crate::balance::balance;
+use crate::leaf::{FULL, divide};
 use crate::node::Side;
-use crate::subtree::{Link, Node, Subtree};
+use crate::subtree::{Link, Subtree};
 use monoid_laws::Measured;
-use retro_base::Steps;
+use retro_base::{NoMemory, Steps};
+use std::alloc::Global;
 use std::mem;
 use std::sync::ledger::Ledger;
 
 impl<T: Measured> Subtree<T> {
-    /// Puts a node without sides in at a place; the items from there on move one place on.
+    /// Puts an item in at a place; those from there on move one place on.
     pub(crate) fn insert_below<L: Ledger>(
         &mut self,
         place: u32,
-        fresh: Box<Node<T>>,
+        item: T,
+        alloc: Global,
         steps: &mut Steps<L>,
-    )
-        requires within { place ≤ length self.old }
-        requires fits { length self.old + 1 < 2 ^ 32 }
-        requires before { fresh.value.left ≡ [] }
-        requires after { fresh.value.right ≡ [] }
-        ensures items { self.new ≡ insert self.old place fresh.value.item }
+    ) -> Result<(), NoMemory>
+        requires within { place ≤ length self.old.items }
+        requires fits { length self.old.items + 1 < 2 ^ 32 }
+        ensures ok { OnOk result (self.new.items ≡ insert self.old.items place item) }
+        ensures grows { OnOk result (IsUpToOneMore self.old.nodes self.new.nodes) }
+        ensures err { OnErr result (self.new ≡ self.old) }
+        ensures few { self.old.nodes ≤ length self.old.items }
         ensures none_lost { steps.old ≤ steps.new }
-        ensures some { 0 < length self.old → steps.old + 2 ≤ steps.new }
-        ensures counted { TwoALevel (weight self.old) steps.old steps.new }
+        ensures some { OnOk result (0 < length self.old.items → steps.old + 1 ≤ steps.new) }
+        ensures none { OnErr result (length self.old.items ≡ 0 → steps.new ≡ steps.old) }
+        ensures counted { OnOk result (TwoALevel (weight self.old) steps.old steps.new) }
         ensures visits { FourALevel (weight self.old) steps.old steps.new }
     {
         let Link::Full { node, .. } = &mut self.link else {
-            *self = Subtree::of_root(fresh);
-            return;
+            return self.insert_in_leaf(place, item, alloc, steps);
         };
         let node = &mut **node.open_mut(steps);
         let before = node.left.len();
         if place <= before {
-            node.left.insert_below(place, fresh, steps);
+            node.left.insert_below(place, item, alloc, steps)?;
         } else {
-            node.right.insert_below(place - before - 1, fresh, steps);
+            node.right
+                .insert_below(place - before - 1, item, alloc, steps)?;
         }
         self.link.settle(steps);
+        Ok(())
+    }
+
+    /// The same where there is no node: a full leaf is divided below a new one.
+    fn insert_in_leaf<L: Ledger>(
+        &mut self,
+        place: u32,
+        item: T,
+        alloc: Global,
+        steps: &mut Steps<L>,
+    ) -> Result<(), NoMemory>
+        requires leaf { self.old.nodes ≡ 0 }
+        requires within { place ≤ length self.old.items }
+        requires fits { length self.old.items + 1 < 2 ^ 32 }
+        ensures ok { OnOk result (self.new.items ≡ insert self.old.items place item) }
+        ensures grows { OnOk result (IsUpToOneMore self.old.nodes self.new.nodes) }
+        ensures err { OnErr result (self.new ≡ self.old) }
+        ensures none_lost { steps.old ≤ steps.new }
+        ensures some { OnOk result (0 < length self.old.items → steps.old + 1 ≤ steps.new) }
+        ensures none { OnErr result (length self.old.items ≡ 0 → steps.new ≡ steps.old) }
+        ensures visits { steps.new ≤ steps.old + 1 }
+    {
+        let mut items = self.take_or_new(alloc, steps);
+        let place = place as usize;
+        if items.len() < FULL {
+            let done = items.insert(place, item);
+            *self = Subtree::of_items(items);
+            return match done {
+                Ok(()) => Ok(()),
+                Err(_) => Err(NoMemory),
+            };
+        }
+        match divide(&mut items, place, item, alloc) {
+            Ok(mut node) => {
+                node.left = Subtree::of_items(items);
+                *self = Subtree::of_root(node);
+                Ok(())
+            }
+            Err(failed) => {
+                *self = Subtree::of_items(items);
+                Err(failed)
+            }
+        }
+    }
+
+    /// Visits the leaf where there are items, and takes them out.
+    fn take_or_new<L: Ledger>(&mut self, alloc: Global, steps: &mut Steps<L>) -> Vec<T>
+        requires leaf { self.old.nodes ≡ 0 }
+        ensures items { result.items ≡ self.old.items }
+        ensures some { 0 < length self.old.items → steps.new ≡ steps.old + 1 }
+        ensures none { length self.old.items ≡ 0 → steps.new ≡ steps.old }
+    {
+        if self.len() == 0 {
+            return Vec::new(alloc);
+        }
+        let Some(items) = self.take_leaf(steps) else {
+            unreachable!()
+        };
+        items
     }
 
     /// Removes the item at a place, and gives it; those after it move one place back.
     pub(crate) fn remove_below<L: Ledger>(&mut self, place: u32, steps: &mut Steps<L>) -> T
-        requires within { place < length self.old }
-        ensures item { slice_get self.old place ≡ Some result }
-        ensures items { self.new ≡ remove self.old place }
-        ensures some { steps.old + 2 ≤ steps.new }
+        requires within { place < length self.old.items }
+        ensures item { slice_get self.old.items place ≡ Some result }
+        ensures items { self.new.items ≡ remove self.old.items place }
+        ensures shrinks { IsUpToOneMore self.new.nodes self.old.nodes }
+        ensures few { self.old.nodes ≤ length self.old.items }
+        ensures some { steps.old + 1 ≤ steps.new }
         ensures counted { TwoALevel (weight self.old) steps.old steps.new }
         ensures visits { FourALevel (weight self.old) steps.old steps.new }
     {
         let Link::Full { node, .. } = &mut self.link else {
-            unreachable!()
+            return self.remove_in_leaf(place, steps);
         };
         let node = &mut **node.open_mut(steps);
         let before = node.left.len();
@@ -61,41 +126,36 @@ impl<T: Measured> Subtree<T> {
             node.left.remove_below(place, steps)
         } else if place > before {
             node.right.remove_below(place - before - 1, steps)
+        } else if node.right.len() > 0 {
+            let next = node.right.remove_below(0, steps);
+            mem::replace(&mut node.item, next)
         } else {
             let Link::Full { node, .. } = mem::replace(&mut self.link, Link::Empty) else {
                 unreachable!()
             };
             let mut node = node.into_open(steps);
-            *self = merged(node.take(Side::Left), node.take(Side::Right), steps);
+            *self = node.take(Side::Left);
             return node.item;
         };
         self.link.settle(steps);
         item
     }
 
-    /// Takes off the node of the first item.
-    fn take_first<L: Ledger>(&mut self, steps: &mut Steps<L>) -> Box<Node<T>>
-        requires some { 0 < length self.old }
-        ensures items { self.old ≡ result.value.item ∷ self.new }
-        ensures none_lost { steps.old ≤ steps.new }
-        ensures counted { TwoALevel (weight self.old) steps.old steps.new }
-        ensures visits { FourALevel (weight self.old) steps.old steps.new }
+    /// The same where there is no node.
+    fn remove_in_leaf<L: Ledger>(&mut self, place: u32, steps: &mut Steps<L>) -> T
+        requires leaf { self.old.nodes ≡ 0 }
+        requires within { place < length self.old.items }
+        ensures item { slice_get self.old.items place ≡ Some result }
+        ensures items { self.new.items ≡ remove self.old.items place }
+        ensures leaf { self.new.nodes ≡ 0 }
+        ensures visit { steps.new ≡ steps.old + 1 }
     {
-        let Link::Full { node, .. } = &mut self.link else {
+        let Some(mut items) = self.take_leaf(steps) else {
             unreachable!()
         };
-        let node = &mut **node.open_mut(steps);
-        if node.left.len() > 0 {
-            let first = node.left.take_first(steps);
-            self.link.settle(steps);
-            return first;
-        }
-        let Link::Full { node, .. } = mem::replace(&mut self.link, Link::Empty) else {
-            unreachable!()
-        };
-        let mut node = node.into_open(steps);
-        *self = node.take(Side::Right);
-        node
+        let item = items.remove(place as usize);
+        *self = Subtree::of_items(items);
+        item
     }
 
     /// Puts another item at a place, and gives the one that was there.
@@ -105,10 +165,12 @@ impl<T: Measured> Subtree<T> {
         item: T,
         steps: &mut Steps<L>,
     ) -> T
-        requires within { place < length self.old }
-        ensures item { slice_get self.old place ≡ Some result }
-        ensures items { self.new ≡ slice_set self.old place item }
-        ensures some { steps.old + 2 ≤ steps.new }
+        requires within { place < length self.old.items }
+        ensures item { slice_get self.old.items place ≡ Some result }
+        ensures items { self.new.items ≡ slice_set self.old.items place item }
+        ensures nodes { self.new.nodes ≡ self.old.nodes }
+        ensures few { self.old.nodes ≤ length self.old.items }
+        ensures some { steps.old + 1 ≤ steps.new }
         ensures visits { FourALevel (weight self.old) steps.old steps.new }
     {
         let Link::Full {
@@ -117,7 +179,7 @@ impl<T: Measured> Subtree<T> {
             ..
         } = &mut self.link
         else {
-            unreachable!()
+            return self.replace_in_leaf(place, item, steps);
         };
         let node = &mut **closed.open_mut(steps);
         let before = node.left.len();
@@ -132,27 +194,23 @@ impl<T: Measured> Subtree<T> {
         *measure = node.measure();
         old
     }
-}
 
-/// The two sides of a node whose item was taken out.
-fn merged<T: Measured, L: Ledger>(
-    left: Subtree<T>,
-    mut right: Subtree<T>,
-    steps: &mut Steps<L>,
-) -> Subtree<T>
-    requires balanced { IsBalanced (weight left) (weight right) }
-    requires fits { length left + length right + 1 < 2 ^ 32 }
-    ensures items { result ≡ left ++ right }
-    ensures none_lost { steps.old ≤ steps.new }
-    ensures counted { TwoALevel (weight right) steps.old steps.new }
-    ensures visits { (levels : ℕ) → IsWithinLevels (weight right) levels → steps.new ≤ steps.old + 4 * levels + 2 }
-{
-    if right.len() == 0 {
-        return left;
+    /// The same where there is no node.
+    fn replace_in_leaf<L: Ledger>(&mut self, place: u32, item: T, steps: &mut Steps<L>) -> T
+        requires leaf { self.old.nodes ≡ 0 }
+        requires within { place < length self.old.items }
+        ensures item { slice_get self.old.items place ≡ Some result }
+        ensures items { self.new.items ≡ slice_set self.old.items place item }
+        ensures leaf { self.new.nodes ≡ 0 }
+        ensures visit { steps.new ≡ steps.old + 1 }
+    {
+        let Some(mut items) = self.take_leaf(steps) else {
+            unreachable!()
+        };
+        let place = place as usize;
+        let old = items[place];
+        items[place] = item;
+        *self = Subtree::of_items(items);
+        old
     }
-    let mut node = right.take_first(steps);
-    node.put(Side::Left, left);
-    node.put(Side::Right, right);
-    balance(&mut node, steps);
-    Subtree::of_root(node)
 }

@@ -5,26 +5,32 @@
 //! first or the last place at which a test of that measure turns, and the place at which a test of the
 //! items does. Where every step is at the end and no range is asked for, a `Vec` serves better.
 //!
-//! A node holds an item between two subtrees. An empty subtree is no box, so an item takes one
-//! allocation; the link to a subtree keeps its size and its measure, so that a node knows both without a
-//! look at its sides. The tree is weight-balanced (Nievergelt and Reingold 1973): the weight of a subtree
-//! is its size and one, and neither side of a node weighs over 3 times the other. A side that grew too
-//! heavy is rotated, once where its inner child weighs less than 2 times the outer one and else twice;
-//! with 3 and 2 this restores the balance after an insertion and after a removal (Hirai and Yamamoto 2011).
-//! A side weighs at most 3 quarters of the whole, so a tree of n items has at most 3 levels for each
-//! binary digit of n + 1.
+//! A node holds an item between two subtrees, and where a subtree has no node it is a leaf: a vector of
+//! up to 32 items, or nothing at all. A leaf that is full is divided below a new node where one more item
+//! comes in: in the middle, or at an end where the item comes there, so that leaves which are filled in
+//! order stay full. The link to a subtree keeps its sizes and its measure, so that a node knows them
+//! without a look at its sides.
 //!
-//! | Call | Nodes visited, d being the digits of one more than the length |
+//! The tree is weight-balanced (Nievergelt and Reingold 1973): the weight of a subtree is the number of
+//! its nodes and one, whatever its leaves hold, and neither side of a node weighs over 3 times the other.
+//! A side that grew too heavy is rotated, once where its inner child weighs less than 2 times the outer
+//! one and else twice; with 3 and 2 this restores the balance after an insertion and after a removal (Hirai
+//! and Yamamoto 2011). A leaf is never too heavy, so rotations move leaves and look into none. A node whose
+//! item is removed takes the first one after it; where there is none, its left side takes its place. A side
+//! weighs at most 3 quarters of the whole, so a tree of n nodes has at most 3 levels for each binary digit
+//! of n + 1 but the first, and a leaf below them.
+//!
+//! | Call | Nodes and leaves visited, d being the digits of one more than the length |
 //! |---|---|
 //! | `new`, `len` | none |
 //! | `get`, `insert`, `remove`, `replace`, `measure`, `first_place`, `last_place`, `partition_point` | at most 12 d |
 //! | `read` | at most 12 d, and one more for each item that it reads |
-//! | `copy` | each once |
+//! | `copy` | one for each item |
 //!
-//! A link holds its node closed: each way to open it, be it to read it, to change it or to take it apart,
-//! is a visit, and a step on the counter that the caller hands in, which contracts alone see. So an edit
-//! visits a node on the way down and again on the way back. The size and the measure of a subtree belong
-//! to the node above it, which the link is in. `insert` and `copy` take memory from the allocator that
+//! A link holds its node or its leaf closed: each way to open it, be it to read it, to change it or to take it
+//! apart, is a visit, and a step on the counter that the caller hands in, which contracts alone see. So an
+//! edit visits a node on the way down and again on the way back. `read` and `copy` count each item of a leaf as
+//! a visit. The sizes and the measure of a subtree belong to the node above it, which the link is in. `insert` and `copy` take memory from the allocator that
 //! the tree was made with, and leave the tree as it was where there is none; no other call takes any.
 //!
 //! The proofs rest on the laws of the monoid alone. What the layer above may rely on: the clauses of
@@ -39,6 +45,7 @@ mod balance;
 mod closed;
 mod copy;
 mod edit;
+mod leaf;
 mod node;
 mod read;
 mod search;

@@ -1,7 +1,7 @@
-ghost use Rattle.std.specs.Prelude.{◌≡◌, ◌+◌, ◌^◌, ◌<◌, [], List, length, ◌↔◌, IsTrue};
+ghost use Rattle.std.specs.Prelude.{◌≡◌, ◌+◌, ◌^◌, ◌<◌, ◌≤◌, length, ◌↔◌, IsTrue};
 ghost use Rattle.weighted_tree.specs.Measures.{measure_in};
-ghost use Rattle.weighted_tree.specs.Balance.{weight};
-ghost use Rattle.weighted_tree.specs.Nodes.{node_items, HasBalance, IsRoot};
+ghost use Rattle.weighted_tree.specs.Balance.{Part, no_part, weight};
+ghost use Rattle.weighted_tree.specs.Nodes.{node_items, node_count, HasBalance, IsRoot};
 ghost use Rattle.weighted_tree.specs.Sides.{other, side_of, with_side, join_from, IsOpened};
 
 use crate::subtree::{Node, Subtree};
@@ -42,9 +42,9 @@ impl Side {
 impl<T: Measured> Node<T> {
     /// A node without sides.
     pub(crate) fn alone(item: T) -> Node<T>
-        ensures left { result.left ≡ [] }
+        ensures left { result.left ≡ no_part }
         ensures item { result.item ≡ item }
-        ensures right { result.right ≡ [] }
+        ensures right { result.right ≡ no_part }
     {
         Node {
             left: Subtree::new(),
@@ -59,6 +59,15 @@ impl<T: Measured> Node<T> {
         ensures { result ≡ length (node_items self.now) }
     {
         self.left.len() + 1 + self.right.len()
+    }
+
+    /// How many nodes it makes with those below it.
+    pub(crate) fn nodes(&self) -> u32
+        requires fits { length (node_items self.now) < 2 ^ 32 }
+        ensures count { result ≡ node_count self.now }
+        ensures few { result ≤ length (node_items self.now) }
+    {
+        self.left.nodes() + 1 + self.right.nodes()
     }
 
     /// The measure of these items.
@@ -79,7 +88,7 @@ impl<T: Measured> Node<T> {
 
     /// The subtree on a side, and the one on the other side.
     pub(crate) fn sides(&self, side: Side) -> (&Subtree<T>, &Subtree<T>)
-        ensures { (items : List T) → IsRoot items self.now → IsOpened side items result.0.now result.1.now self.now }
+        ensures { (whole : Part T) → IsRoot whole self.now → IsOpened side whole result.0.now result.1.now self.now }
     {
         match side {
             Side::Left => (&self.left, &self.right),
@@ -99,7 +108,8 @@ impl<T: Measured> Node<T> {
 
     /// The weight of a side.
     pub(crate) fn weight(&self, side: Side) -> u64
-        ensures { result ≡ weight (side_of side self.now) }
+        ensures value { result ≡ weight (side_of side self.now) }
+        ensures few { result ≤ length (side_of side self.now).items + 1 }
     {
         match side {
             Side::Left => self.left.weight(),
@@ -119,7 +129,7 @@ impl<T: Measured> Node<T> {
     /// Takes a side off.
     pub(crate) fn take(&mut self, side: Side) -> Subtree<T>
         ensures taken { result ≡ side_of side self.old }
-        ensures rest { self.new ≡ with_side side [] self.old }
+        ensures rest { self.new ≡ with_side side no_part self.old }
     {
         match side {
             Side::Left => mem::replace(&mut self.left, Subtree::new()),

@@ -4,40 +4,35 @@ ghost use Rattle.std.specs.List.{slice_range};
 ghost use Rattle.weighted_tree.specs.Balance.{weight};
 ghost use Rattle.weighted_tree.specs.Levels.{OneALevel, FourALevel};
 
+use crate::leaf::measure_between;
 use crate::node::Side;
-use crate::subtree::{Node, Subtree};
+use crate::subtree::Subtree;
 use monoid_laws::{Measured, Monoid};
 use retro_base::Steps;
 use std::sync::ledger::Ledger;
 
 impl<T: Measured> Subtree<T> {
     /// The item at a place.
-    pub(crate) fn item_at<L: Ledger>(&self, place: u32, steps: &mut Steps<L>) -> T
-        requires within { place < length self.now }
-        ensures item { slice_get self.now place ≡ Some result }
-        ensures some { steps.old + 1 ≤ steps.new }
-        ensures visits { FourALevel (weight self.now) steps.old steps.new }
-    {
-        self.node_at(place, steps).item
-    }
-
-    /// The node of the item at a place.
-    fn node_at<L: Ledger>(&self, place: u32, steps: &mut Steps<L>) -> &Node<T>
-        requires within { place < length self.now }
-        ensures item { slice_get self.now place ≡ Some result.now.item }
+    pub(crate) fn item_at<L: Ledger>(&self, place: u32, steps: &mut Steps<L>) -> &T
+        requires within { place < length self.now.items }
+        ensures item { slice_get self.now.items place ≡ Some result.now }
+        ensures few { self.now.nodes ≤ length self.now.items }
         ensures some { steps.old + 1 ≤ steps.new }
         ensures visits { FourALevel (weight self.now) steps.old steps.new }
     {
         let Some(node) = self.root(steps) else {
-            unreachable!()
+            let Some(items) = self.leaf(steps) else {
+                unreachable!()
+            };
+            return &items[place as usize];
         };
         let before = node.left.len();
         if place < before {
-            node.left.node_at(place, steps)
+            node.left.item_at(place, steps)
         } else if place > before {
-            node.right.node_at(place - before - 1, steps)
+            node.right.item_at(place - before - 1, steps)
         } else {
-            node
+            &node.item
         }
     }
 
@@ -45,16 +40,21 @@ impl<T: Measured> Subtree<T> {
     #[inline(always)]
     pub(crate) fn between<L: Ledger>(&self, from: u32, to: u32, steps: &mut Steps<L>) -> T::Measure
         requires order { from ≤ to }
-        requires within { to ≤ length self.now }
-        ensures value { result ≡ measure_in T.Measured T.Measure.Monoid (slice_range self.now from to) }
+        requires within { to ≤ length self.now.items }
+        ensures value { result ≡ measure_in T.Measured T.Measure.Monoid (slice_range self.now.items from to) }
+        ensures few { self.now.nodes ≤ length self.now.items }
         ensures none_lost { steps.old ≤ steps.new }
         ensures some { from < to → steps.old + 1 ≤ steps.new }
         ensures visits { FourALevel (weight self.now) steps.old steps.new }
     {
+        prove!(to <= self.len());
         let (mut subtree, mut start, mut end) = (self, from, to);
         'down: while start < end {
             let Some(node) = subtree.root(steps) else {
-                unreachable!()
+                let Some(items) = subtree.leaf(steps) else {
+                    unreachable!()
+                };
+                return measure_between(items, start as usize, end as usize);
             };
             let before = node.left.len();
             if end <= before {
@@ -75,8 +75,8 @@ impl<T: Measured> Subtree<T> {
     /// The measure of the items before `to`.
     #[inline(always)]
     fn prefix<L: Ledger>(&self, to: u32, steps: &mut Steps<L>) -> T::Measure
-        requires within { to ≤ length self.now }
-        ensures value { result ≡ measure_in T.Measured T.Measure.Monoid (take to self.now) }
+        requires within { to ≤ length self.now.items }
+        ensures value { result ≡ measure_in T.Measured T.Measure.Monoid (take to self.now.items) }
         ensures items { T.Measure.items_of result ≡ to }
         ensures none_lost { steps.old ≤ steps.new }
         ensures visits { OneALevel (weight self.now) steps.old steps.new }
@@ -85,7 +85,10 @@ impl<T: Measured> Subtree<T> {
         let mut before = T::Measure::unit();
         'down: while rest < subtree.len() {
             let Some(node) = subtree.root(steps) else {
-                unreachable!()
+                let Some(items) = subtree.leaf(steps) else {
+                    unreachable!()
+                };
+                return before.join(measure_between(items, 0, rest as usize));
             };
             let count = node.left.len();
             if rest <= count {
@@ -102,9 +105,9 @@ impl<T: Measured> Subtree<T> {
     /// The measure of the items from `from` on.
     #[inline(always)]
     fn suffix<L: Ledger>(&self, from: u32, steps: &mut Steps<L>) -> T::Measure
-        requires within { from ≤ length self.now }
-        ensures value { result ≡ measure_in T.Measured T.Measure.Monoid (drop from self.now) }
-        ensures items { T.Measure.items_of result + from ≡ length self.now }
+        requires within { from ≤ length self.now.items }
+        ensures value { result ≡ measure_in T.Measured T.Measure.Monoid (drop from self.now.items) }
+        ensures items { T.Measure.items_of result + from ≡ length self.now.items }
         ensures none_lost { steps.old ≤ steps.new }
         ensures visits { OneALevel (weight self.now) steps.old steps.new }
     {
@@ -112,7 +115,11 @@ impl<T: Measured> Subtree<T> {
         let mut after = T::Measure::unit();
         'down: while rest < subtree.len() {
             let Some(node) = subtree.root(steps) else {
-                unreachable!()
+                let Some(items) = subtree.leaf(steps) else {
+                    unreachable!()
+                };
+                let end = items.len();
+                return measure_between(items, end - rest as usize, end).join(after);
             };
             let count = node.right.len();
             if rest <= count {

@@ -4,9 +4,10 @@ ghost use Rattle.weighted_tree.specs.Balance.{weight};
 ghost use Rattle.weighted_tree.specs.Levels.{OneALevel};
 ghost use Rattle.weighted_tree.specs.Measures.{passing};
 ghost use Rattle.weighted_tree.specs.Search.{FindsPartition};
-ghost use Rattle.weighted_tree.specs.SearchSteps.{IsSought, IsBoundaryWithin, VisitsOfSearch};
+ghost use Rattle.weighted_tree.specs.SearchSteps.{IsSought, IsBoundaryWithin, VisitsOfSearch, joined_after};
 ghost use Rattle.weighted_tree.specs.Sides.{seen_from};
 
+use crate::leaf::{boundary_in, partition_in};
 use crate::node::Side;
 use crate::subtree::Subtree;
 use monoid_laws::{Measured, Monoid};
@@ -30,23 +31,20 @@ impl<T: Measured> Subtree<T> {
         test: &F,
         steps: &mut Steps<L>,
     ) -> Search<T::Measure>
-        requires within { from ≤ length self.now }
+        requires within { from ≤ length self.now.items }
         requires callable { F.IsAlwaysCallable test.now }
         ensures sought { IsSought F.Fn test.now T.Measure.items_of
-            (passing side T.Measured T.Measure.Monoid T.Measure.unit_value (drop from (seen_from side self.now)))
-            (length self.now - from) result }
-        ensures fits { length self.now < 2 ^ 32 }
+            (passing side T.Measured T.Measure.Monoid T.Measure.unit_value (drop from (seen_from side self.now.items)))
+            (length self.now.items - from) result }
+        ensures fits { length self.now.items < 2 ^ 32 }
+        ensures few { self.now.nodes ≤ length self.now.items }
         ensures none_lost { steps.old ≤ steps.new }
-        ensures some { from < length self.now → steps.old + 1 ≤ steps.new }
+        ensures some { from < length self.now.items → steps.old + 1 ≤ steps.new }
         ensures visits { VisitsOfSearch (weight self.now) steps.old steps.new result }
     {
+        prove!(from <= self.len());
         let Some(node) = self.root(steps) else {
-            let unit = T::Measure::unit();
-            return if passes(test, &unit) {
-                Search::Found(0)
-            } else {
-                Search::Open(unit)
-            };
+            return self.boundary_in_leaf(side, from, T::Measure::unit(), test, steps);
         };
         if from == 0 {
             let all = self.whole();
@@ -78,6 +76,37 @@ impl<T: Measured> Subtree<T> {
         }
     }
 
+    /// The same where there is no node, with a measure before.
+    #[inline(always)]
+    fn boundary_in_leaf<F: Fn(&T::Measure) -> bool, L: Ledger>(
+        &self,
+        side: Side,
+        from: u32,
+        before: T::Measure,
+        test: &F,
+        steps: &mut Steps<L>,
+    ) -> Search<T::Measure>
+        requires leaf { self.now.nodes ≡ 0 }
+        requires within { from ≤ length self.now.items }
+        requires fits { T.Measure.items_of before + length self.now.items < 2 ^ 32 }
+        requires callable { F.IsAlwaysCallable test.now }
+        ensures sought { IsSought F.Fn test.now (joined_after T.Measure.items_of before)
+            (passing side T.Measured T.Measure.Monoid before (drop from (seen_from side self.now.items)))
+            (length self.now.items - from) result }
+        ensures none_lost { steps.old ≤ steps.new }
+        ensures some { 0 < length self.now.items → steps.old + 1 ≤ steps.new }
+        ensures visits { steps.new ≤ steps.old + 1 }
+    {
+        if let Some(items) = self.leaf(steps) {
+            return boundary_in(items, side, from, before, test);
+        }
+        if passes(test, &before) {
+            Search::Found(0)
+        } else {
+            Search::Open(before)
+        }
+    }
+
     /// The same from the first item on, where the test holds at the end.
     #[inline(always)]
     fn boundary_within<F: Fn(&T::Measure) -> bool, L: Ledger>(
@@ -87,10 +116,10 @@ impl<T: Measured> Subtree<T> {
         test: &F,
         steps: &mut Steps<L>,
     ) -> u32
-        requires fits { T.Measure.items_of before + length self.now < 2 ^ 32 }
+        requires fits { T.Measure.items_of before + length self.now.items < 2 ^ 32 }
         requires callable { F.IsAlwaysCallable test.now }
         ensures boundary { IsBoundaryWithin F.Fn test.now
-            (passing side T.Measured T.Measure.Monoid before (seen_from side self.now)) (length self.now) result }
+            (passing side T.Measured T.Measure.Monoid before (seen_from side self.now.items)) (length self.now.items) result }
         ensures none_lost { steps.old ≤ steps.new }
         ensures visits { OneALevel (weight self.now) steps.old steps.new }
     {
@@ -109,7 +138,10 @@ impl<T: Measured> Subtree<T> {
                 subtree = far;
             }
         }
-        count
+        match subtree.boundary_in_leaf(side, 0, passed, test, steps) {
+            Search::Found(more) => count + more,
+            Search::Open(_) => count + subtree.len(),
+        }
     }
 
     /// How many items a test holds of, where it holds of none after one of which it does not.
@@ -120,10 +152,11 @@ impl<T: Measured> Subtree<T> {
         steps: &mut Steps<L>,
     ) -> u32
         requires callable { F.IsAlwaysCallable test.now }
-        ensures partition { FindsPartition F.Fn test.now self.now result }
-        ensures within { result ≤ length self.now }
+        ensures partition { FindsPartition F.Fn test.now self.now.items result }
+        ensures within { result ≤ length self.now.items }
+        ensures few { self.now.nodes ≤ length self.now.items }
         ensures none_lost { steps.old ≤ steps.new }
-        ensures some { 0 < length self.now → steps.old + 1 ≤ steps.new }
+        ensures some { 0 < length self.now.items → steps.old + 1 ≤ steps.new }
         ensures visits { OneALevel (weight self.now) steps.old steps.new }
     {
         let (mut subtree, mut end) = (self, self.len());
@@ -135,13 +168,16 @@ impl<T: Measured> Subtree<T> {
                 subtree = &node.left;
             }
         }
-        end
+        match subtree.leaf(steps) {
+            Some(items) => end - items.len() as u32 + partition_in(items, test) as u32,
+            None => end,
+        }
     }
 }
 
 /// What the test says of a measure or of an item.
 #[inline(always)]
-fn passes<M, F: Fn(&M) -> bool>(test: &F, measure: &M) -> bool
+pub(crate) fn passes<M, F: Fn(&M) -> bool>(test: &F, measure: &M) -> bool
     requires { F.IsAlwaysCallable test.now }
     ensures { FnReturnsAt F.Fn test.now measure.now result }
 {

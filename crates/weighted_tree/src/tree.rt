@@ -7,7 +7,7 @@ ghost use Rattle.weighted_tree.specs.Search.{FindsFirst, FindsLast, FindsPartiti
 
 use crate::node::Side;
 use crate::search::Search;
-use crate::subtree::{Node, Subtree};
+use crate::subtree::Subtree;
 use monoid_laws::Measured;
 use retro_base::{NoMemory, Steps};
 use std::alloc::Global;
@@ -26,7 +26,7 @@ impl<T: Measured> Model for Tree<T> {
 
     ghost Value = { List T };
 
-    ghost view = { λ t. t.root };
+    ghost view = { λ t. t.root.items };
 }
 
 impl<T: Measured> Tree<T> {
@@ -59,7 +59,7 @@ impl<T: Measured> Tree<T> {
         ensures some { steps.old + 1 ≤ steps.new }
         ensures visits { VisitsWithin 12 (length self.now) steps.old steps.new }
     {
-        self.root.item_at(place, steps)
+        *self.root.item_at(place, steps)
     }
 
     /// Writes what `shown` makes of the items from a place on into a slice, as many as fit or are there, and gives their number.
@@ -94,9 +94,7 @@ impl<T: Measured> Tree<T> {
         ensures none { OnErr result (length self.old ≡ 0 → steps.new ≡ steps.old) }
         ensures visits { VisitsWithin 12 (length self.new) steps.old steps.new }
     {
-        let node = Box::new(self.alloc, Node::alone(item))?;
-        self.root.insert_below(place, node, steps);
-        Ok(())
+        self.root.insert_below(place, item, self.alloc, steps)
     }
 
     /// Removes the item at a place, and gives it; those after it move one place back.

@@ -1,56 +1,104 @@
-use Rattle.std.proofs.Common.{◌≡◌, ◌-◌, refl, arith, ◌∙◌, ◌∷◌, ◌++◌, ap, sym, subst, length}
+use Rattle.std.proofs.Common.{rules, ◌≡◌, ◌+◌, ◌-◌, refl, arith, ◌∙◌, ◌∷◌, ◌++◌, ap, sym, subst, length}
 use Rattle.std.specs.List.{insert}
-use Rattle.weighted_tree.specs.Nodes.{items_of, IsSound}
+use Rattle.weighted_tree.specs.Balance.{IsUpToOneMore}
+use Rattle.weighted_tree.specs.Nodes.{items_of, nodes_of, part_of, IsSound}
 use Rattle.weighted_tree.proofs.InPlace.{root_of}
-use Rattle.weighted_tree.proofs.Levels.{some_items, level_left, level_right, counted_left, counted_right, counted_none}
+use Rattle.weighted_tree.proofs.Levels.{level_left, level_right, counted_left, counted_right, counted_none, on_ok}
 use Rattle.weighted_tree.proofs.Middles.{insert-before, insert-after}
 use Rattle.weighted_tree.proofs.subtree.Subtree.+insert_below.Goals as goal
-use Rattle.weighted_tree.proofs.subtree.Subtree.+insert_below.Goals.{then-place-before, else-place-before}
+use Rattle.weighted_tree.proofs.subtree.Subtree.+insert_below.Goals.{then-place-before+in_ok-insert_below, else-place-before+in_ok-insert_below-2}
 
-pub returns-clause-items : goal.returns-clause-items
-returns-clause-items g t c =
+pub returns-in_default : goal.returns-in_default
+returns-in_default g t c =
+    let done = c.insert_in_leaf.ensures in
+    let part : c.args.self.now.nodes ≡ 0 = search rules in
+    let leaf : nodes_of c.self.inside.link ≡ 0 = ap (λ part. part.nodes) c.self.view_is ∙ part in
+    rw (← c.self.view_is) (record {
+      ok = done.ok;
+      grows = done.grows;
+      err = done.err;
+      few = omega (arith, leaf);
+      none_lost = done.none_lost;
+      some = done.some;
+      none = done.none;
+      counted = on_ok _ (counted_none _ _ _ (omega (arith, leaf)) done.none_lost);
+      visits = λ levels within. omega (arith, done.visits);
+    })
+
+pub returns-in_err-insert_below-clause-visits : goal.returns-in_err-insert_below-clause-visits
+returns-in_err-insert_below-clause-visits g t c =
     let node = c.in-Full.node.node.value in
-    let item = c.args.fresh.value.item in
     let opened = c.deref_mut-node.ensures.value ∙ ap (λ b. b.value) c.open_mut.ensures.node in
-    let before = ap (λ n. length n.left) opened in
-    let whole = ap (λ xs. insert xs c.args.place item) (sym (ap items_of c.in-Full.is) ∙ c.self.view_is) in
+    let sound = subst (IsSound g.T.Measure.Monoid.unit_value g.T.Measure.Monoid.joined g.T.Measured.measured) c.in-Full.is c.self.invariant in
+    let root = root_of sound (sym (ap part_of c.in-Full.is) ∙ c.self.view_is) in
+    level_left _ node _ _ c.insert_below.new.steps _ root c.open_mut.ensures.visit (rw opened at c.insert_below.ensures.visits) (omega arith)
+
+pub returns-in_err-insert_below-2-clause-visits : goal.returns-in_err-insert_below-2-clause-visits
+returns-in_err-insert_below-2-clause-visits g t c =
+    let node = c.in-Full.node.node.value in
+    let opened = c.deref_mut-node.ensures.value ∙ ap (λ b. b.value) c.open_mut.ensures.node in
+    let sound = subst (IsSound g.T.Measure.Monoid.unit_value g.T.Measure.Monoid.joined g.T.Measured.measured) c.in-Full.is c.self.invariant in
+    let root = root_of sound (sym (ap part_of c.in-Full.is) ∙ c.self.view_is) in
+    level_right _ node _ _ c.insert_below-else-place-before.new.steps _ root c.open_mut.ensures.visit (rw opened at c.insert_below-else-place-before.ensures.visits) (omega arith)
+
+pub returns-clause-ok : goal.returns-clause-ok
+returns-clause-ok g t c =
+    let node = c.in-Full.node.node.value in
+    let item = c.args.item in
+    let opened = c.deref_mut-node.ensures.value ∙ ap (λ b. b.value) c.open_mut.ensures.node in
+    let before = ap (λ n. length n.left.items) opened in
+    let whole = ap (λ part. insert part.items c.args.place item) (sym (ap part_of c.in-Full.is) ∙ c.self.view_is) in
     elim c.if-place-before.branch [
-      | then-place-before w ↦
-          let new : items_of c.if-place-before.self-inside.link ≡ insert node.left c.args.place item ++ node.item ∷ node.right = rw (w.self-inside-is, w.insert_below.ensures.items, opened) refl in
-          c.settle.ensures.items ∙ new ∙ sym (insert-before node.left node.right node.item c.args.place item (omega arith)) ∙ whole
-      | else-place-before w ↦
-          let place : c.args.place - c.len-before.result - 1 ≡ c.args.place - length node.left - 1 = omega arith in
-          let new : items_of c.if-place-before.self-inside.link ≡ node.left ++ node.item ∷ insert node.right (c.args.place - length node.left - 1) item = rw (w.self-inside-is, w.insert_below-else-place-before.ensures.items, opened, place) refl in
-          c.settle.ensures.items ∙ new ∙ sym (insert-after node.left node.right node.item c.args.place item (omega arith)) ∙ whole
+      | then-place-before+in_ok-insert_below w ↦
+          let new : items_of c.if-place-before.self-inside.link ≡ insert node.left.items c.args.place item ++ node.item ∷ node.right.items = rw (w.self-inside-is, w.in_ok-insert_below.ensures.ok, opened) refl in
+          c.settle.ensures.items ∙ new ∙ sym (insert-before node.left.items node.right.items node.item c.args.place item (omega arith)) ∙ whole
+      | else-place-before+in_ok-insert_below-2 w ↦
+          let place : c.args.place - c.len-before.result - 1 ≡ c.args.place - length node.left.items - 1 = omega arith in
+          let new : items_of c.if-place-before.self-inside.link ≡ node.left.items ++ node.item ∷ insert node.right.items (c.args.place - length node.left.items - 1) item = rw (w.self-inside-is, w.in_ok-insert_below-2.ensures.ok, opened, place) refl in
+          c.settle.ensures.items ∙ new ∙ sym (insert-after node.left.items node.right.items node.item c.args.place item (omega arith)) ∙ whole
     ]
+
+pub returns-clause-grows : goal.returns-clause-grows
+returns-clause-grows g t c =
+    let node = c.in-Full.node.node.value in
+    let opened = c.deref_mut-node.ensures.value ∙ ap (λ b. b.value) c.open_mut.ensures.node in
+    let sound = subst (IsSound g.T.Measure.Monoid.unit_value g.T.Measure.Monoid.joined g.T.Measured.measured) c.in-Full.is c.self.invariant in
+    let root = root_of sound (sym (ap part_of c.in-Full.is) ∙ c.self.view_is) in
+    elim c.if-place-before.branch [
+      | then-place-before+in_ok-insert_below w ↦
+          let new : nodes_of c.if-place-before.self-inside.link ≡ w.insert_below.new.self.nodes + 1 + node.right.nodes = rw (w.self-inside-is, opened) refl in
+          let grown : IsUpToOneMore node.left.nodes w.insert_below.new.self.nodes = rw opened at w.in_ok-insert_below.ensures.grows in
+          record { no_less = omega (arith, root.nodes_are, c.settle.ensures.nodes, new, grown.no_less); no_more = omega (arith, root.nodes_are, c.settle.ensures.nodes, new, grown.no_more) }
+      | else-place-before+in_ok-insert_below-2 w ↦
+          let new : nodes_of c.if-place-before.self-inside.link ≡ node.left.nodes + 1 + w.insert_below-else-place-before.new.self.nodes = rw (w.self-inside-is, opened) refl in
+          let grown : IsUpToOneMore node.right.nodes w.insert_below-else-place-before.new.self.nodes = rw opened at w.in_ok-insert_below-2.ensures.grows in
+          record { no_less = omega (arith, root.nodes_are, c.settle.ensures.nodes, new, grown.no_less); no_more = omega (arith, root.nodes_are, c.settle.ensures.nodes, new, grown.no_more) }
+    ]
+
+pub returns-clause-few : goal.returns-clause-few
+returns-clause-few g t c =
+    let sound = subst (IsSound g.T.Measure.Monoid.unit_value g.T.Measure.Monoid.joined g.T.Measured.measured) c.in-Full.is c.self.invariant in
+    let root = root_of sound (sym (ap part_of c.in-Full.is) ∙ c.self.view_is) in
+    root.few
 
 pub returns-clause-visits : goal.returns-clause-visits
 returns-clause-visits g t c =
     let node = c.in-Full.node.node.value in
     let opened = c.deref_mut-node.ensures.value ∙ ap (λ b. b.value) c.open_mut.ensures.node in
     let sound = subst (IsSound g.T.Measure.Monoid.unit_value g.T.Measure.Monoid.joined g.T.Measured.measured) c.in-Full.is c.self.invariant in
-    let root = root_of sound (sym (ap items_of c.in-Full.is) ∙ c.self.view_is) in
+    let root = root_of sound (sym (ap part_of c.in-Full.is) ∙ c.self.view_is) in
     elim c.if-place-before.branch [
-      | then-place-before w ↦ level_left _ node _ _ _ _ root c.open_mut.ensures.visit (rw opened at w.insert_below.ensures.visits) (omega arith)
-      | else-place-before w ↦ level_right _ node _ _ _ _ root c.open_mut.ensures.visit (rw opened at w.insert_below-else-place-before.ensures.visits) (omega arith)
+      | then-place-before+in_ok-insert_below w ↦ level_left _ node _ _ _ _ root c.open_mut.ensures.visit (rw opened at w.insert_below.ensures.visits) (omega arith)
+      | else-place-before+in_ok-insert_below-2 w ↦ level_right _ node _ _ _ _ root c.open_mut.ensures.visit (rw opened at w.insert_below-else-place-before.ensures.visits) (omega arith)
     ]
-
-pub returns-in_default-clause-counted : goal.returns-in_default-clause-counted
-returns-in_default-clause-counted g t c =
-    let none = ap length (sym c.self.view_is ∙ ap items_of c.in_default.is) in
-    counted_none _ _ _ (omega arith) (omega arith)
 
 pub returns-clause-counted : goal.returns-clause-counted
 returns-clause-counted g t c =
     let node = c.in-Full.node.node.value in
     let opened = c.deref_mut-node.ensures.value ∙ ap (λ b. b.value) c.open_mut.ensures.node in
     let sound = subst (IsSound g.T.Measure.Monoid.unit_value g.T.Measure.Monoid.joined g.T.Measured.measured) c.in-Full.is c.self.invariant in
-    let root = root_of sound (sym (ap items_of c.in-Full.is) ∙ c.self.view_is) in
+    let root = root_of sound (sym (ap part_of c.in-Full.is) ∙ c.self.view_is) in
     elim c.if-place-before.branch [
-      | then-place-before w ↦
-          let back = c.settle.ensures.some (rw w.self-inside-is (some_items _ _ _)) in
-          counted_left _ node _ _ _ _ root (rw opened at w.insert_below.ensures.counted) (omega arith)
-      | else-place-before w ↦
-          let back = c.settle.ensures.some (rw w.self-inside-is (some_items _ _ _)) in
-          counted_right _ node _ _ _ _ root (rw opened at w.insert_below-else-place-before.ensures.counted) (omega arith)
+      | then-place-before+in_ok-insert_below w ↦ counted_left _ node _ _ _ _ root (rw opened at w.in_ok-insert_below.ensures.counted) (omega (arith, c.settle.ensures.some))
+      | else-place-before+in_ok-insert_below-2 w ↦ counted_right _ node _ _ _ _ root (rw opened at w.in_ok-insert_below-2.ensures.counted) (omega (arith, c.settle.ensures.some))
     ]

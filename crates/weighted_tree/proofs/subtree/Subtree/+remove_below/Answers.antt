@@ -1,64 +1,89 @@
-use Rattle.std.proofs.Common.{◌≡◌, ◌-◌, refl, arith, ◌∙◌, ◌∷◌, ◌++◌, ap, sym, subst, length}
+use Rattle.std.proofs.Common.{rules, ◌≡◌, ◌-◌, refl, arith, ◌∙◌, ◌∷◌, ◌++◌, ap, sym, subst, length}
 use Rattle.std.specs.List.{remove}
 use Rattle.std.specs.Prelude.{slice_get, Some}
-use Rattle.weighted_tree.specs.Nodes.{items_of, IsSound}
+use Rattle.weighted_tree.specs.Nodes.{items_of, nodes_of, part_of, node_items, IsSound}
 use Rattle.weighted_tree.proofs.InPlace.{root_of, node_of}
-use Rattle.weighted_tree.proofs.Levels.{some_items, level_left, level_right, counted_left, counted_right}
-use Rattle.weighted_tree.proofs.Middles.{get-before, get-after, remove-before, remove-middle, remove-after}
+use Rattle.weighted_tree.proofs.Levels.{level_left, level_right, counted_left, counted_right, counted_one, counted_none, few_nodes}
+use Rattle.weighted_tree.proofs.Middles.{get-before, get-middle, get-after, remove-before, remove-middle, remove-after, next-then-rest}
 use Rattle.weighted_tree.proofs.subtree.Subtree.+remove_below.Goals as goal
-use Rattle.weighted_tree.proofs.subtree.Subtree.+remove_below.Goals.{then-place-before, else-place-before+then-place-before-2}
+use Rattle.weighted_tree.proofs.subtree.Subtree.+remove_below.Goals.{then-place-before, else-place-before+then-place-before-2, else-place-before+else-place-before-2+then-len-gt0}
 
-pub returns-else-place-before-2-clause-items : goal.returns-else-place-before-2-clause-items
-returns-else-place-before-2-clause-items g t c =
+pub returns-in_default : goal.returns-in_default
+returns-in_default g t c =
+    let done = c.remove_in_leaf.ensures in
+    let part : c.args.self.now.nodes ≡ 0 = search rules in
+    let leaf : nodes_of c.self.inside.link ≡ 0 = ap (λ part. part.nodes) c.self.view_is ∙ part in
+    rw (← c.self.view_is) (record {
+      item = done.item;
+      items = done.items;
+      shrinks = record { no_less = omega (arith, leaf, done.leaf); no_more = omega (arith, leaf, done.leaf) };
+      few = omega (arith, leaf);
+      some = omega (arith, done.visit);
+      counted = counted_none _ _ _ (omega (arith, leaf)) (omega (arith, done.visit));
+      visits = λ levels within. omega (arith, done.visit);
+    })
+
+pub returns-else-len-gt0-clause-item : goal.returns-else-len-gt0-clause-item
+returns-else-len-gt0-clause-item g t c =
     let node = c.in-Full.node.node.value in
     let opened = c.deref_mut-node.ensures.value ∙ ap (λ b. b.value) c.open_mut.ensures.node in
-    let before = ap (λ n. length n.left) opened in
-    let place : length node.left ≡ c.args.place = omega arith in
-    let same : c.in-Full-replace.node.node.value ≡ node = ap (node_of node) (sym c.in-Full-replace.is ∙ c.replace.ensures.value) ∙ opened in
-    c.merged-else-place-before-2.view_is
-    ∙ c.merged.ensures.items
-    ∙ rw (c.take.ensures.taken, c.take-else-place-before-2.ensures.taken, c.deref_mut-else-place-before-2.ensures.value, c.take.ensures.rest, c.deref_mut.ensures.value, c.into_open-node.ensures.node, same) refl
-    ∙ sym (remove-middle node.left node.right node.item)
-    ∙ ap (λ k. remove (node.left ++ node.item ∷ node.right) k) place
-    ∙ ap (λ xs. remove xs c.args.place) (sym (ap items_of c.in-Full.is) ∙ c.self.view_is)
+    let before = ap (λ n. length n.left.items) opened in
+    let place : c.args.place ≡ length node.left.items = omega arith in
+    let same : c.in-Full-replace.node.node.value ≡ node = ap (node_of node) (sym c.in-Full-replace.is ∙ c.replace-else-len-gt0.ensures.value) ∙ opened in
+    let item_is : c.deref.result.now.item ≡ node.item = rw (c.deref.ensures, c.take.ensures.rest, c.deref_mut.ensures.value, c.into_open-node.ensures.node, same) refl in
+    ap (λ part. slice_get part.items c.args.place) (sym c.self.view_is ∙ ap part_of c.in-Full.is)
+    ∙ ap (slice_get (node_items node)) place
+    ∙ get-middle node.left.items node.right.items node.item
+    ∙ ap Some (sym item_is)
 
-pub returns-else-place-before-2-clause-visits : goal.returns-else-place-before-2-clause-visits
-returns-else-place-before-2-clause-visits g t c =
+pub returns-else-len-gt0-clause-counted : goal.returns-else-len-gt0-clause-counted
+returns-else-len-gt0-clause-counted g t c =
     let node = c.in-Full.node.node.value in
     let opened = c.deref_mut-node.ensures.value ∙ ap (λ b. b.value) c.open_mut.ensures.node in
-    let same : c.in-Full-replace.node.node.value ≡ node = ap (node_of node) (sym c.in-Full-replace.is ∙ c.replace.ensures.value) ∙ opened in
     let sound = subst (IsSound g.T.Measure.Monoid.unit_value g.T.Measure.Monoid.joined g.T.Measured.measured) c.in-Full.is c.self.invariant in
-    let root = root_of sound (sym (ap items_of c.in-Full.is) ∙ c.self.view_is) in
-    let right = rw (c.take-else-place-before-2.ensures.taken, c.deref_mut-else-place-before-2.ensures.value, c.take.ensures.rest, c.deref_mut.ensures.value, c.into_open-node.ensures.node, same) at c.merged.ensures.visits in
-    level_right _ node _ _ (c.merged.new.steps - 3) _ root c.open_mut.ensures.visit (λ levels within. omega (arith, right levels within)) (omega arith)
+    let root = root_of sound (sym (ap part_of c.in-Full.is) ∙ c.self.view_is) in
+    let none : node.right.nodes ≡ 0 = omega (arith, ap (λ n. n.right.nodes) opened, c.len.ensures.few, c.len.ensures.count) in
+    counted_one _ _ _ (few_nodes root none) (omega arith)
 
 pub returns-clause-item : goal.returns-clause-item
 returns-clause-item g t c =
     let node = c.in-Full.node.node.value in
     let opened = c.deref_mut-node.ensures.value ∙ ap (λ b. b.value) c.open_mut.ensures.node in
-    let before = ap (λ n. length n.left) opened in
-    let there = ap (λ xs. slice_get xs c.args.place) (sym c.self.view_is ∙ ap items_of c.in-Full.is) in
+    let before = ap (λ n. length n.left.items) opened in
+    let there = ap (λ part. slice_get part.items c.args.place) (sym c.self.view_is ∙ ap part_of c.in-Full.is) in
     elim c.if-place-before.branch [
-      | then-place-before w ↦ there ∙ get-before node.left (node.item ∷ node.right) c.args.place (omega arith) ∙ ap (λ n. slice_get n.left c.args.place) (sym opened) ∙ w.remove_below-item.ensures.item ∙ ap Some (sym w.item-is)
+      | then-place-before w ↦ there ∙ get-before node.left.items (node.item ∷ node.right.items) c.args.place (omega arith) ∙ ap (λ n. slice_get n.left.items c.args.place) (sym opened) ∙ w.remove_below-item.ensures.item ∙ ap Some (sym w.item-is)
       | else-place-before+then-place-before-2 w ↦
-          let place : c.args.place - length node.left - 1 ≡ c.args.place - c.len-before.result - 1 = omega arith in
-          there ∙ get-after node.left node.right node.item c.args.place (omega arith) ∙ ap (slice_get node.right) place ∙ ap (λ n. slice_get n.right (c.args.place - c.len-before.result - 1)) (sym opened) ∙ w.remove_below.ensures.item ∙ ap Some (sym w.item-is)
+          let place : c.args.place - length node.left.items - 1 ≡ c.args.place - c.len-before.result - 1 = omega arith in
+          there ∙ get-after node.left.items node.right.items node.item c.args.place (omega arith) ∙ ap (slice_get node.right.items) place ∙ ap (λ n. slice_get n.right.items (c.args.place - c.len-before.result - 1)) (sym opened) ∙ w.remove_below.ensures.item ∙ ap Some (sym w.item-is)
+      | else-place-before+else-place-before-2+then-len-gt0 w ↦
+          let place : c.args.place ≡ length node.left.items = omega arith in
+          there ∙ ap (slice_get (node_items node)) place ∙ get-middle node.left.items node.right.items node.item ∙ ap (λ n. Some n.item) (sym opened) ∙ ap Some (sym w.replace.ensures.value ∙ sym w.item-is)
     ]
 
 pub returns-clause-items : goal.returns-clause-items
 returns-clause-items g t c =
     let node = c.in-Full.node.node.value in
     let opened = c.deref_mut-node.ensures.value ∙ ap (λ b. b.value) c.open_mut.ensures.node in
-    let before = ap (λ n. length n.left) opened in
-    let whole = ap (λ xs. remove xs c.args.place) (sym (ap items_of c.in-Full.is) ∙ c.self.view_is) in
+    let before = ap (λ n. length n.left.items) opened in
+    let whole = ap (λ part. remove part.items c.args.place) (sym (ap part_of c.in-Full.is) ∙ c.self.view_is) in
     elim c.if-place-before.branch [
       | then-place-before w ↦
-          let new : items_of c.if-place-before.self-inside.link ≡ remove node.left c.args.place ++ node.item ∷ node.right = rw (w.self-inside-is, w.remove_below-item.ensures.items, opened) refl in
-          c.settle.ensures.items ∙ new ∙ sym (remove-before node.left node.right node.item c.args.place (omega arith)) ∙ whole
+          let new : items_of c.if-place-before.self-inside.link ≡ remove node.left.items c.args.place ++ node.item ∷ node.right.items = rw (w.self-inside-is, w.remove_below-item.ensures.items, opened) refl in
+          c.settle.ensures.items ∙ new ∙ sym (remove-before node.left.items node.right.items node.item c.args.place (omega arith)) ∙ whole
       | else-place-before+then-place-before-2 w ↦
-          let place : c.args.place - c.len-before.result - 1 ≡ c.args.place - length node.left - 1 = omega arith in
-          let new : items_of c.if-place-before.self-inside.link ≡ node.left ++ node.item ∷ remove node.right (c.args.place - length node.left - 1) = rw (w.self-inside-is, w.remove_below.ensures.items, opened, place) refl in
-          c.settle.ensures.items ∙ new ∙ sym (remove-after node.left node.right node.item c.args.place (omega arith)) ∙ whole
+          let place : c.args.place - c.len-before.result - 1 ≡ c.args.place - length node.left.items - 1 = omega arith in
+          let new : items_of c.if-place-before.self-inside.link ≡ node.left.items ++ node.item ∷ remove node.right.items (c.args.place - length node.left.items - 1) = rw (w.self-inside-is, w.remove_below.ensures.items, opened, place) refl in
+          c.settle.ensures.items ∙ new ∙ sym (remove-after node.left.items node.right.items node.item c.args.place (omega arith)) ∙ whole
+      | else-place-before+else-place-before-2+then-len-gt0 w ↦
+          let place : length node.left.items ≡ c.args.place = omega arith in
+          let next = w.remove_below-next.result in
+          let new : items_of c.if-place-before.self-inside.link ≡ node.left.items ++ next ∷ remove node.right.items 0 = rw (w.self-inside-is, w.replace.ensures.after, w.remove_below-next.ensures.items, opened) refl in
+          c.settle.ensures.items ∙ new
+          ∙ ap (λ xs. node.left.items ++ xs) (next-then-rest node.right.items next (ap (λ n. slice_get n.right.items 0) (sym opened) ∙ w.remove_below-next.ensures.item))
+          ∙ sym (remove-middle node.left.items node.right.items node.item)
+          ∙ ap (λ k. remove (node_items node) k) place
+          ∙ whole
     ]
 
 pub returns-clause-visits : goal.returns-clause-visits
@@ -66,33 +91,21 @@ returns-clause-visits g t c =
     let node = c.in-Full.node.node.value in
     let opened = c.deref_mut-node.ensures.value ∙ ap (λ b. b.value) c.open_mut.ensures.node in
     let sound = subst (IsSound g.T.Measure.Monoid.unit_value g.T.Measure.Monoid.joined g.T.Measured.measured) c.in-Full.is c.self.invariant in
-    let root = root_of sound (sym (ap items_of c.in-Full.is) ∙ c.self.view_is) in
+    let root = root_of sound (sym (ap part_of c.in-Full.is) ∙ c.self.view_is) in
     elim c.if-place-before.branch [
       | then-place-before w ↦ level_left _ node _ _ _ _ root c.open_mut.ensures.visit (rw opened at w.remove_below-item.ensures.visits) (omega arith)
       | else-place-before+then-place-before-2 w ↦ level_right _ node _ _ _ _ root c.open_mut.ensures.visit (rw opened at w.remove_below.ensures.visits) (omega arith)
+      | else-place-before+else-place-before-2+then-len-gt0 w ↦ level_right _ node _ _ _ _ root c.open_mut.ensures.visit (rw opened at w.remove_below-next.ensures.visits) (omega arith)
     ]
-
-pub returns-else-place-before-2-clause-counted : goal.returns-else-place-before-2-clause-counted
-returns-else-place-before-2-clause-counted g t c =
-    let node = c.in-Full.node.node.value in
-    let opened = c.deref_mut-node.ensures.value ∙ ap (λ b. b.value) c.open_mut.ensures.node in
-    let same : c.in-Full-replace.node.node.value ≡ node = ap (node_of node) (sym c.in-Full-replace.is ∙ c.replace.ensures.value) ∙ opened in
-    let sound = subst (IsSound g.T.Measure.Monoid.unit_value g.T.Measure.Monoid.joined g.T.Measured.measured) c.in-Full.is c.self.invariant in
-    let root = root_of sound (sym (ap items_of c.in-Full.is) ∙ c.self.view_is) in
-    let right = rw (c.take-else-place-before-2.ensures.taken, c.deref_mut-else-place-before-2.ensures.value, c.take.ensures.rest, c.deref_mut.ensures.value, c.into_open-node.ensures.node, same) at c.merged.ensures.counted in
-    counted_right _ node _ _ _ _ root right (omega arith)
 
 pub returns-clause-counted : goal.returns-clause-counted
 returns-clause-counted g t c =
     let node = c.in-Full.node.node.value in
     let opened = c.deref_mut-node.ensures.value ∙ ap (λ b. b.value) c.open_mut.ensures.node in
     let sound = subst (IsSound g.T.Measure.Monoid.unit_value g.T.Measure.Monoid.joined g.T.Measured.measured) c.in-Full.is c.self.invariant in
-    let root = root_of sound (sym (ap items_of c.in-Full.is) ∙ c.self.view_is) in
+    let root = root_of sound (sym (ap part_of c.in-Full.is) ∙ c.self.view_is) in
     elim c.if-place-before.branch [
-      | then-place-before w ↦
-          let back = c.settle.ensures.some (rw w.self-inside-is (some_items _ _ _)) in
-          counted_left _ node _ _ _ _ root (rw opened at w.remove_below-item.ensures.counted) (omega arith)
-      | else-place-before+then-place-before-2 w ↦
-          let back = c.settle.ensures.some (rw w.self-inside-is (some_items _ _ _)) in
-          counted_right _ node _ _ _ _ root (rw opened at w.remove_below.ensures.counted) (omega arith)
+      | then-place-before w ↦ counted_left _ node _ _ _ _ root (rw opened at w.remove_below-item.ensures.counted) (omega (arith, c.settle.ensures.some))
+      | else-place-before+then-place-before-2 w ↦ counted_right _ node _ _ _ _ root (rw opened at w.remove_below.ensures.counted) (omega (arith, c.settle.ensures.some))
+      | else-place-before+else-place-before-2+then-len-gt0 w ↦ counted_right _ node _ _ _ _ root (rw opened at w.remove_below-next.ensures.counted) (omega (arith, c.settle.ensures.some))
     ]

@@ -1,7 +1,7 @@
-use Rattle.std.proofs.Common.{◌+◌, ap, arith, length}
+use Rattle.std.proofs.Common.{◌+◌, ◌-◌, arith, length}
 use Rattle.weighted_tree.proofs.Levels.{one_near, one_far}
 use Rattle.weighted_tree.proofs.SeenFrom.{laws_from, parted}
-use Rattle.weighted_tree.proofs.Boundaries.{none_within, near_within, near_refused, item_within, far_within}
+use Rattle.weighted_tree.proofs.Boundaries.{found_within, open_within, near_within, near_refused, item_within, far_within}
 use Rattle.weighted_tree.proofs.subtree.Subtree.boundary_within.Goals as goal
 
 pub down-preserved-then-passes : goal.down-preserved-then-passes
@@ -39,8 +39,14 @@ down-preserved g c =
       levels = λ after below. c.down.invariant.levels after (one_far root _ _ c.in-Some.ensures.1 after below);
     }
 
-pub returns-clause-boundary : goal.returns-clause-boundary
-returns-clause-boundary g c = c.down.invariant.boundary 0 _ (omega arith) (none_within g.F.Fn c.args.test.now _ _ (ap length c.in_default.ensures.0))
+pub returns-in-Found-clause-boundary : goal.returns-in-Found-clause-boundary
+returns-in-Found-clause-boundary g c = c.down.invariant.boundary c.in-Found.more _ (omega arith) (found_within g.F.Fn c.args.test.now _ _ (length c.down.subtree.now.items - 0) (length c.down.subtree.now.items) c.in-Found.more (omega arith) c.in-Found.ensures.sought)
 
-pub returns-clause-visits : goal.returns-clause-visits
-returns-clause-visits g c = c.down.invariant.levels _ (λ levels within. omega (arith, c.in_default.ensures.1))
+pub returns-in-Found-clause-visits : goal.returns-in-Found-clause-visits
+returns-in-Found-clause-visits g c = c.down.invariant.levels _ (λ levels within. omega (arith, c.in_default.ensures.1, c.boundary_in_leaf.ensures.visits))
+
+pub returns-in-Open-clause-boundary : goal.returns-in-Open-clause-boundary
+returns-in-Open-clause-boundary g c = c.down.invariant.boundary (length c.down.subtree.now.items) _ (omega arith) (open_within g.F.Fn c.args.test.now _ _ (length c.down.subtree.now.items - 0) (length c.down.subtree.now.items) _ (omega arith) c.in-Open.ensures.sought)
+
+pub returns-in-Open-clause-visits : goal.returns-in-Open-clause-visits
+returns-in-Open-clause-visits g c = c.down.invariant.levels _ (λ levels within. omega (arith, c.in_default.ensures.1, c.boundary_in_leaf.ensures.visits))
