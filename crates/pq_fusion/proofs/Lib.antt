@@ -7,6 +7,11 @@ pub mod FromRows
 pub mod Replays
 pub mod Ranges
 pub mod Rooted
+pub mod Prefixes
 pub mod Stored
 pub mod Grown
 pub mod Listed
+pub mod Carried
+pub mod Tallied
+pub mod Spanned
+pub mod Halved

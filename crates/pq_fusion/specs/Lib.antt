@@ -2,3 +2,4 @@ pub mod Pieces
 pub mod PieceLaws
 pub mod Nodes
 pub mod NodesFall
+pub mod Tallies

@@ -1,36 +1,37 @@
-ghost use Rattle.std.specs.Prelude.{◌≡◌, ◌<◌, ◌^◌, length, map, IfOk};
-ghost use Rattle.std.specs.Option.{option_map};
+ghost use Rattle.std.specs.Prelude.{◌≡◌, ◌^◌, ◌<◌, ◌≤◌, length, map, take, IfOk};
 ghost use Rattle.retro_base.specs.declared.question.Item.TheVariants.{Single};
-ghost use Rattle.retro_base.specs.Answers.{answer_of, content, number_of, key_of};
+ghost use Rattle.retro_base.specs.Answers.{answer_of, content, number_of};
 ghost use Rattle.retro_base.specs.State.{entries};
+ghost use Rattle.pq_fusion.specs.Tallies.{left_by};
 
-use crate::Piece;
+use crate::subtree::Subtree;
 use retro_base::{Answer, Entry, Item, Listing, NoMemory, Question};
 use std::alloc::Global;
 
-impl Piece {
-    /// The answer of the entries that are left.
-    pub(crate) fn answer(&self, question: Question) -> Answer
-        ensures { result ≡ answer_of (entries self.now.left) question }
+impl Subtree {
+    /// The answer of the entries that the first rows leave.
+    pub(crate) fn answer(&self, to: u32, question: Question) -> Answer
+        requires { to ≤ length self.now }
+        ensures { result ≡ answer_of (entries (left_by (take to self.now))) question }
     {
         match question {
             Question::Size => Answer::Number {
-                value: self.left().len() as i128,
+                value: i128::from(self.left_len(to)),
             },
-            Question::Min => key_answer(self.min()),
-            Question::Nth { index } => key_answer(self.nth(index)),
+            Question::Min => key_answer(self.key_at(to, 0)),
+            Question::Nth { index } => key_answer(self.key_at(to, index)),
             _ => Answer::Nothing,
         }
     }
 }
 
-/// The answer that is the key of an entry, where there is one.
-fn key_answer(entry: Option<Entry>) -> Answer
-    ensures { result ≡ number_of (option_map key_of entry) }
+/// The answer that is a key, where there is one.
+fn key_answer(key: Option<i64>) -> Answer
+    ensures { result ≡ number_of key }
 {
-    match entry {
-        Some(entry) => Answer::Number {
-            value: i128::from(entry.key),
+    match key {
+        Some(key) => Answer::Number {
+            value: i128::from(key),
         },
         None => Answer::Nothing,
     }

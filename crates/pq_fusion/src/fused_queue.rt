@@ -1,12 +1,14 @@
-ghost use Rattle.std.specs.Prelude.{◌≡◌, ◌+◌, ◌*◌, ◌<◌, ◌≤◌, [], length, IfOk, OnOk, OnErr};
+ghost use Rattle.std.specs.Prelude.{◌≡◌, ◌+◌, ◌*◌, ◌<◌, ◌≤◌, [], length, true, IfOk, OnOk, OnErr};
 ghost use Rattle.std.specs.List.{insert, slice_range};
 ghost use Rattle.retro_base.specs.declared.kind.Kind.TheVariants.{Pq};
+ghost use Rattle.retro_base.specs.Answers.{answer_of};
 ghost use Rattle.retro_base.specs.BridgeTable.{added};
 ghost use Rattle.retro_base.specs.Changes.{IsChange};
 ghost use Rattle.retro_base.specs.Digits.{digits};
 ghost use Rattle.retro_base.specs.Edits.{add};
 ghost use Rattle.retro_base.specs.Kind.{kind_of};
 ghost use Rattle.retro_base.specs.Limits.{most_rows};
+ghost use Rattle.retro_base.specs.Questions.{suits};
 ghost use Rattle.retro_base.specs.Replay.{state_at, IsValid};
 ghost use Rattle.retro_base.specs.State.{entries};
 ghost use Rattle.retro_base.specs.Timeline.{IsFresh, IsReplayable};
@@ -17,7 +19,7 @@ use crate::answer::keys_of;
 use crate::subtree::Subtree;
 use bridge_pq::BridgeQueue;
 use retro_base::{
-    Answer, Change, Kind, Listing, NoMemory, Op, Partial, Question, Retro, Row, uncounted,
+    Answer, Change, Entry, Kind, Listing, NoMemory, Op, Partial, Question, Retro, Row, uncounted,
 };
 use std::alloc::Global;
 use std::marker::Model;
@@ -70,13 +72,24 @@ impl FusedQueue {
         self.rows.stored()
     }
 
-    /// What the first rows come to; what they leave is the state after them.
-    fn prefix(&self, place: u32) -> Result<Piece, NoMemory>
-        requires { place ≤ length self.now }
-        ensures { IfOk result (λ piece. state_at Pq self.now place ≡ entries piece.left) }
+    /// The answer to a question about the state at a place, after so many rows. No piece is made, so it takes no memory.
+    pub fn answer_at(&self, place: u32, question: Question) -> Answer
+        requires within { place ≤ length self.now }
+        requires suited { suits question Pq ≡ true }
+        ensures { result ≡ answer_of (state_at Pq self.now place) question }
     {
         let _replayable = self.queue.kind();
-        self.rows.prefix(self.alloc, place)
+        self.rows.answer(place, question)
+    }
+
+    /// The entries that the first rows leave, which are the state after them.
+    fn remaining(&self, place: u32) -> Result<Vec<Entry>, NoMemory>
+        requires { place ≤ length self.now }
+        ensures state { IfOk result (λ left. state_at Pq self.now place ≡ entries left.items) }
+        ensures few { IfOk result (λ left. length left.items ≤ most_rows) }
+    {
+        let _replayable = self.queue.kind();
+        self.rows.remaining(self.alloc, place)
     }
 }
 
@@ -116,13 +129,12 @@ impl Retro for FusedQueue {
     }
 
     fn ask(&mut self, place: u32, question: Question) -> Result<Answer, NoMemory> {
-        let piece = self.prefix(place)?;
-        Ok(piece.answer(question))
+        Ok(self.answer_at(place, question))
     }
 
     fn all(&mut self, place: u32) -> Result<Listing, NoMemory> {
-        let piece = self.prefix(place)?;
-        keys_of(self.alloc, piece.left())
+        let left = self.remaining(place)?;
+        keys_of(self.alloc, left.as_slice())
     }
 }
 

@@ -10,8 +10,11 @@
 //!
 //! `FusedQueue` is a priority queue of `retro_base`'s trait `Retro`. It keeps its rows in a weight-balanced tree of which each node
 //! has the piece of all rows below it, so what the rows before a place come to is a product of a few pieces; what they leave is the
-//! state there. Verdicts, changes and the present are those of a `BridgeQueue` beside the tree. An edit makes the pieces of its path
-//! anew, so it is dearer than by bridges alone. Where a side would weigh over 3 times the other, the part of the tree below that node
+//! state there. A question about the past makes no piece: how many entries are left, and how many of them have a key that is no less
+//! than a given one, follows from piece to piece by a search of each list by halves, and the key at an index is the greatest one
+//! that enough entries reach.
+//!
+//! Verdicts, changes and the present are those of a `BridgeQueue` beside the tree. An edit makes the pieces of its path anew, so it is dearer than by bridges alone. Where a side would weigh over 3 times the other, the part of the tree below that node
 //! is made anew, as light as it can be on both sides of each node; a share of its rows have come or gone before that is so again.
 //!
 //! | Call | Cost, with m rows | Memory |
@@ -20,7 +23,8 @@
 //! | `Piece::fuse` | a walk of the lists of both | the fused lists |
 //! | `FusedQueue::new`, `kind`, `len` | constant | none |
 //! | `ask_now`, `failure_after_insert`, `failure_after_remove` | those of `BridgeQueue`, log m | none |
-//! | `ask`, `all`, `piece` | in proportion to the rows asked about | as many entries |
+//! | `ask`, `answer_at` | one walk of the path, log² m, for each binary digit of the difference of the keys on it | none |
+//! | `all`, `piece` | in proportion to the rows asked about | as many entries |
 //! | `insert`, `remove` | in proportion to m; m log m at most where a part is made anew | the new pieces |
 //! | `stored` | each node once | none |
 //!
@@ -31,8 +35,10 @@
 //! What the layer above may rely on: the clauses of `Piece` and `FusedQueue`, the definitions of specs/Pieces.antt, and the laws of
 //! specs/PieceLaws.antt, which are the contracts of `laws`.
 //!
-//! - `piece`, `merge`: a piece, and two rising lists together. `answer`: the answers of what a piece leaves.
-//! - `subtree`: the tree of rows. `read`: its products. `edit`: a row more or less. `fused_queue`.
+//! - `piece`, `merge`: a piece, and two rising lists together.
+//! - `subtree`: the tree of rows. `read`: its products. `remaining`: what a product leaves. `edit`: a row more or less.
+//! - `tally`, `span`: how many entries are left after a path, how many of them reach a key, and between which keys they lie.
+//!   `select`: the key at an index of what the first rows leave. `answer`: the answers of that. `fused_queue`.
 #![tactic(auto)]
 
 mod answer;
@@ -42,7 +48,11 @@ pub mod laws;
 mod merge;
 mod piece;
 mod read;
+mod remaining;
+mod select;
+mod span;
 mod subtree;
+mod tally;
 
 pub use fused_queue::FusedQueue;
 pub use piece::Piece;

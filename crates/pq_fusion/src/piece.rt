@@ -103,13 +103,6 @@ impl Piece {
         self.left.first().copied()
     }
 
-    /// The entry that is left at this index, where there is one.
-    pub(crate) fn nth(&self, index: u64) -> Option<Entry>
-        ensures { result ≡ slice_get self.now.left index }
-    {
-        self.left.get(index as usize).copied()
-    }
-
     /// How many takings found nothing to take.
     pub fn unmet(&self) -> u32
         ensures count { result ≡ self.now.unmet }

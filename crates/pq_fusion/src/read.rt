@@ -63,7 +63,7 @@ impl Subtree {
     }
 
     /// What all rows come to; `none` is what no rows come to.
-    fn whole<'a>(&'a self, none: &'a Piece) -> &'a Piece
+    pub(crate) fn whole<'a>(&'a self, none: &'a Piece) -> &'a Piece
         requires none { none.now ≡ no_parts }
         ensures { result.now ≡ tolerant self.now }
     {
@@ -126,7 +126,8 @@ impl Subtree {
             return node.left.prefix(alloc, to);
         }
         let after = node.right.prefix(alloc, to - before - 1)?;
-        joined(alloc, node.left.whole(&none), node.row, &after)
+        let rest = led(alloc, node.row, &after)?;
+        node.left.whole(&none).fuse(&rest)
     }
 
     /// What the rows from a place on come to.
@@ -199,6 +200,15 @@ impl Subtree {
         }
         Ok(())
     }
+}
+
+/// What a row comes to before what the rows after it come to.
+pub(crate) fn led(alloc: Global, row: Row, after: &Piece) -> Result<Piece, NoMemory>
+    requires of_kind { kind_of row.op ≡ Pq }
+    requires few { 1 + size_of after.now ≤ most_rows }
+    ensures { IfOk result (λ piece. piece ≡ fuse (tolerant (row ∷ [])) after.now) }
+{
+    Piece::of_row(alloc, row)?.fuse(after)
 }
 
 /// What a row comes to between what the rows before it and after it come to.

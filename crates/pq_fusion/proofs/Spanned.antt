@@ -1,0 +1,80 @@
+-- What holds of all entries of two pieces holds of what they leave together; and a rising list lies between its first and its last.
+use Rattle.std.proofs.Common.{◌≡◌, ℕ, ℤ, zero, suc, ◌-◌, true, false, cond, List, [], ◌∷◌, length, drop, Some, ap, sym, ◌∙◌, subst, arith, slice_get}
+use Rattle.std.specs.List.{AllByRecursion}
+use Rattle.std.specs.Prelude.{int_lt, nat_lt, ◌&&◌, ◌||◌, ◌≤ℤ◌}
+use Rattle.std.specs.Ordering.{int_eq}
+use Rattle.std.proofs.lemmas.Int.{ints}
+use Rattle.std.proofs.lemmas.Bool.Decides.{nat_tests}
+use Rattle.retro_base.specs.declared.row.Entry.{Entry}
+use Rattle.retro_base.specs.EntriesInOrder.{AreInOrder}
+use Rattle.retro_base.specs.State.{comes_before, with_entry}
+use Rattle.pq_fusion.specs.declared.span.Span.{Span}
+use Rattle.pq_fusion.specs.Pieces.{PieceParts, together, fuse}
+use Rattle.pq_fusion.specs.Tallies.{LiesIn}
+use Rattle.pq_fusion.proofs.Order.{IsLeast}
+
+module _ (P : Entry → Type 0) where
+  all_with : (e : Entry) (xs : List Entry) → P e → AllByRecursion P xs → AllByRecursion P (with_entry e xs)
+  all_with e [] here all = (here, tt)
+  all_with e (x ∷ xs) here all = elim (comes_before e x) as (λ t. AllByRecursion P (cond t (e ∷ x ∷ xs) (x ∷ with_entry e xs))) [
+    | true ↦ (here, all)
+    | false ↦ (all.0, all_with e xs here all.1)
+  ]
+
+  all_together : (xs ys : List Entry) → AllByRecursion P xs → AllByRecursion P ys → AllByRecursion P (together xs ys)
+  unfolding together
+  all_together [] ys first second = second
+  all_together (x ∷ xs) ys first second = all_with x (together xs ys) first.0 (all_together xs ys first.1 second)
+
+  all_drop : (n : ℕ) (xs : List Entry) → AllByRecursion P xs → AllByRecursion P (drop n xs)
+  all_drop zero xs all = all
+  all_drop (suc n) [] all = tt
+  all_drop (suc n) (x ∷ xs) all = all_drop n xs all.1
+
+  pub fused_all : (a b : PieceParts) → AllByRecursion P a.left → AllByRecursion P b.left → AllByRecursion P b.removed → AllByRecursion P (fuse a b).left
+  unfolding fuse
+  fused_all a b first left removed = all_together b.left _ left (all_drop _ (together a.left b.removed) (all_together a.left b.removed first removed))
+
+-- keys rise with the order
+pair_rises : (k : ℤ) (m : ℕ) (l : ℤ) (n : ℕ) → (int_lt l k || (int_eq l k && nat_lt n m)) ≡ false → k ≤ℤ l
+pair_rises k m l n after = grind (arith, ints, nat_tests)
+
+key_rises : (x y : Entry) → comes_before y x ≡ false → x.key ≤ℤ y.key
+key_rises x y after = pair_rises x.key x.number y.key y.number after
+
+no_greater : (k l m : ℤ) → k ≤ℤ l → l ≤ℤ m → k ≤ℤ m
+no_greater k l m first second = omega (arith, ints)
+
+no_less : (k : ℤ) → k ≤ℤ k
+no_less k = omega (arith, ints)
+
+from_least : (x : Entry) (xs : List Entry) → IsLeast x xs → AllByRecursion (λ e. x.key ≤ℤ e.key) xs
+from_least x [] least = tt
+from_least x (y ∷ ys) least = (key_rises x y least.0, from_least x ys least.1)
+
+pub from_first : (xs : List Entry) (first : Entry) → AreInOrder xs → slice_get xs 0 ≡ Some first → AllByRecursion (λ e. first.key ≤ℤ e.key) xs
+from_first [] first order there = tt
+from_first (x ∷ xs) first order there =
+    let same : x ≡ first = cc in
+    subst (λ f. AllByRecursion (λ e. f.key ≤ℤ e.key) (x ∷ xs)) same (no_less x.key, from_least x xs order.0)
+
+last_more : (x y : Entry) (ys : List Entry) → slice_get (x ∷ y ∷ ys) (length (x ∷ y ∷ ys) - 1) ≡ slice_get (y ∷ ys) (length (y ∷ ys) - 1)
+last_more x y ys = ap (slice_get (x ∷ y ∷ ys)) (let same : length (x ∷ y ∷ ys) - 1 ≡ suc (length (y ∷ ys) - 1) = omega arith in same)
+
+pub up_to_last : (xs : List Entry) (last : Entry) → AreInOrder xs → slice_get xs (length xs - 1) ≡ Some last → AllByRecursion (λ e. e.key ≤ℤ last.key) xs
+up_to_last [] last order there = tt
+up_to_last (x ∷ []) last order there = let same : x ≡ last = cc in subst (λ f. AllByRecursion (λ e. e.key ≤ℤ f.key) (x ∷ [])) same (no_less x.key, tt)
+up_to_last (x ∷ y ∷ ys) last order there =
+    let others = up_to_last (y ∷ ys) last order.1 (sym (last_more x y ys) ∙ there) in
+    (no_greater x.key y.key last.key (key_rises x y order.0.0) others.0, others)
+
+-- so all of them lie in a span that reaches from the one to the other
+all_lie : (span : Span) (first last : Entry) (xs : List Entry) → span.low ≤ℤ first.key → last.key ≤ℤ span.high
+    → AllByRecursion (λ e. first.key ≤ℤ e.key) xs → AllByRecursion (λ e. e.key ≤ℤ last.key) xs → AllByRecursion (LiesIn span) xs
+all_lie span first last [] low high from up_to = tt
+all_lie span first last (x ∷ xs) low high from up_to =
+    ((no_greater span.low first.key x.key low from.0, no_greater x.key last.key span.high up_to.0 high), all_lie span first last xs low high from.1 up_to.1)
+
+pub in_span : (span : Span) (xs : List Entry) (first last : Entry) → AreInOrder xs → slice_get xs 0 ≡ Some first → slice_get xs (length xs - 1) ≡ Some last
+    → span.low ≤ℤ first.key → last.key ≤ℤ span.high → AllByRecursion (LiesIn span) xs
+in_span span xs first last order begins ends low high = all_lie span first last xs low high (from_first xs first order begins) (up_to_last xs last order ends)

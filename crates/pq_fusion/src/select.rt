@@ -1,0 +1,116 @@
+ghost use Rattle.std.specs.Prelude.{◌≡◌, ◌+◌, ◌≤◌, length, slice_get, take};
+ghost use Rattle.std.specs.Option.{option_map};
+ghost use Rattle.retro_base.specs.Answers.{key_of};
+ghost use Rattle.retro_base.specs.Limits.{most_rows};
+ghost use Rattle.pq_fusion.specs.Pieces.{tolerant};
+ghost use Rattle.pq_fusion.specs.Tallies.{LeadsTally, LeadsSpan, reaching, left_by};
+
+use crate::span::Span;
+use crate::subtree::Subtree;
+use crate::tally::Tally;
+use retro_base::Entry;
+
+impl Subtree {
+    /// The tally of what is left after the first rows, where `before` is that of what is left before them.
+    fn tally(&self, to: u32, bound: Entry, before: Tally) -> Tally
+        requires within { to ≤ length self.now }
+        requires few { before.left + length self.now ≤ most_rows }
+        ensures tally { LeadsTally bound before (take to self.now) result }
+        ensures few { result.left ≤ before.left + to }
+    {
+        let Some(node) = self.root() else {
+            return before;
+        };
+        if to == node.size {
+            return before.after_piece(bound, &node.piece);
+        }
+        let own = node.left.len();
+        if to <= own {
+            return node.left.tally(to, bound, before);
+        }
+        let first = node.left.tally(own, bound, before);
+        let second = first.after_row(bound, node.row);
+        node.right.tally(to - own - 1, bound, second)
+    }
+
+    /// The span of what is left after the first rows, where `before` is that of what is left before them.
+    fn span(&self, to: u32, before: Span) -> Span
+        requires { to ≤ length self.now }
+        ensures { LeadsSpan before (take to self.now) result }
+    {
+        let Some(node) = self.root() else {
+            return before;
+        };
+        if to == node.size {
+            return before.with_piece(&node.piece);
+        }
+        let own = node.left.len();
+        if to <= own {
+            return node.left.span(to, before);
+        }
+        let first = node.left.span(own, before);
+        let second = first.with_row(node.row);
+        node.right.span(to - own - 1, second)
+    }
+
+    /// How many of the entries that the first rows leave have a key that is no less than this one.
+    fn reaching(&self, to: u32, key: i64) -> u32
+        requires { to ≤ length self.now }
+        ensures { result ≡ reaching (record { key = key; number = 0 }) (left_by (take to self.now)) }
+    {
+        let _few = self.len();
+        let none = Tally {
+            left: 0,
+            reaching: 0,
+        };
+        self.tally(to, Entry { key, number: 0 }, none).reaching
+    }
+
+    /// How many entries the first rows leave.
+    pub(crate) fn left_len(&self, to: u32) -> u32
+        requires { to ≤ length self.now }
+        ensures count { result ≡ length (left_by (take to self.now)) }
+        ensures few { result ≤ most_rows }
+    {
+        let _few = self.len();
+        let none = Tally {
+            left: 0,
+            reaching: 0,
+        };
+        let bound = Entry { key: 0, number: 0 };
+        self.tally(to, bound, none).left
+    }
+
+    /// The key of the entry at an index of what the first rows leave, where there is one. It is the greatest key that as many
+    /// entries reach as stand at the index and above, and is sought by halves between the least key on the path and the greatest.
+    pub(crate) fn key_at(&self, to: u32, index: u64) -> Option<i64>
+        requires { to ≤ length self.now }
+        ensures { result ≡ option_map key_of (slice_get (left_by (take to self.now)) index) }
+    {
+        let left = self.left_len(to);
+        if index >= u64::from(left) {
+            return None;
+        }
+        let rank = left - index as u32;
+        let Span { mut low, mut high } = self.span(
+            to,
+            Span {
+                low: i64::MAX,
+                high: i64::MIN,
+            },
+        );
+        let mut width = high.abs_diff(low);
+        'halve: while width > 0 {
+            let half = width / 2;
+            let middle = high - half as i64;
+            if self.reaching(to, middle) >= rank {
+                low = middle;
+                width = half;
+            } else {
+                high = middle - 1;
+                width -= half + 1;
+            }
+        }
+        Some(low)
+    }
+}
