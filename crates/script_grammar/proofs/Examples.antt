@@ -1,30 +1,51 @@
 -- Lines whose commands were worked out by hand, computed from the grammar.
-use Rattle.std.proofs.Common.{◌≡◌, [], pos, negsuc, refl}
+use Rattle.std.proofs.Common.{◌≡◌, [], true, false, pos, negsuc, refl}
 use Rattle.std.specs.Prelude.{Ok, Err, Some, None, codes}
 use Rattle.retro_base.specs.Name.{is_name}
 use Rattle.retro_base.specs.declared.kind.Kind.TheVariants.{Queue, Dict, Pq}
 use Rattle.retro_base.specs.declared.op.Op.TheVariants.{Enq, Deq, Put, DelMin}
 use Rattle.retro_base.specs.declared.question.Question.TheVariants.{Size, Min, Nth, Succ, Sum}
-use Rattle.script_grammar.specs.declared.command.Command.TheVariants.{Nothing, New, Insert, Delete, Move, Change, Fate, Ask, Header}
+use Rattle.script_grammar.specs.declared.command.Command.TheVariants.{Nothing, New, Insert, Delete, Move, Change, Fate, Ask, Mute, Header}
 use Rattle.script_grammar.specs.declared.command.Spot.TheVariants.{At, Before, After}
 use Rattle.script_grammar.specs.declared.command.Moment.TheVariants.{Now, Then}
 use Rattle.script_grammar.specs.declared.command.Query.TheVariants.{One, All}
 use Rattle.script_grammar.specs.declared.command.LineError.TheVariants.{Syntax}
 use Rattle.script_grammar.specs.Words.{words}
-use Rattle.script_grammar.specs.Numbers.{count_of, index_of, next_of, row_number_of, time_of, value_of}
+use Rattle.script_grammar.specs.Numbers.{count_of, follower_of, index_of, next_of, row_number_of, time_of, value_of}
 use Rattle.script_grammar.specs.Command.{command}
 
-new_queue : command (codes "new q queue") ≡ Ok (New (codes "q") Queue)
+new_queue : command (codes "new q queue") ≡ Ok (New (codes "q") Queue false)
 unfolding command words is_name
 new_queue = refl
 
-new_dict : command (codes "new d dict") ≡ Ok (New (codes "d") Dict)
+new_dict : command (codes "new d dict") ≡ Ok (New (codes "d") Dict false)
 unfolding command words is_name
 new_dict = refl
 
-new_pq : command (codes "new p pq") ≡ Ok (New (codes "p") Pq)
+new_pq : command (codes "new p pq") ≡ Ok (New (codes "p") Pq false)
 unfolding command words is_name
 new_pq = refl
+
+new_fused : command (codes "new p pqf") ≡ Ok (New (codes "p") Pq true)
+unfolding command words is_name
+new_fused = refl
+
+-- `pqf` is no kind of a header
+header_fused : command (codes "timeline r pqf next 1") ≡ Err Syntax
+unfolding command words is_name
+header_fused = refl
+
+mutes : command (codes "mute 04294967295") ≡ Ok (Mute 4294967295)
+unfolding command words follower_of
+mutes = refl
+
+mutes_past_range : command (codes "mute 4294967296") ≡ Err Syntax
+unfolding command words follower_of
+mutes_past_range = refl
+
+mutes_nobody : command (codes "mute") ≡ Err Syntax
+unfolding command words
+mutes_nobody = refl
 
 -- spaces in rows, a leading zero and a negative zero
 put_in_at : command (codes "d  at 03 put -0 7") ≡ Ok (Insert (codes "d") (At 3) (Put (pos 0) (pos 7)))

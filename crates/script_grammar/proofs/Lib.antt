@@ -1,4 +1,4 @@
 pub mod Cutting
 pub mod Digits
-pub mod NextInRange
+pub mod Proper
 mod Examples

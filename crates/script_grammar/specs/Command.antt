@@ -1,5 +1,5 @@
 -- The grammar of the script: what each line asks for. A form is read by place, so that a timeline may be called `at`.
-use Rattle.std.specs.Prelude.{ℕ, ◌≤◌, ◌==◌, Bool, false, ◌||◌, List, [], ◌∷◌, codes, Option, Some, None, option_map, option_and_then, Result, if◌then◌else◌}
+use Rattle.std.specs.Prelude.{◌≡◌, ℕ, ◌≤◌, ◌==◌, Bool, true, false, ◌||◌, List, [], ◌∷◌, codes, Option, Some, None, option_map, option_and_then, Result, if◌then◌else◌}
 use Rattle.std.specs.Option.{ok_or}
 use Rattle.std.specs.Str.{bytes_eq}
 use Rattle.retro_base.specs.Limits.{next_limit}
@@ -7,14 +7,14 @@ use Rattle.retro_base.specs.Name.{name_of}
 use Rattle.retro_base.specs.declared.kind.Kind.{Kind}
 use Rattle.retro_base.specs.declared.kind.Kind.TheVariants.{Queue, Stack, Deque, Dict, Pq}
 use Rattle.script_grammar.specs.declared.command.Command.{Command}
-use Rattle.script_grammar.specs.declared.command.Command.TheVariants.{Nothing, New, Insert, Delete, Move, Change, Fate, Ask, Undo, Redo, Save, Header}
+use Rattle.script_grammar.specs.declared.command.Command.TheVariants.{Nothing, New, Insert, Delete, Move, Change, Fate, Ask, Undo, Redo, Save, Mute, Header}
 use Rattle.script_grammar.specs.declared.command.Spot.{Spot}
 use Rattle.script_grammar.specs.declared.command.Spot.TheVariants.{At, Before, After}
 use Rattle.script_grammar.specs.declared.command.Moment.TheVariants.{Now, Then}
 use Rattle.script_grammar.specs.declared.command.LineError.{LineError}
 use Rattle.script_grammar.specs.declared.command.LineError.TheVariants.{Syntax}
 use Rattle.script_grammar.specs.Words.{words}
-use Rattle.script_grammar.specs.Numbers.{count_of, next_of, row_number_of, time_of}
+use Rattle.script_grammar.specs.Numbers.{count_of, follower_of, next_of, row_number_of, time_of}
 use Rattle.script_grammar.specs.Operands.{alone}
 use Rattle.script_grammar.specs.Operations.{op_of}
 use Rattle.script_grammar.specs.Queries.{query_of}
@@ -29,15 +29,17 @@ kind_of_word word =
     else (if bytes_eq word (codes "pq") then Some Pq
     else None))))
 
--- KIND, as the last word
-abbrev pub kind_named : List (List ℕ) → Option Kind
-kind_named [] = None
-kind_named (word ∷ rest) = option_and_then (λ kind. alone kind rest) (kind_of_word word)
+-- KIND of a new timeline, or `pqf`, which is a priority queue that is held as a product of pieces, as the last word
+abbrev pub new_kind : List ℕ → List (List ℕ) → Option Command
+new_kind name [] = None
+new_kind name (word ∷ rest) =
+    if bytes_eq word (codes "pqf") then alone (New name Pq true) rest
+    else option_and_then (λ kind. alone (New name kind false) rest) (kind_of_word word)
 
--- `new NAME KIND`, after its first word
+-- `new NAME KIND` and `new NAME pqf`, after its first word
 abbrev pub new_of : List (List ℕ) → Option Command
 new_of [] = None
-new_of (word ∷ rest) = option_and_then (λ name. option_map (New name) (kind_named rest)) (name_of word)
+new_of (word ∷ rest) = option_and_then (λ name. new_kind name rest) (name_of word)
 
 -- the words that begin a spot
 abbrev pub begins_spot : List ℕ → Bool
@@ -121,6 +123,11 @@ abbrev pub save_of : List (List ℕ) → Option Command
 save_of [] = None
 save_of (word ∷ rest) = option_and_then (λ name. alone (Save name) rest) (name_of word)
 
+-- `mute I`, after its first word
+abbrev pub mute_of : List (List ℕ) → Option Command
+mute_of [] = None
+mute_of (word ∷ rest) = option_and_then (λ number. alone (Mute number) rest) (follower_of word)
+
 -- `M` of a header, as the last word
 abbrev pub header_count : List ℕ → Kind → ℕ → List (List ℕ) → Option Command
 header_count name kind next [] = None
@@ -164,13 +171,16 @@ command_of (word ∷ rest) =
     else (if bytes_eq word (codes "new") then new_of rest
     else (if bytes_eq word (codes "save") then save_of rest
     else (if bytes_eq word (codes "timeline") then header_of rest
-    else option_and_then (λ name. about name rest) (name_of word))))
+    else (if bytes_eq word (codes "mute") then mute_of rest
+    else option_and_then (λ name. about name rest) (name_of word)))))
 
 -- the command of a line that is not long, or `Syntax` where the line is in no form
 unfoldable pub command : List ℕ → Result Command LineError
 command line = ok_or (command_of (words line)) Syntax
 
--- the number that a header gives to draw next is in its range
-abbrev pub IsNextInRange : Command → Type 0
-IsNextInRange (Header name kind next rows) = (1 ≤ next) × (next ≤ next_limit)
-IsNextInRange other = Unit {0}
+-- what holds of each command that a line spells: the number that a header gives to draw next is in its range, and what is held as
+-- a product of pieces is a priority queue
+abbrev pub IsProper : Command → Type 0
+IsProper (New name kind fused) = fused ≡ true → kind ≡ Pq
+IsProper (Header name kind next rows) = (1 ≤ next) × (next ≤ next_limit)
+IsProper other = Unit {0}

@@ -46,6 +46,10 @@ next_of word = option_and_then (between 1 next_limit) (natural_of word)
 unfoldable pub count_of : List ℕ → Option ℕ
 count_of word = natural_up_to most_rows word
 
+-- the number of a follower: a natural below 2 ^ 32
+unfoldable pub follower_of : List ℕ → Option ℕ
+follower_of word = natural_up_to (2 ^ 32 - 1) word
+
 -- a value: an optional `-` and digits, from -2 ^ 63 up to 2 ^ 63 - 1
 unfoldable pub value_of : List ℕ → Option ℤ
 value_of [] = None

@@ -6,10 +6,11 @@ use thiserror::Error;
 pub enum Command {
     /// Asks for nothing, and is answered by nothing: the line has no words, or is a comment.
     Nothing,
-    /// Starts a timeline without rows.
+    /// Starts a timeline without rows. A priority queue may be held as a product of pieces (`fused`), which answers alike.
     New {
         name: Name,
         kind: Kind,
+        fused: bool,
     },
     /// Puts a row into a timeline.
     Insert {
@@ -56,6 +57,10 @@ pub enum Command {
     /// Asks for the text of a whole timeline.
     Save {
         name: Name,
+    },
+    /// Asks a follower for its report, and takes no further event to it.
+    Mute {
+        number: u32,
     },
     /// Opens the block of a timeline, which draws this number next. With `rows` it has so many row lines.
     Header {

@@ -1,13 +1,13 @@
-ghost use Rattle.std.specs.Prelude.{◌≡◌, ◌≤◌, ◌∷◌, length, IsTrue, IfOk, Err, if◌then◌else◌};
+ghost use Rattle.std.specs.Prelude.{◌≡◌, ◌≤◌, ◌∷◌, length, true, false, IsTrue, IfOk, Err, if◌then◌else◌};
 ghost use Rattle.retro_base.specs.Limits.{longest_line};
 ghost use Rattle.script_grammar.specs.Operands.{alone};
-ghost use Rattle.script_grammar.specs.declared.command.Command.TheVariants.{Undo, Redo};
-ghost use Rattle.script_grammar.specs.Command.{about, begins_comment, command, command_of, delete_of, fate_of, insert_of, kind_named, kind_of_word, new_of, save_of, IsNextInRange};
+ghost use Rattle.script_grammar.specs.declared.command.Command.TheVariants.{New, Undo, Redo};
+ghost use Rattle.script_grammar.specs.Command.{about, begins_comment, command, command_of, delete_of, fate_of, insert_of, kind_of_word, mute_of, new_kind, new_of, save_of, IsProper};
 
 use crate::ask::read_ask;
 use crate::correction::{read_change, read_move};
 use crate::header::read_header;
-use crate::numbers::read_row_number;
+use crate::numbers::{read_follower, read_row_number};
 use crate::operation::read_op;
 use crate::spot::read_spot;
 use crate::words::Words;
@@ -21,7 +21,7 @@ pub fn read_line(line: &[u8], long: bool) -> Result<Command, LineError>
     requires within { length line.now ≤ longest_line }
     requires full { IsTrue long → length line.now ≡ longest_line }
     ensures exact { result ≡ (if long then Err LineError.Long else command line.now) }
-    ensures next { IfOk result IsNextInRange }
+    ensures proper { IfOk result IsProper }
 {
     if long {
         return Err(LineError::Long);
@@ -53,6 +53,9 @@ fn read_form(word: &[u8], words: Words) -> Option<Command>
     if word == b"timeline".as_slice() {
         return read_header(words);
     }
+    if word == b"mute".as_slice() {
+        return read_mute(words);
+    }
     read_about(Name::read(word)?, words)
 }
 
@@ -70,15 +73,37 @@ fn read_new(mut words: Words) -> Option<Command>
     ensures { result ≡ new_of words.entry }
 {
     let name = Name::read(words.next_word()?)?;
-    let kind = read_kind(words)?;
-    Some(Command::New { name, kind })
+    read_new_kind(name, words)
 }
 
-fn read_kind(mut words: Words) -> Option<Kind>
-    ensures { result ≡ kind_named words.entry }
+fn read_new_kind(name: Name, mut words: Words) -> Option<Command>
+    ensures { result ≡ new_kind name words.entry }
 {
-    let kind = kind_of_word(words.next_word()?)?;
-    words.is_empty().then_some(kind)
+    let word = words.next_word()?;
+    if word == b"pqf".as_slice() {
+        read_fused(name, words)
+    } else {
+        read_unfused(name, kind_of_word(word)?, words)
+    }
+}
+
+fn read_fused(name: Name, words: Words) -> Option<Command>
+    ensures { result ≡ alone (New name Kind.Pq true) words.entry }
+{
+    let kind = Kind::Pq;
+    let fused = true;
+    words
+        .is_empty()
+        .then_some(Command::New { name, kind, fused })
+}
+
+fn read_unfused(name: Name, kind: Kind, words: Words) -> Option<Command>
+    ensures { result ≡ alone (New name kind false) words.entry }
+{
+    let fused = false;
+    words
+        .is_empty()
+        .then_some(Command::New { name, kind, fused })
 }
 
 /// The kind that a word names.
@@ -105,6 +130,13 @@ fn read_save(mut words: Words) -> Option<Command>
 {
     let name = Name::read(words.next_word()?)?;
     words.is_empty().then_some(Command::Save { name })
+}
+
+fn read_mute(mut words: Words) -> Option<Command>
+    ensures { result ≡ mute_of words.entry }
+{
+    let number = read_follower(words.next_word()?)?;
+    words.is_empty().then_some(Command::Mute { number })
 }
 
 fn read_about(name: Name, mut words: Words) -> Option<Command>

@@ -1,6 +1,6 @@
 ghost use Rattle.std.specs.Prelude.{◌≡◌, ◌+◌, ◌-◌, ◌*◌, ◌^◌, ◌<◌, ◌≤◌, IfSome, option_and_then};
 ghost use Rattle.retro_base.specs.Limits.{most_rows, next_limit};
-ghost use Rattle.script_grammar.specs.Numbers.{between, count_of, index_of, natural_of, natural_up_to, next_of, row_number_of, time_of, up_to, value_of};
+ghost use Rattle.script_grammar.specs.Numbers.{between, count_of, follower_of, index_of, natural_of, natural_up_to, next_of, row_number_of, time_of, up_to, value_of};
 
 use retro_base::{MAX_NEXT, MAX_ROWS};
 
@@ -49,6 +49,14 @@ pub fn read_count(word: &[u8]) -> Option<u32>
     row_count(read_natural(word)?)
 }
 
+/// The number of a follower that a word spells.
+#[tactic(auto, unfolding(crate::specs::Numbers::follower_of))]
+pub fn read_follower(word: &[u8]) -> Option<u32>
+    ensures { result ≡ follower_of word.now }
+{
+    follower_number(read_natural(word)?)
+}
+
 /// The value that a word spells.
 #[tactic(auto, unfolding(crate::specs::Numbers::value_of))]
 pub fn read_value(word: &[u8]) -> Option<i64>
@@ -89,6 +97,17 @@ fn row_count(number: u64) -> Option<u32>
     ensures { result ≡ up_to most_rows number }
 {
     if number <= u64::from(MAX_ROWS) {
+        u32::try_from(number).ok()
+    } else {
+        None
+    }
+}
+
+/// A number of 32 bits.
+fn follower_number(number: u64) -> Option<u32>
+    ensures { result ≡ up_to (2 ^ 32 - 1) number }
+{
+    if number <= u64::from(u32::MAX) {
         u32::try_from(number).ok()
     } else {
         None
