@@ -9,3 +9,4 @@ pub mod Loaded
 pub mod NamedChanges
 pub mod FateOutcomes
 pub mod Sizes
+pub mod FusedLines

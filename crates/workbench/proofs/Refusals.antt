@@ -8,7 +8,7 @@ use Rattle.retro_base.specs.Edits.{Edit, Step, add, edited_by, inverse_step}
 use Rattle.retro_base.specs.Replay.{failure}
 use Rattle.retro_base.specs.Kind.{kind_of, same_kind}
 use Rattle.script_grammar.specs.declared.command.Command.{Command}
-use Rattle.script_grammar.specs.declared.command.Command.TheVariants.{Nothing, New, Insert, Delete, Move, Change, Fate, Ask, Undo, Redo, Save, Header}
+use Rattle.script_grammar.specs.declared.command.Command.TheVariants.{Nothing, New, Insert, Delete, Move, Change, Fate, Ask, Undo, Redo, Save, Mute, Header}
 use Rattle.script_grammar.specs.declared.command.LineError.{LineError}
 use Rattle.script_grammar.specs.declared.command.LineError.TheVariants as errors
 use Rattle.script_grammar.specs.BlockLines.{is_end}
@@ -174,7 +174,7 @@ refusal_keeps : (timelines : List NamedTimeline) (line : Result Command LineErro
 refusal_keeps timelines (Err errors.Long) refused = record { kept = refl; opens_nothing = refl }
 refusal_keeps timelines (Err errors.Syntax) refused = record { kept = refl; opens_nothing = refl }
 refusal_keeps timelines (Ok Nothing) refused = record { kept = refl; opens_nothing = refl }
-refusal_keeps timelines (Ok (New name kind)) refused = record {
+refusal_keeps timelines (Ok (New name kind fused)) refused = record {
   kept = startable_leaves timelines name (with_timeline timelines (fresh name kind) Accepted) (λ e. absurd (not_both false refl e)) refused;
   opens_nothing = refl;
 }
@@ -208,6 +208,7 @@ refusal_keeps timelines (Ok (Save name)) refused = record {
   kept = named_keeps name (λ timeline. unchanged timeline (saves timeline)) (λ timeline e. refl) timelines refused;
   opens_nothing = refl;
 }
+refusal_keeps timelines (Ok (Mute number)) refused = record { kept = refl; opens_nothing = refl }
 refusal_keeps timelines (Ok (Header name kind next rows)) refused = record { kept = refl; opens_nothing = absurd (not_both false refl refused) }
 
 -- the bench after a refusal

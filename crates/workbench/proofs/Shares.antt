@@ -13,7 +13,7 @@ use Rattle.std.proofs.lemmas.Slice.Eq.{bytes_eq-Decides}
 use Rattle.retro_base.specs.declared.row.Row.{Row}
 use Rattle.retro_base.specs.Limits.{most_timelines}
 use Rattle.script_grammar.specs.declared.command.Command.{Command}
-use Rattle.script_grammar.specs.declared.command.Command.TheVariants.{Nothing, New, Insert, Delete, Move, Change, Fate, Ask, Undo, Redo, Save, Header}
+use Rattle.script_grammar.specs.declared.command.Command.TheVariants.{Nothing, New, Insert, Delete, Move, Change, Fate, Ask, Undo, Redo, Save, Mute, Header}
 use Rattle.script_grammar.specs.declared.command.LineError.{LineError}
 use Rattle.script_grammar.specs.declared.command.LineError.TheVariants as errors
 use Rattle.timeline_file.specs.declared.block.BlockError.{BlockError}
@@ -179,7 +179,7 @@ module _ (name : List ℕ) where
       → (obeys timelines line).outcome ≢ Refused refusals.Timelines → share_of_effect name (obeys timelines line) ≡ obeys (share name timelines) line
   own_obeys timelines (Err error) is room = absurd (cc)
   own_obeys timelines (Ok Nothing) is room = absurd (cc)
-  own_obeys timelines (Ok (New other kind)) is room =
+  own_obeys timelines (Ok (New other kind fused)) is room =
       own_startable_as other timelines (with_timeline timelines (fresh other kind) Accepted) (with_timeline (share name timelines) (fresh other kind) Accepted)
       (same_name other name is) (own_comes timelines (fresh other kind) Accepted is) room
   own_obeys timelines (Ok (Insert other spot op)) is room =
@@ -198,6 +198,7 @@ module _ (name : List ℕ) where
   own_obeys timelines (Ok (Redo other)) is room = rw (same_name other name is) (own_named redoes redoes_keeps_name timelines)
   own_obeys timelines (Ok (Save other)) is room =
       rw (same_name other name is) (own_named (λ timeline. unchanged timeline (saves timeline)) (λ timeline. refl) timelines)
+  own_obeys timelines (Ok (Mute number)) is room = absurd (cc)
   own_obeys timelines (Ok (Header other kind next rows)) is room = refl
 
   -- and one that is about another, or about none
@@ -206,7 +207,7 @@ module _ (name : List ℕ) where
   other_obeys timelines (Err errors.Long) apart = refl
   other_obeys timelines (Err errors.Syntax) apart = refl
   other_obeys timelines (Ok Nothing) apart = refl
-  other_obeys timelines (Ok (New other kind)) apart =
+  other_obeys timelines (Ok (New other kind fused)) apart =
       other_startable timelines other (with_timeline timelines (fresh other kind) Accepted) (other_comes timelines (fresh other kind) apart)
   other_obeys timelines (Ok (Insert other spot op)) apart = other_named other (λ timeline. inserts timeline spot op) (inserts_keeps_name spot op) apart timelines
   other_obeys timelines (Ok (Delete other number)) apart = other_named other (λ timeline. deletes timeline number) (deletes_keeps_name number) apart timelines
@@ -219,13 +220,14 @@ module _ (name : List ℕ) where
   other_obeys timelines (Ok (Undo other)) apart = other_named other undoes undoes_keeps_name apart timelines
   other_obeys timelines (Ok (Redo other)) apart = other_named other redoes redoes_keeps_name apart timelines
   other_obeys timelines (Ok (Save other)) apart = other_named other (λ timeline. unchanged timeline (saves timeline)) (λ timeline. refl) apart timelines
+  other_obeys timelines (Ok (Mute number)) apart = refl
   other_obeys timelines (Ok (Header other kind next rows)) apart = refl
 
   -- the block that a line opens is in the share where the line is about the name
   pub own_opened : (line : Result Command LineError) → names name (name_in line) ≡ true → share_of_block name (opened line) ≡ opened line
   own_opened (Err error) is = absurd (cc)
   own_opened (Ok Nothing) is = absurd (cc)
-  own_opened (Ok (New other kind)) is = refl
+  own_opened (Ok (New other kind fused)) is = refl
   own_opened (Ok (Insert other spot op)) is = refl
   own_opened (Ok (Delete other number)) is = refl
   own_opened (Ok (Move other number time)) is = refl
@@ -235,12 +237,13 @@ module _ (name : List ℕ) where
   own_opened (Ok (Undo other)) is = refl
   own_opened (Ok (Redo other)) is = refl
   own_opened (Ok (Save other)) is = refl
+  own_opened (Ok (Mute number)) is = absurd (cc)
   own_opened (Ok (Header other kind next rows)) is = rw is refl
 
   pub other_opened : (line : Result Command LineError) → names name (name_in line) ≡ false → share_of_block name (opened line) ≡ None
   other_opened (Err error) apart = refl
   other_opened (Ok Nothing) apart = refl
-  other_opened (Ok (New other kind)) apart = refl
+  other_opened (Ok (New other kind fused)) apart = refl
   other_opened (Ok (Insert other spot op)) apart = refl
   other_opened (Ok (Delete other number)) apart = refl
   other_opened (Ok (Move other number time)) apart = refl
@@ -250,4 +253,5 @@ module _ (name : List ℕ) where
   other_opened (Ok (Undo other)) apart = refl
   other_opened (Ok (Redo other)) apart = refl
   other_opened (Ok (Save other)) apart = refl
+  other_opened (Ok (Mute number)) apart = refl
   other_opened (Ok (Header other kind next rows)) apart = rw apart refl

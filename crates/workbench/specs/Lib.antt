@@ -10,3 +10,4 @@ pub mod OpenBlocks
 pub mod ReactionLaws
 pub mod Answers
 pub mod OwnLines
+pub mod FusedLines

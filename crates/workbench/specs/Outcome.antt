@@ -13,7 +13,7 @@ use Rattle.timeline_file.specs.Saved.{saved}
 use Rattle.workbench.specs.declared.outcome.Outcome.{Outcome}
 use Rattle.workbench.specs.declared.outcome.Outcome.TheVariants.{Silent, Accepted, Inserted, Changed, Loaded, Answered, Listed, Saved, Taken, Stays, Refused}
 use Rattle.workbench.specs.declared.outcome.Refusal.{Refusal}
-use Rattle.workbench.specs.declared.outcome.Refusal.TheVariants.{Long, Syntax, NoTimeline, NameTaken, Timelines, Kind, NoRow, Full, Numbers, At, NothingToUndo, NothingToRedo, RowLine, Unfinished, Next, Rows, NoItem}
+use Rattle.workbench.specs.declared.outcome.Refusal.TheVariants.{Long, Syntax, NoTimeline, NameTaken, Timelines, Kind, NoRow, Full, Numbers, At, NothingToUndo, NothingToRedo, RowLine, Unfinished, Next, Rows, NoItem, NoFollower}
 
 -- why a row line of a block is bad
 abbrev pub cause_text : RowCause → List ℕ
@@ -49,6 +49,7 @@ refusal_text Unfinished = codes "refused unfinished"
 refusal_text Next = codes "refused next"
 refusal_text Rows = codes "refused rows"
 refusal_text (NoItem number) = codes "refused no item #" ++ decimal number
+refusal_text (NoFollower number) = codes "refused no follower " ++ decimal number
 refusal_text (At number time) = codes "refused at #" ++ decimal number ++ codes " " ++ decimal time
 
 -- a text on a line of its own

@@ -4,7 +4,7 @@ use Rattle.std.specs.Prelude.{◌≡◌, ◌≢◌, ℕ, Bool, false, not, ◌&&
 use Rattle.std.specs.Prelude.{Option, Some, None, option_map, Result, Ok, Err}
 use Rattle.std.specs.Str.{bytes_eq}
 use Rattle.script_grammar.specs.declared.command.Command.{Command}
-use Rattle.script_grammar.specs.declared.command.Command.TheVariants.{Nothing, New, Insert, Delete, Move, Change, Fate, Ask, Undo, Redo, Save, Header}
+use Rattle.script_grammar.specs.declared.command.Command.TheVariants.{Nothing, New, Insert, Delete, Move, Change, Fate, Ask, Undo, Redo, Save, Mute, Header}
 use Rattle.script_grammar.specs.declared.command.LineError.{LineError}
 use Rattle.retro_base.specs.LineLength.{is_long}
 use Rattle.script_grammar.specs.BlockLines.{is_end}
@@ -17,7 +17,7 @@ use Rattle.workbench.specs.Reaction.{opened, spelled, happens, ends, reacts, clo
 abbrev pub name_in : Result Command LineError → Option (List ℕ)
 name_in (Err error) = None
 name_in (Ok Nothing) = None
-name_in (Ok (New name kind)) = Some name
+name_in (Ok (New name kind fused)) = Some name
 name_in (Ok (Insert name spot op)) = Some name
 name_in (Ok (Delete name number)) = Some name
 name_in (Ok (Move name number time)) = Some name
@@ -27,6 +27,7 @@ name_in (Ok (Ask name moment query)) = Some name
 name_in (Ok (Undo name)) = Some name
 name_in (Ok (Redo name)) = Some name
 name_in (Ok (Save name)) = Some name
+name_in (Ok (Mute number)) = None
 name_in (Ok (Header name kind next rows)) = Some name
 
 -- the name that a block gives

@@ -5,7 +5,7 @@ use Rattle.std.specs.Prelude.{Option, Some, None, Result, Ok, Err}
 use Rattle.retro_base.specs.declared.kind.Kind.{Kind}
 use Rattle.retro_base.specs.declared.row.Row.{Row}
 use Rattle.script_grammar.specs.declared.command.Command.{Command}
-use Rattle.script_grammar.specs.declared.command.Command.TheVariants.{Nothing, New, Insert, Delete, Move, Change, Fate, Ask, Undo, Redo, Save, Header}
+use Rattle.script_grammar.specs.declared.command.Command.TheVariants.{Nothing, New, Insert, Delete, Move, Change, Fate, Ask, Undo, Redo, Save, Mute, Header}
 use Rattle.script_grammar.specs.declared.command.LineError.{LineError}
 use Rattle.script_grammar.specs.declared.command.LineError.TheVariants as errors
 use Rattle.retro_base.specs.LineLength.{is_long}
@@ -42,7 +42,7 @@ if_startable timelines name effect =
 abbrev pub with_timeline : List NamedTimeline → NamedTimeline → Outcome → Effect
 with_timeline timelines timeline outcome = record { timelines = timelines ++ timeline ∷ []; outcome = outcome }
 
--- `new NAME KIND`
+-- `new NAME KIND`, whichever structure is to hold it
 abbrev pub starts : List NamedTimeline → List ℕ → Kind → Effect
 starts timelines name kind = if_startable timelines name (with_timeline timelines (fresh name kind) Accepted)
 
@@ -57,12 +57,13 @@ on_named name effect (timeline ∷ others) =
     if is_named name timeline then record { timelines = (effect timeline).timeline ∷ others; outcome = (effect timeline).outcome }
     else with_first timeline (on_named name effect others)
 
--- what the timelines make of a command, or of a line that has none; a header leaves them as they are
+-- what the timelines make of a command, or of a line that has none; a header leaves them as they are, and they have no follower that
+-- could be muted
 abbrev pub obeys : List NamedTimeline → Result Command LineError → Effect
 obeys timelines (Err errors.Long) = leaves timelines (Refused refusals.Long)
 obeys timelines (Err errors.Syntax) = leaves timelines (Refused refusals.Syntax)
 obeys timelines (Ok Nothing) = leaves timelines Silent
-obeys timelines (Ok (New name kind)) = starts timelines name kind
+obeys timelines (Ok (New name kind fused)) = starts timelines name kind
 obeys timelines (Ok (Insert name spot op)) = on_named name (λ timeline. inserts timeline spot op) timelines
 obeys timelines (Ok (Delete name number)) = on_named name (λ timeline. deletes timeline number) timelines
 obeys timelines (Ok (Move name number time)) = on_named name (λ timeline. moves timeline number time) timelines
@@ -72,6 +73,7 @@ obeys timelines (Ok (Ask name moment query)) = on_named name (λ timeline. uncha
 obeys timelines (Ok (Undo name)) = on_named name undoes timelines
 obeys timelines (Ok (Redo name)) = on_named name redoes timelines
 obeys timelines (Ok (Save name)) = on_named name (λ timeline. unchanged timeline (saves timeline)) timelines
+obeys timelines (Ok (Mute number)) = leaves timelines (Refused (refusals.NoFollower number))
 obeys timelines (Ok (Header name kind next rows)) = leaves timelines Silent
 
 -- the timeline that a block makes of its rows, of which nothing can be undone

@@ -1,6 +1,6 @@
 ghost use Rattle.std.specs.Prelude.{◌≡◌, ◌≤◌, ◌⊎◌, ◌++◌, length, is_err, is_some, true, false, None, Some, IsTrue, IfOk, OnOk, OnErr, MatchOption, option_map};
 ghost use Rattle.retro_base.specs.Limits.{longest_line};
-ghost use Rattle.script_grammar.specs.Command.{IsNextInRange};
+ghost use Rattle.script_grammar.specs.Command.{IsProper};
 ghost use Rattle.retro_base.specs.Replay.{present};
 ghost use Rattle.workbench.specs.Bench.{NamedTimeline, empty_bench, named, present_size, size_of, timeline_of};
 ghost use Rattle.workbench.specs.Outcome.{is_refusal, reply_text};
@@ -95,6 +95,14 @@ impl Bench {
         reply
     }
 
+    /// Whether a block is being read.
+    pub fn in_block(&self) -> bool
+        requires { self.now.spent ≡ false }
+        ensures { result ≡ is_some self.now.bench.block }
+    {
+        self.block.is_some()
+    }
+
     /// The session of the timeline of this name; none where no timeline has it.
     pub fn session(&self, name: &Name) -> Option<&Session<Engine>>
         requires { self.now.spent ≡ false }
@@ -169,7 +177,7 @@ impl Bench {
 
     /// Does what a line outside a block asks for.
     fn obey_outside(&mut self, line: Result<Command, LineError>) -> Result<Outcome, NoMemory>
-        requires { IfOk line IsNextInRange }
+        requires { IfOk line IsProper }
         ensures { IfOk result (λ outcome. outside self.old.bench.timelines line
             ≡ record { bench = self.new.bench; outcome = outcome }) }
     {
@@ -205,7 +213,7 @@ impl Bench {
 
 /// The block that a line opens, if it is a header.
 fn opened(alloc: Global, line: &Result<Command, LineError>) -> Option<OpenBlock>
-    requires { IfOk line.now IsNextInRange }
+    requires { IfOk line.now IsProper }
     ensures { result ≡ opened line.now }
 {
     match line {

@@ -5,6 +5,7 @@ ghost use Rattle.retro_base.specs.declared.row.Row.{Row};
 ghost use Rattle.retro_base.specs.Edits.{Step, add};
 ghost use Rattle.retro_base.specs.MadeEdits.{IsMade};
 ghost use Rattle.retro_base.specs.Order.{Fits};
+ghost use Rattle.engine.specs.Engine.{is_fused, kind_inside, rows_inside};
 ghost use Rattle.timeline_undo.specs.Session.{AreMade, edit_reported, step_reported};
 ghost use Rattle.timeline_undo.specs.Shift.{IsTargetOf, shift_at};
 ghost use Rattle.timeline_undo.specs.declared.turn.Turns.TheVariants.{Double};
@@ -30,6 +31,20 @@ use script_grammar::{Moment, Query, Spot};
 use std::alloc::Global;
 use std::marker::Model;
 use timeline_undo::{EditError, Session, Target, Turn, Turns, UndoError};
+
+/// The empty structure of a kind, or of a fused priority queue.
+fn structure_of(alloc: Global, kind: Kind, fused: bool) -> Engine
+    requires { fused ≡ true → kind ≡ Kind.Pq }
+    ensures kind { kind_inside result ≡ kind }
+    ensures rows { rows_inside result ≡ [] }
+    ensures variant { is_fused result ≡ fused }
+{
+    if fused {
+        Engine::fused(alloc)
+    } else {
+        Engine::new(alloc, kind)
+    }
+}
 
 /// A timeline of the bench: its name, and the session that keeps and performs its rows.
 #[derive(Drop)]
@@ -58,11 +73,17 @@ impl NamedTimeline {
     ghost use Rattle.workbench.specs.Bench.{fresh, named, with_rows};
     ghost use Rattle.workbench.specs.TimelineEffects.{changes, deletes, inserts, inserts_there, moves, shifts, shifts_there, unchanged, answers, answers_fate, undoes, redoes, saves};
 
-    /// A timeline without rows.
-    pub(crate) fn new(alloc: Global, name: Name, kind: Kind) -> Result<NamedTimeline, NoMemory>
+    /// A timeline without rows. A fused one is a priority queue that is held as a product of pieces.
+    pub(crate) fn new(
+        alloc: Global,
+        name: Name,
+        kind: Kind,
+        fused: bool,
+    ) -> Result<NamedTimeline, NoMemory>
+        requires { fused ≡ true → kind ≡ Kind.Pq }
         ensures { IfOk result (λ timeline. timeline ≡ fresh name kind) }
     {
-        let session = Session::new(alloc, Engine::new(alloc, kind), 1)?;
+        let session = Session::new(alloc, structure_of(alloc, kind, fused), 1)?;
         Ok(NamedTimeline {
             alloc,
             name,

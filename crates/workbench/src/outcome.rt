@@ -94,6 +94,8 @@ pub enum Refusal {
     Rows,
     /// The row with this number puts nothing in.
     NoItem { number: u32 },
+    /// No follower with this number is left.
+    NoFollower { number: u32 },
 }
 
 impl Outcome {
@@ -195,6 +197,10 @@ impl Refusal {
             Refusal::Rows => out.push_all(b"refused rows")?,
             Refusal::NoItem { number } => {
                 out.push_all(b"refused no item #")?;
+                out.push_number(*number)?;
+            }
+            Refusal::NoFollower { number } => {
+                out.push_all(b"refused no follower ")?;
                 out.push_number(*number)?;
             }
             Refusal::RowLine { place, cause } => {

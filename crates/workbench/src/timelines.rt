@@ -1,7 +1,7 @@
-ghost use Rattle.std.specs.Prelude.{◌≡◌, [], length, nat_le, position, Ok, Some, None, IfOk, OnErr, MatchOption};
+ghost use Rattle.std.specs.Prelude.{◌≡◌, [], length, true, nat_le, position, Ok, Some, None, IfOk, OnErr, MatchOption};
 ghost use Rattle.retro_base.specs.Limits.{most_timelines, next_limit};
 ghost use Rattle.retro_base.specs.Timeline.{IsTimeline};
-ghost use Rattle.script_grammar.specs.Command.{IsNextInRange};
+ghost use Rattle.script_grammar.specs.Command.{IsProper};
 ghost use Rattle.timeline_file.specs.Block.{finished};
 ghost use Rattle.workbench.specs.Bench.{has_timeline, is_named, named, timeline_of};
 ghost use Rattle.workbench.specs.Reaction.{closes, loads, obeys, of_block, on_named, starts};
@@ -49,7 +49,7 @@ impl Timelines {
 
     /// Does what a command asks for, or refuses a line that has none. After a refusal all is as before.
     pub(crate) fn obey(&mut self, line: Result<Command, LineError>) -> Result<Outcome, NoMemory>
-        requires { IfOk line IsNextInRange }
+        requires { IfOk line IsProper }
         ensures { IfOk result (λ outcome. obeys self.old line ≡ record { timelines = self.new; outcome = outcome }) }
     {
         match line {
@@ -61,12 +61,12 @@ impl Timelines {
 
     /// Does what a command asks for, by its form.
     fn perform(&mut self, command: &Command) -> Result<Outcome, NoMemory>
-        requires { IsNextInRange command.now }
+        requires { IsProper command.now }
         ensures { IfOk result (λ outcome. obeys self.old (Ok command.now) ≡ record { timelines = self.new; outcome = outcome }) }
     {
         match command {
             Command::Nothing => Ok(Outcome::Silent),
-            Command::New { name, kind } => self.start(*name, *kind),
+            Command::New { name, kind, fused } => self.start(*name, *kind, *fused),
             Command::Insert { name, spot, op } => self.insert(*name, *spot, *op),
             Command::Delete { name, number } => self.delete(*name, *number),
             Command::Move { name, number, time } => self.move_row(*name, *number, *time),
@@ -80,12 +80,16 @@ impl Timelines {
             Command::Undo { name } => self.undo(*name),
             Command::Redo { name } => self.redo(*name),
             Command::Save { name } => self.save(*name),
+            Command::Mute { number } => Ok(Outcome::refused(Refusal::NoFollower {
+                number: *number,
+            })),
             Command::Header { .. } => Ok(Outcome::Silent),
         }
     }
 
     /// Starts a timeline without rows, where the name is free and there is room for one more.
-    fn start(&mut self, name: Name, kind: Kind) -> Result<Outcome, NoMemory>
+    fn start(&mut self, name: Name, kind: Kind, fused: bool) -> Result<Outcome, NoMemory>
+        requires { fused ≡ true → kind ≡ Kind.Pq }
         ensures ok { IfOk result (λ outcome. starts self.old name kind ≡ record { timelines = self.new; outcome = outcome }) }
         ensures err { OnErr result (self.new ≡ self.old) }
     {
@@ -95,7 +99,7 @@ impl Timelines {
         if self.is_full() {
             return Ok(Outcome::refused(Refusal::Timelines));
         }
-        let timeline = NamedTimeline::new(self.alloc, name, kind)?;
+        let timeline = NamedTimeline::new(self.alloc, name, kind, fused)?;
         self.timelines.push(timeline)?;
         Ok(Outcome::Accepted)
     }
