@@ -16,7 +16,8 @@ use Rattle.retro_io.specs.Source.{GivesCount}
 use Rattle.workbench.specs.Answers.{bench_after}
 use Rattle.workbench.specs.Bench.{Bench, empty_bench}
 use Rattle.workbench.specs.Reaction.{Reaction, closing, reacts, reacts_to}
-use Rattle.retro_cli.specs.Output.{answers_to, close_of, output, refuses_one, up_to_last_feed}
+use Rattle.retro_cli.specs.Audience.{Audience, Turn, audience_after, followed, follows, follows_to}
+use Rattle.retro_cli.specs.Output.{Answering, answers_by, close_of, output_by, refuses_by, up_to_last_feed}
 use Rattle.retro_cli.specs.declared.stop.Stop.{Stop}
 use Rattle.retro_cli.specs.declared.stop.Stop.TheVariants as stops
 use Rattle.retro_io.specs.declared.mark.ReadError.{ReadError}
@@ -25,45 +26,16 @@ use Rattle.retro_io.specs.declared.sink.Sink.{Ghosts}
 use Rattle.retro_io.specs.FlushLaws.{EndsWithFailedSend-more, EndsWithFailedWrite-more, StaysUnflushed-more}
 use Rattle.retro_io.specs.Flushes.{EndsWithFailedSend, EndsWithFailedWrite, StaysUnflushed}
 use Rattle.retro_cli.specs.Ends.{EndsAfterLine, Stands}
+use Rattle.retro_cli.specs.Followed.{HaveFollowed}
 use Rattle.retro_cli.specs.Stop.{StopsAt, stops_at_write}
 use Rattle.retro_cli.specs.Run.{AppendsAnswersOfFirst, AppendsAnswersOfTaken, AppendsFirstAnswers, AppendsOutput, AppendsProperOutputPrefix, AppendsOutputPrefix, MatchesRefusal}
 use Rattle.retro_cli.proofs.GoesOn.{GivenAs, GoesOn, gives, none_is_not_some, some_same}
-use Rattle.retro_cli.proofs.Reactions.{answers_to-none, before_last, output_after, output_from}
+use Rattle.retro_cli.proofs.Reactions.{answers_by-none, before_last, output_after, output_from}
 use Rattle.retro_cli.proofs.WholeLines.{up_to-unbroken}
 
 -- a run that stopped so
 abbrev pub stop_at : Stop → Result Bool Stop
 stop_at stop = Err stop
-
--- nothing was appended
-pub appends_no_answers : (script written : Option (List ℕ)) → AppendsFirstAnswers script written written
-appends_no_answers None written = tt
-appends_no_answers (Some bytes) written =
-    record { answered = []; unanswered = lines bytes; cut = refl; appended = rw answers_to-none (Appends-none written) }
-
-pub appends_no_output : (script written : Option (List ℕ)) → AppendsOutputPrefix script written written
-appends_no_output None written = tt
-appends_no_output (Some bytes) written = AppendsPrefixOf-from written (output bytes) [] (output bytes) written refl (Appends-none written)
-
--- the whole answers to some first lines are a prefix of the output
-pub prefix_of_answers : (script before after : Option (List ℕ)) → AppendsFirstAnswers script before after → AppendsOutputPrefix script before after
-prefix_of_answers None before after answers = tt
-prefix_of_answers (Some bytes) before after answers =
-    AppendsPrefixOf-from before (output bytes) (answers_to answers.answered) _ after
-    (output_after bytes answers.answered answers.unanswered answers.cut) answers.appended
-
--- the answers so far are the whole answers to the lines given
-pub first_answers : (script first : Option (List ℕ)) (bench : Bench) (refused ended : Bool) (rest written : Option (List ℕ))
-    → ((bytes : List ℕ) → script ≡ Some bytes → GoesOn bytes first bench refused ended rest written) → AppendsFirstAnswers script first written
-first_answers None first bench refused ended rest written on = tt
-first_answers (Some bytes) first bench refused ended rest written on =
-    let here = on bytes refl in
-    record { answered = here.given; unanswered = lines here.left; cut = here.cut; appended = here.appended }
-
--- the whole output is a prefix of it
-pub prefix_of_all : (script before after : Option (List ℕ)) → AppendsOutput script before after → AppendsOutputPrefix script before after
-prefix_of_all None before after all = tt
-prefix_of_all (Some bytes) before after all = AppendsPrefixOf-from before (output bytes) (output bytes) [] after (sym (append-nil (output bytes))) all
 
 -- a prefix of an answer that is not all of it, after the answers so far, is one of all
 pub prefix_between : (first written written' : Option (List ℕ)) (so_far answer later all : List ℕ) → all ≡ (so_far ++ answer) ++ later
@@ -84,192 +56,238 @@ prefix_between first written written' so_far answer later all whole before part 
           (Appends-append first written written' so_far parts.0 before parts.3),
     )
 
--- and so it is of the output, at the answer to a line
-part_at_line : (bytes now after : List ℕ) (first : Option (List ℕ)) (bench : Bench) (refused : Bool) (mark : Mark) (long : Bool) (shown : List ℕ) (ended : Bool)
-    (written written' : Option (List ℕ)) → GivenAs mark long → GivesNextOf mark shown ended (Some now) (Some after)
-    → GoesOn bytes first bench refused false (Some now) written → AppendsProperPrefix written (reacts_to bench shown long).answer written'
-    → AppendsProperPrefix first (output bytes) written'
-part_at_line bytes now after first bench refused mark long shown ended written written' as_given next on part =
-    let given = gives mark long shown ended now after as_given next in
-    let same : now ≡ on.left = some_same (Some now) refl on.rest_is in
-    let cut : lines bytes ≡ on.given ++ given.line ∷ lines after = on.cut ∙ ap (λ xs. on.given ++ lines xs) (sym same) ∙ ap (λ ls. on.given ++ ls) given.cut in
-    let whole = output_from bytes on.given given.line (lines after) cut in
-    prefix_between first written written' (answers_to on.given) _ _ (output bytes) whole on.appended
-    (subst (λ (r : Reaction). AppendsProperPrefix written r.answer written') (sym (ap (λ b. reacts b given.line) on.bench_is ∙ given.reaction bench)) part)
+module _ (audience : Audience) where
+  -- nothing was appended
+  pub appends_no_answers : (script written : Option (List ℕ)) → AppendsFirstAnswers (followed audience) script written written
+  appends_no_answers None written = tt
+  appends_no_answers (Some bytes) written =
+      record { answered = []; unanswered = lines bytes; cut = refl; appended = rw (answers_by-none audience) (Appends-none written) }
 
-pub part_in_line : (script first : Option (List ℕ)) (bench : Bench) (refused : Bool) (mark : Mark) (long : Bool) (shown : List ℕ) (ended : Bool)
-    (rest rest' written written' : Option (List ℕ)) → GivenAs mark long → GivesNextOf mark shown ended rest rest'
-    → ((bytes : List ℕ) → script ≡ Some bytes → GoesOn bytes first bench refused false rest written)
-    → AppendsProperPrefix written (reacts_to bench shown long).answer written' → AppendsProperOutputPrefix script first written'
-part_in_line None first bench refused mark long shown ended rest rest' written written' as_given next on part = tt
-part_in_line (Some bytes) first bench refused mark long shown ended None rest' written written' as_given next on part =
-    absurd (none_is_not_some (on bytes refl).rest_is)
-part_in_line (Some bytes) first bench refused mark long shown ended (Some now) None written written' as_given next on part = absurd next
-part_in_line (Some bytes) first bench refused mark long shown ended (Some now) (Some after) written written' as_given next on part =
-    part_at_line bytes now after first bench refused mark long shown ended written written' as_given next (on bytes refl) part
+  pub appends_no_output : (script written : Option (List ℕ)) → AppendsOutputPrefix (followed audience) script written written
+  appends_no_output None written = tt
+  appends_no_output (Some bytes) written = AppendsPrefixOf-from written (output_by (followed audience) bytes) [] (output_by (followed audience) bytes) written refl (Appends-none written)
 
--- and such a prefix is one
-pub prefix_of_part : (script before after : Option (List ℕ)) → AppendsProperOutputPrefix script before after → AppendsOutputPrefix script before after
-prefix_of_part None before after part = tt
-prefix_of_part (Some bytes) before after part =
-    let parts = AppendsPrefixOf-parts before (without_last (output bytes)) after part.1 in
-    let last = drop (length (output bytes) - 1) (output bytes) in
-    AppendsPrefixOf-from before (output bytes) parts.0 (parts.1 ++ last) after
-    (sym (take-append-drop (length (output bytes) - 1) (output bytes)) ∙ ap (λ xs. xs ++ last) parts.2 ∙ append_assoc parts.0 parts.1 last) parts.3
+  -- the whole answers to some first lines are a prefix of the output
+  pub prefix_of_answers : (script before after : Option (List ℕ)) → AppendsFirstAnswers (followed audience) script before after → AppendsOutputPrefix (followed audience) script before after
+  prefix_of_answers None before after answers = tt
+  prefix_of_answers (Some bytes) before after answers =
+      AppendsPrefixOf-from before (output_by (followed audience) bytes) (answers_by (followed audience) answers.answered) _ after
+      (output_after audience bytes answers.answered answers.unanswered answers.cut) answers.appended
 
-pub nothing_left : (shown : List ℕ) (ended : Bool) (rest rest' : Option (List ℕ)) (left : List ℕ) → GivesNextOf End shown ended rest rest' → rest ≡ Some left → rest ≡ Some []
-nothing_left shown ended None rest' left next e = absurd (none_is_not_some e)
-nothing_left shown ended (Some now) None left next e = absurd next
-nothing_left shown ended (Some now) (Some after) left next e = ap (λ xs. Some xs) next.0
+  -- the answers so far are the whole answers to the lines given
+  pub first_answers : (script first : Option (List ℕ)) (bench : Bench) (who : Audience) (refused ended : Bool) (rest written : Option (List ℕ))
+      → ((bytes : List ℕ) → script ≡ Some bytes → GoesOn audience bytes first bench who refused ended rest written) → AppendsFirstAnswers (followed audience) script first written
+  first_answers None first bench who refused ended rest written on = tt
+  first_answers (Some bytes) first bench who refused ended rest written on =
+      let here = on bytes refl in
+      record { answered = here.given; unanswered = lines here.left; cut = here.cut; appended = here.appended }
 
--- at the end all lines are given, and the bench is the one that they leave
-record AllGiven (bytes : List ℕ) (first : Option (List ℕ)) (bench : Bench) (refused : Bool) (written : Option (List ℕ)) : Type 0 where
-  appended : Appends first (answers_to (lines bytes)) written
-  refusals : refuses_one (lines bytes) ≡ refused
-  bench_is : bench_after empty_bench (lines bytes) ≡ bench
+  -- the whole output is a prefix of it
+  pub prefix_of_all : (script before after : Option (List ℕ)) → AppendsOutput (followed audience) script before after → AppendsOutputPrefix (followed audience) script before after
+  prefix_of_all None before after all = tt
+  prefix_of_all (Some bytes) before after all = AppendsPrefixOf-from before (output_by (followed audience) bytes) (output_by (followed audience) bytes) [] after (sym (append-nil (output_by (followed audience) bytes))) all
 
-all_given : (bytes : List ℕ) (first : Option (List ℕ)) (bench : Bench) (refused ended : Bool) (rest written : Option (List ℕ))
-    → GoesOn bytes first bench refused ended rest written → rest ≡ Some [] → AllGiven bytes first bench refused written
-all_given bytes first bench refused ended rest written on e =
-    let none_left : on.left ≡ [] = some_same rest on.rest_is e in
-    let all : on.given ≡ lines bytes = sym (on.cut ∙ ap (λ xs. on.given ++ lines xs) none_left ∙ append-nil on.given) in
-    record {
-      appended = subst (λ ls. Appends first (answers_to ls) written) all on.appended;
-      refusals = sym (ap refuses_one all) ∙ on.refusals;
-      bench_is = sym (ap (bench_after empty_bench) all) ∙ on.bench_is;
+  -- and so it is of the output, at the answer to a line
+  part_at_line : (bytes now after : List ℕ) (first : Option (List ℕ)) (bench : Bench) (who : Audience) (refused : Bool) (mark : Mark) (long : Bool) (shown : List ℕ) (ended : Bool)
+      (written written' : Option (List ℕ)) → GivenAs mark long → GivesNextOf mark shown ended (Some now) (Some after)
+      → GoesOn audience bytes first bench who refused false (Some now) written → AppendsProperPrefix written (follows_to bench who shown long).reaction.answer written'
+      → AppendsProperPrefix first (output_by (followed audience) bytes) written'
+  part_at_line bytes now after first bench who refused mark long shown ended written written' as_given next on part =
+      let given = gives mark long shown ended now after as_given next in
+      let same : now ≡ on.left = some_same (Some now) refl on.rest_is in
+      let cut : lines bytes ≡ on.given ++ given.line ∷ lines after = on.cut ∙ ap (λ xs. on.given ++ lines xs) (sym same) ∙ ap (λ ls. on.given ++ ls) given.cut in
+      let whole = output_from audience bytes on.given given.line (lines after) cut in
+      prefix_between first written written' (answers_by (followed audience) on.given) _ _ (output_by (followed audience) bytes) whole on.appended
+      (subst (λ (t : Turn). AppendsProperPrefix written t.reaction.answer written')
+      (sym (ap (λ b. follows b (audience_after empty_bench audience on.given) given.line) on.bench_is ∙ ap (λ w. follows bench w given.line) on.audience_is ∙ given.turn bench who)) part)
+
+  pub part_in_line : (script first : Option (List ℕ)) (bench : Bench) (who : Audience) (refused : Bool) (mark : Mark) (long : Bool) (shown : List ℕ) (ended : Bool)
+      (rest rest' written written' : Option (List ℕ)) → GivenAs mark long → GivesNextOf mark shown ended rest rest'
+      → ((bytes : List ℕ) → script ≡ Some bytes → GoesOn audience bytes first bench who refused false rest written)
+      → AppendsProperPrefix written (follows_to bench who shown long).reaction.answer written' → AppendsProperOutputPrefix (followed audience) script first written'
+  part_in_line None first bench who refused mark long shown ended rest rest' written written' as_given next on part = tt
+  part_in_line (Some bytes) first bench who refused mark long shown ended None rest' written written' as_given next on part =
+      absurd (none_is_not_some (on bytes refl).rest_is)
+  part_in_line (Some bytes) first bench who refused mark long shown ended (Some now) None written written' as_given next on part = absurd next
+  part_in_line (Some bytes) first bench who refused mark long shown ended (Some now) (Some after) written written' as_given next on part =
+      part_at_line bytes now after first bench who refused mark long shown ended written written' as_given next (on bytes refl) part
+
+  -- and such a prefix is one
+  pub prefix_of_part : (script before after : Option (List ℕ)) → AppendsProperOutputPrefix (followed audience) script before after → AppendsOutputPrefix (followed audience) script before after
+  prefix_of_part None before after part = tt
+  prefix_of_part (Some bytes) before after part =
+      let parts = AppendsPrefixOf-parts before (without_last (output_by (followed audience) bytes)) after part.1 in
+      let last = drop (length (output_by (followed audience) bytes) - 1) (output_by (followed audience) bytes) in
+      AppendsPrefixOf-from before (output_by (followed audience) bytes) parts.0 (parts.1 ++ last) after
+      (sym (take-append-drop (length (output_by (followed audience) bytes) - 1) (output_by (followed audience) bytes)) ∙ ap (λ xs. xs ++ last) parts.2 ∙ append_assoc parts.0 parts.1 last) parts.3
+
+  pub nothing_left : (shown : List ℕ) (ended : Bool) (rest rest' : Option (List ℕ)) (left : List ℕ) → GivesNextOf End shown ended rest rest' → rest ≡ Some left → rest ≡ Some []
+  nothing_left shown ended None rest' left next e = absurd (none_is_not_some e)
+  nothing_left shown ended (Some now) None left next e = absurd next
+  nothing_left shown ended (Some now) (Some after) left next e = ap (λ xs. Some xs) next.0
+
+  -- at the end all lines are given, and the bench is the one that they leave
+  record AllGiven (bytes : List ℕ) (first : Option (List ℕ)) (bench : Bench) (who : Audience) (refused : Bool) (written : Option (List ℕ)) : Type 0 where
+    appended : Appends first (answers_by (followed audience) (lines bytes)) written
+    refusals : refuses_by (followed audience) (lines bytes) ≡ refused
+    bench_is : bench_after empty_bench (lines bytes) ≡ bench
+    audience_is : audience_after empty_bench audience (lines bytes) ≡ who
+
+  all_given : (bytes : List ℕ) (first : Option (List ℕ)) (bench : Bench) (who : Audience) (refused ended : Bool) (rest written : Option (List ℕ))
+      → GoesOn audience bytes first bench who refused ended rest written → rest ≡ Some [] → AllGiven bytes first bench who refused written
+  all_given bytes first bench who refused ended rest written on e =
+      let none_left : on.left ≡ [] = some_same rest on.rest_is e in
+      let all : on.given ≡ lines bytes = sym (on.cut ∙ ap (λ xs. on.given ++ lines xs) none_left ∙ append-nil on.given) in
+      record {
+        appended = subst (λ ls. Appends first (answers_by (followed audience) ls) written) all on.appended;
+        refusals = sym (ap (refuses_by (followed audience)) all) ∙ on.refusals;
+        bench_is = sym (ap (bench_after empty_bench) all) ∙ on.bench_is;
+        audience_is = sym (ap (audience_after empty_bench audience) all) ∙ on.audience_is;
+      }
+
+  given_at_end : (bytes : List ℕ) (first : Option (List ℕ)) (bench : Bench) (who : Audience) (refused ended : Bool) (rest rest' written : Option (List ℕ)) (shown : List ℕ)
+      (has_ended : Bool) → GoesOn audience bytes first bench who refused ended rest written → GivesNextOf End shown has_ended rest rest'
+      → AllGiven bytes first bench who refused written
+  given_at_end bytes first bench who refused ended rest rest' written shown has_ended on next =
+      all_given bytes first bench who refused ended rest written on (nothing_left shown has_ended rest rest' on.left next on.rest_is)
+
+  -- and those who follow now have followed the whole script
+  pub all_followed : (script first : Option (List ℕ)) (bench : Bench) (who : Audience) (refused ended : Bool) (rest rest' written : Option (List ℕ)) (shown : List ℕ)
+      (has_ended : Bool) → ((bytes : List ℕ) → script ≡ Some bytes → GoesOn audience bytes first bench who refused ended rest written)
+      → GivesNextOf End shown has_ended rest rest' → HaveFollowed script audience who
+  all_followed None first bench who refused ended rest rest' written shown has_ended on next = tt
+  all_followed (Some bytes) first bench who refused ended rest rest' written shown has_ended on next =
+      let all = given_at_end bytes first bench who refused ended rest rest' written shown has_ended (on bytes refl) next in
+      sym all.audience_is
+
+  -- then the answer of the close is appended
+  pub appends_output : (script first : Option (List ℕ)) (bench : Bench) (who : Audience) (refused ended : Bool) (rest rest' written written' : Option (List ℕ)) (shown : List ℕ)
+      (has_ended : Bool) → ((bytes : List ℕ) → script ≡ Some bytes → GoesOn audience bytes first bench who refused ended rest written)
+      → GivesNextOf End shown has_ended rest rest' → Appends written (closing bench).answer written'
+      → AppendsOutput (followed audience) script first written' × MatchesRefusal (followed audience) script (refused || (closing bench).refused)
+  appends_output None first bench who refused ended rest rest' written written' shown has_ended on next appended = (tt, tt)
+  appends_output (Some bytes) first bench who refused ended rest rest' written written' shown has_ended on next appended =
+      let all = given_at_end bytes first bench who refused ended rest rest' written shown has_ended (on bytes refl) next in
+      let close : closing bench ≡ close_of (lines bytes) = ap closing (sym all.bench_is) in (
+        Appends-append first written written' (answers_by (followed audience) (lines bytes)) _ all.appended (subst (λ (r : Reaction). Appends written r.answer written') close appended),
+        ap (λ b. b || (closing bench).refused) (sym all.refusals) ∙ ap (λ (r : Reaction). refuses_by (followed audience) (lines bytes) || r.refused) close,
+      )
+
+  -- or a first part of it, where the write failed
+  pub part_at_end : (script first : Option (List ℕ)) (bench : Bench) (who : Audience) (refused ended : Bool) (rest rest' written written' : Option (List ℕ)) (shown : List ℕ)
+      (has_ended : Bool) → ((bytes : List ℕ) → script ≡ Some bytes → GoesOn audience bytes first bench who refused ended rest written)
+      → GivesNextOf End shown has_ended rest rest' → AppendsProperPrefix written (closing bench).answer written' → AppendsProperOutputPrefix (followed audience) script first written'
+  part_at_end None first bench who refused ended rest rest' written written' shown has_ended on next part = tt
+  part_at_end (Some bytes) first bench who refused ended rest rest' written written' shown has_ended on next part =
+      let all = given_at_end bytes first bench who refused ended rest rest' written shown has_ended (on bytes refl) next in
+      let close : closing bench ≡ close_of (lines bytes) = ap closing (sym all.bench_is) in
+      prefix_between first written written' (answers_by (followed audience) (lines bytes)) (close_of (lines bytes)).answer [] (output_by (followed audience) bytes) (sym (append-nil (output_by (followed audience) bytes))) all.appended
+      (subst (λ (r : Reaction). AppendsProperPrefix written r.answer written') close part)
+
+  -- at a read that failed all is answered whose line feed was taken
+  pub answers_of_taken : (script first : Option (List ℕ)) (bench : Bench) (who : Audience) (refused : Bool) (held : List ℕ) (source source' : Option (List ℕ)) (count : ℕ)
+      (written : Option (List ℕ)) → ((bytes : List ℕ) → script ≡ Some bytes → GoesOn audience bytes first bench who refused false (held_and_left held source) written)
+      → has_line_feed held ≡ false → GivesCount source count source' → IfSome source (λ bs. has_line_feed (take count bs) ≡ false)
+      → AppendsAnswersOfTaken (followed audience) script source' first written
+  answers_of_taken None first bench who refused held source source' count written on unbroken gives_count unbroken' = tt
+  answers_of_taken (Some bytes) first bench who refused held None source' count written on unbroken gives_count unbroken' =
+      absurd (none_is_not_some (on bytes refl).rest_is)
+  answers_of_taken (Some bytes) first bench who refused held (Some src) source' count written on unbroken gives_count unbroken' =
+      let here = on bytes refl in
+      let came = held ++ take count src in
+      let left_is : here.left ≡ came ++ drop count src =
+      some_same (Some (held ++ src)) here.rest_is refl ∙ ap (λ xs. held ++ xs) (sym (take-append-drop count src)) ∙ sym (append_assoc held (take count src) (drop count src)) in
+      let given : lines (up_to_last_feed (here.past ++ came)) ≡ here.given =
+      up_to-unbroken here.past came here.given (here.whole refl) (unbroken-append held (take count src) unbroken unbroken') in
+      rw gives_count.1 record {
+        taken = here.past ++ came;
+        cut = here.past_is ∙ ap (λ xs. here.past ++ xs) left_is ∙ sym (append_assoc here.past came (drop count src));
+        appended = subst (λ ls. Appends first (answers_by (followed audience) ls) written) (sym given) here.appended;
+      }
+
+  -- at a script that is too long all is answered that ends within the limit
+  pub answers_of_first : (first : Option (List ℕ)) (bench : Bench) (who : Audience) (refused : Bool) (held₀ held : List ℕ) (source₀ source : Option (List ℕ))
+      (taken₀ taken limit : ℕ) (written : Option (List ℕ))
+      → ((bytes : List ℕ) → held_and_left held₀ source₀ ≡ Some bytes → GoesOn audience bytes first bench who refused false (held_and_left held source) written)
+      → has_line_feed held ≡ false → taken₀ ≤ taken → GivesCount source₀ (taken - taken₀) source
+      → length held₀ ≤ taken₀ → length held ≤ taken → taken ≤ limit → IfSome source (λ bs. has_line_feed (take (limit - taken) bs) ≡ false)
+      → AppendsAnswersOfFirst (followed audience) (held_and_left held₀ source₀) (limit - (taken₀ - length held₀)) first written
+  answers_of_first first bench who refused held₀ held None source taken₀ taken limit written on unbroken more gives_count within₀ within below unbroken' = tt
+  answers_of_first first bench who refused held₀ held (Some src₀) None taken₀ taken limit written on unbroken more gives_count within₀ within below unbroken' =
+      absurd (none_is_not_some gives_count.1)
+  answers_of_first first bench who refused held₀ held (Some src₀) (Some src) taken₀ taken limit written on unbroken more gives_count within₀ within below unbroken' =
+      let bytes = held₀ ++ src₀ in
+      let here = on bytes refl in
+      let last = take (limit - taken) src in
+      let left_is : here.left ≡ held ++ src = some_same (Some (held ++ src)) here.rest_is refl in
+      let src_is : src ≡ drop (taken - taken₀) src₀ = some_same (Some src) refl gives_count.1 in
+      let size : length held₀ + length src₀ ≡ length here.past + (length held + length src) =
+      sym (length-append held₀ src₀) ∙ ap length here.past_is ∙ length-append here.past here.left
+      ∙ ap (λ n. length here.past + n) (ap length left_is ∙ length-append held src) in
+      let size_left : length src ≡ length src₀ - (taken - taken₀) = ap length src_is ∙ length-drop (taken - taken₀) src₀ in
+      let count : limit - (taken₀ - length held₀) ≡ length (here.past ++ held) + (limit - taken) =
+      omega (arith, size, size_left, gives_count.0, within₀, within, below, more, length-append here.past held) in
+      let cut : bytes ≡ (here.past ++ held) ++ src =
+      here.past_is ∙ ap (λ xs. here.past ++ xs) left_is ∙ sym (append_assoc here.past held src) in
+      let prefix : take (limit - (taken₀ - length held₀)) bytes ≡ here.past ++ (held ++ last) =
+      ap (λ n. take n bytes) count ∙ ap (take (length (here.past ++ held) + (limit - taken))) cut
+      ∙ take-append-add (here.past ++ held) src (limit - taken) ∙ append_assoc here.past held last in
+      let given : lines (up_to_last_feed (here.past ++ (held ++ last))) ≡ here.given =
+      up_to-unbroken here.past (held ++ last) here.given (here.whole refl) (unbroken-append held last unbroken unbroken') in
+      subst (λ ls. Appends first (answers_by (followed audience) ls) written) (sym (ap (λ xs. lines (up_to_last_feed xs)) prefix ∙ given)) here.appended
+
+  module _ {K : Type 0} (G : Ghosts K) where
+    -- whatever stands is a prefix of the output
+    pub prefix_that_stands : (script left : Option (List ℕ)) (limit : ℕ) (before after : K) (stop : Stop) → Stands G (followed audience) script left before after limit stop
+        → AppendsOutputPrefix (followed audience) script (G.written before) (G.written after)
+    prefix_that_stands script left limit before after stops.ReadFault stands = prefix_of_answers script (G.written before) (G.written after) stands.0.whole
+    prefix_that_stands script left limit before after stops.TooLong stands = prefix_of_answers script (G.written before) (G.written after) stands.0.whole
+    prefix_that_stands script left limit before after stops.NoMemory stands = prefix_of_answers script (G.written before) (G.written after) stands.whole
+    prefix_that_stands script left limit before after stops.WriteFault (inl part) = prefix_of_part script (G.written before) (G.written after) part.0
+    prefix_that_stands script left limit before after stops.WriteFault (inr (inl all)) = prefix_of_all script (G.written before) (G.written after) all.0
+    prefix_that_stands script left limit before after stops.WriteFault (inr (inr sent)) =
+        prefix_of_answers script (G.written before) (G.written after) sent.0
+
+-- however lines are answered
+module _ (answering : Answering) where
+  module _ {K : Type 0} (G : Ghosts K) where
+    -- where no next line was given
+    pub stands_at_error : (script left : Option (List ℕ)) (limit : ℕ) (before after : K) (error : ReadError) (stop : Stop) → StopsAt error stop
+        → AppendsFirstAnswers answering script (G.written before) (G.written after) → StaysUnflushed G before after
+        → (error ≡ ReadFault → AppendsAnswersOfTaken answering script left (G.written before) (G.written after))
+        → (error ≡ TooLong → AppendsAnswersOfFirst answering script limit (G.written before) (G.written after))
+        → Stands G answering script left before after limit stop
+    stands_at_error script left limit before after ReadFault stop stops_at whole unflushed taken first =
+        rw stops_at (record { whole = whole; unflushed = unflushed }, taken refl)
+    stands_at_error script left limit before after TooLong stop stops_at whole unflushed taken first =
+        rw stops_at (record { whole = whole; unflushed = unflushed }, first refl)
+
+    -- where an answer was not given, or not written
+    pub stands_at_answer : (script left : Option (List ℕ)) (limit : ℕ) (before middle after : K) (stop : Stop)
+        → AppendsFirstAnswers answering script (G.written before) (G.written middle) → StaysUnflushed G before middle
+        → (stops_at_write (stop_at stop) ≡ false → after ≡ middle)
+        → (stop_at stop ≡ stop_at stops.ReadFault → ⊥) × (stop_at stop ≡ stop_at stops.TooLong → ⊥)
+        → (stop_at stop ≡ stop_at stops.WriteFault → AppendsProperOutputPrefix answering script (G.written before) (G.written after))
+        → (stop_at stop ≡ stop_at stops.WriteFault → EndsWithFailedWrite G middle after)
+        → Stands G answering script left before after limit stop
+    stands_at_answer script left limit before middle after stops.ReadFault whole unflushed same reads part last = absurd (reads.0 refl)
+    stands_at_answer script left limit before middle after stops.TooLong whole unflushed same reads part last = absurd (reads.1 refl)
+    stands_at_answer script left limit before middle after stops.WriteFault whole unflushed same reads part last =
+        inl (part refl, EndsWithFailedWrite-more G before middle after unflushed (last refl))
+    stands_at_answer script left limit before middle after stops.NoMemory whole unflushed same reads part last =
+        rw (same refl) record { whole = whole; unflushed = unflushed }
+
+    -- where what waits did not go on
+    pub stands_at_send : (script left : Option (List ℕ)) (limit : ℕ) (before middle after : K) → AppendsFirstAnswers answering script (G.written before) (G.written middle)
+        → StaysUnflushed G before middle → G.written after ≡ G.written middle → EndsWithFailedSend G middle after
+        → Stands G answering script left before after limit stops.WriteFault
+    stands_at_send script left limit before middle after whole unflushed same last =
+        inr (inr (subst (λ w. AppendsFirstAnswers answering script (G.written before) w) (sym same) whole, EndsWithFailedSend-more G before middle after unflushed last))
+
+    -- where memory was short, and then all that waits went on
+    pub ends_sent : (script left left' : Option (List ℕ)) (before middle after : K) → EndsAfterLine G answering script left before middle
+        → G.written after ≡ G.written middle → StaysUnflushed G middle after → EndsAfterLine G answering script left' before after
+    ends_sent script left left' before middle after ends same sent = record {
+      whole = subst (λ w. AppendsFirstAnswers answering script (G.written before) w) (sym same) ends.whole;
+      unflushed = StaysUnflushed-more G before middle after ends.unflushed sent;
     }
-
-given_at_end : (bytes : List ℕ) (first : Option (List ℕ)) (bench : Bench) (refused ended : Bool) (rest rest' written : Option (List ℕ)) (shown : List ℕ)
-    (has_ended : Bool) → GoesOn bytes first bench refused ended rest written → GivesNextOf End shown has_ended rest rest'
-    → AllGiven bytes first bench refused written
-given_at_end bytes first bench refused ended rest rest' written shown has_ended on next =
-    all_given bytes first bench refused ended rest written on (nothing_left shown has_ended rest rest' on.left next on.rest_is)
-
--- then the answer of the close is appended
-pub appends_output : (script first : Option (List ℕ)) (bench : Bench) (refused ended : Bool) (rest rest' written written' : Option (List ℕ)) (shown : List ℕ)
-    (has_ended : Bool) → ((bytes : List ℕ) → script ≡ Some bytes → GoesOn bytes first bench refused ended rest written)
-    → GivesNextOf End shown has_ended rest rest' → Appends written (closing bench).answer written'
-    → AppendsOutput script first written' × MatchesRefusal script (refused || (closing bench).refused)
-appends_output None first bench refused ended rest rest' written written' shown has_ended on next appended = (tt, tt)
-appends_output (Some bytes) first bench refused ended rest rest' written written' shown has_ended on next appended =
-    let all = given_at_end bytes first bench refused ended rest rest' written shown has_ended (on bytes refl) next in
-    let close : closing bench ≡ close_of (lines bytes) = ap closing (sym all.bench_is) in (
-      Appends-append first written written' (answers_to (lines bytes)) _ all.appended (subst (λ (r : Reaction). Appends written r.answer written') close appended),
-      ap (λ b. b || (closing bench).refused) (sym all.refusals) ∙ ap (λ (r : Reaction). refuses_one (lines bytes) || r.refused) close,
-    )
-
--- or a first part of it, where the write failed
-pub part_at_end : (script first : Option (List ℕ)) (bench : Bench) (refused ended : Bool) (rest rest' written written' : Option (List ℕ)) (shown : List ℕ)
-    (has_ended : Bool) → ((bytes : List ℕ) → script ≡ Some bytes → GoesOn bytes first bench refused ended rest written)
-    → GivesNextOf End shown has_ended rest rest' → AppendsProperPrefix written (closing bench).answer written' → AppendsProperOutputPrefix script first written'
-part_at_end None first bench refused ended rest rest' written written' shown has_ended on next part = tt
-part_at_end (Some bytes) first bench refused ended rest rest' written written' shown has_ended on next part =
-    let all = given_at_end bytes first bench refused ended rest rest' written shown has_ended (on bytes refl) next in
-    let close : closing bench ≡ close_of (lines bytes) = ap closing (sym all.bench_is) in
-    prefix_between first written written' (answers_to (lines bytes)) (close_of (lines bytes)).answer [] (output bytes) (sym (append-nil (output bytes))) all.appended
-    (subst (λ (r : Reaction). AppendsProperPrefix written r.answer written') close part)
-
--- at a read that failed all is answered whose line feed was taken
-pub answers_of_taken : (script first : Option (List ℕ)) (bench : Bench) (refused : Bool) (held : List ℕ) (source source' : Option (List ℕ)) (count : ℕ)
-    (written : Option (List ℕ)) → ((bytes : List ℕ) → script ≡ Some bytes → GoesOn bytes first bench refused false (held_and_left held source) written)
-    → has_line_feed held ≡ false → GivesCount source count source' → IfSome source (λ bs. has_line_feed (take count bs) ≡ false)
-    → AppendsAnswersOfTaken script source' first written
-answers_of_taken None first bench refused held source source' count written on unbroken gives_count unbroken' = tt
-answers_of_taken (Some bytes) first bench refused held None source' count written on unbroken gives_count unbroken' =
-    absurd (none_is_not_some (on bytes refl).rest_is)
-answers_of_taken (Some bytes) first bench refused held (Some src) source' count written on unbroken gives_count unbroken' =
-    let here = on bytes refl in
-    let came = held ++ take count src in
-    let left_is : here.left ≡ came ++ drop count src =
-    some_same (Some (held ++ src)) here.rest_is refl ∙ ap (λ xs. held ++ xs) (sym (take-append-drop count src)) ∙ sym (append_assoc held (take count src) (drop count src)) in
-    let given : lines (up_to_last_feed (here.past ++ came)) ≡ here.given =
-    up_to-unbroken here.past came here.given (here.whole refl) (unbroken-append held (take count src) unbroken unbroken') in
-    rw gives_count.1 record {
-      taken = here.past ++ came;
-      cut = here.past_is ∙ ap (λ xs. here.past ++ xs) left_is ∙ sym (append_assoc here.past came (drop count src));
-      appended = subst (λ ls. Appends first (answers_to ls) written) (sym given) here.appended;
-    }
-
--- at a script that is too long all is answered that ends within the limit
-pub answers_of_first : (first : Option (List ℕ)) (bench : Bench) (refused : Bool) (held₀ held : List ℕ) (source₀ source : Option (List ℕ))
-    (taken₀ taken limit : ℕ) (written : Option (List ℕ))
-    → ((bytes : List ℕ) → held_and_left held₀ source₀ ≡ Some bytes → GoesOn bytes first bench refused false (held_and_left held source) written)
-    → has_line_feed held ≡ false → taken₀ ≤ taken → GivesCount source₀ (taken - taken₀) source
-    → length held₀ ≤ taken₀ → length held ≤ taken → taken ≤ limit → IfSome source (λ bs. has_line_feed (take (limit - taken) bs) ≡ false)
-    → AppendsAnswersOfFirst (held_and_left held₀ source₀) (limit - (taken₀ - length held₀)) first written
-answers_of_first first bench refused held₀ held None source taken₀ taken limit written on unbroken more gives_count within₀ within below unbroken' = tt
-answers_of_first first bench refused held₀ held (Some src₀) None taken₀ taken limit written on unbroken more gives_count within₀ within below unbroken' =
-    absurd (none_is_not_some gives_count.1)
-answers_of_first first bench refused held₀ held (Some src₀) (Some src) taken₀ taken limit written on unbroken more gives_count within₀ within below unbroken' =
-    let bytes = held₀ ++ src₀ in
-    let here = on bytes refl in
-    let last = take (limit - taken) src in
-    let left_is : here.left ≡ held ++ src = some_same (Some (held ++ src)) here.rest_is refl in
-    let src_is : src ≡ drop (taken - taken₀) src₀ = some_same (Some src) refl gives_count.1 in
-    let size : length held₀ + length src₀ ≡ length here.past + (length held + length src) =
-    sym (length-append held₀ src₀) ∙ ap length here.past_is ∙ length-append here.past here.left
-    ∙ ap (λ n. length here.past + n) (ap length left_is ∙ length-append held src) in
-    let size_left : length src ≡ length src₀ - (taken - taken₀) = ap length src_is ∙ length-drop (taken - taken₀) src₀ in
-    let count : limit - (taken₀ - length held₀) ≡ length (here.past ++ held) + (limit - taken) =
-    omega (arith, size, size_left, gives_count.0, within₀, within, below, more, length-append here.past held) in
-    let cut : bytes ≡ (here.past ++ held) ++ src =
-    here.past_is ∙ ap (λ xs. here.past ++ xs) left_is ∙ sym (append_assoc here.past held src) in
-    let prefix : take (limit - (taken₀ - length held₀)) bytes ≡ here.past ++ (held ++ last) =
-    ap (λ n. take n bytes) count ∙ ap (take (length (here.past ++ held) + (limit - taken))) cut
-    ∙ take-append-add (here.past ++ held) src (limit - taken) ∙ append_assoc here.past held last in
-    let given : lines (up_to_last_feed (here.past ++ (held ++ last))) ≡ here.given =
-    up_to-unbroken here.past (held ++ last) here.given (here.whole refl) (unbroken-append held last unbroken unbroken') in
-    subst (λ ls. Appends first (answers_to ls) written) (sym (ap (λ xs. lines (up_to_last_feed xs)) prefix ∙ given)) here.appended
-
-module _ {K : Type 0} (G : Ghosts K) where
-  -- where no next line was given
-  pub stands_at_error : (script left : Option (List ℕ)) (limit : ℕ) (before after : K) (error : ReadError) (stop : Stop) → StopsAt error stop
-      → AppendsFirstAnswers script (G.written before) (G.written after) → StaysUnflushed G before after
-      → (error ≡ ReadFault → AppendsAnswersOfTaken script left (G.written before) (G.written after))
-      → (error ≡ TooLong → AppendsAnswersOfFirst script limit (G.written before) (G.written after))
-      → Stands G script left before after limit stop
-  stands_at_error script left limit before after ReadFault stop stops_at whole unflushed taken first =
-      rw stops_at (record { whole = whole; unflushed = unflushed }, taken refl)
-  stands_at_error script left limit before after TooLong stop stops_at whole unflushed taken first =
-      rw stops_at (record { whole = whole; unflushed = unflushed }, first refl)
-
-  -- where an answer was not given, or not written
-  pub stands_at_answer : (script left : Option (List ℕ)) (limit : ℕ) (before middle after : K) (stop : Stop)
-      → AppendsFirstAnswers script (G.written before) (G.written middle) → StaysUnflushed G before middle
-      → (stops_at_write (stop_at stop) ≡ false → after ≡ middle)
-      → (stop_at stop ≡ stop_at stops.ReadFault → ⊥) × (stop_at stop ≡ stop_at stops.TooLong → ⊥)
-      → (stop_at stop ≡ stop_at stops.WriteFault → AppendsProperOutputPrefix script (G.written before) (G.written after))
-      → (stop_at stop ≡ stop_at stops.WriteFault → EndsWithFailedWrite G middle after)
-      → Stands G script left before after limit stop
-  stands_at_answer script left limit before middle after stops.ReadFault whole unflushed same reads part last = absurd (reads.0 refl)
-  stands_at_answer script left limit before middle after stops.TooLong whole unflushed same reads part last = absurd (reads.1 refl)
-  stands_at_answer script left limit before middle after stops.WriteFault whole unflushed same reads part last =
-      inl (part refl, EndsWithFailedWrite-more G before middle after unflushed (last refl))
-  stands_at_answer script left limit before middle after stops.NoMemory whole unflushed same reads part last =
-      rw (same refl) record { whole = whole; unflushed = unflushed }
-
-  -- where what waits did not go on
-  pub stands_at_send : (script left : Option (List ℕ)) (limit : ℕ) (before middle after : K) → AppendsFirstAnswers script (G.written before) (G.written middle)
-      → StaysUnflushed G before middle → G.written after ≡ G.written middle → EndsWithFailedSend G middle after
-      → Stands G script left before after limit stops.WriteFault
-  stands_at_send script left limit before middle after whole unflushed same last =
-      inr (inr (subst (λ w. AppendsFirstAnswers script (G.written before) w) (sym same) whole, EndsWithFailedSend-more G before middle after unflushed last))
-
-  -- where memory was short, and then all that waits went on
-  pub ends_sent : (script left left' : Option (List ℕ)) (before middle after : K) → EndsAfterLine G script left before middle
-      → G.written after ≡ G.written middle → StaysUnflushed G middle after → EndsAfterLine G script left' before after
-  ends_sent script left left' before middle after ends same sent = record {
-    whole = subst (λ w. AppendsFirstAnswers script (G.written before) w) (sym same) ends.whole;
-    unflushed = StaysUnflushed-more G before middle after ends.unflushed sent;
-  }
-
-  -- whatever stands is a prefix of the output
-  pub prefix_that_stands : (script left : Option (List ℕ)) (limit : ℕ) (before after : K) (stop : Stop) → Stands G script left before after limit stop
-      → AppendsOutputPrefix script (G.written before) (G.written after)
-  prefix_that_stands script left limit before after stops.ReadFault stands = prefix_of_answers script (G.written before) (G.written after) stands.0.whole
-  prefix_that_stands script left limit before after stops.TooLong stands = prefix_of_answers script (G.written before) (G.written after) stands.0.whole
-  prefix_that_stands script left limit before after stops.NoMemory stands = prefix_of_answers script (G.written before) (G.written after) stands.whole
-  prefix_that_stands script left limit before after stops.WriteFault (inl part) = prefix_of_part script (G.written before) (G.written after) part.0
-  prefix_that_stands script left limit before after stops.WriteFault (inr (inl all)) = prefix_of_all script (G.written before) (G.written after) all.0
-  prefix_that_stands script left limit before after stops.WriteFault (inr (inr sent)) =
-      prefix_of_answers script (G.written before) (G.written after) sent.0

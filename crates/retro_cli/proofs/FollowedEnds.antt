@@ -1,7 +1,7 @@
 -- What stands in the sink where a followed run ends.
 use Rattle.std.proofs.Common.{◌≡◌, ℕ, ◌+◌, ◌-◌, ◌⊎◌, true, false, List, [], ◌++◌, length, take, drop, refl, sym, ap, ◌∙◌, subst, arith, append_assoc, append-nil, Option, Some, None, inl, inr}
 use Rattle.std.specs.Ffi.{without_last}
-use Rattle.std.proofs.lemmas.List.{length-map, take-append-drop}
+use Rattle.std.proofs.lemmas.List.{take-append-drop}
 use Rattle.retro_base.specs.Limits.{most_bytes}
 use Rattle.retro_io.specs.declared.sink.Sink as sinks
 use Rattle.retro_io.specs.declared.source.Source as sources
@@ -10,46 +10,46 @@ use Rattle.retro_io.specs.Flushes.{EndsWithFailedSend, EndsWithFailedWrite, Ends
 use Rattle.retro_io.specs.Lines.{lines}
 use Rattle.retro_io.specs.Sink.{Appends, AppendsProperPrefix}
 use Rattle.retro_io.specs.SinkLaws.{Appends-append, AppendsPrefixOf-from, AppendsPrefixOf-parts}
-use Rattle.followers.specs.Followers.{Reporting, reports_after}
 use Rattle.retro_cli.specs.declared.stop.Stop.{Stop}
 use Rattle.retro_cli.specs.declared.stop.Stop.TheVariants as stops
 use Rattle.retro_cli.specs.Ends.{EndsAtSink, Stands}
 use Rattle.retro_cli.specs.Events.{AppendsFirstReports, ReportsStand, report_lines}
-use Rattle.retro_cli.specs.Followed.{AppendsFollowed, AppendsFollowedPrefix, AppendsSomeReports, FollowedStands, HaveTakenScript, events, followed_output, texts_after}
+use Rattle.retro_cli.specs.Audience.{Audience, followed}
+use Rattle.retro_cli.specs.Followed.{AppendsFollowed, AppendsFollowedPrefix, AppendsSomeReports, FollowedStands, HaveFollowed, followed_output, texts_after, texts_of}
 use Rattle.retro_cli.specs.OutOfMemory.{AppendsAnswersOfEarlier}
-use Rattle.retro_cli.specs.Output.{output}
+use Rattle.retro_cli.specs.Output.{output_by}
 use Rattle.retro_cli.specs.Run.{AppendsFirstAnswers, AppendsOutput, AppendsOutputPrefix}
 use Rattle.retro_cli.proofs.Ends.{prefix_of_answers, prefix_that_stands, stop_at}
 use Rattle.retro_cli.proofs.Reports.{cut_after}
 
--- what followers report that have taken the events of a script
-texts_are : (bytes : List ℕ) (before now : List Reporting) → HaveTakenScript (Some bytes) before now → reports_after [] now ≡ texts_after (lines bytes) before
-texts_are bytes before now taken = taken [] ∙ ap (λ es. reports_after es before) (append-nil (events (lines bytes)))
+-- what those report who have followed a script
+texts_are : (bytes : List ℕ) (before now : Audience) → HaveFollowed (Some bytes) before now → texts_of now ≡ texts_after (lines bytes) before
+texts_are bytes before now seen = ap texts_of seen
 
 -- the reports after the output
-pub appends_followed : (script : Option (List ℕ)) (before now : List Reporting) (first middle last : Option (List ℕ)) → HaveTakenScript script before now
-    → AppendsOutput script first middle → Appends middle (report_lines 0 (reports_after [] now)) last → AppendsFollowed before script first last
+pub appends_followed : (script : Option (List ℕ)) (before now : Audience) (first middle last : Option (List ℕ)) → HaveFollowed script before now
+    → AppendsOutput (followed before) script first middle → Appends middle (report_lines 0 (texts_of now)) last → AppendsFollowed before script first last
 appends_followed None before now first middle last taken answered reported = tt
 appends_followed (Some bytes) before now first middle last taken answered reported =
-    Appends-append first middle last (output bytes) _ answered (subst (λ texts. Appends middle (report_lines 0 texts) last) (texts_are bytes before now taken) reported)
+    Appends-append first middle last (output_by (followed before) bytes) _ answered (subst (λ texts. Appends middle (report_lines 0 texts) last) (texts_are bytes before now taken) reported)
 
 -- the whole is a prefix of itself, and so is a prefix of the output
-pub followed_whole : (script : Option (List ℕ)) (before : List Reporting) (first last : Option (List ℕ)) → AppendsFollowed before script first last → AppendsFollowedPrefix before script first last
+pub followed_whole : (script : Option (List ℕ)) (before : Audience) (first last : Option (List ℕ)) → AppendsFollowed before script first last → AppendsFollowedPrefix before script first last
 followed_whole None before first last all = tt
 followed_whole (Some bytes) before first last all =
     AppendsPrefixOf-from first (followed_output before bytes) (followed_output before bytes) [] last (sym (append-nil (followed_output before bytes))) all
 
-prefix_of_output : (script : Option (List ℕ)) (before : List Reporting) (first last : Option (List ℕ)) → AppendsOutputPrefix script first last → AppendsFollowedPrefix before script first last
+prefix_of_output : (script : Option (List ℕ)) (before : Audience) (first last : Option (List ℕ)) → AppendsOutputPrefix (followed before) script first last → AppendsFollowedPrefix before script first last
 prefix_of_output None before first last part = tt
 prefix_of_output (Some bytes) before first last part =
-    let parts = AppendsPrefixOf-parts first (output bytes) last part in
+    let parts = AppendsPrefixOf-parts first (output_by (followed before) bytes) last part in
     let rest = report_lines 0 (texts_after (lines bytes) before) in
     AppendsPrefixOf-from first (followed_output before bytes) parts.0 (parts.1 ++ rest) last
     (ap (λ xs. xs ++ rest) parts.2 ∙ append_assoc parts.0 parts.1 rest) parts.3
 
 -- the output, and then a prefix of the reports
-prefix_of_reports : (script : Option (List ℕ)) (before now : List Reporting) (first middle last : Option (List ℕ)) → HaveTakenScript script before now
-    → AppendsOutput script first middle → AppendsProperPrefix middle (report_lines 0 (reports_after [] now)) last → AppendsFollowedPrefix before script first last
+prefix_of_reports : (script : Option (List ℕ)) (before now : Audience) (first middle last : Option (List ℕ)) → HaveFollowed script before now
+    → AppendsOutput (followed before) script first middle → AppendsProperPrefix middle (report_lines 0 (texts_of now)) last → AppendsFollowedPrefix before script first last
 prefix_of_reports None before now first middle last taken answered part = tt
 prefix_of_reports (Some bytes) before now first middle last taken answered part =
     let all = report_lines 0 (texts_after (lines bytes) before) in
@@ -58,95 +58,95 @@ prefix_of_reports (Some bytes) before now first middle last taken answered part 
     let tail = drop (length all - 1) all in
     let all_is : all ≡ parts.0 ++ (parts.1 ++ tail) =
     sym (take-append-drop (length all - 1) all) ∙ ap (λ xs. xs ++ tail) parts.2 ∙ append_assoc parts.0 parts.1 tail in
-    AppendsPrefixOf-from first (followed_output before bytes) (output bytes ++ parts.0) (parts.1 ++ tail) last
-    (ap (λ xs. output bytes ++ xs) all_is ∙ sym (append_assoc (output bytes) parts.0 (parts.1 ++ tail)))
-    (Appends-append first middle last (output bytes) parts.0 answered parts.3)
+    AppendsPrefixOf-from first (followed_output before bytes) (output_by (followed before) bytes ++ parts.0) (parts.1 ++ tail) last
+    (ap (λ xs. output_by (followed before) bytes ++ xs) all_is ∙ sym (append_assoc (output_by (followed before) bytes) parts.0 (parts.1 ++ tail)))
+    (Appends-append first middle last (output_by (followed before) bytes) parts.0 answered parts.3)
 
 -- the output, and then some whole reports
-some_reports : (script : Option (List ℕ)) (before now : List Reporting) (first middle last : Option (List ℕ)) → HaveTakenScript script before now
-    → AppendsOutput script first middle → AppendsFirstReports (reports_after [] now) middle last → AppendsSomeReports before script first last
+some_reports : (script : Option (List ℕ)) (before now : Audience) (first middle last : Option (List ℕ)) → HaveFollowed script before now
+    → AppendsOutput (followed before) script first middle → AppendsFirstReports (texts_of now) middle last → AppendsSomeReports before script first last
 some_reports None before now first middle last taken answered reported = tt
 some_reports (Some bytes) before now first middle last taken answered reported =
     let same = texts_are bytes before now taken in
     record {
       count = reported.count;
-      few = omega (arith, reported.few, ap length same, length-map before (λ (report : Reporting). report (events (lines bytes))));
-      appended = Appends-append first middle last (output bytes) _ answered
+      few = omega (arith, reported.few, ap length same);
+      appended = Appends-append first middle last (output_by (followed before) bytes) _ answered
           (subst (λ texts. Appends middle (report_lines 0 (take reported.count texts)) last) same reported.appended);
     }
 
-pub prefix_of_some : (script : Option (List ℕ)) (before : List Reporting) (first last : Option (List ℕ)) → AppendsSomeReports before script first last → AppendsFollowedPrefix before script first last
+pub prefix_of_some : (script : Option (List ℕ)) (before : Audience) (first last : Option (List ℕ)) → AppendsSomeReports before script first last → AppendsFollowedPrefix before script first last
 prefix_of_some None before first last some = tt
 prefix_of_some (Some bytes) before first last some =
     let texts = texts_after (lines bytes) before in
     let front = report_lines 0 (take some.count texts) in
     let back = report_lines (0 + some.count) (drop some.count texts) in
-    AppendsPrefixOf-from first (followed_output before bytes) (output bytes ++ front) back last
-    (ap (λ xs. output bytes ++ xs) (cut_after texts 0 some.count) ∙ sym (append_assoc (output bytes) front back)) some.appended
+    AppendsPrefixOf-from first (followed_output before bytes) (output_by (followed before) bytes ++ front) back last
+    (ap (λ xs. output_by (followed before) bytes ++ xs) (cut_after texts 0 some.count) ∙ sym (append_assoc (output_by (followed before) bytes) front back)) some.appended
 
-module _ {S K : Type 0} (I : sources.Ghosts S) (O : sinks.Ghosts K) (followers : List Reporting) (source source' : S) where
-  last_of : (script left : Option (List ℕ)) (before after : K) → EndsAtSink O script left before after → EndsWithFailedWrite O before after ⊎ (EndsWithFlush O before false after ⊎ EndsWithFailedSend O before after)
+module _ {S K : Type 0} (I : sources.Ghosts S) (O : sinks.Ghosts K) (audience : Audience) (source source' : S) where
+  last_of : (script left : Option (List ℕ)) (before after : K) → EndsAtSink O (followed audience) script left before after → EndsWithFailedWrite O before after ⊎ (EndsWithFlush O before false after ⊎ EndsWithFailedSend O before after)
   last_of script left before after (inl part) = inl part.1
   last_of script left before after (inr (inl all)) = inr (inl all.1)
   last_of script left before after (inr (inr sent)) = inr (inr sent.1)
 
-  first_of_earlier : (script left before after : Option (List ℕ)) → AppendsAnswersOfEarlier I source source' script left before after → AppendsFirstAnswers script before after
+  first_of_earlier : (script left before after : Option (List ℕ)) → AppendsAnswersOfEarlier I (followed audience) source source' script left before after → AppendsFirstAnswers (followed audience) script before after
   first_of_earlier None left before after earlier = tt
   first_of_earlier (Some script) None before after earlier = absurd earlier
   first_of_earlier (Some script) (Some left) before after earlier = earlier.answers
 
   -- where the answers stop
-  pub stands_at_answers : (before after : K) (stop : Stop) → Stands O (I.left source) (I.left source') before after most_bytes stop
-      → (stop_at stop ≡ stop_at stops.NoMemory → AppendsAnswersOfEarlier I source source' (I.left source) (I.left source') (O.written before) (O.written after))
-      → FollowedStands I O followers source source' before after stop
+  pub stands_at_answers : (before after : K) (stop : Stop) → Stands O (followed audience) (I.left source) (I.left source') before after most_bytes stop
+      → (stop_at stop ≡ stop_at stops.NoMemory → AppendsAnswersOfEarlier I (followed audience) source source' (I.left source) (I.left source') (O.written before) (O.written after))
+      → FollowedStands I O audience source source' before after stop
   stands_at_answers before after stops.ReadFault stands earlier = stands
   stands_at_answers before after stops.TooLong stands earlier = stands
   stands_at_answers before after stops.NoMemory stands earlier = inl record { earlier = earlier refl; unflushed = stands.unflushed }
   stands_at_answers before after stops.WriteFault stands earlier = record {
-    prefix = prefix_of_output (I.left source) followers (O.written before) (O.written after)
-        (prefix_that_stands O (I.left source) (I.left source') most_bytes before after stops.WriteFault stands);
+    prefix = prefix_of_output (I.left source) audience (O.written before) (O.written after)
+        (prefix_that_stands audience O (I.left source) (I.left source') most_bytes before after stops.WriteFault stands);
     last = last_of (I.left source) (I.left source') before after stands;
   }
 
   -- where the reports stop
-  pub stands_at_reports : (now : List Reporting) (before middle after : K) (stop : Stop) → HaveTakenScript (I.left source) followers now → I.ended source' ≡ true
-      → AppendsOutput (I.left source) (O.written before) (O.written middle) → StaysUnflushed O before middle → ReportsStand O (reports_after [] now) middle after stop
-      → FollowedStands I O followers source source' before after stop
+  pub stands_at_reports : (now : Audience) (before middle after : K) (stop : Stop) → HaveFollowed (I.left source) audience now → I.ended source' ≡ true
+      → AppendsOutput (followed audience) (I.left source) (O.written before) (O.written middle) → StaysUnflushed O before middle → ReportsStand O (texts_of now) middle after stop
+      → FollowedStands I O audience source source' before after stop
   stands_at_reports now before middle after stops.ReadFault taken ended answered unflushed stands = absurd stands
   stands_at_reports now before middle after stops.TooLong taken ended answered unflushed stands = absurd stands
   stands_at_reports now before middle after stops.NoMemory taken ended answered unflushed stands = inr record {
     ended = ended;
-    whole = some_reports (I.left source) followers now (O.written before) (O.written middle) (O.written after) taken answered stands.whole;
+    whole = some_reports (I.left source) audience now (O.written before) (O.written middle) (O.written after) taken answered stands.whole;
     unflushed = StaysUnflushed-more O before middle after unflushed stands.unflushed;
   }
   stands_at_reports now before middle after stops.WriteFault taken ended answered unflushed stands = record {
-    prefix = prefix_of_reports (I.left source) followers now (O.written before) (O.written middle) (O.written after) taken answered stands.part;
+    prefix = prefix_of_reports (I.left source) audience now (O.written before) (O.written middle) (O.written after) taken answered stands.part;
     last = inl (EndsWithFailedWrite-more O before middle after unflushed stands.last);
   }
 
   -- where memory was short, and then all that waits went on, or did not
-  pub stands_sent : (before middle after : K) → FollowedStands I O followers source source' before middle stops.NoMemory
-      → O.written after ≡ O.written middle → StaysUnflushed O middle after → FollowedStands I O followers source source' before after stops.NoMemory
+  pub stands_sent : (before middle after : K) → FollowedStands I O audience source source' before middle stops.NoMemory
+      → O.written after ≡ O.written middle → StaysUnflushed O middle after → FollowedStands I O audience source source' before after stops.NoMemory
   stands_sent before middle after (inl at) same sent = inl record {
-    earlier = subst (λ w. AppendsAnswersOfEarlier I source source' (I.left source) (I.left source') (O.written before) w) (sym same) at.earlier;
+    earlier = subst (λ w. AppendsAnswersOfEarlier I (followed audience) source source' (I.left source) (I.left source') (O.written before) w) (sym same) at.earlier;
     unflushed = StaysUnflushed-more O before middle after at.unflushed sent;
   }
   stands_sent before middle after (inr at) same sent = inr record {
     ended = at.ended;
-    whole = subst (λ w. AppendsSomeReports followers (I.left source) (O.written before) w) (sym same) at.whole;
+    whole = subst (λ w. AppendsSomeReports audience (I.left source) (O.written before) w) (sym same) at.whole;
     unflushed = StaysUnflushed-more O before middle after at.unflushed sent;
   }
 
-  pub stands_unsent : (before middle after : K) → FollowedStands I O followers source source' before middle stops.NoMemory
-      → O.written after ≡ O.written middle → EndsWithFailedSend O middle after → FollowedStands I O followers source source' before after stops.WriteFault
+  pub stands_unsent : (before middle after : K) → FollowedStands I O audience source source' before middle stops.NoMemory
+      → O.written after ≡ O.written middle → EndsWithFailedSend O middle after → FollowedStands I O audience source source' before after stops.WriteFault
   stands_unsent before middle after (inl at) same failed = record {
-    prefix = subst (λ w. AppendsFollowedPrefix followers (I.left source) (O.written before) w) (sym same)
-        (prefix_of_output (I.left source) followers (O.written before) (O.written middle)
-        (prefix_of_answers (I.left source) (O.written before) (O.written middle) (first_of_earlier (I.left source) (I.left source') (O.written before) (O.written middle) at.earlier)));
+    prefix = subst (λ w. AppendsFollowedPrefix audience (I.left source) (O.written before) w) (sym same)
+        (prefix_of_output (I.left source) audience (O.written before) (O.written middle)
+        (prefix_of_answers audience (I.left source) (O.written before) (O.written middle) (first_of_earlier (I.left source) (I.left source') (O.written before) (O.written middle) at.earlier)));
     last = inr (inr (EndsWithFailedSend-more O before middle after at.unflushed failed));
   }
   stands_unsent before middle after (inr at) same failed = record {
-    prefix = subst (λ w. AppendsFollowedPrefix followers (I.left source) (O.written before) w) (sym same)
-        (prefix_of_some (I.left source) followers (O.written before) (O.written middle) at.whole);
+    prefix = subst (λ w. AppendsFollowedPrefix audience (I.left source) (O.written before) w) (sym same)
+        (prefix_of_some (I.left source) audience (O.written before) (O.written middle) at.whole);
     last = inr (inr (EndsWithFailedSend-more O before middle after at.unflushed failed));
   }

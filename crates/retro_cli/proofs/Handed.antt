@@ -1,25 +1,83 @@
 -- Followers that are handed the events of an answer, line by line.
-use Rattle.std.proofs.Common.{◌≡◌, ℕ, List, [], ◌∷◌, ◌++◌, refl, sym, ap, ◌∙◌, Option, Some, None}
+use Rattle.std.proofs.Common.{◌≡◌, ℕ, zero, suc, ◌+◌, ◌<◌, ◌≤◌, List, [], ◌∷◌, ◌++◌, length, get_or, set, map, take, drop, refl, sym, ap, ◌∙◌, arith, append-nil, append_assoc, Option, Some, None}
+use Rattle.std.specs.Prelude.{option_map}
 use Rattle.std.specs.List.{cons_option}
+use Rattle.std.proofs.Math.Path.{fun_ext}
+use Rattle.std.proofs.lemmas.List.{take_all}
 use Rattle.evidence.specs.declared.evidence.Evidence.{Evidence}
 use Rattle.evidence.specs.Reading.{evidence_of}
 use Rattle.retro_io.specs.Lines.{lines}
-use Rattle.followers.specs.Followers.{Reporting, reports_after}
-use Rattle.retro_cli.specs.Events.{HaveTakenAll, events_among, events_spelled}
+use Rattle.followers.specs.Followers.{HasTaken, Reporting}
+use Rattle.retro_cli.specs.Audience.{Audience, after_events, hears}
+use Rattle.retro_cli.specs.Events.{events_among, events_spelled}
 
--- what followers report after the events of what is left of an answer is what they reported, before it, after those of all
-abbrev pub HandsOn : List ℕ → List ℕ → List Reporting → List Reporting → Type 0
-HandsOn answer rest before now = (events : List Evidence) → reports_after (events_among rest ++ events) now ≡ reports_after (events_among answer ++ events) before
+-- a follower that has taken an event reports as it then does
+pub taken_is : (event : Evidence) (before after : Reporting) → HasTaken event before after → after ≡ after_events (event ∷ []) before
+taken_is event before after taken = fun_ext taken
 
-cons-events : (event : Option Evidence) (more events : List Evidence) → cons_option event more ++ events ≡ cons_option event [] ++ (more ++ events)
-cons-events None more events = refl
-cons-events (Some event) more events = refl
+-- no events change nothing
+heard_none : (follower : Option Reporting) → option_map (after_events []) follower ≡ follower
+heard_none None = refl
+heard_none (Some report) = refl
 
-pub hands_on_line : (answer rest after line : List ℕ) (before now next : List Reporting) → HandsOn answer rest before now → lines rest ≡ line ∷ lines after
-    → HaveTakenAll (events_spelled (line ∷ [])) now next → HandsOn answer after before next
+pub hears-none : (audience : Audience) → hears [] audience ≡ audience
+hears-none [] = refl
+hears-none (follower ∷ audience) = ap (λ f. f ∷ hears [] audience) (heard_none follower) ∙ ap (λ fs. follower ∷ fs) (hears-none audience)
+
+-- events, and then more
+heard_more : (first more : List Evidence) (follower : Option Reporting) → option_map (after_events more) (option_map (after_events first) follower) ≡ option_map (after_events (first ++ more)) follower
+heard_more first more None = refl
+heard_more first more (Some report) = ap (λ f. Some f) (fun_ext (λ later. ap report (sym (append_assoc first more later))))
+
+pub hears-append : (first more : List Evidence) (audience : Audience) → hears more (hears first audience) ≡ hears (first ++ more) audience
+hears-append first more [] = refl
+hears-append first more (follower ∷ audience) =
+    ap (λ f. f ∷ hears more (hears first audience)) (heard_more first more follower) ∙ ap (λ fs. option_map (after_events (first ++ more)) follower ∷ fs) (hears-append first more audience)
+
+-- those who have taken the events of what is left of an answer have, before it, taken those of all
+abbrev pub HandsOn : List ℕ → List ℕ → Audience → Audience → Type 0
+HandsOn answer rest before now = hears (events_among rest) now ≡ hears (events_among answer) before
+
+cons-events : (event : Option Evidence) (more : List Evidence) → cons_option event more ≡ cons_option event [] ++ more
+cons-events None more = refl
+cons-events (Some event) more = refl
+
+pub hands_on_line : (answer rest after line : List ℕ) (before now next : Audience) → HandsOn answer rest before now → lines rest ≡ line ∷ lines after
+    → next ≡ hears (events_spelled (line ∷ [])) now → HandsOn answer after before next
 hands_on_line answer rest after line before now next on cut taken =
-    λ events. taken (events_among after ++ events)
-    ∙ ap (λ es. reports_after es now) (sym (ap (λ ls. events_spelled ls ++ events) cut ∙ cons-events (evidence_of line) (events_among after) events)) ∙ on events
+    ap (hears (events_among after)) taken ∙ hears-append (events_spelled (line ∷ [])) (events_among after) now
+    ∙ ap (λ es. hears es now) (sym (ap events_spelled cut ∙ cons-events (evidence_of line) (events_among after))) ∙ on
 
-pub hands_on_all : (answer rest : List ℕ) (before now : List Reporting) → HandsOn answer rest before now → rest ≡ [] → HaveTakenAll (events_among answer) before now
-hands_on_all answer rest before now on none = λ events. ap (λ r. reports_after (events_among r ++ events) now) (sym none) ∙ on events
+pub hands_on_all : (answer rest : List ℕ) (before now : Audience) → HandsOn answer rest before now → rest ≡ [] → now ≡ hears (events_among answer) before
+hands_on_all answer rest before now on none = sym (hears-none now) ∙ ap (λ r. hears (events_among r) now) (sym none) ∙ on
+
+first_same : {X : Type 0} (x y : X) (xs ys : List X) → x ∷ xs ≡ y ∷ ys → x ≡ y
+first_same x y xs ys same = cc
+
+others_same : {X : Type 0} (x y : X) (xs ys : List X) → x ∷ xs ≡ y ∷ ys → xs ≡ ys
+others_same x y xs ys same = cc
+
+-- each follower is seen as what it reports, if it is left
+module _ {F : Type 0} (seen : F → Option Reporting) (event : Evidence) where
+  abbrev heard : Option Reporting → Option Reporting
+  heard follower = option_map (after_events (event ∷ [])) follower
+
+  -- the first ones have taken an event
+  abbrev pub HaveTaken : List F → List F → Type 0
+  HaveTaken before now = map seen now ≡ map heard (map seen before)
+
+  -- one more has taken it
+  pub one_more : (i : ℕ) (before now : List F) (next next' : F) → HaveTaken (take i before) (take i now) → drop i now ≡ drop i before
+      → i < length now → seen next' ≡ heard (seen (get_or now i next)) → HaveTaken (take (suc i) before) (take (suc i) (set now i next'))
+  one_more i before [] next next' taken others within takes = absurd (omega arith)
+  one_more zero [] (x ∷ now) next next' taken others within takes = absurd (cc)
+  one_more zero (y ∷ before) (x ∷ now) next next' taken others within takes =
+      ap (λ f. f ∷ []) (takes ∙ ap (λ f. heard (seen f)) (first_same x y now before others))
+  one_more (suc i) [] (x ∷ now) next next' taken others within takes = absurd (cc)
+  one_more (suc i) (y ∷ before) (x ∷ now) next next' taken others within takes =
+      ap (λ f. f ∷ map seen (take (suc i) (set now i next'))) (first_same _ _ _ _ taken)
+      ∙ ap (λ fs. heard (seen y) ∷ fs) (one_more i before now next next' (others_same _ _ _ _ taken) others (omega arith) takes)
+
+  -- all have taken it
+  pub all_taken : (i : ℕ) (before now : List F) → HaveTaken (take i before) (take i now) → length before ≤ i → length now ≤ i → HaveTaken before now
+  all_taken i before now taken most most' = sym (ap (map seen) (take_all i now most')) ∙ taken ∙ ap (λ fs. map heard (map seen fs)) (take_all i before most)

@@ -1,5 +1,6 @@
 pub mod Ends
 pub mod accepted
+pub mod mirrored
 pub mod GoesOn
 pub mod Reactions
 pub mod Stops
@@ -17,6 +18,7 @@ pub mod Unhidden
 pub mod AnswerLines
 pub mod Handed
 pub mod Reports
-pub mod Follows
 pub mod FollowedEnds
 pub mod FollowedStatuses
+pub mod Numbered
+pub mod Muted

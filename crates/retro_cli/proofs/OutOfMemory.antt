@@ -9,6 +9,8 @@ use Rattle.retro_io.specs.LineReader.{held_and_left}
 use Rattle.retro_io.specs.Lines.{lines}
 use Rattle.retro_io.specs.Reads.{MakesOf, Took}
 use Rattle.retro_io.specs.Source.{Gives, bytes_left}
+use Rattle.retro_cli.specs.Audience.{Audience, followed}
+use Rattle.retro_cli.specs.Output.{Answering}
 use Rattle.retro_cli.specs.OutOfMemory.{AppendsAnswersToEarlier, AppendsAnswersOfEarlier, IsMetAtClose, IsMetAtLine}
 use Rattle.retro_cli.specs.declared.stop.Stop.{Stop}
 use Rattle.retro_cli.specs.declared.stop.Stop.TheVariants as stops
@@ -18,7 +20,7 @@ use Rattle.retro_cli.specs.Stop.{StopsAt, stops_at_write}
 use Rattle.workbench.specs.Bench.{Bench}
 use Rattle.retro_cli.proofs.GoesOn.{GivenAs, GoesOn, none_is_not_some, some_same}
 use Rattle.retro_cli.proofs.ReadSoFar.{IsRead, IsReadSoFar, fewer, met_at_line, none_gives_none, piece_of, read_on}
-use Rattle.retro_cli.proofs.Reactions.{answers_to-none}
+use Rattle.retro_cli.proofs.Reactions.{answers_by-none}
 use Rattle.retro_io.specs.SinkLaws.{Appends-none}
 
 -- a source that told its bytes goes on telling them
@@ -47,21 +49,21 @@ held_and held rest (Some left) is = record { left = left; is = refl; cut = some_
 pub all_left : (held : List ℕ) (source : Option (List ℕ)) (script : List ℕ) → held ≡ [] → source ≡ Some script → held_and_left held source ≡ Some script
 all_left held source script none is = rw (none, is) refl
 
-module _ {S : Type 0} (I : Ghosts S) (source middle after : S) (first written : Option (List ℕ)) where
+module _ {S : Type 0} (I : Ghosts S) (audience : Audience) (source middle after : S) (first written : Option (List ℕ)) where
   -- at a line that was given and not answered: it is the next one, and what was read stays known
   pub record IsAtLine (script held' : List ℕ) : Type 0 where
     pub left : List ℕ
     pub is : I.left after ≡ Some left
-    pub answers : AppendsAnswersTo script first written
+    pub answers : AppendsAnswersTo (followed audience) script first written
     pub met : IsMetAtLine I source after script left answers.answered answers.unanswered
     pub read : IsRead I after script left (held' ++ left)
 
-  pub at_line : (script held held' shown : List ℕ) (mark : Mark) (long refused closed ended : Bool) (bench : Bench) (limit count : ℕ)
-      → GoesOn script first bench refused false (held_and_left held (I.left middle)) written
+  pub at_line : (script held held' shown : List ℕ) (mark : Mark) (long refused closed ended : Bool) (bench : Bench) (who : Audience) (limit count : ℕ)
+      → GoesOn audience script first bench who refused false (held_and_left held (I.left middle)) written
       → ((left : List ℕ) → I.left middle ≡ Some left → IsReadSoFar I source middle script left held) → GivenAs mark long
       → Took (I.left middle) (I.left after) count (λ got. MakesOf (Ok mark) shown ended held held' got × WereDue I.reads limit held closed middle got after)
       → (ended ≡ true → bytes_left (I.left after) ≡ []) → IsAtLine script held'
-  at_line script held held' shown mark long refused closed ended bench limit count on so_far as_given took none_left =
+  at_line script held held' shown mark long refused closed ended bench who limit count on so_far as_given took none_left =
       let before = held_and held on.left (I.left middle) on.rest_is in
       let now = still_tells (I.left middle) (I.left after) before.left took.got before.is took.gives in
       let cut : script ≡ on.past ++ (held ++ before.left) = on.past_is ∙ ap (λ xs. on.past ++ xs) before.cut in
@@ -91,14 +93,14 @@ module _ {S : Type 0} (I : Ghosts S) (source middle after : S) (first written : 
   pub record IsAtClose (script : List ℕ) : Type 0 where
     pub left : List ℕ
     pub is : I.left after ≡ Some left
-    pub answers : AppendsAnswersTo script first written
+    pub answers : AppendsAnswersTo (followed audience) script first written
     pub met : IsMetAtClose I source after script left answers.unanswered
 
-  pub at_close : (script held held' shown : List ℕ) (refused closed ended has_ended : Bool) (bench : Bench) (limit count : ℕ)
-      → GoesOn script first bench refused ended (held_and_left held (I.left middle)) written
+  pub at_close : (script held held' shown : List ℕ) (refused closed ended has_ended : Bool) (bench : Bench) (who : Audience) (limit count : ℕ)
+      → GoesOn audience script first bench who refused ended (held_and_left held (I.left middle)) written
       → Took (I.left middle) (I.left after) count (λ got. MakesOf (Ok End) shown has_ended held held' got × WereDue I.reads limit held closed middle got after)
       → (has_ended ≡ true → bytes_left (I.left after) ≡ []) → (has_ended ≡ true → I.ended after ≡ true) → IsAtClose script
-  at_close script held held' shown refused closed ended has_ended bench limit count on took none_left at_end =
+  at_close script held held' shown refused closed ended has_ended bench who limit count on took none_left at_end =
       let before = held_and held on.left (I.left middle) on.rest_is in
       let now = still_tells (I.left middle) (I.left after) before.left took.got before.is took.gives in
       let none : now.left ≡ [] = sym (ap bytes_left now.is) ∙ none_left took.holds.0.2 in
@@ -111,26 +113,26 @@ module _ {S : Type 0} (I : Ghosts S) (source middle after : S) (first written : 
         met = (at_end took.holds.0.2, none, ap lines nothing);
       }
 
-module _ {S : Type 0} (I : Ghosts S) (source after : S) (first written : Option (List ℕ)) where
+module _ {S : Type 0} (I : Ghosts S) (answering : Answering) (source after : S) (first written : Option (List ℕ)) where
   -- what was answered where the source tells its bytes
   pub record AnsweredEarlier (left : Option (List ℕ)) (script : List ℕ) : Type 0 where
     pub rest : List ℕ
     pub is : left ≡ Some rest
-    pub appended : AppendsAnswersToEarlier I source after script rest first written
+    pub appended : AppendsAnswersToEarlier I source after script rest answering first written
 
   pub answers_of_earlier : (script left : Option (List ℕ)) → ((bytes : List ℕ) → script ≡ Some bytes → AnsweredEarlier left bytes)
-      → AppendsAnswersOfEarlier I source after script left first written
+      → AppendsAnswersOfEarlier I answering source after script left first written
   answers_of_earlier None left before = tt
   answers_of_earlier (Some bytes) None before = absurd (none_is_not_some (before bytes refl).is)
   answers_of_earlier (Some bytes) (Some rest) before =
       let there = before bytes refl in
-      subst (λ xs. AppendsAnswersToEarlier I source after bytes xs first written) (some_same (Some rest) (there.is) refl) there.appended
+      subst (λ xs. AppendsAnswersToEarlier I source after bytes xs answering first written) (some_same (Some rest) (there.is) refl) there.appended
 
 -- before anything is read nothing is answered
-pub at_start : {S : Type 0} (I : Ghosts S) (source : S) (script written : Option (List ℕ)) → AppendsAnswersOfEarlier I source source script script written written
-at_start I source None written = tt
-at_start I source (Some bytes) written = record {
-  answers = record { answered = []; unanswered = lines bytes; cut = refl; appended = rw answers_to-none (Appends-none written) };
+pub at_start : {S : Type 0} (I : Ghosts S) (audience : Audience) (source : S) (script written : Option (List ℕ)) → AppendsAnswersOfEarlier I (followed audience) source source script script written written
+at_start I audience source None written = tt
+at_start I audience source (Some bytes) written = record {
+  answers = record { answered = []; unanswered = lines bytes; cut = refl; appended = rw (answers_by-none audience) (Appends-none written) };
   met = inl (refl, refl);
 }
 

@@ -1,15 +1,17 @@
 -- The answers to lines, and then to more.
-use Rattle.std.proofs.Common.{◌≡◌, ℕ, ◌+◌, ◌-◌, ◌<◌, Bool, ◌||◌, List, [], ◌∷◌, ◌++◌, length, take, drop, map, false, sym, ap, ◌∙◌, refl, arith, append_assoc, append-nil, length-append}
+use Rattle.std.proofs.Common.{◌≡◌, ℕ, ◌+◌, ◌-◌, ◌<◌, Bool, ◌||◌, List, [], ◌∷◌, ◌++◌, length, take, drop, map, false, sym, ap, ◌∙◌, refl, arith, append_assoc, append-nil, length-append, Option, Some, None}
 use Rattle.std.specs.Ffi.{without_last}
 use Rattle.std.specs.List.{concat, list_any}
 use Rattle.std.proofs.Math.Bool.{or-false}
+use Rattle.std.proofs.Math.Path.{fun_ext}
 use Rattle.std.proofs.Math.Seq.{take-append_seam}
 use Rattle.std.proofs.lemmas.List.{map-append, take-append-drop, take-take}
 use Rattle.std.proofs.lemmas.List.Folds.{concat-append, list_any-append}
 use Rattle.workbench.specs.Answers.{reactions, bench_after}
 use Rattle.workbench.specs.Bench.{Bench, empty_bench}
 use Rattle.workbench.specs.Reaction.{Reaction, reacts}
-use Rattle.retro_cli.specs.Output.{answers_to, close_of, output, refuses_one}
+use Rattle.retro_cli.specs.Audience.{Audience, audience_after, followed, followed_from, follows, turn}
+use Rattle.retro_cli.specs.Output.{alone, answers_by, close_of, output_by, refuses_by}
 use Rattle.retro_io.specs.Lines.{lines}
 
 -- what reactions append, one after the other
@@ -20,15 +22,24 @@ texts reactions = concat (map (λ (reaction : Reaction). reaction.answer) reacti
 abbrev pub refuses : List Reaction → Bool
 refuses reactions = list_any (λ (reaction : Reaction). reaction.refused) reactions
 
-pub reactions-append : (bench : Bench) (first more : List (List ℕ)) → reactions bench (first ++ more) ≡ reactions bench first ++ reactions (bench_after bench first) more
-unfolding reactions bench_after
-reactions-append bench [] more = refl
-reactions-append bench (line ∷ first) more = ap (λ rs. reacts bench line ∷ rs) (reactions-append (reacts bench line).bench first more)
-
 pub texts-append : (first more : List Reaction) → texts (first ++ more) ≡ texts first ++ texts more
 texts-append first more =
     ap concat (map-append (λ (reaction : Reaction). reaction.answer) first more)
     ∙ concat-append (map (λ (reaction : Reaction). reaction.answer) first) (map (λ (reaction : Reaction). reaction.answer) more)
+
+-- where nobody follows, the bench alone answers
+nobody_mutes : (muted : Option ℕ) (reaction : Reaction) → turn [] muted reaction ≡ record { reaction = reaction; audience = [] }
+nobody_mutes None reaction = refl
+nobody_mutes (Some number) reaction = refl
+
+alone_from : (bench : Bench) (first : List (List ℕ)) → followed_from bench [] first ≡ reactions bench first
+unfolding followed_from reactions
+alone_from bench [] = refl
+alone_from bench (line ∷ first) =
+    rw (nobody_mutes _ (reacts bench line)) (ap (λ rs. reacts bench line ∷ rs) (alone_from (reacts bench line).bench first))
+
+pub nobody_follows : followed [] ≡ alone
+nobody_follows = fun_ext (alone_from empty_bench)
 
 -- the bench that one more line leaves
 pub bench_after-line : (bench : Bench) (first : List (List ℕ)) (line : List ℕ) → bench_after bench (first ++ line ∷ []) ≡ (reacts (bench_after bench first) line).bench
@@ -36,48 +47,83 @@ unfolding bench_after
 bench_after-line bench [] line = refl
 bench_after-line bench (x ∷ first) line = bench_after-line (reacts bench x).bench first line
 
--- first some lines are answered, and then one more, and then others
-pub answers_from : (first : List (List ℕ)) (line : List ℕ) (more : List (List ℕ)) → answers_to (first ++ line ∷ more)
-    ≡ (answers_to first ++ (reacts (bench_after empty_bench first) line).answer) ++ texts (reactions (reacts (bench_after empty_bench first) line).bench more)
-unfolding reactions
-answers_from first line more =
-    ap texts (reactions-append empty_bench first (line ∷ more)) ∙ texts-append (reactions empty_bench first) (reactions (bench_after empty_bench first) (line ∷ more))
-    ∙ sym (append_assoc (answers_to first) (reacts (bench_after empty_bench first) line).answer _)
+-- and who follows after it
+audience_after-from : (bench : Bench) (audience : Audience) (first : List (List ℕ)) (line : List ℕ)
+    → audience_after bench audience (first ++ line ∷ []) ≡ (follows (bench_after bench first) (audience_after bench audience first) line).audience
+unfolding bench_after audience_after
+audience_after-from bench audience [] line = refl
+audience_after-from bench audience (x ∷ first) line = audience_after-from (reacts bench x).bench (follows bench audience x).audience first line
 
-pub answers_to-line : (first : List (List ℕ)) (line : List ℕ) → answers_to (first ++ line ∷ []) ≡ answers_to first ++ (reacts (bench_after empty_bench first) line).answer
-unfolding reactions
-answers_to-line first line = answers_from first line [] ∙ append-nil (answers_to first ++ (reacts (bench_after empty_bench first) line).answer)
+followed-append : (bench : Bench) (audience : Audience) (first more : List (List ℕ))
+    → followed_from bench audience (first ++ more) ≡ followed_from bench audience first ++ followed_from (bench_after bench first) (audience_after bench audience first) more
+unfolding followed_from bench_after audience_after
+followed-append bench audience [] more = refl
+followed-append bench audience (line ∷ first) more =
+    ap (λ rs. (follows bench audience line).reaction ∷ rs) (followed-append (reacts bench line).bench (follows bench audience line).audience first more)
 
-pub answers_to-none : answers_to [] ≡ []
-unfolding reactions
-answers_to-none = refl
+module _ (audience : Audience) where
+  -- the bench and the audience that some lines leave
+  abbrev bench_of : List (List ℕ) → Bench
+  bench_of first = bench_after empty_bench first
 
-pub refuses_one-none : refuses_one [] ≡ false
-unfolding reactions
-refuses_one-none = refl
+  abbrev pub audience_at : List (List ℕ) → Audience
+  audience_at first = audience_after empty_bench audience first
 
-pub refuses_one-line : (first : List (List ℕ)) (line : List ℕ) → refuses_one (first ++ line ∷ []) ≡ (refuses_one first || (reacts (bench_after empty_bench first) line).refused)
-unfolding reactions
-refuses_one-line first line =
-    ap refuses (reactions-append empty_bench first (line ∷ []))
-    ∙ list_any-append (λ (reaction : Reaction). reaction.refused) (reactions empty_bench first) (reactions (bench_after empty_bench first) (line ∷ []))
-    ∙ ap (λ b. refuses_one first || b) (or-false (reacts (bench_after empty_bench first) line).refused)
+  -- what becomes of the next line
+  abbrev pub next_reaction : List (List ℕ) → List ℕ → Reaction
+  next_reaction first line = (follows (bench_of first) (audience_at first) line).reaction
 
--- the output, where some first lines are answered
-pub output_after : (bytes : List ℕ) (first more : List (List ℕ)) → lines bytes ≡ first ++ more
-    → output bytes ≡ answers_to first ++ (texts (reactions (bench_after empty_bench first) more) ++ (close_of (lines bytes)).answer)
-output_after bytes first more cut =
-    ap (λ xs. xs ++ (close_of (lines bytes)).answer)
-    (ap answers_to cut ∙ ap texts (reactions-append empty_bench first more) ∙ texts-append (reactions empty_bench first) (reactions (bench_after empty_bench first) more))
-    ∙ append_assoc (answers_to first) _ _
+  -- the reactions to others after it
+  abbrev after_next : List (List ℕ) → List ℕ → List (List ℕ) → List Reaction
+  after_next first line more = followed_from (reacts (bench_of first) line).bench (follows (bench_of first) (audience_at first) line).audience more
 
--- and then one more
-pub output_from : (bytes : List ℕ) (first : List (List ℕ)) (line : List ℕ) (more : List (List ℕ)) → lines bytes ≡ first ++ line ∷ more
-    → output bytes ≡ (answers_to first ++ (reacts (bench_after empty_bench first) line).answer)
-    ++ (texts (reactions (reacts (bench_after empty_bench first) line).bench more) ++ (close_of (lines bytes)).answer)
-output_from bytes first line more cut =
-    ap (λ xs. xs ++ (close_of (lines bytes)).answer) (ap answers_to cut ∙ answers_from first line more)
-    ∙ append_assoc (answers_to first ++ (reacts (bench_after empty_bench first) line).answer) _ _
+  pub audience_after-line : (first : List (List ℕ)) (line : List ℕ) → audience_at (first ++ line ∷ []) ≡ (follows (bench_of first) (audience_at first) line).audience
+  audience_after-line first line = audience_after-from empty_bench audience first line
+
+  -- first some lines are answered, and then one more, and then others
+  answers_from : (first : List (List ℕ)) (line : List ℕ) (more : List (List ℕ)) → answers_by (followed audience) (first ++ line ∷ more)
+      ≡ (answers_by (followed audience) first ++ (next_reaction first line).answer) ++ texts (after_next first line more)
+  unfolding followed_from
+  answers_from first line more =
+      ap texts (followed-append empty_bench audience first (line ∷ more)) ∙ texts-append (followed audience first) (followed_from (bench_of first) (audience_at first) (line ∷ more))
+      ∙ sym (append_assoc (answers_by (followed audience) first) (next_reaction first line).answer _)
+
+  pub answers_by-line : (first : List (List ℕ)) (line : List ℕ) → answers_by (followed audience) (first ++ line ∷ []) ≡ answers_by (followed audience) first ++ (next_reaction first line).answer
+  unfolding followed_from
+  answers_by-line first line = answers_from first line [] ∙ append-nil (answers_by (followed audience) first ++ (next_reaction first line).answer)
+
+  pub answers_by-none : answers_by (followed audience) [] ≡ []
+  unfolding followed_from
+  answers_by-none = refl
+
+  pub refuses_by-none : refuses_by (followed audience) [] ≡ false
+  unfolding followed_from
+  refuses_by-none = refl
+
+  pub refuses_by-line : (first : List (List ℕ)) (line : List ℕ) → refuses_by (followed audience) (first ++ line ∷ []) ≡ (refuses_by (followed audience) first || (next_reaction first line).refused)
+  unfolding followed_from
+  refuses_by-line first line =
+      ap refuses (followed-append empty_bench audience first (line ∷ []))
+      ∙ list_any-append (λ (reaction : Reaction). reaction.refused) (followed audience first) (followed_from (bench_of first) (audience_at first) (line ∷ []))
+      ∙ ap (λ b. refuses_by (followed audience) first || b) (or-false (next_reaction first line).refused)
+
+  -- the output, where some first lines are answered
+  pub output_after : (bytes : List ℕ) (first more : List (List ℕ)) → lines bytes ≡ first ++ more
+      → output_by (followed audience) bytes
+      ≡ answers_by (followed audience) first ++ (texts (followed_from (bench_of first) (audience_at first) more) ++ (close_of (lines bytes)).answer)
+  output_after bytes first more cut =
+      ap (λ xs. xs ++ (close_of (lines bytes)).answer)
+      (ap (answers_by (followed audience)) cut ∙ ap texts (followed-append empty_bench audience first more)
+      ∙ texts-append (followed audience first) (followed_from (bench_of first) (audience_at first) more))
+      ∙ append_assoc (answers_by (followed audience) first) _ _
+
+  -- and then one more
+  pub output_from : (bytes : List ℕ) (first : List (List ℕ)) (line : List ℕ) (more : List (List ℕ)) → lines bytes ≡ first ++ line ∷ more
+      → output_by (followed audience) bytes ≡ (answers_by (followed audience) first ++ (next_reaction first line).answer)
+      ++ (texts (after_next first line more) ++ (close_of (lines bytes)).answer)
+  output_from bytes first line more cut =
+      ap (λ xs. xs ++ (close_of (lines bytes)).answer) (ap (answers_by (followed audience)) cut ∙ answers_from first line more)
+      ∙ append_assoc (answers_by (followed audience) first ++ (next_reaction first line).answer) _ _
 
 -- a prefix that is not the whole is one of all but the last
 pub before_last : (all prefix rest : List ℕ) → all ≡ prefix ++ rest → 0 < length rest

@@ -1,86 +1,87 @@
 -- The lines of reports, one after another.
-use Rattle.std.proofs.Common.{◌≡◌, ℕ, zero, suc, ◌+◌, ◌<◌, List, [], ◌∷◌, ◌++◌, length, take, drop, get_or, refl, sym, ap, ◌∙◌, arith, add-one, add-zero, append-nil, append_assoc, zero-add, map, false, Result, Err}
+use Rattle.std.proofs.Common.{◌≡◌, ℕ, zero, suc, ◌+◌, ◌<◌, List, [], ◌∷◌, ◌++◌, length, take, drop, get_or, refl, sym, ap, ◌∙◌, arith, add-one, add-zero, append-nil, append_assoc, zero-add, map, false, Option, None, Some, Result, Err}
+use Rattle.std.specs.Prelude.{option_map}
 use Rattle.std.proofs.lemmas.List.{get_or-map, length-map}
 use Rattle.retro_io.specs.declared.sink.Sink.{Ghosts}
 use Rattle.retro_io.specs.FlushLaws.{EndsWithFailedWrite-more}
 use Rattle.retro_io.specs.Flushes.{EndsWithFailedWrite, StaysUnflushed}
 use Rattle.retro_io.specs.Sink.{Appends, AppendsProperPrefix}
-use Rattle.followers.specs.Followers.{Reporting, reports_after}
+use Rattle.followers.specs.Followers.{Reporting}
 use Rattle.retro_cli.specs.declared.stop.Stop.{Stop}
 use Rattle.retro_cli.specs.declared.stop.Stop.TheVariants as stops
-use Rattle.retro_cli.specs.Events.{ReportsStand, report_line, report_lines}
+use Rattle.retro_cli.specs.Followed.{texts_of}
+use Rattle.retro_cli.specs.Events.{ReportsStand, line_of, report_lines}
 use Rattle.retro_cli.specs.Stop.{stops_at_write}
 use Rattle.retro_cli.proofs.Ends.{prefix_between}
 
--- one report more
-pub one_more : (texts : List (List ℕ)) (number i : ℕ) (d : List ℕ) → i < length texts
-    → report_lines number (take (suc i) texts) ≡ report_lines number (take i texts) ++ report_line (number + i) (get_or texts i d)
+-- one number more
+pub one_more : (texts : List (Option (List ℕ))) (number i : ℕ) (d : Option (List ℕ)) → i < length texts
+    → report_lines number (take (suc i) texts) ≡ report_lines number (take i texts) ++ line_of (number + i) (get_or texts i d)
 one_more [] number i d within = absurd (omega arith)
-one_more (text ∷ texts) number zero d within = append-nil (report_line number text) ∙ ap (λ n. report_line n text) (sym (add-zero number))
+one_more (text ∷ texts) number zero d within = append-nil (line_of number text) ∙ ap (λ n. line_of n text) (sym (add-zero number))
 one_more (text ∷ texts) number (suc i) d within =
     let same : number + 1 + i ≡ number + suc i = omega arith in
-    ap (λ xs. report_line number text ++ xs) (one_more texts (number + 1) i d (omega arith) ∙ ap (λ n. report_lines (number + 1) (take i texts) ++ report_line n (get_or texts i d)) same)
-    ∙ sym (append_assoc (report_line number text) (report_lines (number + 1) (take i texts)) (report_line (number + suc i) (get_or texts i d)))
+    ap (λ xs. line_of number text ++ xs) (one_more texts (number + 1) i d (omega arith) ∙ ap (λ n. report_lines (number + 1) (take i texts) ++ line_of n (get_or texts i d)) same)
+    ∙ sym (append_assoc (line_of number text) (report_lines (number + 1) (take i texts)) (line_of (number + suc i) (get_or texts i d)))
 
--- some reports, one more, and the others
-pub around : (texts : List (List ℕ)) (number i : ℕ) (d : List ℕ) → i < length texts
-    → report_lines number texts ≡ (report_lines number (take i texts) ++ report_line (number + i) (get_or texts i d)) ++ report_lines (number + i + 1) (drop (suc i) texts)
-around [] number i d within = absurd (omega arith)
-around (text ∷ texts) number zero d within = rw add-zero refl
-around (text ∷ texts) number (suc i) d within =
-    let same : number + 1 + i ≡ number + suc i = omega arith in
-    ap (λ xs. report_line number text ++ xs) (around texts (number + 1) i d (omega arith)
-    ∙ ap (λ n. (report_lines (number + 1) (take i texts) ++ report_line n (get_or texts i d)) ++ report_lines (n + 1) (drop (suc i) texts)) same)
-    ∙ simp append_assoc
-
--- some reports, and the others
-pub cut_after : (texts : List (List ℕ)) (number i : ℕ) → report_lines number texts ≡ report_lines number (take i texts) ++ report_lines (number + i) (drop i texts)
+-- some numbers, and the others
+pub cut_after : (texts : List (Option (List ℕ))) (number i : ℕ) → report_lines number texts ≡ report_lines number (take i texts) ++ report_lines (number + i) (drop i texts)
 cut_after [] number zero = refl
 cut_after [] number (suc i) = refl
 cut_after (text ∷ texts) number zero = ap (λ n. report_lines n (text ∷ texts)) (sym (add-zero number))
 cut_after (text ∷ texts) number (suc i) =
     let same : number + 1 + i ≡ number + suc i = omega arith in
-    ap (λ xs. report_line number text ++ xs) (cut_after texts (number + 1) i ∙ ap (λ n. report_lines (number + 1) (take i texts) ++ report_lines n (drop i texts)) same)
-    ∙ sym (append_assoc (report_line number text) (report_lines (number + 1) (take i texts)) (report_lines (number + suc i) (drop i texts)))
+    ap (λ xs. line_of number text ++ xs) (cut_after texts (number + 1) i ∙ ap (λ n. report_lines (number + 1) (take i texts) ++ report_lines n (drop i texts)) same)
+    ∙ sym (append_assoc (line_of number text) (report_lines (number + 1) (take i texts)) (report_lines (number + suc i) (drop i texts)))
+
+-- some numbers, one more, and the others
+pub around : (texts : List (Option (List ℕ))) (number i : ℕ) (d : Option (List ℕ)) → i < length texts
+    → report_lines number texts ≡ (report_lines number (take i texts) ++ line_of (number + i) (get_or texts i d)) ++ report_lines (number + suc i) (drop (suc i) texts)
+around texts number i d within =
+    cut_after texts number (suc i) ∙ ap (λ xs. xs ++ report_lines (number + suc i) (drop (suc i) texts)) (one_more texts number i d within)
 
 -- reports that stopped so
 abbrev pub stopped_at : Stop → Result (Unit {0}) Stop
 stopped_at stop = Err stop
 
--- each follower is seen as what it reports
-module _ {F : Type 0} (seen : F → Reporting) (followers : List F) (i : ℕ) (follower : F) (within : i < length followers) (is : follower ≡ get_or followers i follower) where
+-- each follower is seen as what it reports, if it is left
+module _ {F : Type 0} (seen : F → Option Reporting) (followers : List F) (i : ℕ) (follower : F) (within : i < length followers) (is : follower ≡ get_or followers i follower) where
   -- what they report
-  abbrev texts : List (List ℕ)
-  texts = reports_after [] (map seen followers)
+  abbrev texts : List (Option (List ℕ))
+  texts = texts_of (map seen followers)
+
+  -- and this one
+  abbrev own : Option (List ℕ)
+  own = option_map (λ (report : Reporting). report []) (seen follower)
 
   as_many : length texts ≡ length followers
-  as_many = length-map (map seen followers) (λ (report : Reporting). report []) ∙ length-map followers seen
+  as_many = length-map (map seen followers) (option_map (λ (report : Reporting). report [])) ∙ length-map followers seen
 
-  text_is : get_or texts i [] ≡ seen follower []
+  text_is : get_or texts i None ≡ own
   text_is =
-      get_or-map (λ (report : Reporting). report []) (map seen followers) i (seen follower) [] (omega (arith, within, length-map followers seen))
-      ∙ ap (λ (report : Reporting). report []) (get_or-map seen followers i follower (seen follower) within) ∙ ap (λ f. seen f []) (sym is)
+      get_or-map (option_map (λ (report : Reporting). report [])) (map seen followers) i (seen follower) None (omega (arith, within, length-map followers seen))
+      ∙ ap (option_map (λ (report : Reporting). report [])) (get_or-map seen followers i follower (seen follower) within) ∙ ap (λ f. option_map (λ (report : Reporting). report []) (seen f)) (sym is)
 
-  pub next_report : report_lines 0 (take (i + 1) texts) ≡ report_lines 0 (take i texts) ++ report_line i (seen follower [])
+  pub next_report : report_lines 0 (take (i + 1) texts) ≡ report_lines 0 (take i texts) ++ line_of i own
   next_report =
-      ap (λ n. report_lines 0 (take n texts)) (add-one i) ∙ one_more texts 0 i [] (omega (arith, as_many))
-      ∙ ap (λ text. report_lines 0 (take i texts) ++ report_line (0 + i) text) text_is ∙ ap (λ n. report_lines 0 (take i texts) ++ report_line n (seen follower [])) (zero-add i)
+      ap (λ n. report_lines 0 (take n texts)) (add-one i) ∙ one_more texts 0 i None (omega (arith, as_many))
+      ∙ ap (λ text. report_lines 0 (take i texts) ++ line_of (0 + i) text) text_is ∙ ap (λ n. report_lines 0 (take i texts) ++ line_of n own) (zero-add i)
 
   pub reports_stand : {K : Type 0} (G : Ghosts K) (before middle after : K) (stop : Stop) → Appends (G.written before) (report_lines 0 (take i texts)) (G.written middle)
       → StaysUnflushed G before middle → (stops_at_write (stopped_at stop) ≡ false → after ≡ middle)
       → (stopped_at stop ≡ stopped_at stops.ReadFault → ⊥) × (stopped_at stop ≡ stopped_at stops.TooLong → ⊥)
-      → (stopped_at stop ≡ stopped_at stops.WriteFault → AppendsProperPrefix (G.written middle) (report_line i (seen follower [])) (G.written after))
+      → (stopped_at stop ≡ stopped_at stops.WriteFault → AppendsProperPrefix (G.written middle) (line_of i own) (G.written after))
       → (stopped_at stop ≡ stopped_at stops.WriteFault → EndsWithFailedWrite G middle after) → ReportsStand G texts before after stop
   reports_stand G before middle after stops.ReadFault appended unflushed same reads part last = absurd (reads.0 refl)
   reports_stand G before middle after stops.TooLong appended unflushed same reads part last = absurd (reads.1 refl)
   reports_stand G before middle after stops.NoMemory appended unflushed same reads part last =
       rw (same refl) record { whole = record { count = i; few = omega (arith, as_many); appended = appended }; unflushed = unflushed }
   reports_stand G before middle after stops.WriteFault appended unflushed same reads part last = record {
-    part = prefix_between (G.written before) (G.written middle) (G.written after) (report_lines 0 (take i texts)) (report_line i (seen follower []))
-        (report_lines (0 + i + 1) (drop (suc i) texts)) (report_lines 0 texts)
-        (around texts 0 i [] (omega (arith, as_many))
-        ∙ ap (λ text. (report_lines 0 (take i texts) ++ report_line (0 + i) text) ++ report_lines (0 + i + 1) (drop (suc i) texts)) text_is
-        ∙ ap (λ n. (report_lines 0 (take i texts) ++ report_line n (seen follower [])) ++ report_lines (0 + i + 1) (drop (suc i) texts)) (zero-add i))
+    part = prefix_between (G.written before) (G.written middle) (G.written after) (report_lines 0 (take i texts)) (line_of i own)
+        (report_lines (0 + suc i) (drop (suc i) texts)) (report_lines 0 texts)
+        (around texts 0 i None (omega (arith, as_many))
+        ∙ ap (λ text. (report_lines 0 (take i texts) ++ line_of (0 + i) text) ++ report_lines (0 + suc i) (drop (suc i) texts)) text_is
+        ∙ ap (λ n. (report_lines 0 (take i texts) ++ line_of n own) ++ report_lines (0 + suc i) (drop (suc i) texts)) (zero-add i))
         appended (part refl);
     last = EndsWithFailedWrite-more G before middle after unflushed (last refl);
   }

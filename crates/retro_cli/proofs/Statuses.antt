@@ -1,5 +1,5 @@
 -- What stands at each status of a run, by how it ended.
-use Rattle.std.proofs.Common.{◌≡◌, ℕ, Bool, true, false, List, refl, ap, Option, Some, None, Result, Ok, Err}
+use Rattle.std.proofs.Common.{◌≡◌, ℕ, Bool, true, false, List, [], refl, sym, subst, ap, Option, Some, None, Result, Ok, Err}
 use Rattle.std.proofs.lemmas.Bool.{false≢true}
 use Rattle.std.specs.Prelude.{◌↔◌, IfErr, IfOk, IfSome, IsSome, OnOk, option_map}
 use Rattle.retro_base.specs.Limits.{most_bytes}
@@ -15,12 +15,13 @@ use Rattle.retro_cli.specs.Delivery.{StandsAt}
 use Rattle.retro_cli.specs.Ends.{Answers, Stands}
 use Rattle.retro_cli.specs.Judging.{is_refusal, judged_output, judgement_of}
 use Rattle.retro_cli.specs.OutOfMemory.{AppendsAnswersOfEarlier}
-use Rattle.retro_cli.specs.Output.{has_refusal}
+use Rattle.retro_cli.specs.Output.{Answering, alone, has_refusal_by}
 use Rattle.retro_cli.specs.Program.{AnswersScript, JudgesEvidence, SumsUp}
-use Rattle.retro_cli.specs.Run.{EndsWithoutFault, MatchesRefusal, MayBeTooLong, is_read_fault, is_write_fault, status_of}
+use Rattle.retro_cli.specs.Run.{AppendsOutput, AppendsOutputPrefix, EndsWithoutFault, MatchesRefusal, MayBeTooLong, is_read_fault, is_write_fault, status_of}
 use Rattle.retro_cli.specs.Stop.{status_after, stops_at_read, stops_at_write}
 use Rattle.retro_cli.specs.Summary.{summary}
 use Rattle.retro_cli.proofs.Ends.{prefix_of_all, prefix_that_stands}
+use Rattle.retro_cli.proofs.Reactions.{nobody_follows}
 
 -- how a run ended
 abbrev pub Outcome : Type 0
@@ -74,20 +75,34 @@ ends_without_fault script (Err stops.WriteFault) reads reads' writes writes' of_
 ends_without_fault script (Err stops.NoMemory) reads reads' writes writes' of_reads of_writes longer no_read no_write = tt
 ends_without_fault script (Err stops.TooLong) reads reads' writes writes' of_reads of_writes longer no_read no_write = longer refl
 
-pub matches : (script : Option (List ℕ)) (refused : Bool) → MatchesRefusal script refused → IfSome script (λ bytes. status_of refused ≡ status_of (has_refusal bytes))
-matches None refused is = tt
-matches (Some bytes) refused is = ap status_of is
+pub matches : (answering : Answering) (script : Option (List ℕ)) (refused : Bool) → MatchesRefusal answering script refused
+    → IfSome script (λ bytes. status_of refused ≡ status_of (has_refusal_by answering bytes))
+matches answering None refused is = tt
+matches answering (Some bytes) refused is = ap status_of is
 
 module _ {S K : Type 0} (I : sources.Ghosts S) (O : sinks.Ghosts K) (source source' : S) (sink sink' : K) where
+  -- the bench alone answers as it does where nobody follows
+  prefix_of_whole : AppendsOutput alone (I.left source) (O.written sink) (O.written sink') → AppendsOutputPrefix alone (I.left source) (O.written sink) (O.written sink')
+  prefix_of_whole all =
+      subst (λ a. AppendsOutputPrefix a (I.left source) (O.written sink) (O.written sink')) nobody_follows
+      (prefix_of_all [] (I.left source) (O.written sink) (O.written sink')
+      (subst (λ a. AppendsOutput a (I.left source) (O.written sink) (O.written sink')) (sym nobody_follows) all))
+
+  prefix_of_stands : (stop : Stop) → Stands O alone (I.left source) (I.left source') sink sink' most_bytes stop → AppendsOutputPrefix alone (I.left source) (O.written sink) (O.written sink')
+  prefix_of_stands stop stands =
+      subst (λ a. AppendsOutputPrefix a (I.left source) (O.written sink) (O.written sink')) nobody_follows
+      (prefix_that_stands [] O (I.left source) (I.left source') most_bytes sink sink' stop
+      (subst (λ a. Stands O a (I.left source) (I.left source') sink sink' most_bytes stop) (sym nobody_follows) stands))
+
   -- a script was answered
-  script_answered : (refused : Bool) → (I.ended source' ≡ true) × (O.flushed sink' ≡ true) → Answers O (I.left source) (I.left source') sink sink' refused
+  script_answered : (refused : Bool) → (I.ended source' ≡ true) × (O.flushed sink' ≡ true) → Answers O alone (I.left source) (I.left source') sink sink' refused
       → AnswersScript I O source source' sink sink' (status_of refused)
   script_answered false ended answers = record {
     ended = λ _. ended;
     answered = λ _. answers.output;
     flush = λ _. answers.flush;
-    refusal = λ _. matches (I.left source) false answers.refusal;
-    prefix = prefix_of_all _ _ _ answers.output;
+    refusal = λ _. matches alone (I.left source) false answers.refusal;
+    prefix = prefix_of_whole answers.output;
     part = λ e. cc;
     whole = λ none. absurd none;
     unflushed = λ none. absurd none;
@@ -99,8 +114,8 @@ module _ {S K : Type 0} (I : sources.Ghosts S) (O : sinks.Ghosts K) (source sour
     ended = λ _. ended;
     answered = λ _. answers.output;
     flush = λ _. answers.flush;
-    refusal = λ _. matches (I.left source) true answers.refusal;
-    prefix = prefix_of_all _ _ _ answers.output;
+    refusal = λ _. matches alone (I.left source) true answers.refusal;
+    prefix = prefix_of_whole answers.output;
     part = λ e. cc;
     whole = λ none. absurd none;
     unflushed = λ none. absurd none;
@@ -109,16 +124,16 @@ module _ {S K : Type 0} (I : sources.Ghosts S) (O : sinks.Ghosts K) (source sour
     of_earlier = λ e. cc;
   }
 
-  script_stopped : (stop : Stop) → Stands O (I.left source) (I.left source') sink sink' most_bytes stop
+  script_stopped : (stop : Stop) → Stands O alone (I.left source) (I.left source') sink sink' most_bytes stop
       → (ended_at stop ≡ ended_at stops.NoMemory
-      → AppendsAnswersOfEarlier I source source' (I.left source) (I.left source') (O.written sink) (O.written sink'))
+      → AppendsAnswersOfEarlier I alone source source' (I.left source) (I.left source') (O.written sink) (O.written sink'))
       → AnswersScript I O source source' sink sink' (status_after (ended_at stop))
   script_stopped stops.ReadFault stands memory = record {
     ended = λ none. absurd none;
     answered = λ none. absurd none;
     flush = λ none. absurd none;
     refusal = λ none. absurd none;
-    prefix = prefix_that_stands O (I.left source) (I.left source') most_bytes sink sink' stops.ReadFault stands;
+    prefix = prefix_of_stands stops.ReadFault stands;
     part = λ e. cc;
     whole = λ _. stands.0.whole;
     unflushed = λ _. stands.0.unflushed;
@@ -131,7 +146,7 @@ module _ {S K : Type 0} (I : sources.Ghosts S) (O : sinks.Ghosts K) (source sour
     answered = λ none. absurd none;
     flush = λ none. absurd none;
     refusal = λ none. absurd none;
-    prefix = prefix_that_stands O (I.left source) (I.left source') most_bytes sink sink' stops.WriteFault stands;
+    prefix = prefix_of_stands stops.WriteFault stands;
     part = λ _. stands;
     whole = λ none. absurd none;
     unflushed = λ none. absurd none;
@@ -144,7 +159,7 @@ module _ {S K : Type 0} (I : sources.Ghosts S) (O : sinks.Ghosts K) (source sour
     answered = λ none. absurd none;
     flush = λ none. absurd none;
     refusal = λ none. absurd none;
-    prefix = prefix_that_stands O (I.left source) (I.left source') most_bytes sink sink' stops.NoMemory stands;
+    prefix = prefix_of_stands stops.NoMemory stands;
     part = λ e. cc;
     whole = λ _. stands.whole;
     unflushed = λ _. stands.unflushed;
@@ -157,7 +172,7 @@ module _ {S K : Type 0} (I : sources.Ghosts S) (O : sinks.Ghosts K) (source sour
     answered = λ none. absurd none;
     flush = λ none. absurd none;
     refusal = λ none. absurd none;
-    prefix = prefix_that_stands O (I.left source) (I.left source') most_bytes sink sink' stops.TooLong stands;
+    prefix = prefix_of_stands stops.TooLong stands;
     part = λ e. cc;
     whole = λ _. stands.0.whole;
     unflushed = λ _. stands.0.unflushed;
@@ -167,9 +182,9 @@ module _ {S K : Type 0} (I : sources.Ghosts S) (O : sinks.Ghosts K) (source sour
   }
 
   pub answers_script : (outcome : Outcome) → OnOk outcome ((I.ended source' ≡ true) × (O.flushed sink' ≡ true))
-      → IfOk outcome (Answers O (I.left source) (I.left source') sink sink') → IfErr outcome (Stands O (I.left source) (I.left source') sink sink' most_bytes)
+      → IfOk outcome (Answers O alone (I.left source) (I.left source') sink sink') → IfErr outcome (Stands O alone (I.left source) (I.left source') sink sink' most_bytes)
       → (outcome ≡ ended_at stops.NoMemory
-      → AppendsAnswersOfEarlier I source source' (I.left source) (I.left source') (O.written sink) (O.written sink'))
+      → AppendsAnswersOfEarlier I alone source source' (I.left source) (I.left source') (O.written sink) (O.written sink'))
       → AnswersScript I O source source' sink sink' (status_after outcome)
   answers_script (Ok false) ended answers stands memory = script_answered false ended answers
   answers_script (Ok true) ended answers stands memory = script_answered true ended answers

@@ -1,12 +1,11 @@
 -- The events among answers, and the lines in which followers report of them.
-use Rattle.std.specs.Prelude.{◌≡◌, ℕ, ◌+◌, ◌<◌, List, [], ◌∷◌, ◌++◌, length, take, codes, decimal, filter_map, Option}
+use Rattle.std.specs.Prelude.{ℕ, ◌+◌, ◌<◌, List, [], ◌∷◌, ◌++◌, length, take, codes, decimal, filter_map, Option, None, Some}
 use Rattle.retro_io.specs.declared.sink.Sink.{Ghosts}
 use Rattle.retro_io.specs.Flushes.{EndsWithFailedWrite, StaysUnflushed}
 use Rattle.retro_io.specs.Lines.{line_feed, lines}
 use Rattle.retro_io.specs.Sink.{Appends, AppendsProperPrefix}
 use Rattle.evidence.specs.declared.evidence.Evidence.{Evidence}
 use Rattle.evidence.specs.Reading.{evidence_of}
-use Rattle.followers.specs.Followers.{Reporting, reports_after}
 use Rattle.retro_cli.specs.declared.stop.Stop.{Stop}
 use Rattle.retro_cli.specs.declared.stop.Stop.TheVariants as stops
 
@@ -18,27 +17,28 @@ events_spelled all = filter_map evidence_of all
 abbrev pub events_among : List ℕ → List Evidence
 events_among answer = events_spelled (lines answer)
 
--- followers have taken these events, one after another
-abbrev pub HaveTakenAll : List Evidence → List Reporting → List Reporting → Type 0
-HaveTakenAll taken before after = (events : List Evidence) → reports_after events after ≡ reports_after (taken ++ events) before
-
 -- the line `report I TEXT`
 abbrev pub report_line : ℕ → List ℕ → List ℕ
 report_line number text = codes "report " ++ (decimal number ++ (codes " " ++ (text ++ line_feed ∷ [])))
 
+-- the line of a number, if it has a report
+abbrev pub line_of : ℕ → Option (List ℕ) → List ℕ
+line_of number None = []
+line_of number (Some text) = report_line number text
+
 -- a line for each report, numbered from this number on
-abbrev pub report_lines : ℕ → List (List ℕ) → List ℕ
+abbrev pub report_lines : ℕ → List (Option (List ℕ)) → List ℕ
 report_lines number [] = []
-report_lines number (text ∷ texts) = report_line number text ++ report_lines (number + 1) texts
+report_lines number (text ∷ texts) = line_of number text ++ report_lines (number + 1) texts
 
 -- the whole lines of some first reports, and not of all, were appended
-pub record AppendsFirstReports (texts : List (List ℕ)) (before after : Option (List ℕ)) : Type 0 where
+pub record AppendsFirstReports (texts : List (Option (List ℕ))) (before after : Option (List ℕ)) : Type 0 where
   pub count : ℕ
   pub few : count < length texts
   pub appended : Appends before (report_lines 0 (take count texts)) after
 
 -- the sink before the reports and where they stop
-module _ {K : Type 0} (G : Ghosts K) (texts : List (List ℕ)) (before after : K) where
+module _ {K : Type 0} (G : Ghosts K) (texts : List (Option (List ℕ))) (before after : K) where
   -- some first reports were appended, and not flushed
   pub record StopsAfterReport : Type 0 where
     pub whole : AppendsFirstReports texts (G.written before) (G.written after)

@@ -4,13 +4,13 @@ use Rattle.retro_io.specs.declared.sink.Sink as sinks
 use Rattle.retro_io.specs.declared.source.Source as sources
 use Rattle.retro_io.specs.Flushes.{EndsWithFlush, StaysUnflushed}
 use Rattle.retro_base.specs.Limits.{most_bytes}
-use Rattle.followers.specs.Followers.{Reporting}
 use Rattle.retro_cli.specs.declared.form.Form.{Form}
 use Rattle.retro_cli.specs.declared.status.Status.{Status}
 use Rattle.retro_cli.specs.declared.status.Status.TheVariants as statuses
+use Rattle.retro_cli.specs.Audience.{Audience, audience_of, followed}
 use Rattle.retro_cli.specs.Followed.{AppendsFollowed, EndsAtFault, EndsAtLine, EndsAtReport}
 use Rattle.retro_cli.specs.Forms.{form_of, is_follow}
-use Rattle.retro_cli.specs.Output.{has_refusal}
+use Rattle.retro_cli.specs.Output.{has_refusal_by}
 use Rattle.retro_cli.specs.Program.{Runs}
 use Rattle.retro_cli.specs.Run.{AppendsAnswersOfFirst, AppendsAnswersOfTaken, EndsBetweenLines, HasAnswered, status_of}
 
@@ -18,7 +18,7 @@ use Rattle.retro_cli.specs.Run.{AppendsAnswersOfFirst, AppendsAnswersOfTaken, En
 abbrev pub most_followers : ℕ
 most_followers = 1024
 
--- the words are `follow`, or have a form of a run
+-- the words are `follow` or `follow NAME`, or have a form of a run
 abbrev pub HasForm : List (List ℕ) → Type 0
 HasForm words = (is_follow words ≡ true) ⊎ IsSome (form_of words)
 
@@ -26,28 +26,29 @@ HasForm words = (is_follow words ≡ true) ⊎ IsSome (form_of words)
 abbrev pub HasNoForm : List (List ℕ) → Type 0
 HasNoForm words = (is_follow words ≡ false) × (form_of words ≡ None)
 
--- the followers that were handed in, the source before and after, the sink before and after, and the status
-module _ {S K : Type 0} (I : sources.Ghosts S) (O : sinks.Ghosts K) (followers : List Reporting) (source source' : S) (sink sink' : K) (status : Status) where
-  -- `follow`: the output of the script that the source told and the reports after it, or what of this stands where the run ended early
+-- who follows at the start, the source before and after, the sink before and after, and the status
+module _ {S K : Type 0} (I : sources.Ghosts S) (O : sinks.Ghosts K) (audience : Audience) (source source' : S) (sink sink' : K) (status : Status) where
+  -- `follow` and `follow NAME`: the output of the script that the source told and the reports after it, or what of this stands where the
+  -- run ended early
   pub record FollowsScript : Type 0 where
     -- the input was read to its end, and exactly the whole was appended, and has arrived
     pub ended : HasAnswered status → (I.ended source' ≡ true) × (O.flushed sink' ≡ true)
-    pub answered : HasAnswered status → AppendsFollowed followers (I.left source) (O.written sink) (O.written sink')
+    pub answered : HasAnswered status → AppendsFollowed audience (I.left source) (O.written sink) (O.written sink')
     pub flush : HasAnswered status → EndsWithFlush O sink true sink'
-    pub refusal : HasAnswered status → IfSome (I.left source) (λ bytes. status ≡ status_of (has_refusal bytes))
+    pub refusal : HasAnswered status → IfSome (I.left source) (λ bytes. status ≡ status_of (has_refusal_by (followed audience) bytes))
     -- at a write, a send or a flush that failed a prefix of the whole was appended
-    pub fault : status ≡ statuses.WriteFault → EndsAtFault I O followers source source' sink sink'
-    -- at a failed read and at a script that is too long what was appended is what is appended without followers
+    pub fault : status ≡ statuses.WriteFault → EndsAtFault I O audience source source' sink sink'
+    -- at a failed read and at a script that is too long the answers so far were appended, and no report after the output
     pub unflushed : EndsBetweenLines status → StaysUnflushed O sink sink'
-    pub of_taken : status ≡ statuses.ReadFault → AppendsAnswersOfTaken (I.left source) (I.left source') (O.written sink) (O.written sink')
-    pub of_first : status ≡ statuses.TooLong → AppendsAnswersOfFirst (I.left source) most_bytes (O.written sink) (O.written sink')
+    pub of_taken : status ≡ statuses.ReadFault → AppendsAnswersOfTaken (followed audience) (I.left source) (I.left source') (O.written sink) (O.written sink')
+    pub of_first : status ≡ statuses.TooLong → AppendsAnswersOfFirst (followed audience) (I.left source) most_bytes (O.written sink) (O.written sink')
     -- and so it is where memory ran out, unless a report met that: then the output and the whole reports before it were appended
-    pub short : status ≡ statuses.NoMemory → EndsAtLine I O followers source source' sink sink' ⊎ EndsAtReport I O followers source source' sink sink'
+    pub short : status ≡ statuses.NoMemory → EndsAtLine I O audience source source' sink sink' ⊎ EndsAtReport I O audience source source' sink sink'
 
-  -- by the words: with those that are not `follow`, what is claimed of a run
+  -- by the words: with those that are not of a followed run, what is claimed of a run
   abbrev pub RunsBy : Bool → Option Form → Type 0
   RunsBy true form = FollowsScript
   RunsBy false form = Runs I O source source' sink sink' status form
 
-  abbrev pub RunsFollowed : List (List ℕ) → Type 0
-  RunsFollowed words = RunsBy (is_follow words) (form_of words)
+  pub record RunsFollowed (words : List (List ℕ)) : Type 0 where
+    pub by_words : RunsBy (is_follow words) (form_of words)

@@ -1,6 +1,7 @@
 -- The forms of the words of a command line.
-use Rattle.std.specs.Prelude.{ℕ, Bool, false, ◌-◌, ◌≤◌, ◌^◌, List, [], ◌∷◌, codes, Option, Some, None, option_map, option_and_then, if◌then◌else◌}
+use Rattle.std.specs.Prelude.{ℕ, Bool, false, ◌&&◌, is_some, ◌-◌, ◌≤◌, ◌^◌, List, [], ◌∷◌, codes, Option, Some, None, option_map, option_and_then, if◌then◌else◌}
 use Rattle.std.specs.Str.{bytes_eq}
+use Rattle.retro_base.specs.Name.{name_of}
 use Rattle.script_grammar.specs.Command.{kind_of_word}
 use Rattle.script_grammar.specs.Numbers.{natural_up_to}
 use Rattle.retro_cli.specs.declared.form.Form.{Form}
@@ -34,11 +35,12 @@ form_of (word ∷ kind ∷ lines ∷ []) = None
 form_of (word ∷ kind ∷ lines ∷ start ∷ []) = form_of_words word kind lines start
 form_of (word ∷ kind ∷ lines ∷ start ∷ other ∷ more) = None
 
--- the one word `follow`, which is a form of a followed run alone
+-- `follow` and `follow NAME`, which are forms of a followed run alone
 abbrev pub is_follow : List (List ℕ) → Bool
 is_follow [] = false
 is_follow (word ∷ []) = bytes_eq word (codes "follow")
-is_follow (word ∷ other ∷ more) = false
+is_follow (word ∷ name ∷ []) = bytes_eq word (codes "follow") && is_some (name_of name)
+is_follow (word ∷ name ∷ other ∷ more) = false
 
 -- a generated script has no more lines than it may have
 abbrev pub IsWithin : Form → Type 0

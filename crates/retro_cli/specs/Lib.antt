@@ -16,5 +16,7 @@ pub mod Verdicts
 pub mod Summary
 pub mod Program
 pub mod Events
+pub mod Audience
 pub mod Followed
 pub mod FollowedProgram
+pub mod Mirrored

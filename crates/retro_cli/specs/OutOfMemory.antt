@@ -4,7 +4,7 @@ use Rattle.retro_io.specs.declared.source.Failed.{Failed}
 use Rattle.retro_io.specs.declared.source.Source.{Ghosts}
 use Rattle.retro_io.specs.DueReads.{given_by}
 use Rattle.retro_io.specs.Lines.{lines}
-use Rattle.retro_cli.specs.Output.{up_to_last_feed}
+use Rattle.retro_cli.specs.Output.{Answering, up_to_last_feed}
 use Rattle.retro_cli.specs.Run.{AppendsAnswersTo}
 
 -- the last read of a source gave these bytes, after those that were taken early; of the script the others are left
@@ -40,12 +40,12 @@ module _ {S : Type 0} (I : Ghosts S) (source source' : S) (script left : List �
   IsMetAtClose unanswered = (I.ended source' ≡ true) × (left ≡ []) × (unanswered ≡ [])
 
   -- exactly the answers to the lines before the one that met it were appended, whole
-  pub record AppendsAnswersToEarlier (before after : Option (List ℕ)) : Type 0 where
-    pub answers : AppendsAnswersTo script before after
+  pub record AppendsAnswersToEarlier (answering : Answering) (before after : Option (List ℕ)) : Type 0 where
+    pub answers : AppendsAnswersTo answering script before after
     pub met : IsMetAtStart answers.answered ⊎ (IsMetAtLine answers.answered answers.unanswered ⊎ IsMetAtClose answers.unanswered)
 
 -- the same where the source tells the script and what is left of it
-abbrev pub AppendsAnswersOfEarlier : {S : Type 0} → Ghosts S → S → S → Option (List ℕ) → Option (List ℕ) → Option (List ℕ) → Option (List ℕ) → Type 0
-AppendsAnswersOfEarlier I source source' None left before after = Unit {0}
-AppendsAnswersOfEarlier I source source' (Some script) None before after = ⊥
-AppendsAnswersOfEarlier I source source' (Some script) (Some left) before after = AppendsAnswersToEarlier I source source' script left before after
+abbrev pub AppendsAnswersOfEarlier : {S : Type 0} → Ghosts S → Answering → S → S → Option (List ℕ) → Option (List ℕ) → Option (List ℕ) → Option (List ℕ) → Type 0
+AppendsAnswersOfEarlier I answering source source' None left before after = Unit {0}
+AppendsAnswersOfEarlier I answering source source' (Some script) None before after = ⊥
+AppendsAnswersOfEarlier I answering source source' (Some script) (Some left) before after = AppendsAnswersToEarlier I source source' script left answering before after

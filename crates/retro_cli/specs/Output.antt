@@ -1,4 +1,5 @@
--- What a script gives: the answers to its lines, in their order, from a bench without a timeline, and that of its close.
+-- What a script gives: the answers to its lines, in their order, from a bench without a timeline, and that of its close. How its lines
+-- are answered is left open first: by the bench alone, or by the bench and those who follow the script.
 use Rattle.std.specs.Prelude.{ℕ, Bool, ◌||◌, List, [], ◌∷◌, ◌++◌, map, if◌then◌else◌}
 use Rattle.std.specs.List.{concat, list_any}
 use Rattle.retro_io.specs.Lines.{lines, has_line_feed}
@@ -6,25 +7,42 @@ use Rattle.workbench.specs.Answers.{reactions, bench_after}
 use Rattle.workbench.specs.Bench.{empty_bench}
 use Rattle.workbench.specs.Reaction.{Reaction, closing}
 
+-- how the first lines of a script are answered
+abbrev pub Answering : Type 0
+Answering = List (List ℕ) → List Reaction
+
+-- by the bench alone
+abbrev pub alone : Answering
+alone = λ first. reactions empty_bench first
+
 -- the answers to the first lines of a script, one after the other
+abbrev pub answers_by : Answering → List (List ℕ) → List ℕ
+answers_by answering first = concat (map (λ (reaction : Reaction). reaction.answer) (answering first))
+
 abbrev pub answers_to : List (List ℕ) → List ℕ
-answers_to first = concat (map (λ (reaction : Reaction). reaction.answer) (reactions empty_bench first))
+answers_to first = answers_by alone first
 
 -- one of the first lines of a script is refused
-abbrev pub refuses_one : List (List ℕ) → Bool
-refuses_one first = list_any (λ (reaction : Reaction). reaction.refused) (reactions empty_bench first)
+abbrev pub refuses_by : Answering → List (List ℕ) → Bool
+refuses_by answering first = list_any (λ (reaction : Reaction). reaction.refused) (answering first)
 
 -- the reaction to the end of the input, after all lines of a script
 abbrev pub close_of : List (List ℕ) → Reaction
 close_of all = closing (bench_after empty_bench all)
 
 -- the output of a script: the answers to its lines, and that of its close
+abbrev pub output_by : Answering → List ℕ → List ℕ
+output_by answering bytes = answers_by answering (lines bytes) ++ (close_of (lines bytes)).answer
+
 abbrev pub output : List ℕ → List ℕ
-output bytes = answers_to (lines bytes) ++ (close_of (lines bytes)).answer
+output bytes = output_by alone bytes
 
 -- a script has a line that is refused, or its close is
+abbrev pub has_refusal_by : Answering → List ℕ → Bool
+has_refusal_by answering bytes = refuses_by answering (lines bytes) || (close_of (lines bytes)).refused
+
 abbrev pub has_refusal : List ℕ → Bool
-has_refusal bytes = refuses_one (lines bytes) || (close_of (lines bytes)).refused
+has_refusal bytes = has_refusal_by alone bytes
 
 -- the bytes up to their last line feed, which is one of them
 unfoldable pub up_to_last_feed : List ℕ → List ℕ

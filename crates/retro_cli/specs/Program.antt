@@ -13,7 +13,7 @@ use Rattle.retro_cli.specs.Delivery.{Arrives, IsCutOff}
 use Rattle.retro_cli.specs.Ends.{EndsAtSink}
 use Rattle.retro_cli.specs.Judging.{is_refusal, judged_output, judgement_of}
 use Rattle.retro_cli.specs.OutOfMemory.{AppendsAnswersOfEarlier}
-use Rattle.retro_cli.specs.Output.{has_refusal}
+use Rattle.retro_cli.specs.Output.{alone, has_refusal}
 use Rattle.retro_cli.specs.Run.{AppendsAnswersOfFirst, AppendsAnswersOfTaken, AppendsFirstAnswers, AppendsOutput, AppendsOutputPrefix, EndsBetweenLines, HasAnswered, status_of}
 use Rattle.retro_cli.specs.Summary.{summary}
 
@@ -23,22 +23,22 @@ module _ {S K : Type 0} (I : sources.Ghosts S) (O : sinks.Ghosts K) (source sour
   pub record AnswersScript : Type 0 where
     -- the input was read to its end, and exactly the output was appended, and has arrived
     pub ended : HasAnswered status → (I.ended source' ≡ true) × (O.flushed sink' ≡ true)
-    pub answered : HasAnswered status → AppendsOutput (I.left source) (O.written sink) (O.written sink')
+    pub answered : HasAnswered status → AppendsOutput alone (I.left source) (O.written sink) (O.written sink')
     pub flush : HasAnswered status → EndsWithFlush O sink true sink'
     pub refusal : HasAnswered status → IfSome (I.left source) (λ bytes. status ≡ status_of (has_refusal bytes))
     -- at every status a prefix of the output was appended: all of it at a flush that failed, less at a write that failed, and the whole
     -- answers to some first lines at a send that failed; and that call was the last one
-    pub prefix : AppendsOutputPrefix (I.left source) (O.written sink) (O.written sink')
-    pub part : status ≡ statuses.WriteFault → EndsAtSink O (I.left source) (I.left source') sink sink'
+    pub prefix : AppendsOutputPrefix alone (I.left source) (O.written sink) (O.written sink')
+    pub part : status ≡ statuses.WriteFault → EndsAtSink O alone (I.left source) (I.left source') sink sink'
     -- where the run ended between two lines, the whole answers to some first lines were appended, and not flushed: at a failed
     -- read those to all lines whose line feed was taken, and at a script that is too long to all that end within what it may have
-    pub whole : EndsBetweenLines status → AppendsFirstAnswers (I.left source) (O.written sink) (O.written sink')
+    pub whole : EndsBetweenLines status → AppendsFirstAnswers alone (I.left source) (O.written sink) (O.written sink')
     pub unflushed : EndsBetweenLines status → StaysUnflushed O sink sink'
-    pub of_taken : status ≡ statuses.ReadFault → AppendsAnswersOfTaken (I.left source) (I.left source') (O.written sink) (O.written sink')
-    pub of_first : status ≡ statuses.TooLong → AppendsAnswersOfFirst (I.left source) most_bytes (O.written sink) (O.written sink')
+    pub of_taken : status ≡ statuses.ReadFault → AppendsAnswersOfTaken alone (I.left source) (I.left source') (O.written sink) (O.written sink')
+    pub of_first : status ≡ statuses.TooLong → AppendsAnswersOfFirst alone (I.left source) most_bytes (O.written sink) (O.written sink')
     -- and where memory ran out to all lines before the one that met it: none where that was before the first, all where it was the close
     pub of_earlier : status ≡ statuses.NoMemory
-        → AppendsAnswersOfEarlier I source source' (I.left source) (I.left source') (O.written sink) (O.written sink')
+        → AppendsAnswersOfEarlier I alone source source' (I.left source) (I.left source') (O.written sink) (O.written sink')
 
   -- `check`: the judgement of the lines that the source told, in one line, or nothing where the input was not read to its end
   pub record JudgesEvidence : Type 0 where

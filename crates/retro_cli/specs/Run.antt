@@ -6,7 +6,7 @@ use Rattle.retro_io.specs.Lines.{lines}
 use Rattle.retro_io.specs.Sink.{Appends, AppendsPrefixOf, AppendsProperPrefix}
 use Rattle.retro_cli.specs.declared.status.Status.{Status}
 use Rattle.retro_cli.specs.declared.status.Status.TheVariants as statuses
-use Rattle.retro_cli.specs.Output.{answers_to, output, has_refusal, up_to_last_feed}
+use Rattle.retro_cli.specs.Output.{Answering, answers_by, has_refusal_by, output_by, up_to_last_feed}
 
 -- the input was read to its end and answered
 abbrev pub HasAnswered : Status → Type 0
@@ -30,52 +30,52 @@ status_of false = statuses.Done
 status_of true = statuses.Refused
 
 -- exactly the output of the script was appended, where the source tells the script and the sink what was written
-abbrev pub AppendsOutput : Option (List ℕ) → Option (List ℕ) → Option (List ℕ) → Type 0
-AppendsOutput None before after = Unit {0}
-AppendsOutput (Some bytes) before after = Appends before (output bytes) after
+abbrev pub AppendsOutput : Answering → Option (List ℕ) → Option (List ℕ) → Option (List ℕ) → Type 0
+AppendsOutput answering None before after = Unit {0}
+AppendsOutput answering (Some bytes) before after = Appends before (output_by answering bytes) after
 
 -- a prefix of the output was appended, where the source tells the script and the sink what was written
-abbrev pub AppendsOutputPrefix : Option (List ℕ) → Option (List ℕ) → Option (List ℕ) → Type 0
-AppendsOutputPrefix None before after = Unit {0}
-AppendsOutputPrefix (Some bytes) before after = AppendsPrefixOf before (output bytes) after
+abbrev pub AppendsOutputPrefix : Answering → Option (List ℕ) → Option (List ℕ) → Option (List ℕ) → Type 0
+AppendsOutputPrefix answering None before after = Unit {0}
+AppendsOutputPrefix answering (Some bytes) before after = AppendsPrefixOf before (output_by answering bytes) after
 
 -- the same of a prefix that is not the whole output
-abbrev pub AppendsProperOutputPrefix : Option (List ℕ) → Option (List ℕ) → Option (List ℕ) → Type 0
-AppendsProperOutputPrefix None before after = Unit {0}
-AppendsProperOutputPrefix (Some bytes) before after = AppendsProperPrefix before (output bytes) after
+abbrev pub AppendsProperOutputPrefix : Answering → Option (List ℕ) → Option (List ℕ) → Option (List ℕ) → Type 0
+AppendsProperOutputPrefix answering None before after = Unit {0}
+AppendsProperOutputPrefix answering (Some bytes) before after = AppendsProperPrefix before (output_by answering bytes) after
 
 -- the whole answers to some first lines of the script were appended
-pub record AppendsAnswersTo (bytes : List ℕ) (before after : Option (List ℕ)) : Type 0 where
+pub record AppendsAnswersTo (answering : Answering) (bytes : List ℕ) (before after : Option (List ℕ)) : Type 0 where
   pub answered : List (List ℕ)
   pub unanswered : List (List ℕ)
   pub cut : lines bytes ≡ answered ++ unanswered
-  pub appended : Appends before (answers_to answered) after
+  pub appended : Appends before (answers_by answering answered) after
 
 -- the same where the source tells the script
-abbrev pub AppendsFirstAnswers : Option (List ℕ) → Option (List ℕ) → Option (List ℕ) → Type 0
-AppendsFirstAnswers None before after = Unit {0}
-AppendsFirstAnswers (Some bytes) before after = AppendsAnswersTo bytes before after
+abbrev pub AppendsFirstAnswers : Answering → Option (List ℕ) → Option (List ℕ) → Option (List ℕ) → Type 0
+AppendsFirstAnswers answering None before after = Unit {0}
+AppendsFirstAnswers answering (Some bytes) before after = AppendsAnswersTo answering bytes before after
 
 -- the answers to all lines of some bytes up to their last line feed, which ends a line
-abbrev pub whole_answers : List ℕ → List ℕ
-whole_answers bytes = answers_to (lines (up_to_last_feed bytes))
+abbrev pub whole_answers : Answering → List ℕ → List ℕ
+whole_answers answering bytes = answers_by answering (lines (up_to_last_feed bytes))
 
 -- exactly the answers to the lines whose line feed was taken were appended
-pub record AppendsAnswersToTaken (bytes rest : List ℕ) (before after : Option (List ℕ)) : Type 0 where
+pub record AppendsAnswersToTaken (answering : Answering) (bytes rest : List ℕ) (before after : Option (List ℕ)) : Type 0 where
   pub taken : List ℕ
   pub cut : bytes ≡ taken ++ rest
-  pub appended : Appends before (whole_answers taken) after
+  pub appended : Appends before (whole_answers answering taken) after
 
 -- the same where the source tells the script and what is left of it
-abbrev pub AppendsAnswersOfTaken : Option (List ℕ) → Option (List ℕ) → Option (List ℕ) → Option (List ℕ) → Type 0
-AppendsAnswersOfTaken None left before after = Unit {0}
-AppendsAnswersOfTaken (Some bytes) None before after = ⊥
-AppendsAnswersOfTaken (Some bytes) (Some rest) before after = AppendsAnswersToTaken bytes rest before after
+abbrev pub AppendsAnswersOfTaken : Answering → Option (List ℕ) → Option (List ℕ) → Option (List ℕ) → Option (List ℕ) → Type 0
+AppendsAnswersOfTaken answering None left before after = Unit {0}
+AppendsAnswersOfTaken answering (Some bytes) None before after = ⊥
+AppendsAnswersOfTaken answering (Some bytes) (Some rest) before after = AppendsAnswersToTaken answering bytes rest before after
 
 -- exactly the answers to the lines whose line feed is among so many first bytes were appended, where the source tells the script
-abbrev pub AppendsAnswersOfFirst : Option (List ℕ) → ℕ → Option (List ℕ) → Option (List ℕ) → Type 0
-AppendsAnswersOfFirst None count before after = Unit {0}
-AppendsAnswersOfFirst (Some bytes) count before after = Appends before (whole_answers (take count bytes)) after
+abbrev pub AppendsAnswersOfFirst : Answering → Option (List ℕ) → ℕ → Option (List ℕ) → Option (List ℕ) → Type 0
+AppendsAnswersOfFirst answering None count before after = Unit {0}
+AppendsAnswersOfFirst answering (Some bytes) count before after = Appends before (whole_answers answering (take count bytes)) after
 
 -- the run ended early, for another cause than a write that failed
 abbrev pub EndsBetweenLines : Status → Type 0
@@ -85,9 +85,9 @@ EndsBetweenLines statuses.TooLong = Unit {0}
 EndsBetweenLines status = ⊥
 
 -- whether a line of the script was refused, where the source tells the script
-abbrev pub MatchesRefusal : Option (List ℕ) → Bool → Type 0
-MatchesRefusal None refused = Unit {0}
-MatchesRefusal (Some bytes) refused = refused ≡ has_refusal bytes
+abbrev pub MatchesRefusal : Answering → Option (List ℕ) → Bool → Type 0
+MatchesRefusal answering None refused = Unit {0}
+MatchesRefusal answering (Some bytes) refused = refused ≡ has_refusal_by answering bytes
 
 -- an input may be longer than the program reads, where the source tells no bytes or so many
 abbrev pub MayBeTooLong : Option (List ℕ) → Type 0

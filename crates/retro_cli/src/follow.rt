@@ -1,11 +1,12 @@
-ghost use Rattle.std.specs.Prelude.{◌≡◌, ◌<◌, ◌≤◌, ◌==◌, ◌∷◌, [], ◌++◌, false, length, map, IfErr, IsErrOf, OnErr, OnOk};
+ghost use Rattle.std.specs.Prelude.{◌≡◌, ◌<◌, ◌≤◌, ◌==◌, ◌∷◌, [], ◌++◌, false, length, map, option_map, IfErr, IsErrOf, OnErr, OnOk};
 ghost use Rattle.retro_io.specs.Faults.{CountsFaults};
 ghost use Rattle.retro_io.specs.Flushes.{EndsWithFailedWrite, StaysUnflushed};
 ghost use Rattle.std.specs.List.{position_or_len};
 ghost use Rattle.retro_io.specs.Lines.{line_feed, lines, without_return};
 ghost use Rattle.retro_io.specs.Sink.{Appends, AppendsProperPrefix};
-ghost use Rattle.followers.specs.Followers.{HasTaken, HaveTaken, reports_after};
-ghost use Rattle.retro_cli.specs.Events.{HaveTakenAll, ReportsStand, events_among, events_spelled, report_line, report_lines};
+ghost use Rattle.retro_cli.specs.Audience.{after_events, hears};
+ghost use Rattle.retro_cli.specs.Events.{ReportsStand, events_among, events_spelled, line_of, report_line, report_lines};
+ghost use Rattle.retro_cli.specs.Followed.{texts_of};
 ghost use Rattle.retro_cli.specs.Stop.{stops_at_write};
 
 use crate::deliver::append;
@@ -16,9 +17,12 @@ use retro_base::{NoMemory, Text};
 use retro_io::Sink;
 use std::alloc::Global;
 
-/// Hands the events among the lines of an answer to the followers, one after another.
-pub(crate) fn hand_on(answer: &[u8], followers: &mut [Box<dyn Follower>]) -> Result<(), NoMemory>
-    ensures { OnOk result (HaveTakenAll (events_among answer.now) (map (λ f. report_after f) followers.old) (map (λ f. report_after f) followers.new)) }
+/// Hands the events among the lines of an answer to the followers that are left, one after another.
+pub(crate) fn hand_on(
+    answer: &[u8],
+    followers: &mut [Option<Box<dyn Follower>>],
+) -> Result<(), NoMemory>
+    ensures { OnOk result (map (option_map (λ f. report_after f)) followers.new ≡ hears (events_among answer.now) (map (option_map (λ f. report_after f)) followers.old)) }
 {
     let mut rest = answer;
     while !rest.is_empty() {
@@ -30,8 +34,8 @@ pub(crate) fn hand_on(answer: &[u8], followers: &mut [Box<dyn Follower>]) -> Res
 }
 
 /// Hands the event that a line spells to the followers, if it spells one.
-fn hand_on_line(line: &[u8], followers: &mut [Box<dyn Follower>]) -> Result<(), NoMemory>
-    ensures { OnOk result (HaveTakenAll (events_spelled (line.now ∷ [])) (map (λ f. report_after f) followers.old) (map (λ f. report_after f) followers.new)) }
+fn hand_on_line(line: &[u8], followers: &mut [Option<Box<dyn Follower>>]) -> Result<(), NoMemory>
+    ensures { OnOk result (map (option_map (λ f. report_after f)) followers.new ≡ hears (events_spelled (line.now ∷ [])) (map (option_map (λ f. report_after f)) followers.old)) }
 {
     match read_evidence(line) {
         Some(event) => hand_out(&event, followers),
@@ -39,10 +43,10 @@ fn hand_on_line(line: &[u8], followers: &mut [Box<dyn Follower>]) -> Result<(), 
     }
 }
 
-/// Lets each follower take an event, in their order, as `followers::feed` does. It stands here, since a function that hands boxed
+/// Lets each follower that is left take an event, in their order, as `followers::feed` does. It stands here, since a function that hands boxed
 /// followers by `&mut` to another crate would hide from the check what that crate may put among them.
-fn hand_out(event: &Evidence, followers: &mut [Box<dyn Follower>]) -> Result<(), NoMemory>
-    ensures { OnOk result (HaveTaken event.now (map (λ f. report_after f) followers.old) (map (λ f. report_after f) followers.new)) }
+fn hand_out(event: &Evidence, followers: &mut [Option<Box<dyn Follower>>]) -> Result<(), NoMemory>
+    ensures { OnOk result (map (option_map (λ f. report_after f)) followers.new ≡ hears (event.now ∷ []) (map (option_map (λ f. report_after f)) followers.old)) }
 {
     for follower in followers {
         hand_to(follower, event)?;
@@ -50,9 +54,19 @@ fn hand_out(event: &Evidence, followers: &mut [Box<dyn Follower>]) -> Result<(),
     Ok(())
 }
 
+/// Lets a follower take an event, if it is left.
+fn hand_to(follower: &mut Option<Box<dyn Follower>>, event: &Evidence) -> Result<(), NoMemory>
+    ensures { OnOk result (option_map (λ f. report_after f) follower.new ≡ option_map (after_events (event.now ∷ [])) (option_map (λ f. report_after f) follower.old)) }
+{
+    match follower {
+        Some(left) => hand_to_one(left, event),
+        None => Ok(()),
+    }
+}
+
 /// Lets one follower take an event.
-fn hand_to(follower: &mut Box<dyn Follower>, event: &Evidence) -> Result<(), NoMemory>
-    ensures { OnOk result (HasTaken event.now (report_after follower.old) (report_after follower.new)) }
+fn hand_to_one(follower: &mut Box<dyn Follower>, event: &Evidence) -> Result<(), NoMemory>
+    ensures { OnOk result (report_after follower.new ≡ after_events (event.now ∷ []) (report_after follower.old)) }
 {
     follower.take(event)
 }
@@ -91,25 +105,46 @@ fn without_return(line: &[u8]) -> &[u8]
     }
 }
 
-/// Writes a line for each follower, with its number and what it reports.
+/// Writes a line for each follower that is left, with its number and what it reports.
 pub(crate) fn write_reports<K: Sink>(
     alloc: Global,
-    followers: &[Box<dyn Follower>],
+    followers: &[Option<Box<dyn Follower>>],
     sink: &mut K,
 ) -> Result<(), Stop>
-    ensures appended { OnOk result (Appends (K.written sink.old) (report_lines 0 (reports_after [] (map (λ f. report_after f) followers.now))) (K.written sink.new)) }
+    ensures appended { OnOk result (Appends (K.written sink.old) (report_lines 0 (texts_of (map (option_map (λ f. report_after f)) followers.now))) (K.written sink.new)) }
     ensures unflushed { OnOk result (StaysUnflushed ⟦<K as Sink>⟧ sink.old sink.new) }
-    ensures stands { IfErr result (ReportsStand ⟦<K as Sink>⟧ (reports_after [] (map (λ f. report_after f) followers.now)) sink.old sink.new) }
+    ensures stands { IfErr result (ReportsStand ⟦<K as Sink>⟧ (texts_of (map (option_map (λ f. report_after f)) followers.now)) sink.old sink.new) }
     ensures sink_faults { CountsFaults (stops_at_write result) (K.faults sink.old) (K.faults sink.new) }
 {
     for (number, follower) in followers.iter().enumerate() {
-        write_report(alloc, number, follower, sink)?;
+        write_report_left(alloc, number, follower, sink)?;
     }
     Ok(())
 }
 
+/// Writes the line of one follower, if it is left.
+fn write_report_left<K: Sink>(
+    alloc: Global,
+    number: usize,
+    follower: &Option<Box<dyn Follower>>,
+    sink: &mut K,
+) -> Result<(), Stop>
+    ensures appended { OnOk result (Appends (K.written sink.old) (line_of number (option_map (λ report. report []) (option_map (λ f. report_after f) follower.now))) (K.written sink.new)) }
+    ensures part { IsErrOf result Stop.WriteFault → AppendsProperPrefix (K.written sink.old) (line_of number (option_map (λ report. report []) (option_map (λ f. report_after f) follower.now))) (K.written sink.new) }
+    ensures untouched { OnErr result (stops_at_write result ≡ false → sink.new ≡ sink.old) }
+    ensures unflushed { OnOk result (StaysUnflushed ⟦<K as Sink>⟧ sink.old sink.new) }
+    ensures last { IsErrOf result Stop.WriteFault → EndsWithFailedWrite ⟦<K as Sink>⟧ sink.old sink.new }
+    ensures sink_faults { CountsFaults (stops_at_write result) (K.faults sink.old) (K.faults sink.new) }
+    ensures reads_nothing { (IsErrOf result Stop.ReadFault → ⊥) × (IsErrOf result Stop.TooLong → ⊥) }
+{
+    match follower {
+        Some(left) => write_report(alloc, number, left, sink),
+        None => Ok(()),
+    }
+}
+
 /// Writes the line of one follower.
-fn write_report<K: Sink>(
+pub(crate) fn write_report<K: Sink>(
     alloc: Global,
     number: usize,
     follower: &Box<dyn Follower>,

@@ -1,7 +1,8 @@
-ghost use Rattle.std.specs.Prelude.{◌≡◌, [], ◌-◌, ◌<◌, ◌↔◌, false, true, map, IfErr, IfOk, IsErrOf, OnOk};
+ghost use Rattle.std.specs.Prelude.{◌≡◌, [], ◌-◌, ◌<◌, ◌↔◌, false, true, map, option_map, IfErr, IfOk, IsErrOf, OnOk};
 ghost use Rattle.retro_base.specs.Limits.{most_bytes};
 ghost use Rattle.retro_io.specs.Faults.{CountsFaults, last_count};
 ghost use Rattle.retro_io.specs.Flushes.{StaysUnflushed};
+ghost use Rattle.retro_cli.specs.Audience.{audience_of, followed};
 ghost use Rattle.retro_cli.specs.Followed.{AnswersFollowed, AppendsFollowed, FollowedStands};
 ghost use Rattle.retro_cli.specs.Run.{MatchesRefusal, MayBeTooLong};
 ghost use Rattle.retro_cli.specs.Stop.{StopsReading, stops_at_read, stops_at_write};
@@ -11,6 +12,7 @@ use crate::follow::write_reports;
 use crate::script::answer_source;
 use crate::stop::Stop;
 use followers::Follower;
+use retro_base::NoMemory;
 use retro_io::{Failed, Sink, Source};
 use std::alloc::Global;
 
@@ -18,14 +20,14 @@ use std::alloc::Global;
 fn answer_and_report<S: Source, K: Sink>(
     alloc: Global,
     source: &mut S,
-    followers: &mut [Box<dyn Follower>],
+    followers: &mut [Option<Box<dyn Follower>>],
     sink: &mut K,
 ) -> Result<bool, Stop>
     ensures ended { OnOk result (S.ended source.new ≡ true) }
-    ensures output { OnOk result (AppendsFollowed (map (λ f. report_after f) followers.old) (S.left source.old) (K.written sink.old) (K.written sink.new)) }
-    ensures refusal { IfOk result (MatchesRefusal (S.left source.old)) }
+    ensures output { OnOk result (AppendsFollowed (map (option_map (λ f. report_after f)) followers.old) (S.left source.old) (K.written sink.old) (K.written sink.new)) }
+    ensures refusal { IfOk result (MatchesRefusal (followed (map (option_map (λ f. report_after f)) followers.old)) (S.left source.old)) }
     ensures unflushed { OnOk result (StaysUnflushed ⟦<K as Sink>⟧ sink.old sink.new) }
-    ensures stands { IfErr result (FollowedStands ⟦<S as Source>⟧ ⟦<K as Sink>⟧ (map (λ f. report_after f) followers.old)
+    ensures stands { IfErr result (FollowedStands ⟦<S as Source>⟧ ⟦<K as Sink>⟧ (map (option_map (λ f. report_after f)) followers.old)
         source.old source.new sink.old sink.new) }
     ensures source_faults { CountsFaults (stops_at_read result) (S.faults source.old) (S.faults source.new) }
     ensures sink_faults { CountsFaults (stops_at_write result) (K.faults sink.old) (K.faults sink.new) }
@@ -43,13 +45,13 @@ fn answer_and_report<S: Source, K: Sink>(
 pub(crate) fn follow_script<S: Source, K: Sink>(
     alloc: Global,
     source: &mut S,
-    followers: &mut [Box<dyn Follower>],
+    followers: &mut [Option<Box<dyn Follower>>],
     sink: &mut K,
 ) -> Result<bool, Stop>
     ensures ended { OnOk result ((S.ended source.new ≡ true) × (K.flushed sink.new ≡ true)) }
-    ensures answers { IfOk result (AnswersFollowed ⟦<S as Source>⟧ ⟦<K as Sink>⟧ (map (λ f. report_after f) followers.old)
+    ensures answers { IfOk result (AnswersFollowed ⟦<S as Source>⟧ ⟦<K as Sink>⟧ (map (option_map (λ f. report_after f)) followers.old)
         source.old source.new sink.old sink.new) }
-    ensures stands { IfErr result (FollowedStands ⟦<S as Source>⟧ ⟦<K as Sink>⟧ (map (λ f. report_after f) followers.old)
+    ensures stands { IfErr result (FollowedStands ⟦<S as Source>⟧ ⟦<K as Sink>⟧ (map (option_map (λ f. report_after f)) followers.old)
         source.old source.new sink.old sink.new) }
     ensures source_faults { CountsFaults (stops_at_read result) (S.faults source.old) (S.faults source.new) }
     ensures sink_faults { CountsFaults (stops_at_write result) (K.faults sink.old) (K.faults sink.new) }
@@ -70,4 +72,40 @@ pub(crate) fn follow_script<S: Source, K: Sink>(
         Ok(()) => Ok(refused),
         Err(Failed) => Err(Stop::WriteFault),
     }
+}
+
+/// Gives the followers their numbers, and follows a script with them.
+pub(crate) fn follow_from_start<S: Source, K: Sink>(
+    alloc: Global,
+    source: &mut S,
+    followers: Vec<Box<dyn Follower>>,
+    sink: &mut K,
+) -> Result<bool, Stop>
+    ensures ended { OnOk result ((S.ended source.new ≡ true) × (K.flushed sink.new ≡ true)) }
+    ensures answers { IfOk result (AnswersFollowed ⟦<S as Source>⟧ ⟦<K as Sink>⟧ (audience_of (map (λ f. report_after f) followers.items))
+        source.old source.new sink.old sink.new) }
+    ensures stands { IfErr result (FollowedStands ⟦<S as Source>⟧ ⟦<K as Sink>⟧ (audience_of (map (λ f. report_after f) followers.items))
+        source.old source.new sink.old sink.new) }
+    ensures source_faults { CountsFaults (stops_at_read result) (S.faults source.old) (S.faults source.new) }
+    ensures sink_faults { CountsFaults (stops_at_write result) (K.faults sink.old) (K.faults sink.new) }
+    ensures too_long { S.taken source.new < last_count → (IsErrOf result Stop.TooLong ↔ (most_bytes < S.taken source.new - S.taken source.old)) }
+    ensures longer { IsErrOf result Stop.TooLong → MayBeTooLong (S.left source.old) }
+    ensures sent { K.waiting sink.old ≡ [] → stops_at_write result ≡ false → K.waiting sink.new ≡ [] }
+{
+    let mut numbered = all_left(alloc, followers)?;
+    follow_script(alloc, source, &mut numbered, sink)
+}
+
+/// The followers as they are handed in: each of them is left.
+fn all_left(
+    alloc: Global,
+    followers: Vec<Box<dyn Follower>>,
+) -> Result<Vec<Option<Box<dyn Follower>>>, NoMemory>
+    ensures { IfOk result (λ numbered. map (option_map (λ f. report_after f)) numbered.items ≡ audience_of (map (λ f. report_after f) followers.items)) }
+{
+    let mut numbered = Vec::new(alloc);
+    for follower in followers {
+        numbered.push(Some(follower))?;
+    }
+    Ok(numbered)
 }

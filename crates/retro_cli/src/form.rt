@@ -2,7 +2,7 @@ ghost use Rattle.std.specs.Prelude.{◌≡◌, ◌^◌, IfSome};
 ghost use Rattle.retro_cli.specs.Forms.{IsWithin, form_of, form_of_word, form_of_words, generation, is_follow};
 
 use crate::Words;
-use retro_base::Kind;
+use retro_base::{Kind, Name};
 use script_grammar::{kind_of_word, read_natural_up_to};
 
 /// The most lines that a generated script has after its first one.
@@ -68,9 +68,13 @@ fn generation(kind: &[u8], lines: &[u8], start: &[u8]) -> Option<Form>
     Some(Form::Gen { kind, lines, start })
 }
 
-/// Whether the words are the one word `follow`, which is a form of a followed run alone.
+/// Whether the words are `follow` or `follow NAME`, which are forms of a followed run alone.
 pub(crate) fn is_follow(words: &Words) -> bool
     ensures { result ≡ is_follow words.now }
 {
-    words.len() == 1 && words.word(0) == b"follow".as_slice()
+    match words.len() {
+        1 => words.word(0) == b"follow".as_slice(),
+        2 => words.word(0) == b"follow".as_slice() && Name::read(words.word(1)).is_some(),
+        _ => false,
+    }
 }

@@ -1,10 +1,12 @@
-//! Laws over the definitions of the output and of a saved text.
+//! Laws over the definitions of the output, of its events and of a saved text.
 
 ghost use Rattle.retro_cli.specs.Accepted.{WhatIsWrittenIsAccepted};
+ghost use Rattle.retro_cli.specs.Mirrored.{ChangesAloneHoldThePresent};
 ghost use Rattle.retro_cli.specs.SavedText.{SavedTextReadsBack};
 
 use evidence::laws::{lines_are_short, lines_are_values};
-use evidence_check::laws::accepted_edits_are_reported;
+use evidence_check::laws::{accepted_edits_are_reported, true_evidence_is_accepted};
+use followers::laws::mirrors_hold_the_present;
 use timeline_file::laws::saved_reads_back;
 use timeline_undo::laws::an_undo_leads_back;
 
@@ -17,6 +19,19 @@ pub fn what_is_written_is_accepted()
     lines_are_values();
     lines_are_short();
     an_undo_leads_back();
+}
+
+/// Whoever sees the changes alone holds the present: whatever the lines of a script, and whatever the name, the events
+/// among the answers leave the entries that the priority queue of this name then holds, and none where there is no such one.
+pub fn changes_alone_hold_the_present()
+    ensures { ChangesAloneHoldThePresent }
+{
+    accepted_edits_are_reported();
+    true_evidence_is_accepted();
+    lines_are_values();
+    lines_are_short();
+    an_undo_leads_back();
+    mirrors_hold_the_present();
 }
 
 /// The text that is saved of a timeline reads back: its lines are those of a block, none of them is long, and the block

@@ -22,7 +22,7 @@
 //! - `check`, `judging`: evidence is judged, up to the first line that is refused.
 //! - `generated`: a generated script is answered and summed up.
 //! - `deliver`: how a text is written, what waits is sent, and all arrives.
-//! - `laws`: what a script answers is accepted by the judge.
+//! - `laws`: what a script answers is accepted by the judge, and its events leave the present.
 #![tactic(auto)]
 
 mod check;
@@ -33,6 +33,7 @@ mod form;
 mod generated;
 mod judging;
 pub mod laws;
+mod mute;
 mod program;
 mod script;
 mod status;

@@ -1,6 +1,7 @@
 ghost use Rattle.std.specs.Prelude.{◌≡◌, ◌-◌, ◌<◌, ◌≤◌, ◌↔◌, [], false, length, map, IsSome, None};
 ghost use Rattle.retro_base.specs.Limits.{most_bytes};
 ghost use Rattle.retro_io.specs.Faults.{CountsFaults, HasRisen, last_count};
+ghost use Rattle.retro_cli.specs.Audience.{audience_of};
 ghost use Rattle.retro_cli.specs.FollowedProgram.{HasForm, HasNoForm, RunsFollowed, most_followers};
 ghost use Rattle.retro_cli.specs.Forms.{form_of};
 ghost use Rattle.retro_cli.specs.Program.{Runs};
@@ -8,7 +9,7 @@ ghost use Rattle.retro_cli.specs.Run.{EndsWithoutFault, is_read_fault, is_write_
 ghost use Rattle.retro_cli.specs.Stop.{status_after};
 
 use crate::check::run_check;
-use crate::followed::follow_script;
+use crate::followed::follow_from_start;
 use crate::form::{Form, form_of, is_follow};
 use crate::generated::run_generated;
 use crate::script::run_script;
@@ -49,19 +50,19 @@ pub fn run<S: Source, K: Sink>(alloc: Global, words: &Words, source: &mut S, sin
     }
 }
 
-/// Runs the program as `run` does, and with the one word `follow` as with the word `run`, whose changes of priority queues the followers
-/// are handed; what each of them reports then stands after the answers, one line a follower, `report I TEXT`. With the other words
-/// no follower is asked.
+/// Runs the program as `run` does, and with the words `follow` and `follow NAME` as with the word `run`, but that the followers are
+/// handed the changes of priority queues. A line `mute I` is then answered by what follower I reports, `report I TEXT`, and lets it
+/// go; what each of those who are left reports stands after the answers. With the other words no follower is asked.
 pub fn run_followed<S: Source, K: Sink>(
     alloc: Global,
     words: &Words,
     source: &mut S,
     sink: &mut K,
-    mut followers: Vec<Box<dyn Follower>>,
+    followers: Vec<Box<dyn Follower>>,
 ) -> Status
     requires { length followers.items ≤ most_followers }
-    // What stands at each status: with `follow` the output and the reports, else what a run leaves.
-    ensures form { RunsFollowed ⟦<S as Source>⟧ ⟦<K as Sink>⟧ (map (λ f. report_after f) followers.items)
+    // What stands at each status: of a followed run the output and the reports, else what a run leaves.
+    ensures form { RunsFollowed ⟦<S as Source>⟧ ⟦<K as Sink>⟧ (audience_of (map (λ f. report_after f) followers.items))
         source.old source.new sink.old sink.new result words.now }
     // When each other status comes, as of a run.
     ensures words { (result ≡ Status.Words) ↔ HasNoForm words.now }
@@ -75,7 +76,7 @@ pub fn run_followed<S: Source, K: Sink>(
     ensures sent { K.waiting sink.old ≡ [] → is_write_fault result ≡ false → K.waiting sink.new ≡ [] }
 {
     if is_follow(words) {
-        status_after(follow_script(alloc, source, &mut followers, sink))
+        status_after(follow_from_start(alloc, source, followers, sink))
     } else {
         run(alloc, words, source, sink)
     }

@@ -1,4 +1,4 @@
-ghost use Rattle.std.specs.Prelude.{◌≡◌, [], ◌+◌, ◌-◌, ◌<◌, ◌↔◌, ◌≤◌, false, true, IsTrue, IfOk, IfErr, Ok, OnErr, OnOk, IsErrOf, is_err, length, map};
+ghost use Rattle.std.specs.Prelude.{◌≡◌, [], ◌+◌, ◌-◌, ◌<◌, ◌↔◌, ◌≤◌, false, true, IsTrue, IfOk, IfErr, Ok, OnErr, OnOk, IsErrOf, is_err, length, map, option_map};
 ghost use Rattle.retro_base.specs.Limits.{longest_line, most_bytes};
 ghost use Rattle.retro_io.specs.Faults.{CountsFaults, last_count};
 ghost use Rattle.retro_io.specs.Sink.{Appends, AppendsProperPrefix};
@@ -7,9 +7,11 @@ ghost use Rattle.retro_io.specs.LineReader.{GivesLine, MovesOn, StopsAt, TookFor
 ghost use Rattle.retro_io.specs.Lines.{has_line_feed};
 ghost use Rattle.retro_io.specs.Marks.{is_fault};
 ghost use Rattle.retro_cli.specs.Ends.{Answers, Stands};
-ghost use Rattle.retro_cli.specs.Events.{HaveTakenAll, events_among};
-ghost use Rattle.retro_cli.specs.Followed.{HaveTakenScript};
+ghost use Rattle.retro_cli.specs.Audience.{followed, follows_to, hears};
+ghost use Rattle.retro_cli.specs.Events.{events_among};
+ghost use Rattle.retro_cli.specs.Followed.{HaveFollowed};
 ghost use Rattle.retro_cli.specs.OutOfMemory.{AppendsAnswersOfEarlier};
+ghost use Rattle.retro_cli.specs.Output.{alone};
 ghost use Rattle.retro_cli.specs.Run.{AppendsOutput, MayBeTooLong, MatchesRefusal};
 ghost use Rattle.retro_cli.specs.Stop.{StopsReading, stops_at_read, stops_at_write};
 ghost use Rattle.workbench.specs.Reaction.{closing, reacts_to};
@@ -17,18 +19,49 @@ ghost use Rattle.workbench.specs.Reaction.{closing, reacts_to};
 use crate::MAX_BYTES;
 use crate::deliver::{append, send};
 use crate::follow::hand_on;
+use crate::mute::{answer_by_follower, muted};
 use crate::stop::Stop;
 use followers::Follower;
 use retro_io::{Failed, LineBuffer, LineReader, Mark, ReadError, Sink, Source};
 use std::alloc::Global;
 use workbench::Bench;
 
-/// Does what one line asks for, hands the events of the answer to the followers, and writes it.
+/// Answers one line: by the follower that it mutes, or by the bench, whose events the followers are handed.
 fn answer_line<K: Sink>(
+    alloc: Global,
     line: &[u8],
     long: bool,
     bench: &mut Bench,
-    followers: &mut [Box<dyn Follower>],
+    followers: &mut [Option<Box<dyn Follower>>],
+    sink: &mut K,
+) -> Result<bool, Stop>
+    requires within { length line.now ≤ longest_line }
+    requires full { IsTrue long → length line.now ≡ longest_line }
+    requires unspent { bench.old.spent ≡ false }
+    ensures answered { IfOk result (λ refused. let turn = follows_to bench.old.bench (map (option_map (λ f. report_after f)) followers.old) line.now long in
+        (bench.new ≡ record { bench = turn.reaction.bench; spent = false }) × (refused ≡ turn.reaction.refused)
+        × Appends (K.written sink.old) turn.reaction.answer (K.written sink.new)
+        × (map (option_map (λ f. report_after f)) followers.new ≡ turn.audience)) }
+    ensures part { IsErrOf result Stop.WriteFault → (let turn = follows_to bench.old.bench (map (option_map (λ f. report_after f)) followers.old) line.now long in
+        AppendsProperPrefix (K.written sink.old) turn.reaction.answer (K.written sink.new)) }
+    ensures untouched { OnErr result (stops_at_write result ≡ false → sink.new ≡ sink.old) }
+    ensures unflushed { OnOk result (StaysUnflushed ⟦<K as Sink>⟧ sink.old sink.new) }
+    ensures last { IsErrOf result Stop.WriteFault → EndsWithFailedWrite ⟦<K as Sink>⟧ sink.old sink.new }
+    ensures sink_faults { CountsFaults (stops_at_write result) (K.faults sink.old) (K.faults sink.new) }
+    ensures reads_nothing { (IsErrOf result Stop.ReadFault → ⊥) × (IsErrOf result Stop.TooLong → ⊥) }
+{
+    match muted(line, long, bench, followers) {
+        Some(number) => answer_by_follower(alloc, number, followers, sink),
+        None => answer_by_bench(line, long, bench, followers, sink),
+    }
+}
+
+/// Does what one line asks for, hands the events of the answer to the followers, and writes it.
+fn answer_by_bench<K: Sink>(
+    line: &[u8],
+    long: bool,
+    bench: &mut Bench,
+    followers: &mut [Option<Box<dyn Follower>>],
     sink: &mut K,
 ) -> Result<bool, Stop>
     requires within { length line.now ≤ longest_line }
@@ -37,8 +70,8 @@ fn answer_line<K: Sink>(
     ensures answered { IfOk result (λ refused. let reaction = reacts_to bench.old.bench line.now long in
         (bench.new ≡ record { bench = reaction.bench; spent = false }) × (refused ≡ reaction.refused)
         × Appends (K.written sink.old) reaction.answer (K.written sink.new)) }
-    ensures handed { OnOk result (HaveTakenAll (events_among (reacts_to bench.old.bench line.now long).answer)
-        (map (λ f. report_after f) followers.old) (map (λ f. report_after f) followers.new)) }
+    ensures handed { OnOk result (map (option_map (λ f. report_after f)) followers.new
+        ≡ hears (events_among (reacts_to bench.old.bench line.now long).answer) (map (option_map (λ f. report_after f)) followers.old)) }
     ensures part { IsErrOf result Stop.WriteFault → (let reaction = reacts_to bench.old.bench line.now long in
         AppendsProperPrefix (K.written sink.old) reaction.answer (K.written sink.new)) }
     ensures untouched { OnErr result (stops_at_write result ≡ false → sink.new ≡ sink.old) }
@@ -115,20 +148,20 @@ fn next_line<S: Source, K: Sink>(
 fn answer_lines<S: Source, K: Sink>(
     alloc: Global,
     reader: &mut LineReader<'_, S>,
-    followers: &mut [Box<dyn Follower>],
+    followers: &mut [Option<Box<dyn Follower>>],
     sink: &mut K,
 ) -> Result<bool, Stop>
     requires open { has_failed reader.old ≡ false }
     requires fresh { held reader.old ≡ [] }
     ensures moves { MovesOn reader.old reader.new }
     ensures ended { OnOk result (S.ended (source_of reader.new) ≡ true) }
-    ensures output { OnOk result (AppendsOutput (rest_of reader.old) (K.written sink.old) (K.written sink.new)) }
-    ensures refusal { IfOk result (MatchesRefusal (rest_of reader.old)) }
-    ensures handed { OnOk result (HaveTakenScript (rest_of reader.old) (map (λ f. report_after f) followers.old) (map (λ f. report_after f) followers.new)) }
+    ensures output { OnOk result (AppendsOutput (followed (map (option_map (λ f. report_after f)) followers.old)) (rest_of reader.old) (K.written sink.old) (K.written sink.new)) }
+    ensures refusal { IfOk result (MatchesRefusal (followed (map (option_map (λ f. report_after f)) followers.old)) (rest_of reader.old)) }
+    ensures handed { OnOk result (HaveFollowed (rest_of reader.old) (map (option_map (λ f. report_after f)) followers.old) (map (option_map (λ f. report_after f)) followers.new)) }
     ensures unflushed { OnOk result (StaysUnflushed ⟦<K as Sink>⟧ sink.old sink.new) }
-    ensures stands { IfErr result (Stands ⟦<K as Sink>⟧ (rest_of reader.old) (S.left (source_of reader.new)) sink.old sink.new
+    ensures stands { IfErr result (Stands ⟦<K as Sink>⟧ (followed (map (option_map (λ f. report_after f)) followers.old)) (rest_of reader.old) (S.left (source_of reader.new)) sink.old sink.new
         (limit_of reader.old - given reader.old)) }
-    ensures earlier { IsErrOf result Stop.NoMemory → AppendsAnswersOfEarlier ⟦<S as Source>⟧ (source_of reader.old) (source_of reader.new)
+    ensures earlier { IsErrOf result Stop.NoMemory → AppendsAnswersOfEarlier ⟦<S as Source>⟧ (followed (map (option_map (λ f. report_after f)) followers.old)) (source_of reader.old) (source_of reader.new)
         (S.left (source_of reader.old)) (S.left (source_of reader.new)) (K.written sink.old) (K.written sink.new) }
     ensures source_faults { CountsFaults (stops_at_read result) (S.faults (source_of reader.old)) (S.faults (source_of reader.new)) }
     ensures sink_faults { CountsFaults (stops_at_write result) (K.faults sink.old) (K.faults sink.new) }
@@ -147,7 +180,7 @@ fn answer_lines<S: Source, K: Sink>(
                 return Ok(refused);
             }
         };
-        refused |= answer_line(reader.line(), long, &mut bench, followers, sink)?;
+        refused |= answer_line(alloc, reader.line(), long, &mut bench, followers, sink)?;
     }
 }
 
@@ -155,16 +188,16 @@ fn answer_lines<S: Source, K: Sink>(
 pub(crate) fn answer_source<S: Source, K: Sink>(
     alloc: Global,
     source: &mut S,
-    followers: &mut [Box<dyn Follower>],
+    followers: &mut [Option<Box<dyn Follower>>],
     sink: &mut K,
 ) -> Result<bool, Stop>
     ensures ended { OnOk result (S.ended source.new ≡ true) }
-    ensures output { OnOk result (AppendsOutput (S.left source.old) (K.written sink.old) (K.written sink.new)) }
-    ensures refusal { IfOk result (MatchesRefusal (S.left source.old)) }
-    ensures handed { OnOk result (HaveTakenScript (S.left source.old) (map (λ f. report_after f) followers.old) (map (λ f. report_after f) followers.new)) }
+    ensures output { OnOk result (AppendsOutput (followed (map (option_map (λ f. report_after f)) followers.old)) (S.left source.old) (K.written sink.old) (K.written sink.new)) }
+    ensures refusal { IfOk result (MatchesRefusal (followed (map (option_map (λ f. report_after f)) followers.old)) (S.left source.old)) }
+    ensures handed { OnOk result (HaveFollowed (S.left source.old) (map (option_map (λ f. report_after f)) followers.old) (map (option_map (λ f. report_after f)) followers.new)) }
     ensures unflushed { OnOk result (StaysUnflushed ⟦<K as Sink>⟧ sink.old sink.new) }
-    ensures stands { IfErr result (Stands ⟦<K as Sink>⟧ (S.left source.old) (S.left source.new) sink.old sink.new most_bytes) }
-    ensures earlier { IsErrOf result Stop.NoMemory → AppendsAnswersOfEarlier ⟦<S as Source>⟧ source.old source.new (S.left source.old) (S.left source.new)
+    ensures stands { IfErr result (Stands ⟦<K as Sink>⟧ (followed (map (option_map (λ f. report_after f)) followers.old)) (S.left source.old) (S.left source.new) sink.old sink.new most_bytes) }
+    ensures earlier { IsErrOf result Stop.NoMemory → AppendsAnswersOfEarlier ⟦<S as Source>⟧ (followed (map (option_map (λ f. report_after f)) followers.old)) source.old source.new (S.left source.old) (S.left source.new)
         (K.written sink.old) (K.written sink.new) }
     ensures source_faults { CountsFaults (stops_at_read result) (S.faults source.old) (S.faults source.new) }
     ensures sink_faults { CountsFaults (stops_at_write result) (K.faults sink.old) (K.faults sink.new) }
@@ -179,6 +212,28 @@ pub(crate) fn answer_source<S: Source, K: Sink>(
     answered
 }
 
+/// Reads a script and answers its lines; nobody follows it.
+fn answer_alone<S: Source, K: Sink>(
+    alloc: Global,
+    source: &mut S,
+    sink: &mut K,
+) -> Result<bool, Stop>
+    ensures ended { OnOk result (S.ended source.new ≡ true) }
+    ensures output { OnOk result (AppendsOutput alone (S.left source.old) (K.written sink.old) (K.written sink.new)) }
+    ensures refusal { IfOk result (MatchesRefusal alone (S.left source.old)) }
+    ensures unflushed { OnOk result (StaysUnflushed ⟦<K as Sink>⟧ sink.old sink.new) }
+    ensures stands { IfErr result (Stands ⟦<K as Sink>⟧ alone (S.left source.old) (S.left source.new) sink.old sink.new most_bytes) }
+    ensures earlier { IsErrOf result Stop.NoMemory → AppendsAnswersOfEarlier ⟦<S as Source>⟧ alone source.old source.new (S.left source.old) (S.left source.new)
+        (K.written sink.old) (K.written sink.new) }
+    ensures source_faults { CountsFaults (stops_at_read result) (S.faults source.old) (S.faults source.new) }
+    ensures sink_faults { CountsFaults (stops_at_write result) (K.faults sink.old) (K.faults sink.new) }
+    ensures too_long { S.taken source.new < last_count → (IsErrOf result Stop.TooLong ↔ (most_bytes < S.taken source.new - S.taken source.old)) }
+    ensures longer { IsErrOf result Stop.TooLong → MayBeTooLong (S.left source.old) }
+    ensures sent { IfErr result (λ stop. StopsReading stop → K.waiting sink.new ≡ []) }
+{
+    answer_source(alloc, source, &mut [], sink)
+}
+
 /// Reads a script, answers its lines and sees to it that the answers arrive. Where it ends early, the whole answers before have
 /// gone on, unless the sink fails.
 pub(crate) fn run_script<S: Source, K: Sink>(
@@ -187,9 +242,9 @@ pub(crate) fn run_script<S: Source, K: Sink>(
     sink: &mut K,
 ) -> Result<bool, Stop>
     ensures ended { OnOk result ((S.ended source.new ≡ true) × (K.flushed sink.new ≡ true)) }
-    ensures answers { IfOk result (Answers ⟦<K as Sink>⟧ (S.left source.old) (S.left source.new) sink.old sink.new) }
-    ensures stands { IfErr result (Stands ⟦<K as Sink>⟧ (S.left source.old) (S.left source.new) sink.old sink.new most_bytes) }
-    ensures earlier { IsErrOf result Stop.NoMemory → AppendsAnswersOfEarlier ⟦<S as Source>⟧ source.old source.new (S.left source.old) (S.left source.new)
+    ensures answers { IfOk result (Answers ⟦<K as Sink>⟧ alone (S.left source.old) (S.left source.new) sink.old sink.new) }
+    ensures stands { IfErr result (Stands ⟦<K as Sink>⟧ alone (S.left source.old) (S.left source.new) sink.old sink.new most_bytes) }
+    ensures earlier { IsErrOf result Stop.NoMemory → AppendsAnswersOfEarlier ⟦<S as Source>⟧ alone source.old source.new (S.left source.old) (S.left source.new)
         (K.written sink.old) (K.written sink.new) }
     ensures source_faults { CountsFaults (stops_at_read result) (S.faults source.old) (S.faults source.new) }
     ensures sink_faults { CountsFaults (stops_at_write result) (K.faults sink.old) (K.faults sink.new) }
@@ -197,7 +252,7 @@ pub(crate) fn run_script<S: Source, K: Sink>(
     ensures longer { IsErrOf result Stop.TooLong → MayBeTooLong (S.left source.old) }
     ensures sent { K.waiting sink.old ≡ [] → stops_at_write result ≡ false → K.waiting sink.new ≡ [] }
 {
-    let answered = answer_source(alloc, source, &mut [], sink);
+    let answered = answer_alone(alloc, source, sink);
     let refused = match answered {
         Ok(refused) => refused,
         Err(Stop::NoMemory) => {

@@ -10,7 +10,7 @@ use Rattle.evidence.specs.Laws.{LinesAreShort, PrintedReadsBack}
 use Rattle.evidence_check.specs.Judgement.{Judge, Reported}
 use Rattle.evidence_check.specs.Laws.{EditsAreSpelled, EditsAreReported}
 use Rattle.script_grammar.specs.declared.command.Command.{Command}
-use Rattle.script_grammar.specs.declared.command.Command.TheVariants.{Nothing, New, Insert, Delete, Move, Change, Fate, Ask, Undo, Redo, Save, Header}
+use Rattle.script_grammar.specs.declared.command.Command.TheVariants.{Nothing, New, Insert, Delete, Move, Change, Fate, Ask, Undo, Redo, Save, Mute, Header}
 use Rattle.script_grammar.specs.declared.command.LineError.{LineError}
 use Rattle.script_grammar.specs.declared.command.LineError.TheVariants as errors
 use Rattle.script_grammar.specs.BlockLines.{is_end}
@@ -96,7 +96,7 @@ module _ (truth : EditsAreReported) (spells : EditsAreSpelled) (back : PrintedRe
   obeys_kept timelines judge (Err errors.Long) kept is = left_kept timelines judge (Refused refusals.Long) kept (refusal_passes refusals.Long tt)
   obeys_kept timelines judge (Err errors.Syntax) kept is = left_kept timelines judge (Refused refusals.Syntax) kept (refusal_passes refusals.Syntax tt)
   obeys_kept timelines judge (Ok Nothing) kept is = left_kept timelines judge Silent kept silent_passes
-  obeys_kept timelines judge (Ok (New name kind)) kept is = starts_kept timelines name kind judge kept is
+  obeys_kept timelines judge (Ok (New name kind fused)) kept is = starts_kept timelines name kind judge kept is
   obeys_kept timelines judge (Ok (Insert name spot op)) kept is =
       named_kept name (λ timeline. inserts timeline spot op) is.0 (λ timeline good. insert_stays truth spells back short shifts_made timeline good spot op is.1) timelines judge kept
   obeys_kept timelines judge (Ok (Delete name number)) kept is =
@@ -113,12 +113,14 @@ module _ (truth : EditsAreReported) (spells : EditsAreSpelled) (back : PrintedRe
   obeys_kept timelines judge (Ok (Redo name)) kept is = named_kept name redoes is (λ timeline good. redo_stays truth spells back short shifts_made timeline good) timelines judge kept
   obeys_kept timelines judge (Ok (Save name)) kept is =
       named_kept name (λ timeline. unchanged timeline (saves timeline)) is (λ timeline good. save_stays truth spells back short shifts_made timeline good) timelines judge kept
+  obeys_kept timelines judge (Ok (Mute number)) kept is =
+      left_kept timelines judge (Refused (refusals.NoFollower number)) kept (refusal_passes (refusals.NoFollower number) tt)
   obeys_kept timelines judge (Ok (Header name kind next rows)) kept is = left_kept timelines judge Silent kept silent_passes
 
   opened_good : (line : Result Command LineError) → IfOk line IsSpelled → IsGoodOpen (opened line)
   opened_good (Err error) is = tt
   opened_good (Ok Nothing) is = tt
-  opened_good (Ok (New name kind)) is = tt
+  opened_good (Ok (New name kind fused)) is = tt
   opened_good (Ok (Insert name spot op)) is = tt
   opened_good (Ok (Delete name number)) is = tt
   opened_good (Ok (Move name number time)) is = tt
@@ -128,6 +130,7 @@ module _ (truth : EditsAreReported) (spells : EditsAreSpelled) (back : PrintedRe
   opened_good (Ok (Undo name)) is = tt
   opened_good (Ok (Redo name)) is = tt
   opened_good (Ok (Save name)) is = tt
+  opened_good (Ok (Mute number)) is = tt
   opened_good (Ok (Header name kind next rows)) is = (is.0, begun_is_good kind next rows is.1.0 is.1.1)
 
   line_spelled : (bytes : List ℕ) (long : Bool) → IfOk (spelled bytes long) IsSpelled

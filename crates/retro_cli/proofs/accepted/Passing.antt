@@ -52,6 +52,7 @@ begins_other refusals.Unfinished = refl
 begins_other refusals.Next = refl
 begins_other refusals.Rows = refl
 begins_other (refusals.NoItem number) = refl
+begins_other (refusals.NoFollower number) = refl
 
 pub refusal_passes : (refusal : Refusal) → NamesTimeline refusal → IsPassedOver (Refused refusal)
 refusal_passes refusal named judge = reads_other judge (refusal_text refusal) (refusal_printable refusal named) (begins_other refusal)

@@ -205,6 +205,7 @@ refusal_printable refusals.Unfinished named = refl
 refusal_printable refusals.Next named = refl
 refusal_printable refusals.Rows named = refl
 refusal_printable (refusals.NoItem number) named = decimal_printable number
+refusal_printable (refusals.NoFollower number) named = decimal_printable number
 refusal_printable (refusals.At number time) named =
     printable-append (codes "refused at #" ++ decimal number ++ codes " ") (decimal time)
     (printable-append (codes "refused at #" ++ decimal number) (codes " ") (decimal_printable number) refl) (decimal_printable time)

@@ -7,6 +7,7 @@ use Rattle.retro_base.specs.LineLength.{is_long}
 use Rattle.retro_io.specs.Lines.{has_line_feed, lines, without_return}
 use Rattle.retro_io.specs.LineLaws.{lines-cut}
 use Rattle.evidence.specs.declared.evidence.Evidence.{Evidence}
+use Rattle.evidence.specs.Evidence.{Spells}
 use Rattle.evidence.specs.Reading.{evidence_of}
 use Rattle.evidence_check.specs.declared.error.CheckError.{CheckError}
 use Rattle.evidence_check.specs.declared.error.CheckError.TheVariants as causes
@@ -17,9 +18,15 @@ use Rattle.workbench.specs.Outcome.{as_line}
 use Rattle.retro_cli.proofs.accepted.Leads.{Leads, leads-append, leads_one}
 use Rattle.retro_cli.proofs.accepted.Printable.{is_printable}
 
--- the judge takes the line, and is then this one
-abbrev pub Takes : Judge → List ℕ → Judge → Type 0
-Takes judge line after = judged judge line ≡ Ok after
+-- the line spells evidence
+pub record SpellsSome (line : List ℕ) : Type 0 where
+  pub evidence : Evidence
+  pub spells : Spells line evidence
+
+-- the judge takes the line, and is then this one; a line of evidence spells what it tells
+pub record Takes (judge : Judge) (line : List ℕ) (after : Judge) : Type 0 where
+  pub goes : judged judge line ≡ Ok after
+  pub spelled : is_evidence_line line ≡ true → SpellsSome line
 
 -- the text is some lines, which the judge takes
 pub record Reads (judge : Judge) (text : List ℕ) (after : Judge) : Type 0 where
@@ -68,7 +75,10 @@ reads_line judge after text is takes = record {
 
 -- a line that is no evidence is passed over
 pub reads_other : (judge : Judge) (text : List ℕ) → is_printable text ≡ true → is_evidence_line text ≡ false → Reads judge (as_line text) judge
-reads_other judge text is other = reads_line judge judge text is (judged-other judge text other)
+reads_other judge text is other = reads_line judge judge text is (record {
+  goes = judged-other judge text other;
+  spelled = λ begins. let wrong : true ≡ false = sym begins ∙ other in absurd (cc);
+})
 
 -- One evidence line more is accepted where one is taken.
 abbrev one_if : Bool → ℕ
@@ -91,9 +101,9 @@ line_once false judge after line begins is = evidence_once (evidence_of line) ju
 line_counts : (judge after : Judge) (line : List ℕ) → Takes judge line after → after.accepted ≡ judge.accepted + one_if (is_evidence_line line)
 line_counts judge after line takes =
     elim (is_evidence_line line) as (λ b. is_evidence_line line ≡ b → after.accepted ≡ judge.accepted + one_if b) [
-      | true ↦ λ begins. line_once (is_long line) judge after line begins takes
+      | true ↦ λ begins. line_once (is_long line) judge after line begins takes.goes
       | false ↦ λ other.
-          let same : judge ≡ after = let ok : Ok judge ≡ Ok after = sym (judged-other judge line other) ∙ takes in cc in
+          let same : judge ≡ after = let ok : Ok judge ≡ Ok after = sym (judged-other judge line other) ∙ takes.goes in cc in
           sym (ap (λ (j : Judge). j.accepted) same) ∙ omega arith
     ] refl
 
@@ -105,7 +115,7 @@ all_accepted (line ∷ written) before judge after leads =
     let next = leads.0 in
     let count : next.accepted + count_by is_evidence_line written ≡ judge.accepted + count_by is_evidence_line (line ∷ written) =
     omega (arith, line_counts judge next line leads.1, sum_by-cons (λ l. one_if (is_evidence_line l)) line written) in
-    rw leads.1 (all_accepted written (before + 1) next after leads.2 ∙ ap accepted count)
+    rw leads.1.goes (all_accepted written (before + 1) next after leads.2 ∙ ap accepted count)
 
 pub accepted_whole : (written : List (List ℕ)) (after : Judge) → Leads Takes nothing_reported written after → judgement written ≡ accepted (count_by is_evidence_line written)
 accepted_whole written after leads = all_accepted written 0 nothing_reported after leads ∙ ap accepted (omega arith)

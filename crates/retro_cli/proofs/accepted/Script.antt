@@ -38,7 +38,7 @@ module _ (truth : EditsAreReported) (spells : EditsAreSpelled) (back : PrintedRe
         kept = rest.kept;
       }
 
-  nothing_kept : IsKept truth spells back short shifts_made empty_bench []
+  pub nothing_kept : IsKept truth spells back short shifts_made empty_bench []
   nothing_kept = record {
     timelines = record { few = omega arith; good = tt; agrees = record { same = λ name. refl; few = omega arith } };
     block = tt;

@@ -5,21 +5,22 @@ use Rattle.std.specs.Option.{ok_or}
 use Rattle.std.specs.Str.{bytes_eq}
 use Rattle.std.proofs.lemmas.Bool.{and_parts, leb-true}
 use Rattle.retro_base.specs.declared.kind.Kind.{Kind}
+use Rattle.retro_base.specs.declared.kind.Kind.TheVariants.{Pq}
 use Rattle.retro_base.specs.declared.op.Op.TheVariants.{Enq, Deq, Push, Pop, PushL, PushR, PopL, PopR, Put, Del, Ins, DelMin}
 use Rattle.retro_base.specs.declared.row.Row.{Row}
 use Rattle.retro_base.specs.Limits.{next_limit}
 use Rattle.retro_base.specs.Name.{is_name, name_of}
 use Rattle.evidence.specs.Evidence.{IsRowNumber}
 use Rattle.script_grammar.specs.declared.command.Command.{Command}
-use Rattle.script_grammar.specs.declared.command.Command.TheVariants.{Nothing, New, Insert, Delete, Move, Change, Fate, Ask, Undo, Redo, Save, Header}
+use Rattle.script_grammar.specs.declared.command.Command.TheVariants.{Nothing, New, Insert, Delete, Move, Change, Fate, Ask, Undo, Redo, Save, Mute, Header}
 use Rattle.script_grammar.specs.declared.command.LineError.TheVariants.{Syntax}
 use Rattle.script_grammar.specs.declared.command.Spot.{Spot}
 use Rattle.script_grammar.specs.declared.command.Moment.TheVariants.{Now, Then}
 use Rattle.script_grammar.specs.declared.operands.Operands.{Operands}
 use Rattle.script_grammar.specs.declared.operands.Operands.TheVariants.{Bare, Unary, Binary}
 use Rattle.script_grammar.specs.BlockLines.{row_of, row_spelled, row_with}
-use Rattle.script_grammar.specs.Command.{about, ask_at, ask_of, ask_then, begins_comment, begins_spot, change_of, command, command_of, delete_of, fate_of, header_count, header_end, header_kind, header_next, header_of, header_rows, insert_of, kind_named, kind_of_word, move_at, move_of, move_time, new_of, save_of, spot_of}
-use Rattle.script_grammar.specs.Numbers.{between, count_of, natural_of, next_of, row_number_of, time_of, up_to, value_of}
+use Rattle.script_grammar.specs.Command.{about, ask_at, ask_of, ask_then, begins_comment, begins_spot, change_of, command, command_of, delete_of, fate_of, header_count, header_end, header_kind, header_next, header_of, header_rows, insert_of, kind_of_word, move_at, move_of, move_time, mute_of, new_kind, new_of, save_of, spot_of}
+use Rattle.script_grammar.specs.Numbers.{between, count_of, follower_of, natural_of, next_of, row_number_of, time_of, up_to, value_of}
 use Rattle.script_grammar.specs.Operands.{alone, operands_after, operands_of}
 use Rattle.script_grammar.specs.Operations.{op_of, op_with}
 use Rattle.script_grammar.specs.Queries.{query_of}
@@ -35,7 +36,7 @@ IsNext next = (1 ≤ next) × (next ≤ next_limit)
 -- what a command is sure to have
 abbrev pub IsSpelled : Command → Type 0
 IsSpelled Nothing = Unit {0}
-IsSpelled (New name kind) = IsNamed name
+IsSpelled (New name kind fused) = IsNamed name
 IsSpelled (Insert name spot op) = IsNamed name × HasValues op
 IsSpelled (Delete name number) = IsNamed name
 IsSpelled (Move name number time) = IsNamed name
@@ -45,6 +46,7 @@ IsSpelled (Ask name moment query) = IsNamed name
 IsSpelled (Undo name) = IsNamed name
 IsSpelled (Redo name) = IsNamed name
 IsSpelled (Save name) = IsNamed name
+IsSpelled (Mute number) = Unit {0}
 IsSpelled (Header name kind next rows) = IsNamed name × IsNext next
 
 -- and the row of a row line
@@ -173,15 +175,25 @@ unfolding row_of
 row_is_spelled line = row_words_spelled (words line)
 
 -- commands
+new_kind_spelled : (name : List ℕ) → IsNamed name → (rest : List (List ℕ)) → IfSome (new_kind name rest) IsSpelled
+new_kind_spelled name named [] = tt
+new_kind_spelled name named (word ∷ rest) =
+    chosen IsSpelled (bytes_eq word (codes "pqf")) _ _ (last IsSpelled (New name Pq true) rest named)
+    (chained IsSpelled (λ kind. alone (New name kind false) rest) (kind_of_word word) (λ kind. last IsSpelled (New name kind false) rest named))
+
 new_spelled : (rest : List (List ℕ)) → IfSome (new_of rest) IsSpelled
 new_spelled [] = tt
 new_spelled (word ∷ rest) =
-    chained_from IsSpelled IsNamed (λ name. option_map (New name) (kind_named rest)) (name_of word) (named_spelled word) (λ name named. mapped IsSpelled (New name) (kind_named rest) (λ kind. named))
+    chained_from IsSpelled IsNamed (λ name. new_kind name rest) (name_of word) (named_spelled word) (λ name named. new_kind_spelled name named rest)
 
 save_spelled : (rest : List (List ℕ)) → IfSome (save_of rest) IsSpelled
 save_spelled [] = tt
 save_spelled (word ∷ rest) =
     chained_from IsSpelled IsNamed (λ name. alone (Save name) rest) (name_of word) (named_spelled word) (λ name named. last IsSpelled (Save name) rest named)
+
+mute_spelled : (rest : List (List ℕ)) → IfSome (mute_of rest) IsSpelled
+mute_spelled [] = tt
+mute_spelled (word ∷ rest) = chained IsSpelled (λ number. alone (Mute number) rest) (follower_of word) (λ number. last IsSpelled (Mute number) rest tt)
 
 module _ (name : List ℕ) (named : IsNamed name) where
   insert_spelled : (word : List ℕ) (rest : List (List ℕ)) → IfSome (insert_of name word rest) IsSpelled
@@ -276,7 +288,8 @@ command_words_spelled (word ∷ rest) =
     (chosen IsSpelled (bytes_eq word (codes "new")) (new_of rest) _ (new_spelled rest)
     (chosen IsSpelled (bytes_eq word (codes "save")) (save_of rest) _ (save_spelled rest)
     (chosen IsSpelled (bytes_eq word (codes "timeline")) (header_of rest) _ (header_spelled rest)
-    (chained_from IsSpelled IsNamed (λ name. about name rest) (name_of word) (named_spelled word) (λ name named. about_spelled name named rest)))))
+    (chosen IsSpelled (bytes_eq word (codes "mute")) (mute_of rest) _ (mute_spelled rest)
+    (chained_from IsSpelled IsNamed (λ name. about name rest) (name_of word) (named_spelled word) (λ name named. about_spelled name named rest))))))
 
 or_syntax : (o : Option Command) → IfSome o IsSpelled → IfOk (ok_or o Syntax) IsSpelled
 or_syntax None holds = tt

@@ -98,7 +98,7 @@ is_some_not_none (Some x) is = refl
 found_once : (name other : List ℕ) (rows first : List Row) (others : Option (List Row)) → cond (bytes_eq name other) (Some rows) others ≡ cond (bytes_eq name other) (Some rows) (cond (bytes_eq name other) (Some first) others)
 found_once name other rows first others = elim (bytes_eq name other) as (λ b. cond b (Some rows) others ≡ cond b (Some rows) (cond b (Some first) others)) [ true ↦ refl | false ↦ refl ]
 
-rows_of-with : (name : List ℕ) (rows : List Row) (reported : List Reported) (other : List ℕ) → rows_of other (with_rows name rows reported) ≡ cond (bytes_eq name other) (Some rows) (rows_of other reported)
+pub rows_of-with : (name : List ℕ) (rows : List Row) (reported : List Reported) (other : List ℕ) → rows_of other (with_rows name rows reported) ≡ cond (bytes_eq name other) (Some rows) (rows_of other reported)
 rows_of-with name rows [] other = refl
 rows_of-with name rows (first ∷ reported) other =
     elim (is_named name first) as (λ b. is_named name first ≡ b → rows_of other (with_rows name rows (first ∷ reported)) ≡ cond (bytes_eq name other) (Some rows) (rows_of other (first ∷ reported))) [
@@ -211,9 +211,12 @@ module _ (tells : EditsAreReported) (spells : EditsAreSpelled) (back : PrintedRe
         subst (λ e. cause_of (timeless rows) e ≡ None) (same_evidence name rows edit) truth.accepted in
         let later : rows_after (timeless rows) (evidence_of name rows edit) ≡ timeless after =
         subst (λ e. rows_after (timeless rows) e ≡ timeless (edited rows edit)) (same_evidence name rows edit) truth.after ∙ ap timeless made.leads in
-        judged-spelling back short judge (evidence_of name rows edit) is
-        ∙ accepted_so judge name (evidence_of name rows edit) rows after (named_so name rows edit) (has_room names by judge.reported name few listed agrees)
-        (agrees.same name ∙ ap timeless own) none later
+        record {
+          goes = judged-spelling back short judge (evidence_of name rows edit) is
+              ∙ accepted_so judge name (evidence_of name rows edit) rows after (named_so name rows edit) (has_room names by judge.reported name few listed agrees)
+              (agrees.same name ∙ ap timeless own) none later;
+          spelled = λ begins. record { evidence = evidence_of name rows edit; spells = record { evidence = is; spelled = refl } };
+        }
 
     -- and a step
     pub tells_step : (next : ℕ) (step : Step) (judge : Judge) (by : List ℕ → List Row) (rows after : List Row) → Agrees names by judge.reported → by name ≡ rows → MakesStep Pq next rows step after

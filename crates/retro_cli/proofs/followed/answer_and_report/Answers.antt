@@ -1,5 +1,6 @@
 -- The answers were written, and then the reports.
 use Rattle.std.proofs.Common.{map}
+use Rattle.std.specs.Prelude.{option_map}
 use Rattle.std.proofs.lemmas.Result.{err_from_is_err_and}
 use Rattle.retro_io.specs.FlushLaws.{StaysUnflushed-more}
 use Rattle.retro_cli.proofs.FollowedEnds.{appends_followed, stands_at_answers, stands_at_reports}
@@ -16,14 +17,14 @@ returns-in_err-write_reports-clause-stands g c =
     let p = err_from_is_err_and c.from_residual-in_err-write_reports.result c.from_residual-in_err-write_reports.ensures.1 in
     let answered = c.in_ok-refused.ensures in
     rw (p.1, p.2)
-    (stands_at_reports g.S.Source g.K.Sink _ _ _ (map (λ f. (goal.Follower-dyn g (f.vtable, f.value)).report_after f.value) c.answer_source.new.followers) _ _ _ c.in_err-write_reports.field-0.0
+    (stands_at_reports g.S.Source g.K.Sink _ _ _ (map (λ f. option_map (λ b. (goal.Follower-dyn g (b.vtable, b.value)).report_after b.value) f) c.answer_source.new.followers) _ _ _ c.in_err-write_reports.field-0.0
     answered.handed answered.ended answered.output answered.unflushed c.in_err-write_reports.ensures.stands)
 
 pub returns-clause-output : goal.returns-clause-output
 returns-clause-output g c =
     let answered = c.in_ok-refused.ensures in
-    appends_followed (g.S.Source.left c.args.source.now) (map (λ f. (goal.Follower-dyn g (f.vtable, f.value)).report_after f.value) c.args.followers.now)
-    (map (λ f. (goal.Follower-dyn g (f.vtable, f.value)).report_after f.value) c.answer_source.new.followers)
+    appends_followed (g.S.Source.left c.args.source.now) (map (λ f. option_map (λ b. (goal.Follower-dyn g (b.vtable, b.value)).report_after b.value) f) c.args.followers.now)
+    (map (λ f. option_map (λ b. (goal.Follower-dyn g (b.vtable, b.value)).report_after b.value) f) c.answer_source.new.followers)
     (g.K.Sink.written c.args.sink.now) (g.K.Sink.written c.answer_source.new.sink) (g.K.Sink.written c.write_reports.new.sink)
     answered.handed answered.output c.in_ok-write_reports.ensures.appended
 

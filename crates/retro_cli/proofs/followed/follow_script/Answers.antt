@@ -1,5 +1,6 @@
 -- All was written, and then one flush was made.
 use Rattle.std.proofs.Common.{map, refl, inl, inr, rules, Ok, Err}
+use Rattle.std.specs.Prelude.{option_map}
 use Rattle.std.proofs.lemmas.Result.{err_from_is_err_and}
 use Rattle.retro_cli.specs.declared.stop.Stop.TheVariants as stops
 use Rattle.retro_cli.specs.Followed.{AppendsFollowed, FollowedStands}
@@ -8,13 +9,13 @@ use Rattle.retro_cli.proofs.followed.follow_script.Goals as goal
 
 pub returns-in-Err-NoMemory-clause-stands : goal.returns-in-Err-NoMemory-clause-stands
 returns-in-Err-NoMemory-clause-stands g c =
-    let at : FollowedStands g.S.Source g.K.Sink (map (λ f. (goal.Follower-dyn g (f.vtable, f.value)).report_after f.value) c.args.followers.now)
+    let at : FollowedStands g.S.Source g.K.Sink (map (λ f. option_map (λ b. (goal.Follower-dyn g (b.vtable, b.value)).report_after b.value) f) c.args.followers.now)
     c.args.source.now c.answer_and_report-answered.new.source c.args.sink.now c.answer_and_report-answered.new.sink stops.NoMemory = search rules in
     stands_sent g.S.Source g.K.Sink _ _ _ _ _ _ at c.send.ensures.written c.in_ok-send-in-Err-NoMemory.ensures.unflushed
 
 pub returns-in_err-send-in-Err-NoMemory-clause-stands : goal.returns-in_err-send-in-Err-NoMemory-clause-stands
 returns-in_err-send-in-Err-NoMemory-clause-stands g c =
-    let at : FollowedStands g.S.Source g.K.Sink (map (λ f. (goal.Follower-dyn g (f.vtable, f.value)).report_after f.value) c.args.followers.now)
+    let at : FollowedStands g.S.Source g.K.Sink (map (λ f. option_map (λ b. (goal.Follower-dyn g (b.vtable, b.value)).report_after b.value) f) c.args.followers.now)
     c.args.source.now c.answer_and_report-answered.new.source c.args.sink.now c.answer_and_report-answered.new.sink stops.NoMemory = search rules in
     let failed = c.in_err-send-in-Err-NoMemory.ensures in
     let p = err_from_is_err_and c.from_residual.result c.from_residual.ensures.1 in
@@ -35,7 +36,7 @@ returns-in-Ok-flush-clause-answers g c = record {
 
 pub returns-in-Err-flush-clause-stands : goal.returns-in-Err-flush-clause-stands
 returns-in-Err-flush-clause-stands g c =
-    let all : AppendsFollowed (map (λ f. (goal.Follower-dyn g (f.vtable, f.value)).report_after f.value) c.args.followers.now) (g.S.Source.left c.args.source.now)
+    let all : AppendsFollowed (map (λ f. option_map (λ b. (goal.Follower-dyn g (b.vtable, b.value)).report_after b.value) f) c.args.followers.now) (g.S.Source.left c.args.source.now)
     (g.K.Sink.written c.args.sink.now) (g.K.Sink.written c.flush.new.self) = search rules in
     record {
       prefix = followed_whole _ _ _ _ all;

@@ -1,11 +1,22 @@
--- The followers were handed the events of the answer.
-use Rattle.std.proofs.Common.{map, subst, sym}
-use Rattle.workbench.specs.Reaction.{Reaction}
-use Rattle.retro_cli.specs.Events.{HaveTakenAll, events_among}
+-- A follower answers, or the bench.
+use Rattle.std.proofs.Common.{map, refl, rules}
+use Rattle.std.specs.Prelude.{option_map}
+use Rattle.retro_cli.proofs.Muted.{answered_by_bench, answered_by_follower, part_by_follower}
 use Rattle.retro_cli.proofs.script.answer_line.Goals as goal
 
-pub returns-clause-handed : goal.returns-clause-handed
-returns-clause-handed g c =
-    subst (λ (r : Reaction). HaveTakenAll (events_among r.answer) (map (λ f. (goal.Follower-dyn g (f.vtable, f.value)).report_after f.value) c.args.followers.now)
-    (map (λ f. (goal.Follower-dyn g (f.vtable, f.value)).report_after f.value) c.hand_on.new.followers)) (sym c.in_ok-reply.ensures.reacts)
-    (rw c.as_bytes.ensures at c.in_ok-hand_on.ensures)
+pub returns-in-Some-clause-answered : goal.returns-in-Some-clause-answered
+returns-in-Some-clause-answered g c =
+    answered_by_follower c.args.bench.now.bench (map (λ f. option_map (λ b. (goal.Follower-dyn g (b.vtable, b.value)).report_after b.value) f) c.args.followers.now) c.args.line.now c.args.long c.in-Some.number c.in-Some.ensures.speaks.0
+    _ refl c.in-Some.ensures.speaks.1 c.answer_by_follower.result _ _ _ _ (search rules) c.answer_by_follower.ensures.answered
+
+pub returns-in-Some-clause-part : goal.returns-in-Some-clause-part
+returns-in-Some-clause-part g c = λ is.
+    part_by_follower c.args.bench.now.bench (map (λ f. option_map (λ b. (goal.Follower-dyn g (b.vtable, b.value)).report_after b.value) f) c.args.followers.now) c.args.line.now c.args.long c.in-Some.number c.in-Some.ensures.speaks.0
+    _ refl c.in-Some.ensures.speaks.1 _ _ (c.answer_by_follower.ensures.part is)
+
+pub returns-in-None-clause-answered : goal.returns-in-None-clause-answered
+returns-in-None-clause-answered g c =
+    answered_by_bench _ _ _ _ (c.in-None.ensures.silent refl) c.answer_by_bench.result _ _ _ c.answer_by_bench.ensures.answered c.answer_by_bench.ensures.handed
+
+pub returns-in-None-clause-part : goal.returns-in-None-clause-part
+returns-in-None-clause-part g c = λ is. rw (c.in-None.ensures.silent refl) (c.answer_by_bench.ensures.part is)

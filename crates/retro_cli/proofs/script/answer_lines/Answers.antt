@@ -3,9 +3,8 @@ use Rattle.std.proofs.lemmas.Result.{err_from_is_err_and}
 use Rattle.retro_io.specs.FlushLaws.{StaysUnflushed-more, StaysUnflushed-none}
 use Rattle.retro_io.specs.LineReader.{held, line_of, has_ended, source_of, taken}
 use Rattle.retro_io.specs.ReaderLaws.{MovesOn-none, MovesOn-then}
-use Rattle.retro_cli.proofs.Ends.{answers_of_first, answers_of_taken, appends_output, first_answers, part_at_end, part_in_line, stands_at_answer, stands_at_error, stands_at_send}
-use Rattle.retro_cli.proofs.Follows.{follows_all, follows_first, follows_next}
-use Rattle.retro_cli.proofs.GoesOn.{GivenAs, before_end, goes_on_first, goes_on_next, goes_on_sent, some_same}
+use Rattle.retro_cli.proofs.Ends.{all_followed, answers_of_first, answers_of_taken, appends_output, first_answers, part_at_end, part_in_line, stands_at_answer, stands_at_error, stands_at_send}
+use Rattle.retro_cli.proofs.GoesOn.{GivenAs, before_end, goes_on_answered, goes_on_first, goes_on_sent, some_same}
 use Rattle.retro_cli.proofs.OutOfMemory.{all_left, at_close, at_line, memory_is, reads_no_memory, answers_of_earlier, unwritten, writes_no_memory}
 use Rattle.retro_cli.proofs.ReadSoFar.{IsRead}
 use Rattle.retro_cli.proofs.Stops.{open_before_error, open_before_line}
@@ -27,13 +26,13 @@ returns-in_err-next_line-clause-stands g c =
     let stops = c.in_err-next_line.ensures.stops in
     let moves = c.loop-bench.invariant.moves in
     let not_ended : has_ended c.loop-bench.reader ≡ false = open_before_error _ _ c.in_err-next_line.ensures.kept_end in
-    let answers = before_end _ _ _ _ _ _ _ not_ended (goes_on_sent _ _ _ _ _ _ _ _ c.send_before_read.ensures.written c.loop-bench.invariant.answers) in
+    let answers = before_end _ _ _ _ _ _ _ _ _ not_ended (goes_on_sent _ _ _ _ _ _ _ _ _ _ c.send_before_read.ensures.written c.loop-bench.invariant.answers) in
     rw p.1
-    (stands_at_error g.K.Sink _ _ _ _ _ c.in_err-next_line.field-0.0 p.0 p.2
-    (first_answers _ _ _ _ _ _ _ (goes_on_sent _ _ _ _ _ _ _ _ c.send_before_read.ensures.written c.loop-bench.invariant.answers)) (StaysUnflushed-more g.K.Sink _ _ _ c.loop-bench.invariant.unflushed c.in_ok-send_before_read.ensures.unflushed)
-    (λ fault. answers_of_taken _ _ _ _ (held c.loop-bench.reader) _ _ _ _ answers stops.unbroken c.in_err-next_line.ensures.moves.left (stops.unbroken_taken fault))
+    (stands_at_error _ g.K.Sink _ _ _ _ _ c.in_err-next_line.field-0.0 p.0 p.2
+    (first_answers _ _ _ _ _ _ _ _ _ (goes_on_sent _ _ _ _ _ _ _ _ _ _ c.send_before_read.ensures.written c.loop-bench.invariant.answers)) (StaysUnflushed-more g.K.Sink _ _ _ c.loop-bench.invariant.unflushed c.in_ok-send_before_read.ensures.unflushed)
+    (λ fault. answers_of_taken _ _ _ _ _ _ (held c.loop-bench.reader) _ _ _ _ answers stops.unbroken c.in_err-next_line.ensures.moves.left (stops.unbroken_taken fault))
     (λ too_long. rw (← moves.limit)
-    (answers_of_first _ _ _ (held c.args.reader.now) (held c.loop-bench.reader) _ _ (taken c.args.reader.now) (taken c.loop-bench.reader) _ _
+    (answers_of_first _ _ _ _ _ (held c.args.reader.now) (held c.loop-bench.reader) _ _ (taken c.args.reader.now) (taken c.loop-bench.reader) _ _
     answers stops.unbroken moves.more moves.left
     c.args.reader.now.counted c.loop-bench.reader.counted (c.loop-bench.reader.in_limit c.loop-bench.invariant.failed) (stops.unbroken_first too_long))))
 
@@ -44,10 +43,10 @@ returns-in_err-refused-clause-stands g c =
     elim c.match-branch-3.branch [ in-Whole w ↦ rw w.in-Whole.is w.long-is | in-Long w ↦ rw w.in-Long.is w.long-is ] in
     let not_ended : has_ended c.loop-bench.reader ≡ false = open_before_line _ _ _ as_given c.in_ok-next_line.ensures.kept_end in
     rw (p.1, p.2)
-    (stands_at_answer g.K.Sink _ _ _ _ _ _ c.in_err-refused.field-0.0
-    (first_answers _ _ _ _ _ _ _ (goes_on_sent _ _ _ _ _ _ _ _ c.send_before_read.ensures.written c.loop-bench.invariant.answers)) (StaysUnflushed-more g.K.Sink _ _ _ c.loop-bench.invariant.unflushed c.in_ok-send_before_read.ensures.unflushed) c.in_err-refused.ensures.untouched c.in_err-refused.ensures.reads_nothing
-    (λ is. part_in_line _ _ _ _ c.in_ok-next_line.field-0 c.match-branch-3.long (line_of c.next_line.new.reader) (has_ended c.next_line.new.reader) _ _ _ _
-    as_given c.in_ok-next_line.ensures.gives.lines (before_end _ _ _ _ _ _ _ not_ended (goes_on_sent _ _ _ _ _ _ _ _ c.send_before_read.ensures.written c.loop-bench.invariant.answers)) (rw c.line.ensures at (c.in_err-refused.ensures.part is)))
+    (stands_at_answer _ g.K.Sink _ _ _ _ _ _ c.in_err-refused.field-0.0
+    (first_answers _ _ _ _ _ _ _ _ _ (goes_on_sent _ _ _ _ _ _ _ _ _ _ c.send_before_read.ensures.written c.loop-bench.invariant.answers)) (StaysUnflushed-more g.K.Sink _ _ _ c.loop-bench.invariant.unflushed c.in_ok-send_before_read.ensures.unflushed) c.in_err-refused.ensures.untouched c.in_err-refused.ensures.reads_nothing
+    (λ is. part_in_line _ _ _ _ _ _ c.in_ok-next_line.field-0 c.match-branch-3.long (line_of c.next_line.new.reader) (has_ended c.next_line.new.reader) _ _ _ _
+    as_given c.in_ok-next_line.ensures.gives.lines (before_end _ _ _ _ _ _ _ _ _ not_ended (goes_on_sent _ _ _ _ _ _ _ _ _ _ c.send_before_read.ensures.written c.loop-bench.invariant.answers)) (rw c.line.ensures at (c.in_err-refused.ensures.part is)))
     c.in_err-refused.ensures.last)
 
 pub returns-in_err-refused-in-End-clause-stands : goal.returns-in_err-refused-in-End-clause-stands
@@ -55,9 +54,9 @@ returns-in_err-refused-in-End-clause-stands g c =
     let p = err_from_is_err_and c.from_residual-in_err-refused-in-End.result c.from_residual-in_err-refused-in-End.ensures.1 in
     let failed = c.in_err-refused-in-End.ensures in
     rw (p.1, p.2)
-    (stands_at_answer g.K.Sink _ _ _ _ _ _ c.in_err-refused-in-End.field-0.0
-    (first_answers _ _ _ _ _ _ _ (goes_on_sent _ _ _ _ _ _ _ _ c.send_before_read.ensures.written c.loop-bench.invariant.answers)) (StaysUnflushed-more g.K.Sink _ _ _ c.loop-bench.invariant.unflushed c.in_ok-send_before_read.ensures.unflushed) failed.untouched failed.reads_nothing
-    (λ is. part_at_end _ _ _ _ _ _ _ _ _ (line_of c.next_line.new.reader) (has_ended c.next_line.new.reader) (goes_on_sent _ _ _ _ _ _ _ _ c.send_before_read.ensures.written c.loop-bench.invariant.answers)
+    (stands_at_answer _ g.K.Sink _ _ _ _ _ _ c.in_err-refused-in-End.field-0.0
+    (first_answers _ _ _ _ _ _ _ _ _ (goes_on_sent _ _ _ _ _ _ _ _ _ _ c.send_before_read.ensures.written c.loop-bench.invariant.answers)) (StaysUnflushed-more g.K.Sink _ _ _ c.loop-bench.invariant.unflushed c.in_ok-send_before_read.ensures.unflushed) failed.untouched failed.reads_nothing
+    (λ is. part_at_end _ _ _ _ _ _ _ _ _ _ _ (line_of c.next_line.new.reader) (has_ended c.next_line.new.reader) (goes_on_sent _ _ _ _ _ _ _ _ _ _ c.send_before_read.ensures.written c.loop-bench.invariant.answers)
     (rw c.in-End.is at c.in_ok-next_line.ensures.gives.lines) (failed.part is))
     failed.last)
 
@@ -81,10 +80,10 @@ returns-in_err-refused-clause-earlier g c =
     let not_ended : has_ended c.loop-bench.reader ≡ false = open_before_line _ _ _ as_given c.in_ok-next_line.ensures.kept_end in
     λ short.
     rw (c.in_err-refused.ensures.untouched (unwritten c.in_err-refused.field-0.0 (sym p.2 ∙ memory_is c.from_residual-in_err-refused.result p.0 p.1 short)))
-    (answers_of_earlier g.S.Source _ _ _ _ _ _ (λ script from.
-    let at = at_line g.S.Source (source_of c.args.reader.now) (source_of c.loop-bench.reader) (source_of now) _ _ script (held c.loop-bench.reader) (held now)
-    (line_of now) c.in_ok-next_line.field-0 c.match-branch-3.long _ (has_ended c.loop-bench.reader) (has_ended now) _ _ _
-    (before_end _ _ _ _ _ _ _ not_ended (goes_on_sent _ _ _ _ _ _ _ _ c.send_before_read.ensures.written before.answers) script
+    (answers_of_earlier g.S.Source _ _ _ _ _ _ _ (λ script from.
+    let at = at_line g.S.Source _ (source_of c.args.reader.now) (source_of c.loop-bench.reader) (source_of now) _ _ script (held c.loop-bench.reader) (held now)
+    (line_of now) c.in_ok-next_line.field-0 c.match-branch-3.long _ (has_ended c.loop-bench.reader) (has_ended now) _ _ _ _
+    (before_end _ _ _ _ _ _ _ _ _ not_ended (goes_on_sent _ _ _ _ _ _ _ _ _ _ c.send_before_read.ensures.written before.answers) script
     (all_left (held c.args.reader.now) _ script c.requires.fresh from))
     (λ left at. before.so_far script left from at) as_given c.in_ok-next_line.ensures.took now.none_left in
     record { rest = at.left; is = at.is; appended = record { answers = at.answers; met = inr (inl at.met) } }))
@@ -97,29 +96,29 @@ returns-in_err-refused-in-End-clause-earlier g c =
     λ short.
     rw (c.in_err-refused-in-End.ensures.untouched
     (unwritten c.in_err-refused-in-End.field-0.0 (sym p.2 ∙ memory_is c.from_residual-in_err-refused-in-End.result p.0 p.1 short)))
-    (answers_of_earlier g.S.Source _ _ _ _ _ _ (λ script from.
-    let at = at_close g.S.Source (source_of c.args.reader.now) (source_of c.loop-bench.reader) (source_of now) _ _ script (held c.loop-bench.reader) (held now)
-    (line_of now) _ (has_ended c.loop-bench.reader) _ (has_ended now) _ _ _
-    (goes_on_sent _ _ _ _ _ _ _ _ c.send_before_read.ensures.written before.answers script
+    (answers_of_earlier g.S.Source _ _ _ _ _ _ _ (λ script from.
+    let at = at_close g.S.Source _ (source_of c.args.reader.now) (source_of c.loop-bench.reader) (source_of now) _ _ script (held c.loop-bench.reader) (held now)
+    (line_of now) _ (has_ended c.loop-bench.reader) _ (has_ended now) _ _ _ _
+    (goes_on_sent _ _ _ _ _ _ _ _ _ _ c.send_before_read.ensures.written before.answers script
     (all_left (held c.args.reader.now) _ script c.requires.fresh from))
     (rw c.in-End.is at c.in_ok-next_line.ensures.took) now.none_left now.at_end in
     record { rest = at.left; is = at.is; appended = record { answers = at.answers; met = inr (inr at.met) } }))
 
 pub returns-in-End-clause-output : goal.returns-in-End-clause-output
 returns-in-End-clause-output g c =
-    (appends_output _ _ _ _ _ _ _ _ _ (line_of c.next_line.new.reader) (has_ended c.next_line.new.reader) (goes_on_sent _ _ _ _ _ _ _ _ c.send_before_read.ensures.written c.loop-bench.invariant.answers)
+    (appends_output _ _ _ _ _ _ _ _ _ _ _ (line_of c.next_line.new.reader) (has_ended c.next_line.new.reader) (goes_on_sent _ _ _ _ _ _ _ _ _ _ c.send_before_read.ensures.written c.loop-bench.invariant.answers)
     (rw c.in-End.is at c.in_ok-next_line.ensures.gives.lines) c.in_ok-refused-in-End.ensures.answered.1).0
 
 pub returns-in-End-clause-refusal : goal.returns-in-End-clause-refusal
 returns-in-End-clause-refusal g c =
     rw c.in_ok-refused-in-End.ensures.answered.0
-    (appends_output _ _ _ _ _ _ _ _ _ (line_of c.next_line.new.reader) (has_ended c.next_line.new.reader) (goes_on_sent _ _ _ _ _ _ _ _ c.send_before_read.ensures.written c.loop-bench.invariant.answers)
+    (appends_output _ _ _ _ _ _ _ _ _ _ _ (line_of c.next_line.new.reader) (has_ended c.next_line.new.reader) (goes_on_sent _ _ _ _ _ _ _ _ _ _ c.send_before_read.ensures.written c.loop-bench.invariant.answers)
     (rw c.in-End.is at c.in_ok-next_line.ensures.gives.lines) c.in_ok-refused-in-End.ensures.answered.1).1
 
 pub returns-in-End-clause-handed : goal.returns-in-End-clause-handed
 returns-in-End-clause-handed g c =
-    follows_all _ _ _ _ (line_of c.next_line.new.reader) (has_ended c.next_line.new.reader) _ _ c.loop-bench.invariant.followed
-    (rw c.in-End.is at c.in_ok-next_line.ensures.gives.lines)
+    all_followed _ _ _ _ _ _ _ _ _ _ (line_of c.next_line.new.reader) (has_ended c.next_line.new.reader)
+    (goes_on_sent _ _ _ _ _ _ _ _ _ _ c.send_before_read.ensures.written c.loop-bench.invariant.answers) (rw c.in-End.is at c.in_ok-next_line.ensures.gives.lines)
 
 pub returns-in-End-clause-unflushed : goal.returns-in-End-clause-unflushed
 returns-in-End-clause-unflushed g c = StaysUnflushed-more g.K.Sink _ _ _ (StaysUnflushed-more g.K.Sink _ _ _ c.loop-bench.invariant.unflushed c.in_ok-send_before_read.ensures.unflushed) c.in_ok-refused-in-End.ensures.unflushed
@@ -129,7 +128,7 @@ returns-in_err-send_before_read-clause-stands g c =
     let p = err_from_is_err_and c.from_residual.result c.from_residual.ensures.1 in
     let failed = c.in_err-send_before_read.ensures in
     rw (p.1, p.2, failed.failed)
-    (stands_at_send g.K.Sink _ None 0 _ _ _ (first_answers _ _ _ _ _ _ _ c.loop-bench.invariant.answers) c.loop-bench.invariant.unflushed failed.written failed.last)
+    (stands_at_send _ g.K.Sink _ None 0 _ _ _ (first_answers _ _ _ _ _ _ _ _ _ c.loop-bench.invariant.answers) c.loop-bench.invariant.unflushed failed.written failed.last)
 
 pub next_line-requires-clause-sent : goal.next_line-requires-clause-sent
 next_line-requires-clause-sent g c = c.in_ok-send_before_read.ensures.sent
@@ -142,8 +141,7 @@ loop-bench-init g c = record {
   source_faults = refl;
   sink_faults = refl;
   unflushed = StaysUnflushed-none g.K.Sink _;
-  answers = λ bytes e. rw c.new-bench.ensures (goes_on_first bytes _ _ _ e);
-  followed = λ bytes e. rw c.new-bench.ensures (follows_first bytes _ _ e);
+  answers = λ bytes e. rw c.new-bench.ensures (goes_on_first _ bytes _ _ _ e);
   so_far = λ script left from at. inl (refl, c.requires.fresh);
 }
 
@@ -161,18 +159,14 @@ loop-bench-preserved g c =
       sink_faults = c.in_ok-refused.ensures.sink_faults ∙ c.in_ok-send_before_read.ensures.sink_faults ∙ c.loop-bench.invariant.sink_faults;
       unflushed = StaysUnflushed-more g.K.Sink _ _ _ (StaysUnflushed-more g.K.Sink _ _ _ c.loop-bench.invariant.unflushed c.in_ok-send_before_read.ensures.unflushed) c.in_ok-refused.ensures.unflushed;
       answers = λ bytes e.
-          rw (answered.0, answered.1)
-          (goes_on_next c.in_ok-next_line.field-0 c.match-branch-3.long (line_of c.next_line.new.reader) (has_ended c.next_line.new.reader) bytes _ _ _ _ _ _ _
-          as_given c.in_ok-next_line.ensures.gives.lines (before_end _ _ _ _ _ _ _ not_ended (goes_on_sent _ _ _ _ _ _ _ _ c.send_before_read.ensures.written c.loop-bench.invariant.answers) bytes e) answered.2);
-      followed = λ bytes e.
-          rw answered.0
-          (follows_next c.in_ok-next_line.field-0 c.match-branch-3.long (line_of c.next_line.new.reader) (has_ended c.next_line.new.reader) bytes _ _ _ _ _ _
-          as_given c.in_ok-next_line.ensures.gives.lines (c.loop-bench.invariant.followed bytes e) (rw c.line.ensures at c.in_ok-refused.ensures.handed));
+          goes_on_answered _ c.in_ok-next_line.field-0 c.match-branch-3.long (line_of c.next_line.new.reader) (has_ended c.next_line.new.reader) bytes _ _ _ _ _ _ _ _
+          c.answer_line.new.bench _ _ as_given c.in_ok-next_line.ensures.gives.lines
+          (before_end _ _ _ _ _ _ _ _ _ not_ended (goes_on_sent _ _ _ _ _ _ _ _ _ _ c.send_before_read.ensures.written c.loop-bench.invariant.answers) bytes e) answered;
       so_far = λ script left from is.
           let now = c.next_line.new.reader in
-          let at = at_line g.S.Source (source_of c.args.reader.now) (source_of c.loop-bench.reader) (source_of now) _ _ script (held c.loop-bench.reader) (held now)
-          (line_of now) c.in_ok-next_line.field-0 c.match-branch-3.long _ (has_ended c.loop-bench.reader) (has_ended now) _ _ _
-          (before_end _ _ _ _ _ _ _ not_ended (goes_on_sent _ _ _ _ _ _ _ _ c.send_before_read.ensures.written c.loop-bench.invariant.answers) script
+          let at = at_line g.S.Source _ (source_of c.args.reader.now) (source_of c.loop-bench.reader) (source_of now) _ _ script (held c.loop-bench.reader) (held now)
+          (line_of now) c.in_ok-next_line.field-0 c.match-branch-3.long _ (has_ended c.loop-bench.reader) (has_ended now) _ _ _ _
+          (before_end _ _ _ _ _ _ _ _ _ not_ended (goes_on_sent _ _ _ _ _ _ _ _ _ _ c.send_before_read.ensures.written c.loop-bench.invariant.answers) script
           (all_left (held c.args.reader.now) _ script c.requires.fresh from))
           (λ left at. c.loop-bench.invariant.so_far script left from at) as_given c.in_ok-next_line.ensures.took now.none_left in
           inr (subst (λ xs. IsRead g.S.Source (source_of now) script xs (held now ++ xs)) (some_same (g.S.Source.left (source_of now)) at.is is) at.read);

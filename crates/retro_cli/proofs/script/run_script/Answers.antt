@@ -3,6 +3,7 @@ use Rattle.std.proofs.Common.{refl, inl, inr, rules, None, Ok, Err}
 use Rattle.std.proofs.lemmas.Result.{err_from_is_err_and}
 use Rattle.retro_cli.proofs.Ends.{ends_sent, stands_at_send}
 use Rattle.retro_cli.specs.Ends.{EndsAfterLine}
+use Rattle.retro_cli.specs.Output.{alone}
 use Rattle.retro_cli.proofs.script.run_script.Goals as goal
 
 pub returns-in-Err-NoMemory-clause-earlier : goal.returns-in-Err-NoMemory-clause-earlier
@@ -10,21 +11,21 @@ returns-in-Err-NoMemory-clause-earlier g c = λ short. rw c.send.ensures.written
 
 pub returns-in-Err-NoMemory-clause-stands : goal.returns-in-Err-NoMemory-clause-stands
 returns-in-Err-NoMemory-clause-stands g c =
-    let ends : EndsAfterLine g.K.Sink (g.S.Source.left c.args.source.now) None c.args.sink.now c.answer_source-answered.new.sink = search rules in
-    ends_sent g.K.Sink _ None _ _ _ _ ends c.send.ensures.written c.in_ok-send-in-Err-NoMemory.ensures.unflushed
+    let ends : EndsAfterLine g.K.Sink alone (g.S.Source.left c.args.source.now) None c.args.sink.now c.answer_alone-answered.new.sink = search rules in
+    ends_sent _ g.K.Sink _ None _ _ _ _ ends c.send.ensures.written c.in_ok-send-in-Err-NoMemory.ensures.unflushed
 
 pub returns-in_err-send-in-Err-NoMemory-clause-stands : goal.returns-in_err-send-in-Err-NoMemory-clause-stands
 returns-in_err-send-in-Err-NoMemory-clause-stands g c =
-    let ends : EndsAfterLine g.K.Sink (g.S.Source.left c.args.source.now) None c.args.sink.now c.answer_source-answered.new.sink = search rules in
+    let ends : EndsAfterLine g.K.Sink alone (g.S.Source.left c.args.source.now) None c.args.sink.now c.answer_alone-answered.new.sink = search rules in
     let failed = c.in_err-send-in-Err-NoMemory.ensures in
     let p = err_from_is_err_and c.from_residual.result c.from_residual.ensures.1 in
-    rw (p.1, p.2, failed.failed) (stands_at_send g.K.Sink _ None 0 _ _ _ ends.whole ends.unflushed failed.written failed.last)
+    rw (p.1, p.2, failed.failed) (stands_at_send _ g.K.Sink _ None 0 _ _ _ ends.whole ends.unflushed failed.written failed.last)
 
 pub returns-in-Ok-flush-clause-answers : goal.returns-in-Ok-flush-clause-answers
 returns-in-Ok-flush-clause-answers g c = record {
   output = search rules;
   flush = record {
-    middle = c.answer_source-answered.new.sink;
+    middle = c.answer_alone-answered.new.sink;
     wrote = c.in-Ok.ensures.unflushed;
     answer = Ok c.in-Ok-flush.field-0;
     is = refl;
@@ -37,7 +38,7 @@ pub returns-in-Err-flush-clause-stands : goal.returns-in-Err-flush-clause-stands
 returns-in-Err-flush-clause-stands g c = inr (inl (
   search rules,
   record {
-    middle = c.answer_source-answered.new.sink;
+    middle = c.answer_alone-answered.new.sink;
     wrote = c.in-Ok.ensures.unflushed;
     answer = Err c.in-Err-flush.field-0;
     is = refl;

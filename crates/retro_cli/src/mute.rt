@@ -1,0 +1,115 @@
+ghost use Rattle.std.specs.Prelude.{◌≡◌, ◌≤◌, [], None, Some, false, length, map, option_map, IfOk, IfSome, IsErrOf, IsSome, IsTrue, OnErr, OnOk};
+ghost use Rattle.retro_base.specs.Limits.{longest_line};
+ghost use Rattle.retro_io.specs.Faults.{CountsFaults};
+ghost use Rattle.retro_io.specs.Flushes.{EndsWithFailedWrite, StaysUnflushed};
+ghost use Rattle.retro_io.specs.Sink.{Appends, AppendsProperPrefix};
+ghost use Rattle.workbench.specs.Reaction.{reacts_to};
+ghost use Rattle.retro_cli.specs.Audience.{answers, follower_at, follows_to, mutes, without};
+ghost use Rattle.retro_cli.specs.Events.{report_line};
+ghost use Rattle.retro_cli.specs.Stop.{stops_at_write};
+
+use crate::follow::write_report;
+use crate::stop::Stop;
+use followers::Follower;
+use retro_io::Sink;
+use script_grammar::{Command, read_line};
+use std::alloc::Global;
+use workbench::Bench;
+
+/// The number of the follower that a line mutes, if that is left; none where the bench answers the line.
+pub(crate) fn muted(
+    line: &[u8],
+    long: bool,
+    bench: &Bench,
+    followers: &[Option<Box<dyn Follower>>],
+) -> Option<u32>
+    requires within { length line.now ≤ longest_line }
+    requires full { IsTrue long → length line.now ≡ longest_line }
+    requires unspent { bench.now.spent ≡ false }
+    ensures speaks { IfSome result (λ number. (mutes bench.now.bench.block line.now long ≡ Some number)
+        × IsSome (follower_at (map (option_map (λ f. report_after f)) followers.now) number)) }
+    ensures silent { result ≡ None → follows_to bench.now.bench (map (option_map (λ f. report_after f)) followers.now) line.now long
+        ≡ answers (map (option_map (λ f. report_after f)) followers.now) (reacts_to bench.now.bench line.now long) }
+{
+    if followers.is_empty() {
+        return None;
+    }
+    let number = number_muted(line, long, bench)?;
+    if follower_left(followers, number).is_some() {
+        Some(number)
+    } else {
+        None
+    }
+}
+
+/// The number that a line mutes; within a block it mutes none.
+fn number_muted(line: &[u8], long: bool, bench: &Bench) -> Option<u32>
+    requires within { length line.now ≤ longest_line }
+    requires full { IsTrue long → length line.now ≡ longest_line }
+    requires unspent { bench.now.spent ≡ false }
+    ensures { result ≡ mutes bench.now.bench.block line.now long }
+{
+    if bench.in_block() {
+        return None;
+    }
+    match read_line(line, long) {
+        Ok(Command::Mute { number }) => Some(number),
+        _ => None,
+    }
+}
+
+/// The follower with this number, if it is left.
+fn follower_left(followers: &[Option<Box<dyn Follower>>], number: u32) -> Option<&Box<dyn Follower>>
+    ensures { option_map (λ f. report_after f.now) result ≡ follower_at (map (option_map (λ f. report_after f)) followers.now) number }
+{
+    if (number as usize) < followers.len() {
+        as_left(&followers[number as usize])
+    } else {
+        None
+    }
+}
+
+/// A follower, if it is left.
+fn as_left(follower: &Option<Box<dyn Follower>>) -> Option<&Box<dyn Follower>>
+    ensures { option_map (λ f. report_after f.now) result ≡ option_map (λ f. report_after f) follower.now }
+{
+    match follower {
+        Some(left) => Some(left),
+        None => None,
+    }
+}
+
+/// Writes what the follower with this number reports, if it is left, and lets it go. The answer tells that no line was refused.
+pub(crate) fn answer_by_follower<K: Sink>(
+    alloc: Global,
+    number: u32,
+    followers: &mut [Option<Box<dyn Follower>>],
+    sink: &mut K,
+) -> Result<bool, Stop>
+    ensures answered { IfOk result (λ refused. IfSome (follower_at (map (option_map (λ f. report_after f)) followers.old) number) (λ report. (refused ≡ false)
+        × Appends (K.written sink.old) (report_line number (report [])) (K.written sink.new)
+        × (map (option_map (λ f. report_after f)) followers.new ≡ without (map (option_map (λ f. report_after f)) followers.old) number))) }
+    ensures part { IsErrOf result Stop.WriteFault → IfSome (follower_at (map (option_map (λ f. report_after f)) followers.old) number) (λ report.
+        AppendsProperPrefix (K.written sink.old) (report_line number (report [])) (K.written sink.new)) }
+    ensures untouched { OnErr result (stops_at_write result ≡ false → sink.new ≡ sink.old) }
+    ensures unflushed { OnOk result (StaysUnflushed ⟦<K as Sink>⟧ sink.old sink.new) }
+    ensures last { IsErrOf result Stop.WriteFault → EndsWithFailedWrite ⟦<K as Sink>⟧ sink.old sink.new }
+    ensures sink_faults { CountsFaults (stops_at_write result) (K.faults sink.old) (K.faults sink.new) }
+    ensures reads_nothing { (IsErrOf result Stop.ReadFault → ⊥) × (IsErrOf result Stop.TooLong → ⊥) }
+{
+    match follower_left(followers, number) {
+        Some(follower) => write_report(alloc, number as usize, follower, sink)?,
+        None => return Ok(false),
+    }
+    let_go(followers, number);
+    Ok(false)
+}
+
+/// Lets the follower with this number go; the others keep their numbers.
+fn let_go(followers: &mut [Option<Box<dyn Follower>>], number: u32)
+    ensures { map (option_map (λ f. report_after f)) followers.new ≡ without (map (option_map (λ f. report_after f)) followers.old) number }
+{
+    if (number as usize) < followers.len() {
+        followers[number as usize] = None;
+    }
+}
