@@ -1,19 +1,21 @@
--- What is claimed of a run over an outbox before a sink, with one tally as follower.
-use Rattle.std.specs.Prelude.{◌≡◌, ◌<◌, ◌-◌, ◌↔◌, [], ◌∷◌, false, ℕ, List}
+-- What is claimed of a run over an outbox before a sink, with the followers that the program hands in.
+use Rattle.std.specs.Prelude.{◌≡◌, ◌<◌, ◌-◌, ◌↔◌, [], false, ℕ, List}
 use Rattle.retro_base.specs.Limits.{most_bytes}
 use Rattle.retro_io.specs.declared.outbox.Outbox.{Outbox}
 use Rattle.retro_io.specs.declared.sink.Sink as sinks
 use Rattle.retro_io.specs.declared.source.Source as sources
 use Rattle.retro_io.specs.Faults.{CountsFaults, HasRisen, last_count}
 use Rattle.retro_io.specs.Outbox.{sink_of, waiting_of}
-use Rattle.followers.specs.Totals.{tally}
+use Rattle.followers.specs.Followers.{Reporting}
 use Rattle.retro_cli.specs.declared.status.Status.{Status}
 use Rattle.retro_cli.specs.declared.status.Status.TheVariants as statuses
+use Rattle.retro_cli.specs.Audience.{Audience, audience_of}
 use Rattle.retro_cli.specs.FollowedProgram.{HasForm, RunsFollowed}
+use Rattle.retro.specs.Followers.{followers_of}
 use Rattle.retro_cli.specs.Run.{EndsWithoutFault, is_read_fault, is_write_fault}
 
--- the source before and after, the sink before, the outbox after, the status, and the words
-pub record RunsGathered {S K : Type 0} (I : sources.Ghosts S) (O : sinks.Ghosts K) (G : sinks.Ghosts (Outbox K))
+-- the followers, the source before and after, the sink before, the outbox after, the status, and the words
+pub record RunsGathered {S K : Type 0} (I : sources.Ghosts S) (O : sinks.Ghosts K) (G : sinks.Ghosts (Outbox K)) (followers : List Reporting)
     (source source' : S) (sink : K) (outbox : Outbox K) (status : Status) (words : List (List ℕ)) : Type 0 where
   -- it runs over an outbox before this sink, in which nothing waits, and which has not failed
   pub first : Outbox K
@@ -21,7 +23,10 @@ pub record RunsGathered {S K : Type 0} (I : sources.Ghosts S) (O : sinks.Ghosts 
   pub empty : waiting_of first ≡ []
   pub unflushed : G.flushed first ≡ false
   pub no_faults : G.faults first ≡ 0
-  pub runs : RunsFollowed I G (tally ∷ []) source source' first outbox status words
+  -- these followers were handed in
+  pub audience : Audience
+  pub handed_in : audience ≡ audience_of followers
+  pub runs : RunsFollowed I G audience source source' first outbox status words
   -- the counts rise where a read or a write failed, and else both stay; without a fault it ends with an output, out of memory, or at an
   -- input that is too long
   pub source_faults : CountsFaults (is_read_fault status) (I.faults source) (I.faults source')
@@ -36,4 +41,4 @@ pub record RunsGathered {S K : Type 0} (I : sources.Ghosts S) (O : sinks.Ghosts 
 -- some run of these words over some streams ended with this status
 abbrev pub EndsARun : {S K : Type 0} → sources.Ghosts S → sinks.Ghosts K → sinks.Ghosts (Outbox K) → Status → List (List ℕ) → Type 0
 EndsARun {S} {K} I O G status words =
-    (source : S) × (source' : S) × (sink : K) × (outbox : Outbox K) × RunsGathered I O G source source' sink outbox status words
+    (source : S) × (source' : S) × (sink : K) × (outbox : Outbox K) × RunsGathered I O G (followers_of words) source source' sink outbox status words

@@ -1,12 +1,11 @@
 -- The run is over the outbox that was made, and what waits there has gone on.
-use Rattle.std.proofs.Common.{◌≡◌, [], ◌∷◌, ◌++◌, ap, ◌∙◌, refl, map, subst}
+use Rattle.std.proofs.Common.{◌≡◌, [], ◌∷◌, ◌++◌, ap, ◌∙◌, refl, map}
 use Rattle.followers.specs.Totals.{tally, totals_after, totals_text}
-use Rattle.retro_cli.specs.FollowedProgram.{RunsFollowed}
+use Rattle.retro_cli.specs.Audience.{audience_of}
 use Rattle.retro.proofs.Waiting.{all_is_in, none_and_none, second_is_none}
-use Rattle.retro.proofs.run_gathered.OwnLists.{at-1-1, own-1}
-use Rattle.retro_io.specs.contracts.outbox.OutboxSink.TheImpl.{ghosts}
+use Rattle.retro.proofs.run_with_tally.OwnLists.{at-1-1, own-1}
 use denote.Param.Object.{read_made}
-use Rattle.retro.proofs.run_gathered.Goals as goal
+use Rattle.retro.proofs.run_with_tally.Goals as goal
 
 pub returns-clause-runs : goal.returns-clause-runs
 returns-clause-runs g c =
@@ -21,9 +20,9 @@ returns-clause-runs g c =
       empty = c.in_ok-outbox.ensures.waiting;
       unflushed = c.in_ok-outbox.ensures.flushed;
       no_faults = c.in_ok-outbox.ensures.faults;
-      runs = subst (λ followers. RunsFollowed g.S.Source (ghosts g.row.K g.K.Sink g.K.Sink-dict g.K.Destruct-dict) followers c.args.source.now c.run_followed-status.new.source c.in_ok-outbox.outbox c.run_followed-status.new.sink
-          c.run_followed-status.result c.args.words.now)
-          (ap (map (λ f. (own-1.entry f.vtable).1.report_after f.value)) one ∙ ap (λ report. report ∷ []) counts) c.run_followed-status.ensures.form;
+      audience = audience_of (map (λ f. (own-1.entry f.vtable).1.report_after f.value) c.push.new.self.items);
+      handed_in = ap audience_of (ap (map (λ f. (own-1.entry f.vtable).1.report_after f.value)) one ∙ ap (λ report. report ∷ []) counts);
+      runs = c.run_followed-status.ensures.form;
       source_faults = c.run_followed-status.ensures.source_faults;
       sink_faults = c.run_followed-status.ensures.sink_faults;
       complete = c.run_followed-status.ensures.complete;
@@ -31,3 +30,9 @@ returns-clause-runs g c =
       sent = λ none succeeds. second_is_none _ _ (c.run_followed-status.ensures.sent (none_and_none _ _ (rw c.in_ok-outbox.ensures.sink none) c.in_ok-outbox.ensures.waiting) succeeds);
       all = λ none succeeds. all_is_in _ _ _ (c.run_followed-status.ensures.sent (none_and_none _ _ (rw c.in_ok-outbox.ensures.sink none) c.in_ok-outbox.ensures.waiting) succeeds);
     }
+
+pub returns-clause-words : goal.returns-clause-words
+returns-clause-words g c = c.run_followed-status.ensures.words
+
+pub returns-clause-err : goal.returns-clause-err
+returns-clause-err g c = tt
