@@ -1,4 +1,5 @@
-use retro_base::Text;
+use engine::Engine;
+use retro_base::{Name, Text};
 use std::alloc::Global;
 use std::process::Abort;
 use workbench::Bench;
@@ -97,5 +98,32 @@ fn rows_at_one_place_use_the_labels_up(rt: HostRuntime) {
         let line = numbered(&rt, alloc, b"q ask after #", number, b" size");
         let size = numbered(&rt, alloc, b"= ", 1001 - number, b"\n");
         expect_answer(&rt, &mut bench, &line, &size);
+    }
+}
+
+/// Whether the timeline `p` is held as a product of pieces.
+fn is_fused(rt: &impl Abort, bench: &Bench) -> bool {
+    let name = Name::read(b"p").expect(rt, "a name");
+    assert!(rt; !bench.spent());
+    let session = bench.session(&name).expect(rt, "a timeline");
+    matches!(session.structure(), Engine::Fused { .. })
+}
+
+#[test]
+fn a_word_chooses_how_a_priority_queue_is_held(rt: HostRuntime) {
+    let alloc = rt.alloc();
+    let kinds: [(&[u8], bool); 2] = [(b"new p pq", false), (b"new p pqf", true)];
+    for (line, fused) in kinds {
+        let mut bench = Bench::new(alloc);
+        expect_answer(
+            &rt,
+            &mut bench,
+            &text(&rt, alloc, line),
+            &text(&rt, alloc, b"ok\n"),
+        );
+        assert_eq!(rt; is_fused(&rt, &bench), fused);
+        let edited = text(&rt, alloc, b"edit p add 0 #1 ins 4 bridge 0 gain #1 4\n");
+        expect_answer(&rt, &mut bench, &text(&rt, alloc, b"p at 5 ins 4"), &edited);
+        assert_eq!(rt; is_fused(&rt, &bench), fused);
     }
 }

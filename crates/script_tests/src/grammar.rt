@@ -24,7 +24,7 @@ fn commands(rt: HostRuntime) -> Result<(), Fail> {
     let q = Name::read(b"q").ok_or("q")?;
     let at = Name::read(b"at").ok_or("at")?;
     let long = Name::read(b"Abcdefghijklmnopqrstuvwxyz-_0123").ok_or("32 bytes")?;
-    let lines: [(&[u8], Command); 30] = [
+    let lines: [(&[u8], Command); 33] = [
         (b"", Command::Nothing),
         (b"   ", Command::Nothing),
         (b";note", Command::Nothing),
@@ -34,6 +34,7 @@ fn commands(rt: HostRuntime) -> Result<(), Fail> {
             Command::New {
                 name: q,
                 kind: Kind::Queue,
+                fused: false,
             },
         ),
         (
@@ -41,6 +42,7 @@ fn commands(rt: HostRuntime) -> Result<(), Fail> {
             Command::New {
                 name: at,
                 kind: Kind::Stack,
+                fused: false,
             },
         ),
         (
@@ -48,6 +50,7 @@ fn commands(rt: HostRuntime) -> Result<(), Fail> {
             Command::New {
                 name: long,
                 kind: Kind::Deque,
+                fused: false,
             },
         ),
         (
@@ -55,6 +58,7 @@ fn commands(rt: HostRuntime) -> Result<(), Fail> {
             Command::New {
                 name: q,
                 kind: Kind::Dict,
+                fused: false,
             },
         ),
         (
@@ -124,8 +128,19 @@ fn commands(rt: HostRuntime) -> Result<(), Fail> {
             Command::New {
                 name: q,
                 kind: Kind::Pq,
+                fused: false,
             },
         ),
+        (
+            b" new  q pqf ",
+            Command::New {
+                name: q,
+                kind: Kind::Pq,
+                fused: true,
+            },
+        ),
+        (b"mute 0", Command::Mute { number: 0 }),
+        (b" mute  04294967295 ", Command::Mute { number: u32::MAX }),
         (b"save q", Command::Save { name: q }),
         (
             b"timeline at queue next 016777216",
@@ -277,7 +292,7 @@ fn questions(rt: HostRuntime) -> Result<(), Fail> {
 
 #[test]
 fn no_commands(rt: HostRuntime) {
-    let lines: [&[u8]; 77] = [
+    let lines: [&[u8]; 85] = [
         b"new",
         b"new q",
         b"new q heap",
@@ -288,6 +303,14 @@ fn no_commands(rt: HostRuntime) {
         b"new q.r queue",
         b"new Abcdefghijklmnopqrstuvwxyz-_01234 queue",
         b"NEW q queue",
+        b"new q pqf 1",
+        b"new q PQF",
+        b"timeline q pqf next 1",
+        b"mute",
+        b"mute q",
+        b"mute -1",
+        b"mute 4294967296",
+        b"mute 1 2",
         b"q",
         b"q frob",
         b"q undo 1",
