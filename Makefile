@@ -8,16 +8,17 @@
 #   make fmt      lays all sources out
 #   make install  puts it into bin below PREFIX, which is /usr/local where none is named
 #   make test     the gate: every proof, every must-fail edit, every test, every example, and of the built program
-#                 its streams and half a million questions about the past; needs Python 3
-#   make bench    times the program on generated scripts of each kind, on a million questions beside a plain
-#                 program where rustc is there, on whole timelines as text, and on evidence; needs Python 3
+#                 what stands in tests/ and the recipes; needs Python 3
+#   make bench    measures the program beside others and writes docs/MEASURED.md, in a quarter of an hour; needs
+#                 Python 3, and rustc for the others; QUICK=1 for a first look, which writes into build/
+#   make hostile  outside the gate: forged evidence, drawn scripts and refused memory; needs Python 3 and cc
 
 SCRIPT ?= examples/late_job.script
 PREFIX ?= /usr/local
 
 SOURCES := $(shell find crates -name out -prune -o -type f \( -name '*.rt' -o -name '*.antt' \) -print) crates.txt
 
-.PHONY: run try build check unit fmt install test bench
+.PHONY: run try build check unit fmt install test bench hostile
 
 run: build
 	@echo
@@ -55,7 +56,11 @@ test:
 	@sh .ci/gate
 
 bench: build
-	@python3 bench/measure.py build/retro
-	@python3 bench/lines.py build/retro
-	@python3 bench/blocks.py build/retro
-	@python3 bench/check.py build/retro
+	@python3 bench/measure.py $(if $(QUICK),--quick) build/retro
+
+hostile: build
+	@python3 tests/hostile/forge.py build/retro
+	@python3 tests/hostile/random_scripts.py build/retro
+	@if command -v rustc > /dev/null; then python3 tests/hostile/long_scripts.py build/retro; \
+	    else echo "Left out: long scripts, since there is no rustc"; fi
+	@python3 tests/hostile/refusals.py build/retro

@@ -1,7 +1,7 @@
 #!/usr/bin/env python3
 """Asks `retro run` about the past of a full deque half a million times, and compares each answer.
 
-    python3 bench/past.py [PROGRAM]
+    python3 tests/past.py [PROGRAM]
 
 PROGRAM is build/retro where none is named. The deque is loaded as one block, whose row N puts N in at the left,
 so before row N the leftmost item is N - 1. A program that performs the rows again for each question runs out of

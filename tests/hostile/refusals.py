@@ -1,7 +1,7 @@
 #!/usr/bin/env python3
 """Refuses the program its memory, one growth a run, and looks at what it has written by then.
 
-    python3 bench/refusals.py [PROGRAM [MOST]]
+    python3 tests/hostile/refusals.py [PROGRAM [MOST]]
 
 PROGRAM is build/retro where none is named. A shim of malloc, made by `cc`, lets the Nth growth fail: alone, and with all
 that come after it. Each run has to write the whole output and end as it does with ample memory, or to end with status 5
@@ -14,7 +14,7 @@ import subprocess
 import sys
 import tempfile
 
-ROOT = os.path.dirname(os.path.dirname(os.path.abspath(__file__)))
+ROOT = os.path.dirname(os.path.dirname(os.path.dirname(os.path.abspath(__file__))))
 
 SHIM = r"""
 #define _GNU_SOURCE

@@ -1,5 +1,5 @@
 """A second reading of the script language, by replay: plain Python that shares no code with the program. It is slow, and says
-what the program should have written; `bench/random_scripts.py` compares the two byte by byte."""
+what the program should have written; `tests/hostile/random_scripts.py` compares the two byte by byte."""
 
 import bisect
 import re
@@ -289,10 +289,12 @@ class Bench:
     def command(self, words):
         first = words[0]
         if first == b"new" and len(words) == 3:
-            name, kind = name_of(words[1]), kind_of(words[2])
+            name, kind = name_of(words[1]), "pq" if words[2] == b"pqf" else kind_of(words[2])
             self.free(name)
             self.timelines[name] = Timeline(name, kind, [], 1)
             return ["ok"]
+        if first == b"mute" and len(words) == 2:
+            raise Refused("refused no follower %d" % natural(words[1], 0, 2**32 - 1))
         if first == b"save" and len(words) == 2:
             return self.saved(self.named(name_of(words[1])))
         if first == b"timeline" and words[3] == b"next" and (len(words) == 5 or (len(words) == 7 and words[5] == b"rows")):

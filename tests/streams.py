@@ -1,7 +1,7 @@
 #!/usr/bin/env python3
 """Drives `retro run` line by line, and lets its streams fail: what no contract can say of the real streams.
 
-    python3 bench/streams.py [PROGRAM]
+    python3 tests/streams.py [PROGRAM]
 
 PROGRAM is build/retro where none is named. Each try has to end within a few seconds; one that does not fails
 with the line that was waited for. The last line is the number of tries; the exit status is 0 where all passed.

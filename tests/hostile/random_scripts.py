@@ -1,7 +1,7 @@
 #!/usr/bin/env python3
 """Runs drawn scripts and compares the answers, byte by byte, with those of a second bench that replays (`second_bench.py`).
 
-    python3 bench/random_scripts.py [PROGRAM [SECONDS [START]]]
+    python3 tests/hostile/random_scripts.py [PROGRAM [SECONDS [START]]]
 
 PROGRAM is build/retro where none is named; it goes on for so many SECONDS (60), with draws from START (1). Each script comes
 through a pipe in pieces of random sizes. One in four has its input cut off within a line, one in eight a reader that
@@ -18,14 +18,14 @@ import time
 
 import second_bench
 
-ROOT = os.path.dirname(os.path.dirname(os.path.abspath(__file__)))
+ROOT = os.path.dirname(os.path.dirname(os.path.dirname(os.path.abspath(__file__))))
 ADDING = {"queue": ["enq %d"], "stack": ["push %d"], "deque": ["pushl %d", "pushr %d"], "dict": ["put {k} %d"], "pq": ["ins %d"]}
 TAKING = {"queue": ["deq"], "stack": ["pop"], "deque": ["popl", "popr"], "dict": ["del {k}"], "pq": ["delmin"]}
 ASKING = {"queue": ["front", "back", "nth %d"], "stack": ["top", "nth %d"], "deque": ["left", "right", "nth %d"],
           "dict": ["get {k}", "succ {k}", "pred {k}", "count {k} %d", "sum {k} %d"], "pq": ["min", "nth %d"]}
 ODD = [b"", b"  ", b"; a remark", b"\xff", b"q", b"q ask", b"new", b"new end queue", b"new x heap", b"q at 1", b"q at -1 enq 1", b"q ask nth -1",
        b"q\tat 1 enq 1", b"end", b"save", b"q undo now", b"q at 18446744073709551616 enq 1", b"q at 1 enq 9223372036854775808", b"timeline q queue next 0",
-       b"a" * 4097, b"q ask size" + b" " * 4087, b"#1 1 enq 1", b"edit p add 0 #1 ins 1 bridge 0 gain #1 1", b"q ask front\r", b"mute 0",
+       b"a" * 4097, b"q ask size" + b" " * 4087, b"#1 1 enq 1", b"edit p add 0 #1 ins 1 bridge 0 gain #1 1", b"q ask front\r", b"mute 0", b"mute 4294967296", b"new x pqf pq", b"timeline x pqf next 1",
        b"q move #1 5", b"q move #1 at", b"q change #1", b"q fate", b"timeline q queue next 3 rows", b"timeline q queue next 3 rows 131073"]
 
 
@@ -67,7 +67,7 @@ class Script:
         if not self.names or draw < 0.04:
             name, kind = self.draws.choice("pqrstuvwxyz"), self.draws.choice(list(ADDING))
             self.names.setdefault(name, kind)
-            self.lines.append("new %s %s" % (name, kind))
+            self.lines.append("new %s %s" % (name, "pqf" if kind == "pq" and self.draws.random() < 0.5 else kind))
             return
         name = self.draws.choice(list(self.names))
         kind = self.names[name]

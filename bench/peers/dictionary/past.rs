@@ -1,10 +1,9 @@
-//! A dictionary whose past can be edited and asked: as crates/retro_dictionary has it, and as a list of rows that is replayed.
+//! A dictionary whose past can be edited and asked, as crates/retro_dictionary has it.
 
 use crate::index::{Bad, KeyIndex, Op};
-use crate::labels::{spread, Labels, END};
+use crate::labels::{END, Labels, spread};
 use crate::spans::{Found, KeyPair, Lifetime, Segments};
 use crate::weighted::{Item, Tree};
-use std::collections::BTreeMap;
 
 #[derive(Clone, Copy)]
 #[allow(dead_code)]
@@ -46,7 +45,6 @@ pub trait Past {
     fn insert(&mut self, place: u32, row: Row);
     fn remove(&mut self, place: u32) -> Row;
     fn ask(&self, place: u32, question: Question) -> Answer;
-    fn all(&self, place: u32) -> Vec<KeyPair>;
 }
 
 /// A pair with the label at which it is put.
@@ -86,14 +84,6 @@ impl Dictionary {
             index: KeyIndex::new(),
             segments: Segments::new(),
         }
-    }
-
-    pub fn rows(&self) -> Vec<Row> {
-        (0..self.len()).map(|place| self.rows.get(place)).collect()
-    }
-
-    pub fn tenths_of_spans(&self) -> u64 {
-        self.segments.tenths_of_spans()
     }
 
     /// The label of the next row on a key.
@@ -203,17 +193,6 @@ impl Past for Dictionary {
             Question::Sum { .. } => Answer::Number(found.sum),
         }
     }
-
-    /// One pair after another, each by a search from after the key before it.
-    fn all(&self, place: u32) -> Vec<KeyPair> {
-        let (mut pairs, mut low) = (Vec::new(), Some(i64::MIN));
-        while let Some(from) = low {
-            let next = self.found(place, from, i64::MAX).least;
-            pairs.extend(next);
-            low = next.and_then(|pair| pair.key.checked_add(1));
-        }
-        pairs
-    }
 }
 
 fn number(value: Option<i64>) -> Answer {
@@ -222,86 +201,4 @@ fn number(value: Option<i64>) -> Answer {
 
 fn pair(pair: Option<KeyPair>) -> Answer {
     pair.map_or(Answer::Nothing, Answer::Pair)
-}
-
-/// The rows alone: each test and each question performs them from the first one on.
-pub struct Replayed(pub Vec<Row>);
-
-/// Performs rows, and gives the index of the first one that fails.
-fn perform<'a>(held: &mut BTreeMap<i64, i64>, ops: impl Iterator<Item = &'a Op>) -> Option<u32> {
-    for (index, op) in ops.enumerate() {
-        match *op {
-            Op::Put { key, value } => {
-                held.insert(key, value);
-            }
-            Op::Del { key } => {
-                if held.remove(&key).is_none() {
-                    return Some(index as u32);
-                }
-            }
-        }
-    }
-    None
-}
-
-impl Replayed {
-    fn ops(&self) -> impl Iterator<Item = &Op> {
-        self.0.iter().map(|row| &row.op)
-    }
-
-    fn at(&self, place: u32) -> BTreeMap<i64, i64> {
-        let mut held = BTreeMap::new();
-        perform(&mut held, self.ops().take(place as usize));
-        held
-    }
-}
-
-impl Past for Replayed {
-    fn len(&self) -> u32 {
-        self.0.len() as u32
-    }
-
-    fn failure_after_insert(&self, place: u32, op: Op) -> Option<u32> {
-        let place = place as usize;
-        let behind = self.ops().skip(place);
-        let ops = self.ops().take(place).chain([&op]).chain(behind);
-        perform(&mut BTreeMap::new(), ops)
-    }
-
-    fn failure_after_remove(&self, place: u32) -> Option<u32> {
-        let place = place as usize;
-        let ops = self.ops().take(place).chain(self.ops().skip(place + 1));
-        perform(&mut BTreeMap::new(), ops)
-    }
-
-    fn insert(&mut self, place: u32, row: Row) {
-        self.0.insert(place as usize, row);
-    }
-
-    fn remove(&mut self, place: u32) -> Row {
-        self.0.remove(place as usize)
-    }
-
-    fn ask(&self, place: u32, question: Question) -> Answer {
-        let held = self.at(place);
-        let to_pair = |(key, value): (&i64, &i64)| KeyPair {
-            key: *key,
-            value: *value,
-        };
-        match question {
-            Question::Get { key } => number(held.get(&key).copied()),
-            Question::Succ { key } => pair(held.range(key..).next().map(to_pair)),
-            Question::Pred { key } => pair(held.range(..=key).next_back().map(to_pair)),
-            Question::Count { low, high } => Answer::Number(held.range(low..=high).count() as i128),
-            Question::Sum { low, high } => {
-                let values = held.range(low..=high).map(|pair| i128::from(*pair.1));
-                Answer::Number(values.sum())
-            }
-        }
-    }
-
-    fn all(&self, place: u32) -> Vec<KeyPair> {
-        let pairs = self.at(place).into_iter();
-        pairs.map(|(key, value)| KeyPair { key, value }).collect()
-    }
 }

@@ -1,7 +1,7 @@
 #!/usr/bin/env python3
 """Checks the words of the built program where no test of a crate goes.
 
-    python3 bench/words.py [PROGRAM]
+    python3 tests/words.py [PROGRAM]
 
 PROGRAM is build/retro where none is named. The script that `gen` sums up is generated here once more, for each kind, and
 answered by `run`: the summary has to be that of its answers. And a timeline of 131,072 rows is handed to `check`, which has to

@@ -178,11 +178,7 @@ const LEVELS: u32 = 40;
 
 fn closed(span: Box<Span>) -> Spans {
     let is_empty = span.pairs.len() == 0 && span.left.is_none() && span.right.is_none();
-    if is_empty {
-        None
-    } else {
-        Some(span)
-    }
+    if is_empty { None } else { Some(span) }
 }
 
 fn add(spans: &mut Spans, level: u32, life: Lifetime) {
@@ -237,13 +233,6 @@ fn ask(spans: &Spans, level: u32, label: u64, low: i64, high: i64) -> Found {
     })
 }
 
-/// How many pairs lie in all spans.
-fn places(spans: &Spans) -> u64 {
-    spans.as_ref().map_or(0, |span| {
-        u64::from(span.pairs.len()) + places(&span.left) + places(&span.right)
-    })
-}
-
 /// Lifetimes by where they begin, and their pairs in the spans that make them up.
 pub struct Segments {
     held: Tree<Lifetime>,
@@ -272,10 +261,5 @@ impl Segments {
 
     pub fn ask(&self, label: u64, low: i64, high: i64) -> Found {
         ask(&self.root, LEVELS, label, low, high)
-    }
-
-    /// How many spans a lifetime lies in, in tenths.
-    pub fn tenths_of_spans(&self) -> u64 {
-        10 * places(&self.root) / u64::from(self.held.len().max(1))
     }
 }

@@ -1,7 +1,7 @@
 #!/usr/bin/env python3
 """Forges evidence, and has each forgery judged by `retro check` and by a second judge that shares no code with it.
 
-    python3 bench/forge.py [PROGRAM [FORGERIES [SEED]]]
+    python3 tests/hostile/forge.py [PROGRAM [FORGERIES [SEED]]]
 
 PROGRAM is build/retro where none is named, FORGERIES 100000, SEED 1. Honest evidence is written here too, by replay, in
 eight shapes. Each forgery changes a byte, a word or what a line says, or drops, doubles, moves or swaps lines, or takes lines
@@ -18,7 +18,7 @@ import re
 import subprocess
 import sys
 
-ROOT = os.path.dirname(os.path.dirname(os.path.abspath(__file__)))
+ROOT = os.path.dirname(os.path.dirname(os.path.dirname(os.path.abspath(__file__))))
 
 # ---------------------------------------------------------------- the second judge: it replays, and knows no weights
 

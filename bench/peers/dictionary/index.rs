@@ -56,7 +56,8 @@ impl KeyIndex {
 
     fn up_to_key(&self, key: i64, label: u64) -> u32 {
         let spot = (key, label);
-        self.by_key.partition_point(|row| (row.op.key(), row.label) <= spot)
+        self.by_key
+            .partition_point(|row| (row.op.key(), row.label) <= spot)
     }
 
     /// The last row on a key up to a label.

@@ -44,11 +44,7 @@ impl Labels {
 
     fn behind(&self, place: u32) -> u64 {
         let is_last = place == self.0.len();
-        if is_last {
-            END
-        } else {
-            self.0.get(place).0
-        }
+        if is_last { END } else { self.0.get(place).0 }
     }
 
     pub fn has_room(&self, place: u32) -> bool {

@@ -1,0 +1,160 @@
+//! Rows in order of time over runs, labels and trees, as crates/order_timeline and crates/order_labels have them: a number
+//! is looked up in a map, which gives the name of a run; the run's label says where it stands.
+
+use crate::rows::Row;
+use crate::tree::{Item, Link};
+use std::collections::BTreeMap;
+
+impl Item for Row {
+    type Measure = ();
+    fn measure(&self) {}
+    fn join(_: (), _: ()) {}
+}
+
+#[derive(Clone, Copy)]
+struct Label(u64);
+
+impl Item for Label {
+    type Measure = ();
+    fn measure(&self) {}
+    fn join(_: (), _: ()) {}
+}
+
+/// The name of a run, and how many rows it has.
+#[derive(Clone, Copy)]
+struct Run {
+    name: u32,
+    rows: u32,
+}
+
+impl Item for Run {
+    type Measure = u32;
+
+    fn measure(&self) -> u32 {
+        self.rows
+    }
+
+    fn join(one: u32, other: u32) -> u32 {
+        one + other
+    }
+}
+
+const LIMIT: u64 = 1 << 40;
+const LONGEST_RUN: u32 = 32;
+
+pub struct Timeline {
+    rows: Link<Row>,
+    runs: Link<Run>,
+    labels: Link<Label>,
+    /// The label of each name.
+    table: Vec<u64>,
+    numbers: BTreeMap<u32, u32>,
+}
+
+impl Timeline {
+    pub fn new() -> Timeline {
+        let mut timeline = Timeline {
+            rows: Link::empty(),
+            runs: Link::empty(),
+            labels: Link::empty(),
+            table: Vec::new(),
+            numbers: BTreeMap::new(),
+        };
+        timeline.add_run(0, 0);
+        timeline
+    }
+
+    pub fn len(&self) -> usize {
+        self.rows.len()
+    }
+
+    pub fn row_at(&self, place: usize) -> Row {
+        self.rows.get(place)
+    }
+
+    pub fn rows(&self) -> Vec<Row> {
+        let mut rows = Vec::with_capacity(self.len());
+        self.rows.each(&mut |row| rows.push(row));
+        rows
+    }
+
+    pub fn place_at(&self, time: u64) -> usize {
+        self.rows.partition_point(|row| row.time <= time)
+    }
+
+    fn add_run(&mut self, at: usize, rows: u32) -> u32 {
+        let name = self.table.len() as u32;
+        let count = self.labels.len();
+        let before = if at == 0 {
+            0
+        } else {
+            self.labels.get(at - 1).0
+        };
+        let after = if at == count {
+            LIMIT
+        } else {
+            self.labels.get(at).0
+        };
+        self.runs.insert(at, Run { name, rows });
+        self.labels.insert(at, Label((before + after) / 2));
+        self.table.push((before + after) / 2);
+        if after - before < 2 {
+            let gap = 1 << (LIMIT / (count as u64 + 2)).ilog2();
+            for index in 0..=count {
+                let label = (index as u64 + 1) * gap;
+                self.labels.change(index, |old| old.0 = label);
+                self.table[self.runs.get(index).name as usize] = label;
+            }
+        }
+        name
+    }
+
+    /// The run that holds a place.
+    fn run_of(&self, place: usize) -> usize {
+        match self.runs.first_place(0, &|rows| rows as usize > place) {
+            Some(after) => after - 1,
+            None => self.runs.len() - 1,
+        }
+    }
+
+    pub fn place_of(&self, number: u32) -> Option<usize> {
+        let label = self.table[*self.numbers.get(&number)? as usize];
+        let run = self.labels.partition_point(|other| other.0 < label);
+        let start = self.runs.prefix(run) as usize;
+        (start..self.rows.len()).find(|place| self.rows.get(*place).number == number)
+    }
+
+    pub fn insert(&mut self, place: usize, row: Row) {
+        let at = if place == 0 {
+            0
+        } else {
+            self.run_of(place - 1)
+        };
+        let run = self.runs.get(at);
+        self.numbers.insert(row.number, run.name);
+        self.rows.insert(place, row);
+        self.runs.change(at, |run| run.rows += 1);
+        if run.rows >= LONGEST_RUN {
+            let (all, half) = (run.rows + 1, LONGEST_RUN / 2);
+            self.runs.change(at, |run| run.rows = half);
+            let name = self.add_run(at + 1, all - half);
+            let start = self.runs.prefix(at + 1) as usize;
+            for place in start..start + (all - half) as usize {
+                self.numbers.insert(self.rows.get(place).number, name);
+            }
+        }
+    }
+
+    pub fn remove(&mut self, place: usize) -> Row {
+        let at = self.run_of(place);
+        let row = self.rows.get(place);
+        self.numbers.remove(&row.number);
+        self.rows.remove(place);
+        self.runs.change(at, |run| run.rows -= 1);
+        if self.runs.get(at).rows == 0 && self.runs.len() > 1 {
+            self.runs.remove(at);
+            self.labels.remove(at);
+        }
+        row
+    }
+}
