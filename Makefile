@@ -11,6 +11,7 @@
 #                 what stands in tests/ and the recipes; needs Python 3
 #   make bench    measures the program beside others and writes docs/MEASURED.md, in a quarter of an hour; needs
 #                 Python 3, and rustc for the others; QUICK=1 for a first look, which writes into build/
+#   make recipes  runs docs/RECIPES.md as it stands, and its client with 100,000 lines
 #   make hostile  outside the gate: forged evidence, drawn scripts and refused memory; needs Python 3 and cc
 
 SCRIPT ?= examples/late_job.script
@@ -18,7 +19,7 @@ PREFIX ?= /usr/local
 
 SOURCES := $(shell find crates -name out -prune -o -type f \( -name '*.rt' -o -name '*.antt' \) -print) crates.txt
 
-.PHONY: run try build check unit fmt install test bench hostile
+.PHONY: run try build check unit fmt install test bench hostile recipes
 
 run: build
 	@echo
@@ -57,6 +58,10 @@ test:
 
 bench: build
 	@python3 bench/measure.py $(if $(QUICK),--quick) build/retro
+
+recipes: build
+	@python3 tests/client.py build/retro
+	@python3 tests/recipes.py build/retro
 
 hostile: build
 	@python3 tests/hostile/forge.py build/retro
