@@ -8,7 +8,7 @@
 #   make fmt      lays all sources out
 #   make install  puts it into bin below PREFIX, which is /usr/local where none is named
 #   make test     the gate: every proof, every must-fail edit, every test, every example, and of the built program
-#                 the first tests of tests/README.md; needs Python 3
+#                 what stands in tests/ and the recipes; needs Python 3
 #   make bench    measures the program beside others and writes docs/MEASURED.md, in a quarter of an hour; needs
 #                 Python 3, and rustc for the others; QUICK=1 for a first look, which writes into build/
 #   make recipes  runs docs/RECIPES.md as it stands, and its client with 100,000 lines
