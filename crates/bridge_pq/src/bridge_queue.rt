@@ -4,6 +4,7 @@ ghost use Rattle.retro_base.specs.declared.kind.Kind.TheVariants.{Pq};
 ghost use Rattle.retro_base.specs.declared.row.Row.{Row};
 ghost use Rattle.retro_base.specs.Answers.{number_of, key_of, content};
 ghost use Rattle.retro_base.specs.Replay.{present};
+ghost use Rattle.retro_base.specs.Visits.{OpensCounter};
 
 use crate::edit::{insert_adding, insert_taking, remove_dead, remove_survivor, remove_taking};
 use crate::entry_tree::{nth_present, size_of_present};
@@ -53,9 +54,7 @@ impl BridgeQueue {
 impl BridgeQueue {
     /// The keys of the present, with a counter of its own.
     fn listed<L: Ledger>(&self, blank: Blank) -> Result<Listing, NoMemory>
-        requires name { blank.name ≡ L.name }
-        requires parts { blank.parts ≡ L.parts }
-        requires shared { 0 < blank.parts }
+        requires counter { OpensCounter blank.name L.name blank.parts L.parts }
         ensures { IfOk result (λ listing. listing ≡ content (present Pq self.now)) }
     {
         let mut steps = Steps::<L>::new(blank);
@@ -73,9 +72,7 @@ impl BridgeQueue {
 
     /// The same queue once more, with a counter of its own.
     fn copied<L: Ledger>(&self, blank: Blank) -> Result<BridgeQueue, NoMemory>
-        requires name { blank.name ≡ L.name }
-        requires parts { blank.parts ≡ L.parts }
-        requires shared { 0 < blank.parts }
+        requires counter { OpensCounter blank.name L.name blank.parts L.parts }
         ensures { IfOk result (λ copy. copy ≡ self.now) }
     {
         let mut steps = Steps::<L>::new(blank);

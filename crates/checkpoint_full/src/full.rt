@@ -9,7 +9,7 @@ ghost use Rattle.retro_base.specs.Limits.{most_rows};
 ghost use Rattle.retro_base.specs.Questions.{suits};
 ghost use Rattle.retro_base.specs.Replay.{failure, IsValid, present, state_at};
 ghost use Rattle.retro_base.specs.Timeline.{IsFresh, IsReplayable};
-ghost use Rattle.retro_base.specs.Visits.{VisitsWithin};
+ghost use Rattle.retro_base.specs.Visits.{OpensCounter, VisitsWithin};
 ghost use Rattle.checkpoint_full.specs.Widths.{least_width, made_places, narrowest};
 
 use crate::kept::{ask_kept, insert_kept, list_kept, remove_kept};
@@ -135,9 +135,7 @@ impl<P: Partial + Drop> Full<P> {
     ) -> Result<Answer, NoMemory>
         requires within { place ≤ length self.old.rows }
         requires suited { suits question self.old.kind ≡ true }
-        requires name { blank.name ≡ L.name }
-        requires parts { blank.parts ≡ L.parts }
-        requires shared { 0 < blank.parts }
+        requires counter { OpensCounter blank.name L.name blank.parts L.parts }
         ensures kind { self.new.kind ≡ self.old.kind }
         ensures rows { self.new.rows ≡ self.old.rows }
         ensures answer { IfOk result (λ answer. answer ≡ answer_of (state_at self.old.kind self.old.rows place) question) }

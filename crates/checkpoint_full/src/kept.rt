@@ -7,7 +7,7 @@ ghost use Rattle.retro_base.specs.Edits.{add, cut};
 ghost use Rattle.retro_base.specs.Questions.{suits};
 ghost use Rattle.retro_base.specs.Replay.{IsValid, state_at};
 ghost use Rattle.retro_base.specs.Timeline.{IsReplayable};
-ghost use Rattle.retro_base.specs.Visits.{VisitsWithin};
+ghost use Rattle.retro_base.specs.Visits.{OpensCounter, VisitsWithin};
 ghost use Rattle.checkpoint_full.specs.Checkpoints.{after, place_of, places_of, were_made, CanTake, HoldsFirstRows, KeepsRule};
 ghost use Rattle.checkpoint_full.specs.Widths.{least_width, made_places};
 
@@ -34,9 +34,7 @@ pub(crate) fn insert_kept<P: Partial + Drop, L: Ledger>(
     requires within { place ≤ place_of present.old }
     requires can { CanTake present.old place row }
     requires keeps { KeepsRule width.old present.old checkpoints.old.items }
-    requires name { blank.name ≡ L.name }
-    requires parts { blank.parts ≡ L.parts }
-    requires shared { 0 < blank.parts }
+    requires counter { OpensCounter blank.name L.name blank.parts L.parts }
     ensures present { OnOk result (present.new ≡ after present.old (add place row)) }
     ensures replayable { OnOk result (IsReplayable present.new.kind present.new.rows) }
     ensures keeps { OnOk result (KeepsRule width.new present.new checkpoints.new.items) }
@@ -70,9 +68,7 @@ pub(crate) fn remove_kept<P: Partial + Drop, L: Ledger>(
     requires within { place < place_of present.old }
     requires replays { IsValid present.old.kind (remove present.old.rows place) }
     requires keeps { KeepsRule width.old present.old checkpoints.old.items }
-    requires name { blank.name ≡ L.name }
-    requires parts { blank.parts ≡ L.parts }
-    requires shared { 0 < blank.parts }
+    requires counter { OpensCounter blank.name L.name blank.parts L.parts }
     ensures row { slice_get present.old.rows place ≡ Some result.0 }
     ensures present { present.new ≡ after present.old (cut place result.0) }
     ensures replayable { IsReplayable present.new.kind present.new.rows }
@@ -153,9 +149,7 @@ pub(crate) fn list_kept<P: Partial + Drop, L: Ledger>(
     requires within { place ≤ place_of present.now }
     requires keeps { KeepsRule width.old present.now checkpoints.old.items }
     requires reads { IfSome reader.old (HoldsFirstRows present.now) }
-    requires name { blank.name ≡ L.name }
-    requires parts { blank.parts ≡ L.parts }
-    requires shared { 0 < blank.parts }
+    requires counter { OpensCounter blank.name L.name blank.parts L.parts }
     ensures content { IfOk result (λ listing. listing ≡ content (state_at present.now.kind present.now.rows place)) }
     ensures keeps { KeepsRule width.new present.now checkpoints.new.items }
     ensures reads { IfSome reader.new (HoldsFirstRows present.now) }

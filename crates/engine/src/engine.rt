@@ -9,7 +9,7 @@ ghost use Rattle.retro_base.specs.Limits.{most_rows};
 ghost use Rattle.retro_base.specs.Questions.{suits};
 ghost use Rattle.retro_base.specs.Replay.{IsValid, state_at};
 ghost use Rattle.retro_base.specs.Timeline.{IsFresh, IsReplayable};
-ghost use Rattle.retro_base.specs.Visits.{VisitsWithin};
+ghost use Rattle.retro_base.specs.Visits.{OpensCounter, VisitsWithin};
 ghost use Rattle.engine.specs.Engine.{kind_inside, rows_inside, is_line, is_pq, is_fused, made_inside, places_inside, width_inside};
 
 use bridge_pq::BridgeQueue;
@@ -118,9 +118,7 @@ impl Engine {
     ) -> Result<Answer, NoMemory>
         requires within { place ≤ length (rows_inside self.old) }
         requires suited { suits question (kind_inside self.old) ≡ true }
-        requires name { blank.name ≡ L.name }
-        requires parts { blank.parts ≡ L.parts }
-        requires shared { 0 < blank.parts }
+        requires counter { OpensCounter blank.name L.name blank.parts L.parts }
         ensures kind { kind_inside self.new ≡ kind_inside self.old }
         ensures variant { is_fused self.new ≡ is_fused self.old }
         ensures rows { rows_inside self.new ≡ rows_inside self.old }

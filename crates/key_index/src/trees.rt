@@ -2,6 +2,7 @@ ghost use Rattle.std.specs.Prelude.{◌≡◌, ◌<◌, ◌&&◌, nat_lt, nat_le
 ghost use Rattle.std.specs.List.{filter, find};
 ghost use Rattle.retro_base.specs.declared.kind.Kind.TheVariants.{Dict};
 ghost use Rattle.retro_base.specs.Kind.{kind_of};
+ghost use Rattle.retro_base.specs.Visits.{OpensCounter};
 ghost use Rattle.key_index.specs.KeyRows.{LabelsRise, is_on, last_of, op_at, without, with_row};
 ghost use Rattle.key_index.specs.Ordered.{AreByKey, IsIndexed};
 ghost use Rattle.key_index.specs.Relabelled.{Rise, HoldsLabels, relabelled};
@@ -23,9 +24,7 @@ pub(crate) fn last_up_to<L: Ledger>(
     label: u64,
     blank: Blank,
 ) -> Option<(u64, Op)>
-    requires name { blank.name ≡ L.name }
-    requires parts { blank.parts ≡ L.parts }
-    requires shared { 0 < blank.parts }
+    requires counter { OpensCounter blank.name L.name blank.parts L.parts }
     requires ordered { AreByKey by_key.now }
     ensures { result ≡ last_of (filter (λ row. is_on key row && nat_le row.0 label) by_key.now) }
 {
@@ -44,9 +43,7 @@ pub(crate) fn first_later<L: Ledger>(
     label: u64,
     blank: Blank,
 ) -> Option<(u64, Op)>
-    requires name { blank.name ≡ L.name }
-    requires parts { blank.parts ≡ L.parts }
-    requires shared { 0 < blank.parts }
+    requires counter { OpensCounter blank.name L.name blank.parts L.parts }
     requires ordered { AreByKey by_key.now }
     ensures { result ≡ find (λ row. is_on key row && nat_lt label row.0) by_key.now }
 {
@@ -71,9 +68,7 @@ fn on_key(key: i64, row: KeyRow) -> Option<(u64, Op)>
 
 /// The operation of the row with a label, where there is one.
 pub(crate) fn op_at<L: Ledger>(rows: &Tree<KeyRow>, label: u64, blank: Blank) -> Option<Op>
-    requires name { blank.name ≡ L.name }
-    requires parts { blank.parts ≡ L.parts }
-    requires shared { 0 < blank.parts }
+    requires counter { OpensCounter blank.name L.name blank.parts L.parts }
     requires rising { LabelsRise rows.now }
     ensures { result ≡ op_at label rows.now }
 {
@@ -98,9 +93,7 @@ pub(crate) fn put_in<L: Ledger>(
     op: Op,
     blank: Blank,
 ) -> Result<(), NoMemory>
-    requires name { blank.name ≡ L.name }
-    requires parts { blank.parts ≡ L.parts }
-    requires shared { 0 < blank.parts }
+    requires counter { OpensCounter blank.name L.name blank.parts L.parts }
     requires indexed { IsIndexed rows.old by_key.old }
     requires fresh { op_at label rows.old ≡ None }
     requires dict { kind_of op ≡ Dict }
@@ -132,9 +125,7 @@ pub(crate) fn take_out<L: Ledger>(
     op: Op,
     blank: Blank,
 )
-    requires name { blank.name ≡ L.name }
-    requires parts { blank.parts ≡ L.parts }
-    requires shared { 0 < blank.parts }
+    requires counter { OpensCounter blank.name L.name blank.parts L.parts }
     requires indexed { IsIndexed rows.old by_key.old }
     requires there { op_at label rows.old ≡ Some op }
     ensures indexed { IsIndexed rows.new by_key.new }
@@ -155,9 +146,7 @@ pub(crate) fn relabel<L: Ledger>(
     fresh: &Labels2,
     blank: Blank,
 )
-    requires name { blank.name ≡ L.name }
-    requires parts { blank.parts ≡ L.parts }
-    requires shared { 0 < blank.parts }
+    requires counter { OpensCounter blank.name L.name blank.parts L.parts }
     requires rise { Rise former.now }
     requires as_many { length fresh.now ≡ length former.now }
     requires all { HoldsLabels former.now rows.old }

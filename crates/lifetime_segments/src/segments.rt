@@ -1,5 +1,6 @@
 ghost use Rattle.std.specs.Prelude.{◌≡◌, ◌<◌, ◌≤◌, [], length, OnOk, OnErr};
 ghost use Rattle.std.specs.List.{AllByRecursion};
+ghost use Rattle.retro_base.specs.Visits.{OpensCounter};
 ghost use Rattle.lifetime_segments.specs.Lawful.{most_items};
 ghost use Rattle.lifetime_segments.specs.Lifetimes.{label_end, lifetime, IsInRange, items_at, stands_earlier};
 ghost use Rattle.lifetime_segments.specs.Ordered.{AreInOrder, put_in, in_order, is_in, without};
@@ -89,9 +90,7 @@ fn add_held<D: Decomposable, L: Ledger>(
     life: Lifetime<D::Item>,
     blank: Blank,
 ) -> Result<(), NoMemory>
-    requires name { blank.name ≡ L.name }
-    requires parts { blank.parts ≡ L.parts }
-    requires shared { 0 < blank.parts }
+    requires counter { OpensCounter blank.name L.name blank.parts L.parts }
     requires range { IsInRange life }
     requires room { length held.old < most_items }
     requires held { AreHeld D.stands_before held.old root.old }
@@ -114,9 +113,7 @@ fn take_held<D: Decomposable, L: Ledger>(
     life: Lifetime<D::Item>,
     blank: Blank,
 ) -> bool
-    requires name { blank.name ≡ L.name }
-    requires parts { blank.parts ≡ L.parts }
-    requires shared { 0 < blank.parts }
+    requires counter { OpensCounter blank.name L.name blank.parts L.parts }
     requires held { AreHeld D.stands_before held.old root.old }
     ensures held { AreHeld D.stands_before held.new root.new }
     ensures found { result ≡ is_in (stands_earlier D.stands_before) life held.old }

@@ -2,6 +2,7 @@ ghost use Rattle.std.specs.Prelude.{◌≡◌, ◌+◌, false, true, ◌<◌, �
 ghost use Rattle.std.specs.List.{insert, remove};
 ghost use Rattle.order_labels.specs.Labels.{AreApart, AreLabels, has_room, inserted, label_before, label_after, label_limit, least_gap};
 ghost use Rattle.retro_base.specs.Limits.{most_rows};
+ghost use Rattle.retro_base.specs.Visits.{OpensCounter};
 
 use crate::label::Label;
 use crate::spread::{LIMIT, spread};
@@ -108,9 +109,7 @@ impl Labels {
 }
 
 fn put_in<L: Ledger>(rows: &mut Tree<Label>, place: u32, blank: Blank) -> Result<Fresh, NoMemory>
-    requires name { blank.name ≡ L.name }
-    requires parts { blank.parts ≡ L.parts }
-    requires shared { 0 < blank.parts }
+    requires counter { OpensCounter blank.name L.name blank.parts L.parts }
     requires within { place ≤ length rows.old }
     requires room { length rows.old < most_rows }
     requires labels { AreLabels rows.old }
@@ -147,9 +146,7 @@ fn put_labelled<L: Ledger>(
     label: u64,
     blank: Blank,
 ) -> Result<(), NoMemory>
-    requires name { blank.name ≡ L.name }
-    requires parts { blank.parts ≡ L.parts }
-    requires shared { 0 < blank.parts }
+    requires counter { OpensCounter blank.name L.name blank.parts L.parts }
     requires within { place ≤ length rows.old }
     requires room { length rows.old < most_rows }
     ensures ok { OnOk result (rows.new ≡ insert rows.old place label) }
@@ -182,9 +179,7 @@ fn label_after<L: Ledger>(rows: &Tree<Label>, place: u32, steps: &mut Steps<L>) 
 }
 
 fn take_out<L: Ledger>(rows: &mut Tree<Label>, place: u32, blank: Blank)
-    requires name { blank.name ≡ L.name }
-    requires parts { blank.parts ≡ L.parts }
-    requires shared { 0 < blank.parts }
+    requires counter { OpensCounter blank.name L.name blank.parts L.parts }
     requires within { place < length rows.old }
     ensures { rows.new ≡ remove rows.old place }
 {
@@ -193,9 +188,7 @@ fn take_out<L: Ledger>(rows: &mut Tree<Label>, place: u32, blank: Blank)
 }
 
 fn read<L: Ledger>(rows: &Tree<Label>, place: u32, blank: Blank) -> u64
-    requires name { blank.name ≡ L.name }
-    requires parts { blank.parts ≡ L.parts }
-    requires shared { 0 < blank.parts }
+    requires counter { OpensCounter blank.name L.name blank.parts L.parts }
     requires within { place < length rows.now }
     ensures { slice_get rows.now place ≡ Some result }
 {
@@ -204,9 +197,7 @@ fn read<L: Ledger>(rows: &Tree<Label>, place: u32, blank: Blank) -> u64
 }
 
 fn find<L: Ledger>(rows: &Tree<Label>, label: u64, blank: Blank) -> Option<u32>
-    requires name { blank.name ≡ L.name }
-    requires parts { blank.parts ≡ L.parts }
-    requires shared { 0 < blank.parts }
+    requires counter { OpensCounter blank.name L.name blank.parts L.parts }
     requires labels { AreLabels rows.now }
     ensures place { result ≡ position (λ other. other == label) rows.now }
     ensures within { IfSome result (λ place. place < length rows.now) }

@@ -1,5 +1,6 @@
 ghost use Rattle.std.specs.Prelude.{◌≡◌, ◌<◌, length, slice_get, Some, OnOk, OnErr};
 ghost use Rattle.std.specs.List.{insert, remove};
+ghost use Rattle.retro_base.specs.Visits.{OpensCounter};
 ghost use Rattle.order_timeline.specs.Runs.{RepresentsRows, beside};
 ghost use Rattle.order_timeline.specs.Rows.{MayCome};
 
@@ -23,9 +24,7 @@ pub(crate) fn put_in<L: Ledger>(
     row: Row,
     blank: Blank,
 ) -> Result<(), NoMemory>
-    requires name { blank.name ≡ L.name }
-    requires parts { blank.parts ≡ L.parts }
-    requires shared { 0 < blank.parts }
+    requires counter { OpensCounter blank.name L.name blank.parts L.parts }
     requires kept { RepresentsRows rows.old runs.old names.old numbers.old }
     requires comes { MayCome rows.old place row }
     ensures kept { RepresentsRows rows.new runs.new names.new numbers.new }
@@ -80,9 +79,7 @@ pub(crate) fn take_out<L: Ledger>(
     place: u32,
     blank: Blank,
 ) -> Row
-    requires name { blank.name ≡ L.name }
-    requires parts { blank.parts ≡ L.parts }
-    requires shared { 0 < blank.parts }
+    requires counter { OpensCounter blank.name L.name blank.parts L.parts }
     requires kept { RepresentsRows rows.old runs.old names.old numbers.old }
     requires within { place < length rows.old }
     ensures kept { RepresentsRows rows.new runs.new names.new numbers.new }

@@ -3,6 +3,7 @@ ghost use Rattle.retro_base.specs.Limits.{most_rows};
 ghost use Rattle.order_timeline.specs.Runs.{RepresentsRows, IsNotBefore};
 ghost use Rattle.retro_base.specs.Places.{place_of_row, place_of_time};
 ghost use Rattle.retro_base.specs.Timeline.{TimesNeverFall};
+ghost use Rattle.retro_base.specs.Visits.{OpensCounter};
 
 use crate::names::Names;
 use crate::numbers::Numbers;
@@ -15,9 +16,7 @@ use weighted_tree::Tree;
 
 /// The row at a place.
 pub(crate) fn read<L: Ledger>(rows: &Tree<TimedRow>, place: u32, blank: Blank) -> Row
-    requires name { blank.name ≡ L.name }
-    requires parts { blank.parts ≡ L.parts }
-    requires shared { 0 < blank.parts }
+    requires counter { OpensCounter blank.name L.name blank.parts L.parts }
     requires within { place < length rows.now }
     ensures { slice_get rows.now place ≡ Some result }
 {
@@ -27,9 +26,7 @@ pub(crate) fn read<L: Ledger>(rows: &Tree<TimedRow>, place: u32, blank: Blank) -
 
 /// How many rows stand up to this time.
 pub(crate) fn rows_up_to<L: Ledger>(rows: &Tree<TimedRow>, time: u64, blank: Blank) -> u32
-    requires name { blank.name ≡ L.name }
-    requires parts { blank.parts ≡ L.parts }
-    requires shared { 0 < blank.parts }
+    requires counter { OpensCounter blank.name L.name blank.parts L.parts }
     requires order { TimesNeverFall rows.now }
     ensures place { result ≡ place_of_time time rows.now }
     ensures within { result ≤ length rows.now }
@@ -45,9 +42,7 @@ pub(crate) fn read_from<L: Ledger>(
     copies: &mut [Row],
     blank: Blank,
 ) -> u32
-    requires name { blank.name ≡ L.name }
-    requires parts { blank.parts ≡ L.parts }
-    requires shared { 0 < blank.parts }
+    requires counter { OpensCounter blank.name L.name blank.parts L.parts }
     requires within { from ≤ length rows.now }
     requires few { length rows.now ≤ most_rows }
     ensures count { result ≡ min (length rows.now - from) (length copies.old) }
@@ -66,9 +61,7 @@ pub(crate) fn place_of<L: Ledger>(
     number: u32,
     blank: Blank,
 ) -> Option<u32>
-    requires name { blank.name ≡ L.name }
-    requires parts { blank.parts ≡ L.parts }
-    requires shared { 0 < blank.parts }
+    requires counter { OpensCounter blank.name L.name blank.parts L.parts }
     requires kept { RepresentsRows rows.now runs.now names.now numbers.now }
     ensures { result ≡ place_of_row number rows.now }
 {

@@ -6,7 +6,7 @@ ghost use Rattle.retro_base.specs.Kind.{kind_of};
 ghost use Rattle.retro_base.specs.Replay.{failure, state_at};
 ghost use Rattle.retro_base.specs.Answers.{answer_of, content};
 ghost use Rattle.retro_base.specs.Timeline.{IsReplayable};
-ghost use Rattle.retro_base.specs.Visits.{VisitsWithin};
+ghost use Rattle.retro_base.specs.Visits.{OpensCounter, VisitsWithin};
 ghost use Rattle.prefix_trees.specs.Growth.{IsLine, grown, sign_of};
 ghost use Rattle.prefix_trees.specs.FailureLaws.{LineAt};
 ghost use Rattle.prefix_trees.specs.FoundLaws.{FindsWriter};
@@ -109,9 +109,7 @@ fn answer_at<S: Sequence, L: Ledger>(
     blank: Blank,
 ) -> Answer
     requires within { place ≤ length (S.rows structure.now) }
-    requires name { blank.name ≡ L.name }
-    requires parts { blank.parts ≡ L.parts }
-    requires shared { 0 < blank.parts }
+    requires counter { OpensCounter blank.name L.name blank.parts L.parts }
     ensures { result ≡ answer_of (state_at S.kind (S.rows structure.now) place) question }
 {
     let mut steps = Steps::<L>::new(blank);
@@ -133,9 +131,7 @@ fn listed<S: Sequence, L: Ledger>(
     blank: Blank,
 ) -> Result<Listing, NoMemory>
     requires within { place ≤ length (S.rows structure.now) }
-    requires name { blank.name ≡ L.name }
-    requires parts { blank.parts ≡ L.parts }
-    requires shared { 0 < blank.parts }
+    requires counter { OpensCounter blank.name L.name blank.parts L.parts }
     ensures { IfOk result (λ listing. listing ≡ content (state_at S.kind (S.rows structure.now) place)) }
 {
     let mut steps = Steps::<L>::new(blank);

@@ -11,6 +11,7 @@ ghost use Rattle.retro_base.specs.Questions.{suits};
 ghost use Rattle.retro_base.specs.Edits.{add, cut};
 ghost use Rattle.retro_base.specs.Changes.{IsChange};
 ghost use Rattle.retro_base.specs.Timeline.{IsFresh, IsReplayable};
+ghost use Rattle.retro_base.specs.Visits.{OpensCounter};
 
 use crate::{Answer, Change, NoMemory, Op, Partial, Question, Row, Steps};
 use std::marker::Brand;
@@ -35,9 +36,7 @@ fn find_failure_with<P: Partial, L: Ledger>(
 ) -> Option<u32>
     requires within { place ≤ length (P.rows structure.now) }
     requires of_kind { kind_of op ≡ P.kind structure.now }
-    requires name { blank.name ≡ L.name }
-    requires parts { blank.parts ≡ L.parts }
-    requires shared { 0 < blank.parts }
+    requires counter { OpensCounter blank.name L.name blank.parts L.parts }
     ensures first { (row : Row)
         → row.op ≡ op → result ≡ failure (P.kind structure.now) (insert (P.rows structure.now) place row) }
     ensures index { IfSome result (λ index. index ≤ length (P.rows structure.now)) }
@@ -61,9 +60,7 @@ fn find_failure_without<P: Partial, L: Ledger>(
     blank: Blank,
 ) -> Option<u32>
     requires within { place < length (P.rows structure.now) }
-    requires name { blank.name ≡ L.name }
-    requires parts { blank.parts ≡ L.parts }
-    requires shared { 0 < blank.parts }
+    requires counter { OpensCounter blank.name L.name blank.parts L.parts }
     ensures first { result ≡ failure (P.kind structure.now) (remove (P.rows structure.now) place) }
     ensures index { IfSome result (λ index. index + 1 < length (P.rows structure.now)) }
 {
@@ -98,9 +95,7 @@ fn put_in<P: Partial, L: Ledger>(
     requires fresh { IsFresh row.number (P.rows structure.old) }
     requires of_kind { kind_of row.op ≡ P.kind structure.old }
     requires replays { IsValid (P.kind structure.old) (insert (P.rows structure.old) place row) }
-    requires name { blank.name ≡ L.name }
-    requires parts { blank.parts ≡ L.parts }
-    requires shared { 0 < blank.parts }
+    requires counter { OpensCounter blank.name L.name blank.parts L.parts }
     ensures kind { P.kind structure.new ≡ P.kind structure.old }
     ensures rows { OnOk result (P.rows structure.new ≡ insert (P.rows structure.old) place row) }
     ensures replayable { OnOk result (IsReplayable (P.kind structure.new) (P.rows structure.new)) }
@@ -127,9 +122,7 @@ pub fn remove<P: Partial>(structure: &mut P, place: u32) -> (Row, Change)
 fn take_out<P: Partial, L: Ledger>(structure: &mut P, place: u32, blank: Blank) -> (Row, Change)
     requires within { place < length (P.rows structure.old) }
     requires replays { IsValid (P.kind structure.old) (remove (P.rows structure.old) place) }
-    requires name { blank.name ≡ L.name }
-    requires parts { blank.parts ≡ L.parts }
-    requires shared { 0 < blank.parts }
+    requires counter { OpensCounter blank.name L.name blank.parts L.parts }
     ensures kind { P.kind structure.new ≡ P.kind structure.old }
     ensures row { slice_get (P.rows structure.old) place ≡ Some result.0 }
     ensures rows { P.rows structure.new ≡ remove (P.rows structure.old) place }
@@ -150,9 +143,7 @@ pub fn ask_now<P: Partial>(structure: &P, question: Question) -> Answer
 
 fn answer_now<P: Partial, L: Ledger>(structure: &P, question: Question, blank: Blank) -> Answer
     requires suited { suits question (P.kind structure.now) ≡ true }
-    requires name { blank.name ≡ L.name }
-    requires parts { blank.parts ≡ L.parts }
-    requires shared { 0 < blank.parts }
+    requires counter { OpensCounter blank.name L.name blank.parts L.parts }
     ensures { result ≡ answer_of (present (P.kind structure.now) (P.rows structure.now)) question }
 {
     let mut steps = Steps::<L>::new(blank);

@@ -3,7 +3,7 @@ ghost use Rattle.retro_base.specs.declared.kind.Kind.TheVariants.{Deque};
 ghost use Rattle.retro_base.specs.Answers.{answer_of};
 ghost use Rattle.retro_base.specs.Replay.{state_at};
 ghost use Rattle.retro_base.specs.Questions.{suits};
-ghost use Rattle.retro_base.specs.Visits.{VisitsWithin};
+ghost use Rattle.retro_base.specs.Visits.{OpensCounter, VisitsWithin};
 
 use crate::ends::{later, put_in};
 use prefix_trees::{
@@ -66,9 +66,7 @@ impl RetroDeque {
 
     /// The same deque once more, with a counter of its own.
     fn copied<L: Ledger>(&self, blank: Blank) -> Result<RetroDeque, NoMemory>
-        requires name { blank.name ≡ L.name }
-        requires parts { blank.parts ≡ L.parts }
-        requires shared { 0 < blank.parts }
+        requires counter { OpensCounter blank.name L.name blank.parts L.parts }
         ensures { IfOk result (λ copy. copy ≡ self.now) }
     {
         let mut steps = Steps::<L>::new(blank);

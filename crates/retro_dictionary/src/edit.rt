@@ -5,6 +5,7 @@ ghost use Rattle.order_labels.specs.Labels.{inserted_by};
 ghost use Rattle.retro_base.specs.declared.kind.Kind.TheVariants.{Dict};
 ghost use Rattle.retro_base.specs.Kind.{kind_of};
 ghost use Rattle.retro_base.specs.Limits.{most_rows};
+ghost use Rattle.retro_base.specs.Visits.{OpensCounter};
 ghost use Rattle.retro_dictionary.specs.Edited.{CanPut, CanCut, CanInsert, CanRemove, IsBetween, left_of, next_of, cut_by, joined_by};
 ghost use Rattle.retro_dictionary.specs.Kept.{AreKept};
 ghost use Rattle.retro_dictionary.specs.RowLabels.{row_rule};
@@ -83,9 +84,7 @@ fn put_between<L: Ledger>(
     row: Row,
     blank: Blank,
 ) -> Result<(), NoMemory>
-    requires name { blank.name ≡ L.name }
-    requires parts { blank.parts ≡ L.parts }
-    requires shared { 0 < blank.parts }
+    requires counter { OpensCounter blank.name L.name blank.parts L.parts }
     requires kept { AreKept rows.old labels.old index.old segments.old }
     requires can { CanInsert rows.old place row }
     requires dict { kind_of row.op ≡ Dict }
@@ -121,9 +120,7 @@ pub(crate) fn put<L: Ledger>(
     row: Row,
     blank: Blank,
 ) -> Result<(), NoMemory>
-    requires name { blank.name ≡ L.name }
-    requires parts { blank.parts ≡ L.parts }
-    requires shared { 0 < blank.parts }
+    requires counter { OpensCounter blank.name L.name blank.parts L.parts }
     requires kept { AreKept rows.old labels.old index.old segments.old }
     requires can { CanInsert rows.old place row }
     requires dict { kind_of row.op ≡ Dict }
@@ -149,9 +146,7 @@ pub(crate) fn take_out<L: Ledger>(
     place: u32,
     blank: Blank,
 ) -> Result<Row, NoMemory>
-    requires name { blank.name ≡ L.name }
-    requires parts { blank.parts ≡ L.parts }
-    requires shared { 0 < blank.parts }
+    requires counter { OpensCounter blank.name L.name blank.parts L.parts }
     requires kept { AreKept rows.old labels.old index.old segments.old }
     requires can { CanRemove rows.old place }
     ensures row { IfOk result (λ row. slice_get rows.old place ≡ Some row) }

@@ -4,6 +4,7 @@ ghost use Rattle.order_labels.specs.Labels.{has_room, inserted, label_limit, mul
 ghost use Rattle.retro_base.specs.declared.kind.Kind.TheVariants.{Dict};
 ghost use Rattle.retro_base.specs.Kind.{kind_of};
 ghost use Rattle.retro_base.specs.Limits.{most_rows};
+ghost use Rattle.retro_base.specs.Visits.{OpensCounter};
 ghost use Rattle.retro_dictionary.specs.Edited.{CanInsert, CanPut, next_of, placed_at};
 ghost use Rattle.retro_dictionary.specs.Kept.{AreKept, ordered};
 ghost use Rattle.retro_dictionary.specs.Labelled.{labelled};
@@ -198,9 +199,7 @@ pub(crate) fn put_relabelled<L: Ledger>(
     row: Row,
     blank: Blank,
 ) -> Result<(), NoMemory>
-    requires name { blank.name ≡ L.name }
-    requires parts { blank.parts ≡ L.parts }
-    requires shared { 0 < blank.parts }
+    requires counter { OpensCounter blank.name L.name blank.parts L.parts }
     requires kept { AreKept rows.old labels.old index.old segments.old }
     requires can { CanInsert rows.old place row }
     requires dict { kind_of row.op ≡ Dict }

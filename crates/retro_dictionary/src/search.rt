@@ -1,5 +1,6 @@
 ghost use Rattle.std.specs.Prelude.{◌≡◌, ◌<◌, ◌≤◌, length, take, drop, not};
 ghost use Rattle.std.specs.List.{filter};
+ghost use Rattle.retro_base.specs.Visits.{OpensCounter};
 ghost use Rattle.lifetime_segments.specs.Lawful.{IsLawful};
 ghost use Rattle.retro_dictionary.specs.PairSearch.{pair_before, found_in, none_found, found_together, lesser, greater};
 ghost use Rattle.retro_dictionary.specs.PairMeasure.{PairsMeasured};
@@ -89,9 +90,7 @@ fn greater(first: Option<KeyPair>, second: Option<KeyPair>) -> Option<KeyPair>
 
 /// What is found of the pairs whose keys lie in a range.
 fn found_in<L: Ledger>(items: &Tree<KeyPair>, range: KeyRange, blank: Blank) -> Found
-    requires name { blank.name ≡ L.name }
-    requires parts { blank.parts ≡ L.parts }
-    requires shared { 0 < blank.parts }
+    requires counter { OpensCounter blank.name L.name blank.parts L.parts }
     requires lawful { IsLawful pair_before items.now }
     ensures { result ≡ found_in items.now range }
 {

@@ -3,7 +3,7 @@ ghost use Rattle.retro_base.specs.declared.kind.Kind.TheVariants.{Queue};
 ghost use Rattle.retro_base.specs.Answers.{answer_of};
 ghost use Rattle.retro_base.specs.Replay.{state_at};
 ghost use Rattle.retro_base.specs.Questions.{suits};
-ghost use Rattle.retro_base.specs.Visits.{VisitsWithin};
+ghost use Rattle.retro_base.specs.Visits.{OpensCounter, VisitsWithin};
 ghost use Rattle.prefix_trees.specs.Growth.{left_growth, grown};
 
 use prefix_trees::{
@@ -72,9 +72,7 @@ impl RetroQueue {
 
     /// The same queue once more, with a counter of its own.
     fn copied<L: Ledger>(&self, blank: Blank) -> Result<RetroQueue, NoMemory>
-        requires name { blank.name ≡ L.name }
-        requires parts { blank.parts ≡ L.parts }
-        requires shared { 0 < blank.parts }
+        requires counter { OpensCounter blank.name L.name blank.parts L.parts }
         ensures { IfOk result (λ copy. copy ≡ self.now) }
     {
         let mut steps = Steps::<L>::new(blank);

@@ -3,7 +3,7 @@ ghost use Rattle.retro_base.specs.declared.kind.Kind.TheVariants.{Stack};
 ghost use Rattle.retro_base.specs.Answers.{answer_of};
 ghost use Rattle.retro_base.specs.Replay.{state_at};
 ghost use Rattle.retro_base.specs.Questions.{suits};
-ghost use Rattle.retro_base.specs.Visits.{VisitsWithin};
+ghost use Rattle.retro_base.specs.Visits.{OpensCounter, VisitsWithin};
 
 use prefix_trees::{
     Sequence, SignedRows, ask_sequence, ask_uncounted, failure_with, failure_without, list_sequence,
@@ -61,9 +61,7 @@ impl RetroStack {
 
     /// The same stack once more, with a counter of its own.
     fn copied<L: Ledger>(&self, blank: Blank) -> Result<RetroStack, NoMemory>
-        requires name { blank.name ≡ L.name }
-        requires parts { blank.parts ≡ L.parts }
-        requires shared { 0 < blank.parts }
+        requires counter { OpensCounter blank.name L.name blank.parts L.parts }
         ensures { IfOk result (λ copy. copy ≡ self.now) }
     {
         let mut steps = Steps::<L>::new(blank);

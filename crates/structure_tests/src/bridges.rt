@@ -1,4 +1,5 @@
 ghost use Rattle.std.specs.Prelude.{◌≡◌, ◌<◌};
+ghost use Rattle.retro_base.specs.Visits.{OpensCounter};
 
 mod compared;
 
@@ -105,9 +106,7 @@ fn three_rows<L: Ledger>(rt: &impl Abort, both: &mut Compared, steps: &mut Steps
 }
 
 fn worked<L: Ledger>(rt: &impl Abort, alloc: Global, blank: Blank)
-    requires name { blank.name ≡ L.name }
-    requires parts { blank.parts ≡ L.parts }
-    requires shared { 0 < blank.parts }
+    requires counter { OpensCounter blank.name L.name blank.parts L.parts }
 {
     let mut steps = Steps::<L>::new(blank);
     let mut both = Compared::new(alloc);
@@ -161,9 +160,7 @@ fn drawn_edit<L: Ledger>(rt: &impl Abort, both: &mut Compared, draw: u32, steps:
 
 /// A few hundred edits, drawn by a linear congruence.
 fn drawn_history<L: Ledger>(rt: &impl Abort, alloc: Global, blank: Blank)
-    requires name { blank.name ≡ L.name }
-    requires parts { blank.parts ≡ L.parts }
-    requires shared { 0 < blank.parts }
+    requires counter { OpensCounter blank.name L.name blank.parts L.parts }
 {
     let mut steps = Steps::<L>::new(blank);
     let mut both = Compared::new(alloc);

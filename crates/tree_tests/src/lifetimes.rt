@@ -1,4 +1,5 @@
 ghost use Rattle.std.specs.Prelude.{◌≡◌, ◌<◌, ◌≤◌, length, nat_lt, OnOk};
+ghost use Rattle.retro_base.specs.Visits.{OpensCounter};
 ghost use Rattle.lifetime_segments.specs.Lawful.{most_items};
 ghost use Rattle.lifetime_segments.specs.Lifetimes.{label_end, lifetime, stands_earlier};
 ghost use Rattle.lifetime_segments.specs.Ordered.{put_in};
@@ -107,9 +108,7 @@ impl Decomposable for Totals {
 }
 
 fn counted<L: Ledger>(items: &Tree<Amount>, blank: Blank) -> Total
-    requires name { blank.name ≡ L.name }
-    requires parts { blank.parts ≡ L.parts }
-    requires shared { 0 < blank.parts }
+    requires counter { OpensCounter blank.name L.name blank.parts L.parts }
     ensures { result ≡ (length items.now, total_of items.now) }
 {
     let mut steps = Steps::<L>::new(blank);

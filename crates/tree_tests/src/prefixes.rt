@@ -1,4 +1,5 @@
 ghost use Rattle.std.specs.Prelude.{◌≡◌, ◌<◌};
+ghost use Rattle.retro_base.specs.Visits.{OpensCounter};
 
 use prefix_trees::SignTree;
 use retro_base::Steps;
@@ -20,9 +21,7 @@ fn four_signs<L: Ledger>(rt: &impl Abort, alloc: Global, steps: &mut Steps<L>) -
 }
 
 fn answers<L: Ledger>(rt: &impl Abort, alloc: Global, blank: Blank)
-    requires name { blank.name ≡ L.name }
-    requires parts { blank.parts ≡ L.parts }
-    requires shared { 0 < blank.parts }
+    requires counter { OpensCounter blank.name L.name blank.parts L.parts }
 {
     let mut steps = Steps::<L>::new(blank);
     let mut tree = four_signs(rt, alloc, &mut steps);

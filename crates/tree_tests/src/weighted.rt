@@ -3,7 +3,7 @@ ghost use Rattle.std.specs.List.{AllWithin};
 ghost use Rattle.std.specs.List.Sorted.{IsNonDecreasingBy};
 ghost use Rattle.std.specs.Int.Signed.{le_z};
 ghost use Rattle.monoid_laws.specs.Summed.{sum_of};
-ghost use Rattle.retro_base.specs.Visits.{VisitsWithin};
+ghost use Rattle.retro_base.specs.Visits.{OpensCounter, VisitsWithin};
 ghost use Rattle.weighted_tree.specs.Search.{IsFirstOrNone};
 
 use monoid_laws::{Measured, Monoid, Sum};
@@ -124,9 +124,7 @@ fn edited<L: Ledger>(rt: &impl Abort, tree: &mut Tree<Amount>, steps: &mut Steps
 }
 
 fn answers<L: Ledger>(rt: &impl Abort, alloc: Global, blank: Blank)
-    requires name { blank.name ≡ L.name }
-    requires parts { blank.parts ≡ L.parts }
-    requires shared { 0 < blank.parts }
+    requires counter { OpensCounter blank.name L.name blank.parts L.parts }
 {
     let mut steps = Steps::<L>::new(blank);
     let mut tree = five_and_seven(rt, alloc, &mut steps);
@@ -180,9 +178,7 @@ fn count_below<L: Ledger>(tree: &Tree<Piece>, limit: u32, steps: &mut Steps<L>) 
 
 // The prefixes of 3, 0, 4 have the sums 0, 3, 3, 7.
 fn reaching<L: Ledger>(rt: &impl Abort, alloc: Global, blank: Blank)
-    requires name { blank.name ≡ L.name }
-    requires parts { blank.parts ≡ L.parts }
-    requires shared { 0 < blank.parts }
+    requires counter { OpensCounter blank.name L.name blank.parts L.parts }
 {
     let mut steps = Steps::<L>::new(blank);
     let mut tree = Tree::new(alloc);
@@ -231,9 +227,7 @@ fn fill<L: Ledger>(rt: &impl Abort, tree: &mut Tree<Amount>, steps: &mut Steps<L
 }
 
 fn two_thousand<L: Ledger>(rt: &impl Abort, alloc: Global, blank: Blank)
-    requires name { blank.name ≡ L.name }
-    requires parts { blank.parts ≡ L.parts }
-    requires shared { 0 < blank.parts }
+    requires counter { OpensCounter blank.name L.name blank.parts L.parts }
 {
     let mut steps = Steps::<L>::new(blank);
     let mut tree = Tree::new(alloc);
