@@ -120,4 +120,10 @@ no_shorter (Err e) old new place x within ok err = omega (arith, ap length err)
 -- rows with one put in are one more
 pub one_longer : (old new : List MarkedRow) (place : ℕ) (row : Row) → place ≤ length old → rows_of new ≡ insert (rows_of old) place row → length new ≡ length old + 1
 one_longer old new place row within put =
-    omega (arith, ap length put, length-insert (rows_of old) place row (omega (arith, length-map old (λ (item : MarkedRow). item.row))), length-map new (λ (item : MarkedRow). item.row), length-map old (λ (item : MarkedRow). item.row))
+    omega (
+      arith,
+      ap length put,
+      length-insert (rows_of old) place row (omega (arith, length-map old (λ (item : MarkedRow). item.row))),
+      length-map new (λ (item : MarkedRow). item.row),
+      length-map old (λ (item : MarkedRow). item.row),
+    )

@@ -57,7 +57,8 @@ module _ (e : Entry) (items : List MarkedEntry) where
       ∙ partitioned e (entries_in items) (rise_in_order (entries_in items) rise) i j d.entry order (omega (arith, length-map items (λ (item : MarkedEntry). item.entry))) (entry_at j d within ∙ holding)
 
   -- what a search finds that asks each entry whether it comes before this one
-  pub place_found : {F : Type 0} (calls : Shared F (Bor MarkedEntry × Unit {0}) Bool) (closure : F) (place : ℕ) → FindsPartition calls closure items place → TellsItems calls closure comes → Rise (entries_in items) → place ≤ length items → IsPlace e items place
+  pub place_found : {F : Type 0} (calls : Shared F (Bor MarkedEntry × Unit {0}) Bool) (closure : F) (place : ℕ) → FindsPartition calls closure items place
+      → TellsItems calls closure comes → Rise (entries_in items) → place ≤ length items → IsPlace e items place
   place_found calls closure place found tells rise within =
       let point = found comes tells (comes-parted rise) in
       let seen : Entry → MarkedEntry = λ d. record { entry = d; present = false } in

@@ -109,10 +109,12 @@ fresh-not-added rows number x fresh same inside = fresh_adds rows number x fresh
 -- one more entry among the marked ones
 put-entries : (m : MarkedEntry) (items : List MarkedEntry) → entries_in (put_marked m items) ≡ with_entry m.entry (entries_in items)
 put-entries m [] = refl
-put-entries m (x ∷ items) = elim (comes_before m.entry x.entry) as (λ b. entries_in (cond b (m ∷ x ∷ items) (x ∷ put_marked m items)) ≡ cond b (m.entry ∷ entries_in (x ∷ items)) (x.entry ∷ with_entry m.entry (entries_in items))) [
-  | true ↦ refl
-  | false ↦ ap (λ l. x.entry ∷ l) (put-entries m items)
-]
+put-entries m (x ∷ items) = elim (comes_before m.entry x.entry) as
+    (λ b. entries_in (cond b (m ∷ x ∷ items) (x ∷ put_marked m items))
+    ≡ cond b (m.entry ∷ entries_in (x ∷ items)) (x.entry ∷ with_entry m.entry (entries_in items))) [
+      | true ↦ refl
+      | false ↦ ap (λ l. x.entry ∷ l) (put-entries m items)
+    ]
 
 pub put-length : (m : MarkedEntry) (items : List MarkedEntry) → length (put_marked m items) ≡ suc (length items)
 put-length m [] = refl
@@ -165,13 +167,15 @@ holds-with-take rows alive items place row takes holds = record {
 -- one fewer
 without-in : (e x : Entry) (items : List MarkedEntry) → In x (entries_in (without_entry e items)) → In x (entries_in items) × (x ≢ e)
 without-in e x [] inside = absurd inside
-without-in e x (y ∷ items) inside = elim (same_entry y.entry e) as (λ b. same_entry y.entry e ≡ b → In x (entries_in (cond (not b) (y ∷ without_entry e items) (without_entry e items))) → In x (entries_in (y ∷ items)) × (x ≢ e)) [
-  | true ↦ λ same later. let rest = without-in e x items later in (inr rest.0, rest.1)
-  | false ↦ λ differ here. elim here [
-    | inl first ↦ (inl first, λ is. let wrong : true ≡ false = sym (same_entry-refl e) ∙ ap (λ z. same_entry z e) (sym is ∙ first) ∙ differ in absurd (cc))
-    | inr later ↦ let rest = without-in e x items later in (inr rest.0, rest.1)
-  ]
-] refl inside
+without-in e x (y ∷ items) inside = elim (same_entry y.entry e) as
+    (λ b. same_entry y.entry e ≡ b → In x (entries_in (cond (not b) (y ∷ without_entry e items) (without_entry e items))) → In x (entries_in (y ∷ items))
+    × (x ≢ e)) [
+      | true ↦ λ same later. let rest = without-in e x items later in (inr rest.0, rest.1)
+      | false ↦ λ differ here. elim here [
+        | inl first ↦ (inl first, λ is. let wrong : true ≡ false = sym (same_entry-refl e) ∙ ap (λ z. same_entry z e) (sym is ∙ first) ∙ differ in absurd (cc))
+        | inr later ↦ let rest = without-in e x items later in (inr rest.0, rest.1)
+      ]
+    ] refl inside
 
 in-without : (e x : Entry) (items : List MarkedEntry) → In x (entries_in items) → x ≢ e → In x (entries_in (without_entry e items))
 in-without e x [] inside other = absurd inside
@@ -382,7 +386,9 @@ none-out e (y ∷ items) absent = rw (not_same y.entry e (λ same. absent (inl (
 
 pub put-taken : (new : Entry) (items : List MarkedEntry) → ¬ In new (entries_in items) → without_entry new (put_marked (record { entry = new; present = false }) items) ≡ items
 put-taken new [] absent = rw (same_entry-refl new) refl
-put-taken new (x ∷ items) absent = elim (comes_before new x.entry) as (λ b. without_entry new (cond b (record { entry = new; present = false } ∷ x ∷ items) (x ∷ put_marked (record { entry = new; present = false }) items)) ≡ x ∷ items) [
-  | true ↦ rw (same_entry-refl new) (none-out new (x ∷ items) absent)
-  | false ↦ rw (not_same x.entry new (λ same. absent (inl (sym same)))) (ap (λ l. x ∷ l) (put-taken new items (λ later. absent (inr later))))
-]
+put-taken new (x ∷ items) absent = elim (comes_before new x.entry) as
+    (λ b. without_entry new (cond b (record { entry = new; present = false } ∷ x ∷ items) (x ∷ put_marked (record { entry = new; present = false }) items)) ≡ x
+    ∷ items) [
+      | true ↦ rw (same_entry-refl new) (none-out new (x ∷ items) absent)
+      | false ↦ rw (not_same x.entry new (λ same. absent (inl (sym same)))) (ap (λ l. x ∷ l) (put-taken new items (λ later. absent (inr later))))
+    ]

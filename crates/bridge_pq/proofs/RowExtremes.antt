@@ -205,7 +205,8 @@ module _ (order : Entry → Entry → Ordering) (agrees : (a b : Entry) → is_g
           record {
             one = (in_contains _ e inside, in_contains _ e (is_among_in e alive at.lives));
             least = λ other early.
-                let found = there-alive alive before other (marked-take alive items to marked) (subst (λ l. In other (added l)) (sym before_rows) (contains_in _ other early.0)) (in_is_among other alive (contains_in _ other early.1)) in
+                let found = there-alive alive before other (marked-take alive items to marked)
+                (subst (λ l. In other (added l)) (sym before_rows) (contains_in _ other early.0)) (in_is_among other alive (contains_in _ other early.1)) in
                 agrees e other (first.greatest found.0 other found.1);
           },
         )

@@ -122,7 +122,8 @@ first_with : (now checkpoint : Structure) (place : ℕ) (row : Row) → HoldsFir
 first_with now checkpoint place row first = elim (cases_lt place (place_of checkpoint)) [
   | inl less ↦ rw (row_comes place row checkpoint less) (same_structure _ _ _ _ (kind_of_first now checkpoint first)
       (ap (λ (rs : List Row). insert rs place row) (rows_of_first now checkpoint first) ∙ insert_in_first now.rows (place_of checkpoint) place row less
-      ∙ ap (λ (n : ℕ). take n (insert now.rows place row)) (let same : suc (place_of checkpoint) ≡ length (insert checkpoint.rows place row) = omega (arith, length-insert checkpoint.rows place row (omega arith)) in same)))
+      ∙ ap (λ (n : ℕ). take n (insert now.rows place row)) (let same : suc (place_of checkpoint) ≡ length (insert checkpoint.rows place row) =
+      omega (arith, length-insert checkpoint.rows place row (omega arith)) in same)))
   | inr less ↦ rw (row_stays_out place row checkpoint less) (same_structure _ _ _ _ (kind_of_first now checkpoint first)
       (rows_of_first now checkpoint first ∙ sym (insert_after_first now.rows (place_of checkpoint) place row less (not_after_now now checkpoint first))))
 ]

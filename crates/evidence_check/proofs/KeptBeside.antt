@@ -154,16 +154,20 @@ module _ (one : OneChangeOfPq) (old : List MarkedRow) (e : Evidence) (kept : Mar
               ∙ gone entry other fewer (absent_among entry fewer loses.1.absent) ∙ ap (λ rows. is_among (survivors rows) other) (sym rows_are);
         }
 
-  pub kept_gain : {X : Type 0} (r : Result X CheckError) (new : List MarkedRow) (numbers : BTreeMap ℕ ℕ) (before after : BTreeSet (ℤ × ℕ)) (bridge : ℕ) (entry : Entry) → e.change ≡ Gain bridge entry → AreSurvivors old before
+  pub kept_gain : {X : Type 0} (r : Result X CheckError) (new : List MarkedRow) (numbers : BTreeMap ℕ ℕ) (before after : BTreeSet (ℤ × ℕ)) (bridge : ℕ)
+      (entry : Entry) → e.change ≡ Gain bridge entry → AreSurvivors old before
       → OnOk r (AreNumbers (rows_of (edited_rows old e.added e.place (marked_row e))) numbers) → OnErr r (AreNumbers (rows_of old) numbers)
-      → OnOk r (new ≡ map (with_mark entry true) (edited_rows old e.added e.place (marked_row e))) → OnErr r (new ≡ old) → OnOk r (Puts entry true before after) → OnErr r (AreSame before after) → AreKept new numbers after
+      → OnOk r (new ≡ map (with_mark entry true) (edited_rows old e.added e.place (marked_row e))) → OnErr r (new ≡ old) → OnOk r (Puts entry true before after)
+      → OnErr r (AreSame before after) → AreKept new numbers after
   kept_gain (Ok x) new numbers before after bridge entry same are numbers_are numbers_stay ok err puts stay = rw ok (after_gain numbers before after numbers_are are bridge entry same puts)
   kept_gain (Err x) new numbers before after bridge entry same are numbers_are numbers_stay ok err puts stay =
       rw err (record { marks = kept; numbers_are = numbers_stay; survivors_are = λ other. stay other ∙ are other })
 
-  pub kept_loss : {X : Type 0} (r : Result X CheckError) (new : List MarkedRow) (numbers : BTreeMap ℕ ℕ) (before after : BTreeSet (ℤ × ℕ)) (bridge : Option ℕ) (entry : Entry) → e.change ≡ Lose bridge entry → AreSurvivors old before
+  pub kept_loss : {X : Type 0} (r : Result X CheckError) (new : List MarkedRow) (numbers : BTreeMap ℕ ℕ) (before after : BTreeSet (ℤ × ℕ)) (bridge : Option ℕ)
+      (entry : Entry) → e.change ≡ Lose bridge entry → AreSurvivors old before
       → OnOk r (AreNumbers (rows_of (edited_rows old e.added e.place (marked_row e))) numbers) → OnErr r (AreNumbers (rows_of old) numbers)
-      → OnOk r (new ≡ map (with_mark entry false) (edited_rows old e.added e.place (marked_row e))) → OnErr r (new ≡ old) → OnOk r (Puts entry false before after) → OnErr r (AreSame before after) → AreKept new numbers after
+      → OnOk r (new ≡ map (with_mark entry false) (edited_rows old e.added e.place (marked_row e))) → OnErr r (new ≡ old)
+      → OnOk r (Puts entry false before after) → OnErr r (AreSame before after) → AreKept new numbers after
   kept_loss (Ok x) new numbers before after bridge entry same are numbers_are numbers_stay ok err puts stay = rw ok (after_loss numbers before after numbers_are are bridge entry same puts)
   kept_loss (Err x) new numbers before after bridge entry same are numbers_are numbers_stay ok err puts stay =
       rw err (record { marks = kept; numbers_are = numbers_stay; survivors_are = λ other. stay other ∙ are other })

@@ -1,5 +1,6 @@
 -- How many dead entries are held, row by row: the marks are the weights.
-use Rattle.std.proofs.Common.{◌≡◌, ◌≢◌, ℕ, zero, suc, ◌+◌, ◌-◌, ◌<◌, ◌≤◌, pos, Bool, true, false, not, ◌&&◌, cond, List, [], ◌∷◌, length, take, refl, sym, ap, ◌∙◌, zero-add, get_or, arith, Option, Some, None, IsSome, inl, inr}
+use Rattle.std.proofs.Common.{◌≡◌, ◌≢◌, ℕ, zero, suc, ◌+◌, ◌-◌, ◌<◌, ◌≤◌, pos, Bool, true, false, not, ◌&&◌, cond, List, [], ◌∷◌}
+use Rattle.std.proofs.Common.{length, take, refl, sym, ap, ◌∙◌, zero-add, get_or, arith, Option, Some, None, IsSome, inl, inr}
 use Rattle.std.specs.Prelude.{◌==◌, ◌+ℤ◌, slice_get, count_by}
 use Rattle.std.specs.Option.{option_map_or}
 use Rattle.std.specs.List.{AllByRecursion, fold, list_all}

@@ -29,7 +29,9 @@ op_at_last label (row ∷ rows) rise =
       | true ↦ λ same.
           sym (ap (λ found. option_and_then (if_labelled label) (last_of found))
           (filter-yes (λ (r : KeyRow). nat_le r.0 label) row rows (same_up_to row.0 label same)
-          ∙ ap (λ found. row ∷ found) (none_pass (λ (r : KeyRow). nat_le r.0 label) rows (all_weaker (λ (r : KeyRow). row.0 < r.0) (λ (r : KeyRow). nat_le r.0 label ≡ false) rows (λ r over. above_same row.0 label r.0 same over) rise.0)))
+          ∙ ap (λ found. row ∷ found) (none_pass (λ (r : KeyRow). nat_le r.0 label) rows
+          (all_weaker (λ (r : KeyRow). row.0 < r.0) (λ (r : KeyRow). nat_le r.0 label ≡ false) rows
+          (λ r over. above_same row.0 label r.0 same over) rise.0)))
           ∙ ap (λ b. cond b (Some row.1) None) same)
       | false ↦ λ other. op_at_last label rows rise.1 ∙ one_more other
     ] refl where
@@ -38,10 +40,11 @@ op_at_last label (row ∷ rows) rise =
       through other (Some r) = refl
 
       one_more : (row.0 == label) ≡ false → option_and_then (if_labelled label) (last_of (up_to label rows)) ≡ option_and_then (if_labelled label) (last_of (up_to label (row ∷ rows)))
-      one_more other = elim (nat_le row.0 label) as (λ b. option_and_then (if_labelled label) (last_of (up_to label rows)) ≡ option_and_then (if_labelled label) (last_of (cond b (row ∷ up_to label rows) (up_to label rows)))) [
-        | true ↦ through other (last_of (up_to label rows))
-        | false ↦ refl
-      ]
+      one_more other = elim (nat_le row.0 label) as (λ b. option_and_then (if_labelled label) (last_of (up_to label rows))
+          ≡ option_and_then (if_labelled label) (last_of (cond b (row ∷ up_to label rows) (up_to label rows)))) [
+            | true ↦ through other (last_of (up_to label rows))
+            | false ↦ refl
+          ]
 
 pub none_labelled : (label : ℕ) (rows : List KeyRow) (count : ℕ) → LabelsRise rows → take count rows ≡ up_to label rows → count ≡ 0 → None ≡ op_at label rows
 none_labelled label rows count rise front none =

@@ -129,10 +129,11 @@ module _ (former fresh : List ℕ) (rise : Rise former) (rise_fresh : Rise fresh
 
   filter_moved : (key : ℤ) (rows : List KeyRow) → filter (is_on key) (map moved rows) ≡ map moved (filter (is_on key) rows)
   filter_moved key [] = refl
-  filter_moved key (row ∷ rows) = elim (is_on key row) as (λ b. cond b (moved row ∷ filter (is_on key) (map moved rows)) (filter (is_on key) (map moved rows)) ≡ map moved (cond b (row ∷ filter (is_on key) rows) (filter (is_on key) rows))) [
-    | true ↦ ap (λ found. moved row ∷ found) (filter_moved key rows)
-    | false ↦ filter_moved key rows
-  ]
+  filter_moved key (row ∷ rows) = elim (is_on key row) as (λ b. cond b (moved row ∷ filter (is_on key) (map moved rows)) (filter (is_on key) (map moved rows))
+      ≡ map moved (cond b (row ∷ filter (is_on key) rows) (filter (is_on key) rows))) [
+        | true ↦ ap (λ found. moved row ∷ found) (filter_moved key rows)
+        | false ↦ filter_moved key rows
+      ]
 
   dict_moved : (rows : List KeyRow) → AllByRecursion (λ (row : KeyRow). kind_of row.1 ≡ Dict) rows → AllByRecursion (λ (row : KeyRow). kind_of row.1 ≡ Dict) (map moved rows)
   dict_moved rows all = all-map (λ (row : KeyRow). kind_of row.1 ≡ Dict) moved rows all
@@ -168,7 +169,8 @@ module _ (former fresh : List ℕ) where
   partly-length (suc place) (row ∷ rows) = ap suc (partly-length place rows)
 
   pub partly-all : (place : ℕ) (rows : List KeyRow) → length rows ≤ place → partly place rows ≡ relabelled former fresh rows
-  partly-all place rows all = ap (λ found. relabelled former fresh found ++ drop place rows) (take_all place rows all) ∙ ap (λ found. relabelled former fresh rows ++ found) (drop_all place rows all) ∙ append-nil (relabelled former fresh rows)
+  partly-all place rows all = ap (λ found. relabelled former fresh found ++ drop place rows) (take_all place rows all)
+      ∙ ap (λ found. relabelled former fresh rows ++ found) (drop_all place rows all) ∙ append-nil (relabelled former fresh rows)
 
   pub one_held : (rows : List KeyRow) (place : ℕ) (row : KeyRow) → HoldsLabels former rows → slice_get rows place ≡ Some row → is_in former row.0 ≡ true
   one_held [] place row all there = absurd (cc)

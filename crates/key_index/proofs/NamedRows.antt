@@ -38,7 +38,8 @@ none_named names (Some i) within none = absurd (named_there names i (within i re
 
 pub inserted_good : (label : ℕ) (op : Op) (rows : List KeyRow) → AreDict rows → kind_of op ≡ Dict → None ≡ bad_with label op rows → Replays (with_row label op rows)
 inserted_good label op rows dict one none =
-    let edited = all-append (λ (row : KeyRow). kind_of row.1 ≡ Dict) (up_to label rows) ((label, op) ∷ behind label rows) (all_filter (λ (row : KeyRow). nat_le row.0 label) (λ (row : KeyRow). kind_of row.1 ≡ Dict) rows dict)
+    let edited = all-append (λ (row : KeyRow). kind_of row.1 ≡ Dict) (up_to label rows) ((label, op) ∷ behind label rows)
+    (all_filter (λ (row : KeyRow). nat_le row.0 label) (λ (row : KeyRow). kind_of row.1 ≡ Dict) rows dict)
     (one, all_filter (λ (row : KeyRow). nat_lt label row.0) (λ (row : KeyRow). kind_of row.1 ≡ Dict) rows dict) in
     none_named (named (up_to label rows) ++ Inserted ∷ named (behind label rows)) (failure_of (with_row label op rows))
     (λ i failed. omega (

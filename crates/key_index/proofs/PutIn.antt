@@ -110,7 +110,8 @@ module _ (label : ℕ) (op : Op) (rows by_key : List KeyRow) where
         };
         ordered = by_key_around (filter up_by_key by_key) (filter past_by_key by_key) (label, op) (by_key_filter up_by_key by_key indexed.ordered)
             (all_both (λ (row : KeyRow). up_by_key row ≡ true) (λ (row : KeyRow). is_on key row ≡ true → (row.0 == label) ≡ false) (λ (row : KeyRow). stands_before row (label, op) ≡ true) (filter up_by_key by_key)
-            (λ row here other. pair_below (key_of row.1) row.0 key label here other) (filter_passes up_by_key by_key) (all_filter up_by_key (λ (row : KeyRow). is_on key row ≡ true → (row.0 == label) ≡ false) by_key others_on_key))
+            (λ row here other. pair_below (key_of row.1) row.0 key label here other) (filter_passes up_by_key by_key)
+            (all_filter up_by_key (λ (row : KeyRow). is_on key row ≡ true → (row.0 == label) ≡ false) by_key others_on_key))
             (by_key_filter past_by_key by_key indexed.ordered)
             (all_both (λ (row : KeyRow). past_by_key row ≡ true) (λ (row : KeyRow). past_by_key row ≡ true) (λ (row : KeyRow). stands_before (label, op) row ≡ true) (filter past_by_key by_key)
             (λ row here again. pair_above (key_of row.1) row.0 key label here) (filter_passes past_by_key by_key) (filter_passes past_by_key by_key));

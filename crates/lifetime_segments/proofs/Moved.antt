@@ -56,7 +56,9 @@ module _ {A : Type 0} {before : A → A → Bool} (order : IsOrder before) where
   items-moved : (level : ℕ) (x : Lifetime A) (xs ys : List (Lifetime A)) → in_order before (wholes level (xs ++ x ∷ ys)) ≡ in_order before (wholes level (x ∷ xs ++ ys))
   items-moved level x xs ys =
       ap (in_order before) (middle (is_whole level) (λ life. life.item) x xs ys)
-      ∙ (elim (is_whole level x) as (λ b. in_order before (wholes level xs ++ map (λ life. life.item) (cond b (x ∷ filter (is_whole level) ys) (filter (is_whole level) ys))) ≡ in_order before (map (λ life. life.item) (cond b (x ∷ filter (is_whole level) xs) (filter (is_whole level) xs)) ++ wholes level ys)) [
+      ∙ (elim (is_whole level x) as (λ b. in_order before (wholes level xs
+      ++ map (λ life. life.item) (cond b (x ∷ filter (is_whole level) ys) (filter (is_whole level) ys)))
+      ≡ in_order before (map (λ life. life.item) (cond b (x ∷ filter (is_whole level) xs) (filter (is_whole level) xs)) ++ wholes level ys)) [
         | true ↦ in_order-middle order x.item (wholes level xs) (wholes level ys)
         | false ↦ refl
       ])

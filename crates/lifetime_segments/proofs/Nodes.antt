@@ -10,7 +10,9 @@ use Rattle.lifetime_segments.specs.Lawful.{most_items, AreLawful}
 use Rattle.lifetime_segments.specs.Ordered.{IsOrder, AreInOrder, put_in, in_order, is_in, without}
 use Rattle.lifetime_segments.specs.OrderedLaws.{in_order-absorbs, in_order-ordered, in_order-kept, length-in_order, is_in-put_in, without-put_in}
 use Rattle.lifetime_segments.specs.Lifetimes.{holds, items_at}
-use Rattle.lifetime_segments.specs.Tries.{Has, NodeHas, HasOne, NodeHasOne, FirstHasOne, SecondHasOne, IsOf, IsOfNode, IsOpened, Takes, Keeps, NodeKeeps, NodeAdds, NodeTakes, AddsFirst, AddsSecond, TakesFirst, TakesSecond, is_whole, wholes, in_first, in_second, seen_from, is_empty, items_of, left_of, right_of, items_below}
+use Rattle.lifetime_segments.specs.Tries.{Has, NodeHas, HasOne, NodeHasOne, FirstHasOne, SecondHasOne, IsOf, IsOfNode, IsOpened, Takes, Keeps}
+use Rattle.lifetime_segments.specs.Tries.{NodeKeeps, NodeAdds, NodeTakes, AddsFirst, AddsSecond, TakesFirst, TakesSecond, is_whole, wholes}
+use Rattle.lifetime_segments.specs.Tries.{in_first, in_second, seen_from, is_empty, items_of, left_of, right_of, items_below}
 use Rattle.lifetime_segments.proofs.Spans.{double, first-in_order, second-in_order}
 
 -- what holds of a trie holds of the node that it leads to, and the other way round
@@ -115,7 +117,8 @@ wholes-broken : {A : Type 0} (level : ℕ) (life : Lifetime A) (lives : List (Li
 wholes-broken {A = A} level life lives broken = ap (λ b. map (λ (l : Lifetime A). l.item) (cond b (life ∷ filter (is_whole level) lives) (filter (is_whole level) lives))) broken
 
 -- a lifetime of the whole span is put in
-pub node_with_whole : {A M : Type 0} (before : A → A → Bool) (level : ℕ) (life : Lifetime A) (node after : Node A M) → is_whole level life ≡ true → after.items ≡ put_in before life.item node.items → after.left ≡ node.left → after.right ≡ node.right
+pub node_with_whole : {A M : Type 0} (before : A → A → Bool) (level : ℕ) (life : Lifetime A) (node after : Node A M) → is_whole level life ≡ true → after.items
+    ≡ put_in before life.item node.items → after.left ≡ node.left → after.right ≡ node.right
     → NodeAdds before level life node after
 unfolding IsOfNode
 node_with_whole before zero life node after whole items left right lives is_of = items ∙ ap (put_in before life.item) is_of ∙ sym (ap (in_order before) (wholes-whole zero life lives whole))
@@ -170,7 +173,8 @@ pub node_with_parts : {A M : Type 0} (before : A → A → Bool) (level : ℕ) (
 unfolding IsOfNode
 node_with_parts before level life node after broken items left right lives is_of = (items ∙ is_of.0 ∙ sym (ap (in_order before) (wholes-broken (suc level) life lives broken)), left lives is_of.1, right lives is_of.2)
 
-pub node_kept : {A M : Type 0} (before : A → A → Bool) (level : ℕ) (node after : Node A M) → after.items ≡ node.items → ((lives : List (Lifetime A)) → IsOf before level (in_first level lives) node.left → IsOf before level (in_first level lives) after.left)
+pub node_kept : {A M : Type 0} (before : A → A → Bool) (level : ℕ) (node after : Node A M) → after.items ≡ node.items
+    → ((lives : List (Lifetime A)) → IsOf before level (in_first level lives) node.left → IsOf before level (in_first level lives) after.left)
     → Keeps before level node.right after.right → NodeKeeps before (suc level) node after
 unfolding IsOfNode
 node_kept before level node after items left right lives is_of = (items ∙ is_of.0, left lives is_of.1, right (in_second level lives) is_of.2)
@@ -188,7 +192,8 @@ node_without_parts before level half life node after below broken items left rig
 
 module _ {A : Type 0} {before : A → A → Bool} (order : IsOrder before) where
   -- the item of a lifetime of the whole span, taken out
-  without_whole : (level : ℕ) (life : Lifetime A) (lives : List (Lifetime A)) (items : List A) → is_whole level life ≡ true → items ≡ in_order before (wholes level (life ∷ lives)) → without before life.item items ≡ in_order before (wholes level lives)
+  without_whole : (level : ℕ) (life : Lifetime A) (lives : List (Lifetime A)) (items : List A) → is_whole level life ≡ true → items
+      ≡ in_order before (wholes level (life ∷ lives)) → without before life.item items ≡ in_order before (wholes level lives)
   without_whole level life lives items whole are =
       ap (without before life.item) (are ∙ ap (in_order before) (wholes-whole level life lives whole))
       ∙ without-put_in order life.item (in_order before (wholes level lives))
@@ -219,7 +224,9 @@ module _ {A : Type 0} {before : A → A → Bool} (order : IsOrder before) where
   -- the items in a span and those below it, at a label, are those that are there
   items_below-in_order : (level label : ℕ) (lives : List (Lifetime A)) → label < 2 ^ suc level → in_order before (wholes (suc level) lives ++ items_below level label lives) ≡ in_order before (items_at label lives)
   items_below-in_order level label lives within =
-      elim (nat_lt label (2 ^ level)) as (λ b. nat_lt label (2 ^ level) ≡ b → in_order before (wholes (suc level) lives ++ cond b (items_at label (in_first level lives)) (items_at (label - 2 ^ level) (in_second level lives))) ≡ in_order before (items_at label lives)) [
+      elim (nat_lt label (2 ^ level)) as (λ b. nat_lt label (2 ^ level) ≡ b
+      → in_order before (wholes (suc level) lives ++ cond b (items_at label (in_first level lives)) (items_at (label - 2 ^ level) (in_second level lives)))
+      ≡ in_order before (items_at label lives)) [
         | true ↦ λ near. first-in_order order level label lives (grind (arith, nat_tests))
         | false ↦ λ far. second-in_order order level label lives (grind (arith, nat_tests)) within
       ] refl

@@ -17,13 +17,14 @@ insert-place before x (y ∷ ys) = elim (before y x) as (λ b. insert (y ∷ ys)
 
 pub remove-place : {A : Type 0} (before : A → A → Bool) (x : A) (xs : List A) → is_in before x xs ≡ true → remove xs (place_in before x xs) ≡ without before x xs
 remove-place before x [] there = absurd (cc)
-remove-place before x (y ∷ ys) there = elim (before y x) as (λ b. cond b (is_in before x ys) (not (before x y)) ≡ true → remove (y ∷ ys) (cond b (suc (place_in before x ys)) 0) ≡ cond b (y ∷ without before x ys) (cond (before x y) (y ∷ ys) ys)) [
-  | true ↦ λ there. ap (λ zs. y ∷ zs) (remove-place before x ys there)
-  | false ↦ elim (before x y) as (λ b. not b ≡ true → ys ≡ cond b (y ∷ ys) ys) [
-    | true ↦ λ there. absurd (cc)
-    | false ↦ λ _. refl
-  ]
-] there
+remove-place before x (y ∷ ys) there = elim (before y x) as (λ b. cond b (is_in before x ys) (not (before x y)) ≡ true
+    → remove (y ∷ ys) (cond b (suc (place_in before x ys)) 0) ≡ cond b (y ∷ without before x ys) (cond (before x y) (y ∷ ys) ys)) [
+      | true ↦ λ there. ap (λ zs. y ∷ zs) (remove-place before x ys there)
+      | false ↦ elim (before x y) as (λ b. not b ≡ true → ys ≡ cond b (y ∷ ys) ys) [
+        | true ↦ λ there. absurd (cc)
+        | false ↦ λ _. refl
+      ]
+    ] there
 
 pub place-within : {A : Type 0} (before : A → A → Bool) (x : A) (xs : List A) → place_in before x xs ≤ length xs
 place-within before x [] = omega arith

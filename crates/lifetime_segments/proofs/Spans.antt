@@ -24,19 +24,24 @@ module _ {A X : Type 0} {before : A → A → Bool} (order : IsOrder before) (it
       let parts = filter (λ x. not (whole x) && part x) xs in
       let all = filter there xs in
       let rest = split-in_order same_item same_there whole_there part_there xs in
-      elim (whole x) as (λ a. whole x ≡ a → in_order before (map item (cond a (x ∷ wholes) wholes) ++ map item (filter there_seen (map seen (cond (not a && part x) (x ∷ parts) parts)))) ≡ in_order before (map item (cond (there x) (x ∷ all) all))) [
+      elim (whole x) as (λ a. whole x ≡ a → in_order before (map item (cond a (x ∷ wholes) wholes)
+      ++ map item (filter there_seen (map seen (cond (not a && part x) (x ∷ parts) parts)))) ≡ in_order before (map item (cond (there x) (x ∷ all) all))) [
         | true ↦ λ taken. ap (put_in before (item x)) rest ∙ sym (ap (λ c. in_order before (map item (cond c (x ∷ all) all))) (whole_there x taken))
-        | false ↦ λ broken. elim (part x) as (λ b. part x ≡ b → in_order before (map item wholes ++ map item (filter there_seen (map seen (cond b (x ∷ parts) parts)))) ≡ in_order before (map item (cond (there x) (x ∷ all) all))) [
-          | true ↦ λ _. elim (there x) as (λ c. there x ≡ c → in_order before (map item wholes ++ map item (cond (there_seen (seen x)) (seen x ∷ filter there_seen (map seen parts)) (filter there_seen (map seen parts)))) ≡ in_order before (map item (cond c (x ∷ all) all))) [
-            | true ↦ λ here.
-                ap (λ c. in_order before (map item wholes ++ map item (cond c (seen x ∷ filter there_seen (map seen parts)) (filter there_seen (map seen parts))))) (same_there x ∙ here)
-                ∙ in_order-middle order (item (seen x)) (map item wholes) (map item (filter there_seen (map seen parts)))
-                ∙ ap (λ i. put_in before i (in_order before (map item wholes ++ map item (filter there_seen (map seen parts))))) (same_item x)
-                ∙ ap (put_in before (item x)) rest
-            | false ↦ λ gone. ap (λ c. in_order before (map item wholes ++ map item (cond c (seen x ∷ filter there_seen (map seen parts)) (filter there_seen (map seen parts))))) (same_there x ∙ gone) ∙ rest
-          ] refl
-          | false ↦ λ past. rest ∙ sym (ap (λ c. in_order before (map item (cond c (x ∷ all) all))) (nowhere broken past))
-        ] refl
+        | false ↦ λ broken. elim (part x) as (λ b. part x ≡ b
+            → in_order before (map item wholes ++ map item (filter there_seen (map seen (cond b (x ∷ parts) parts))))
+            ≡ in_order before (map item (cond (there x) (x ∷ all) all))) [
+              | true ↦ λ _. elim (there x) as (λ c. there x ≡ c → in_order before
+                  (map item wholes ++ map item (cond (there_seen (seen x)) (seen x ∷ filter there_seen (map seen parts)) (filter there_seen (map seen parts))))
+                  ≡ in_order before (map item (cond c (x ∷ all) all))) [
+                    | true ↦ λ here.
+                        ap (λ c. in_order before (map item wholes ++ map item (cond c (seen x ∷ filter there_seen (map seen parts)) (filter there_seen (map seen parts))))) (same_there x ∙ here)
+                        ∙ in_order-middle order (item (seen x)) (map item wholes) (map item (filter there_seen (map seen parts)))
+                        ∙ ap (λ i. put_in before i (in_order before (map item wholes ++ map item (filter there_seen (map seen parts))))) (same_item x)
+                        ∙ ap (put_in before (item x)) rest
+                    | false ↦ λ gone. ap (λ c. in_order before (map item wholes ++ map item (cond c (seen x ∷ filter there_seen (map seen parts)) (filter there_seen (map seen parts))))) (same_there x ∙ gone) ∙ rest
+                  ] refl
+              | false ↦ λ past. rest ∙ sym (ap (λ c. in_order before (map item (cond c (x ∷ all) all))) (nowhere broken past))
+            ] refl
       ] refl where
         nowhere : whole x ≡ false → part x ≡ false → there x ≡ false
         nowhere broken past = elim (there x) as (λ c. there x ≡ c → c ≡ false) [

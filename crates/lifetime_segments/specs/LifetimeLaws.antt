@@ -94,22 +94,26 @@ module _ {A : Type 0} {before : A → A → Bool} (order : IsOrder before) where
   also-swap false false x y xs = refl
 
   items_at-cons : (label : ℕ) (life : Lifetime A) (lives : List (Lifetime A)) → in_order before (items_at label (life ∷ lives)) ≡ also (holds label life) life.item (in_order before (items_at label lives))
-  items_at-cons label life lives = elim (holds label life) as (λ b. in_order before (map (λ l. l.item) (cond b (life ∷ filter (holds label) lives) (filter (holds label) lives))) ≡ also b life.item (in_order before (items_at label lives))) [
-    | true ↦ refl
-    | false ↦ refl
-  ]
+  items_at-cons label life lives = elim (holds label life) as
+      (λ b. in_order before (map (λ l. l.item) (cond b (life ∷ filter (holds label) lives) (filter (holds label) lives)))
+      ≡ also b life.item (in_order before (items_at label lives))) [
+        | true ↦ refl
+        | false ↦ refl
+      ]
 
   -- a lifetime that is put in
   items_at-put_in : (label : ℕ) (life : Lifetime A) (lives : List (Lifetime A)) → in_order before (items_at label (put_in (stands_earlier before) life lives)) ≡ in_order before (items_at label (life ∷ lives))
   items_at-put_in label life [] = refl
-  items_at-put_in label life (first ∷ lives) = elim (stands_earlier before first life) as (λ b. in_order before (items_at label (cond b (first ∷ put_in (stands_earlier before) life lives) (life ∷ first ∷ lives))) ≡ in_order before (items_at label (life ∷ first ∷ lives))) [
-    | true ↦
-        items_at-cons label first (put_in (stands_earlier before) life lives)
-        ∙ ap (also (holds label first) first.item) (items_at-put_in label life lives ∙ items_at-cons label life lives)
-        ∙ also-swap (holds label first) (holds label life) first.item life.item (in_order before (items_at label lives))
-        ∙ sym (items_at-cons label life (first ∷ lives) ∙ ap (also (holds label life) life.item) (items_at-cons label first lives))
-    | false ↦ refl
-  ]
+  items_at-put_in label life (first ∷ lives) = elim (stands_earlier before first life) as
+      (λ b. in_order before (items_at label (cond b (first ∷ put_in (stands_earlier before) life lives) (life ∷ first ∷ lives)))
+      ≡ in_order before (items_at label (life ∷ first ∷ lives))) [
+        | true ↦
+            items_at-cons label first (put_in (stands_earlier before) life lives)
+            ∙ ap (also (holds label first) first.item) (items_at-put_in label life lives ∙ items_at-cons label life lives)
+            ∙ also-swap (holds label first) (holds label life) first.item life.item (in_order before (items_at label lives))
+            ∙ sym (items_at-cons label life (first ∷ lives) ∙ ap (also (holds label life) life.item) (items_at-cons label first lives))
+        | false ↦ refl
+      ]
 
   -- which items are there at a label does not depend on the order of the lifetimes
   pub items_at-in_order : (label : ℕ) (lives : List (Lifetime A)) → in_order before (items_at label (in_order (stands_earlier before) lives)) ≡ in_order before (items_at label lives)

@@ -7,7 +7,9 @@ use Rattle.monoid_laws.specs.Both.{joined_both, both_of}
 same : {A B : Type 0} {a b : A} {c d : B} → a ≡ b → c ≡ d → (let v : A × B = (a, c) in v) ≡ (b, d)
 same p q = cc
 
-pub both_laws : {A B : Type 0} {items_first : A → ℕ} {items_second : B → ℕ} {unit_first : A} {unit_second : B} {join_first : A → A → A} {join_second : B → B → B} → MonoidLaws items_first unit_first join_first → MonoidLaws items_second unit_second join_second → MonoidLaws (λ (p : A × B). items_first p.0) (unit_first, unit_second) (joined_both join_first join_second)
+pub both_laws : {A B : Type 0} {items_first : A → ℕ} {items_second : B → ℕ} {unit_first : A} {unit_second : B} {join_first : A → A → A}
+    {join_second : B → B → B} → MonoidLaws items_first unit_first join_first → MonoidLaws items_second unit_second join_second
+    → MonoidLaws (λ (p : A × B). items_first p.0) (unit_first, unit_second) (joined_both join_first join_second)
 both_laws first second = record {
   unit_items = first.unit_items;
   join_items = λ p q. first.join_items p.0 q.0;

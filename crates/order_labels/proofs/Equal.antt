@@ -51,7 +51,12 @@ at_last label first last zero found (other ∷ labels) apart counted read = elim
       let same : other ≡ found = cc in
       elim (cases_Bool (other == label)) [
         | inl is ↦ same_label label other labels is ∙ sym (ap (λ b. cond b 0 (length (other ∷ labels))) (ap (is_label label) (sym same) ∙ is))
-        | inr differs ↦ omega (arith, other_label label other labels differs, none_equal label labels (omega (arith, counted_here label other labels within)), ap (λ b. cond b 0 (length (other ∷ labels))) (ap (is_label label) (sym same) ∙ differs))
+        | inr differs ↦ omega (
+          arith,
+          other_label label other labels differs,
+          none_equal label labels (omega (arith, counted_here label other labels within)),
+          ap (λ b. cond b 0 (length (other ∷ labels))) (ap (is_label label) (sym same) ∙ differs),
+        )
       ]
 ]
 at_last label first last (suc count) found (other ∷ labels) apart counted read = elim (cases_lt label other) [
@@ -87,7 +92,8 @@ label_found label first last count found labels within apart counted read is =
 pub label_missing : (label first last count found : ℕ) (labels : List ℕ) → AreApart 1 first last labels → count_up_to itself labels label ≡ suc count → slice_get labels count ≡ Some found
     → (found == label) ≡ false → position (is_label label) labels ≡ None
 label_missing label first last count found labels apart counted read differs =
-    ap (place_at label labels) (at_last label first last count found labels apart counted read ∙ ap (λ b. cond b count (length labels)) differs) ∙ ap (λ b. cond b (Some (length labels)) None) (le-ltb (length labels) (length labels) (omega arith))
+    ap (place_at label labels) (at_last label first last count found labels apart counted read ∙ ap (λ b. cond b count (length labels)) differs)
+    ∙ ap (λ b. cond b (Some (length labels)) None) (le-ltb (length labels) (length labels) (omega arith))
 
 -- labels that rise never fall
 abbrev AllAbove : ℕ → List ℕ → Type 0

@@ -57,7 +57,9 @@ pub before_is : (first : ℕ) (labels : List ℕ) (place label : ℕ) → 0 < pl
 before_is first labels zero label some read = absurd (omega arith)
 before_is first [] (suc place) label some read = cc
 before_is first (next ∷ labels) (suc zero) label some read = cc
-before_is first (next ∷ labels) (suc (suc place)) label some read = before_is next labels (suc place) label (omega arith) (let less : suc (suc place) - 1 ≡ suc (suc place - 1) = omega arith in subst (λ n. slice_get (next ∷ labels) n ≡ Some label) less read)
+before_is first (next ∷ labels) (suc (suc place)) label some read =
+    before_is next labels (suc place) label (omega arith) (let less : suc (suc place) - 1 ≡ suc (suc place - 1) = omega arith in
+    subst (λ n. slice_get (next ∷ labels) n ≡ Some label) less read)
 
 pub after_is : (last : ℕ) (labels : List ℕ) (place label : ℕ) → slice_get labels place ≡ Some label → label ≡ label_after last labels place
 after_is last [] place label read = cc

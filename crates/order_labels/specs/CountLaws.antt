@@ -25,5 +25,7 @@ module _ {A : Type 0} (number : A → ℕ) (limit : ℕ) where
   )
 
   -- what a search finds that asks of each item whether it is one of them
-  pub count_found : {F : Type 0} (calls : Shared F (Bor A × Unit {0}) Bool) (closure : F) (items : List A) (count : ℕ) → FindsPartition calls closure items count → TellsItems calls closure is_up_to → NeverFalls number items → count ≤ length items → count ≡ count_up_to number items limit
+  pub count_found : {F : Type 0} (calls : Shared F (Bor A × Unit {0}) Bool) (closure : F) (items : List A) (count : ℕ)
+      → FindsPartition calls closure items count → TellsItems calls closure is_up_to → NeverFalls number items → count ≤ length items → count
+      ≡ count_up_to number items limit
   count_found calls closure items count found tells order within = (divides_found is_up_to calls closure items count found tells (parted_up_to items order) within).counted ∙ length-filter is_up_to items

@@ -1,5 +1,6 @@
 -- The table has the label of each name, where a name comes, goes, or gets another label.
-use Rattle.std.proofs.Common.{◌≡◌, ◌≢◌, ℕ, zero, suc, ◌+◌, ◌<◌, ◌≤◌, false, Some, None, List, [], ◌∷◌, ◌++◌, length, slice_get, slice_set, get_or, ◌==◌, refl, sym, ap, ◌∙◌, subst, arith, add-one, inl, inr, eq-eqb, eqb-true, position}
+use Rattle.std.proofs.Common.{◌≡◌, ◌≢◌, ℕ, zero, suc, ◌+◌, ◌<◌, ◌≤◌, false, Some, None, List, [], ◌∷◌, ◌++◌, length, slice_get, slice_set}
+use Rattle.std.proofs.Common.{get_or, ◌==◌, refl, sym, ap, ◌∙◌, subst, arith, add-one, inl, inr, eq-eqb, eqb-true, position}
 use Rattle.std.proofs.lemmas.Bool.{cases_Bool, ne_eqb}
 use Rattle.std.proofs.lemmas.List.Quantifiers.{position-Some}
 use Rattle.std.proofs.lemmas.Option.{slice_get-get_or}
@@ -49,7 +50,8 @@ labels_set [] labels table name label fresh have = tt
 labels_set (other ∷ names) [] table name label fresh have = tt
 labels_set (other ∷ names) (next ∷ labels) table name label fresh have = (read_other table name other label fresh.0 ∙ have.0, labels_set names labels table name label fresh.1 have.1)
 
-pub labels_with : (names labels table : List ℕ) (place name label : ℕ) → length labels ≡ length names → HaveLabels names labels table → slice_get table name ≡ Some label → HaveLabels (insert names place name) (insert labels place label) table
+pub labels_with : (names labels table : List ℕ) (place name label : ℕ) → length labels ≡ length names → HaveLabels names labels table → slice_get table name
+    ≡ Some label → HaveLabels (insert names place name) (insert labels place label) table
 labels_with names labels table zero name label each have read = (read, have)
 labels_with [] [] table (suc place) name label each have read = (read, tt)
 labels_with [] (next ∷ labels) table (suc place) name label each have read = absurd (omega arith)
@@ -113,7 +115,8 @@ first_all zero (name ∷ names) (label ∷ labels) table end have = absurd (omeg
 first_all (suc count) (name ∷ names) (label ∷ labels) table end have = (have.0, first_all count names labels table (omega arith) have.1)
 
 -- a name stands no earlier than its label
-pub no_earlier_name : (names labels table : List ℕ) (name label : ℕ) → length labels ≡ length names → HaveLabels names labels table → slice_get table name ≡ Some label → position_or_len (is_name label) labels ≤ position_or_len (is_name name) names
+pub no_earlier_name : (names labels table : List ℕ) (name label : ℕ) → length labels ≡ length names → HaveLabels names labels table → slice_get table name
+    ≡ Some label → position_or_len (is_name label) labels ≤ position_or_len (is_name name) names
 no_earlier_name [] [] table name label each have read = omega arith
 no_earlier_name [] (next ∷ labels) table name label each have read = absurd (omega arith)
 no_earlier_name (other ∷ names) [] table name label each have read = absurd (omega arith)
@@ -156,7 +159,8 @@ above first last (next ∷ labels) zero label rising read = omega (arith, rising
 above first last (next ∷ labels) (suc place) label rising read = omega (arith, rising.0, above next last labels place label rising.1 read)
 
 -- and one whose label stands beside another name is none of them
-pub only_there : (first last : ℕ) (names labels table : List ℕ) (place name other label : ℕ) → AreApart 1 first last labels → length labels ≡ length names → HaveLabels names labels table → slice_get table name ≡ Some label
+pub only_there : (first last : ℕ) (names labels table : List ℕ) (place name other label : ℕ) → AreApart 1 first last labels → length labels ≡ length names
+    → HaveLabels names labels table → slice_get table name ≡ Some label
     → slice_get labels place ≡ Some label → slice_get names place ≡ Some other → (other == name) ≡ false → length names ≤ position_or_len (is_name name) names
 only_there first last [] labels table place name other label rising each have read labelled named unequal = omega arith
 only_there first last (head ∷ names) [] table place name other label rising each have read labelled named unequal = absurd (none_not labelled)
@@ -229,19 +233,22 @@ module _ (names labels table : List ℕ) (name : ℕ) (filed : AreFiled names la
       position_nowhere (is_name name) names (length names) (omega arith)
       (omega (arith, filed.each, position_none (is_name label) labels none, no_earlier_name names labels table name label filed.each filed.filed read))
 
-  pub found_there : (label place other : ℕ) → slice_get table name ≡ Some label → position (is_name label) labels ≡ Some place → slice_get names place ≡ Some other → other ≡ name → position (is_name name) names ≡ Some place
+  pub found_there : (label place other : ℕ) → slice_get table name ≡ Some label → position (is_name label) labels ≡ Some place → slice_get names place
+      ≡ Some other → other ≡ name → position (is_name name) names ≡ Some place
   found_there label place other read found named same =
       position_here (is_name name) names place other
       (omega (arith, position_is (is_name label) labels place found, no_earlier_name names labels table name label filed.each filed.filed read)) named (eq-eqb other name same)
 
-  pub nowhere_else : (label place other : ℕ) → AreLabels labels → slice_get table name ≡ Some label → position (is_name label) labels ≡ Some place → slice_get names place ≡ Some other → other ≢ name → position (is_name name) names ≡ None
+  pub nowhere_else : (label place other : ℕ) → AreLabels labels → slice_get table name ≡ Some label → position (is_name label) labels ≡ Some place
+      → slice_get names place ≡ Some other → other ≢ name → position (is_name name) names ≡ None
   nowhere_else label place other labels_rise read found named differ =
       position_nowhere (is_name name) names (length names) (omega arith)
       (only_there 0 label_limit names labels table place name other label labels_rise.rising filed.each filed.filed read (position_reads labels place label found) named (ne_eqb other name differ))
 
 -- one name more has its label
 pub file_more : (place : ℕ) (names labels table wider : List ℕ) (name label : ℕ) → AreDistinct names → slice_get names place ≡ Some name → slice_get labels place ≡ Some label
-    → FirstHave place names labels table × AllByRecursion (λ other. other < length table) names → wider ≡ slice_set table name label → FirstHave (place + 1) names labels wider × AllByRecursion (λ other. other < length wider) names
+    → FirstHave place names labels table × AllByRecursion (λ other. other < length table) names → wider ≡ slice_set table name label
+    → FirstHave (place + 1) names labels wider × AllByRecursion (λ other. other < length wider) names
 file_more place names labels table wider name label distinct named labelled so_far is =
     let within : name < length table = one_known names table place name so_far.1 named in
     let first : FirstHave (suc place) names labels (slice_set table name label) = first_more place names labels table name label distinct named labelled within so_far.0 in

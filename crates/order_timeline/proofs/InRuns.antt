@@ -1,5 +1,6 @@
 -- Rows stay in runs where a row comes or goes, and where a run is divided.
-use Rattle.std.proofs.Common.{◌≡◌, ℕ, zero, suc, ◌+◌, ◌-◌, ◌<◌, ◌≤◌, Some, None, Bool, true, false, is_err, Ok, Err, Result, OnOk, OnErr, List, [], ◌∷◌, length, slice_get, slice_set, slice_index, refl, sym, ap, ◌∙◌, subst, arith, add-one}
+use Rattle.std.proofs.Common.{◌≡◌, ℕ, zero, suc, ◌+◌, ◌-◌, ◌<◌, ◌≤◌, Some, None, Bool, true, false, is_err, Ok, Err, Result, OnOk, OnErr}
+use Rattle.std.proofs.Common.{List, [], ◌∷◌, length, slice_get, slice_set, slice_index, refl, sym, ap, ◌∙◌, subst, arith, add-one}
 use Rattle.std.specs.List.{insert, remove}
 use Rattle.std.specs.BTreeMap.{BTreeMap}
 use Rattle.std.proofs.lemmas.List.{length-set}
@@ -30,12 +31,14 @@ read_back (y ∷ xs) zero x within = refl
 read_back (y ∷ xs) (suc place) x within = read_back xs place x (omega arith)
 
 -- other lists of the same names beside the rows
-pub in_runs_same : (rows : List Row) (runs names others more : List ℕ) (numbers : BTreeMap ℕ ℕ) → IsInRuns rows runs names numbers → length more ≡ length others → beside others more ≡ beside runs names → IsInRuns rows others more numbers
+pub in_runs_same : (rows : List Row) (runs names others more : List ℕ) (numbers : BTreeMap ℕ ℕ) → IsInRuns rows runs names numbers → length more ≡ length others
+    → beside others more ≡ beside runs names → IsInRuns rows others more numbers
 in_runs_same rows runs names others more numbers is each same = record { each = each; named = subst (λ xs. IsNamed rows xs numbers) (sym same) is.named }
 
 -- the map says the same
 pub in_runs_with : (rows : List Row) (runs names : List ℕ) (before after : BTreeMap ℕ ℕ) (index place : ℕ) (row : Row) (count name : ℕ) → IsInRuns rows runs names before → place ≤ length rows → IsFresh row.number rows
-    → TakesRow runs index place → slice_get runs index ≡ Some count → slice_get names index ≡ Some name → Writes before after row.number name → IsInRuns (insert rows place row) (slice_set runs index (count + 1)) names after
+    → TakesRow runs index place → slice_get runs index ≡ Some count → slice_get names index ≡ Some name → Writes before after row.number name
+    → IsInRuns (insert rows place row) (slice_set runs index (count + 1)) names after
 in_runs_with rows runs names before after index place row count name is within fresh takes long there writes =
     let back = remove-insert rows place row within in
     let longer : beside (slice_set runs index (count + 1)) names ≡ insert (beside runs names) place name =
@@ -60,7 +63,8 @@ in_runs_without rows runs names before after index place row count is within own
 
 -- and in one that goes with it
 pub in_runs_gone : (rows : List Row) (runs names : List ℕ) (before after : BTreeMap ℕ ℕ) (index place : ℕ) (row : Row) (count : ℕ) → IsInRuns rows runs names before → place < length rows → HaveOwnNumbers rows
-    → slice_get rows place ≡ Some row → IsInRun runs index place → slice_get runs index ≡ Some count → count ≡ 1 → Changes before after row.number None → IsInRuns (remove rows place) (remove runs index) (remove names index) after
+    → slice_get rows place ≡ Some row → IsInRun runs index place → slice_get runs index ≡ Some count → count ≡ 1 → Changes before after row.number None
+    → IsInRuns (remove rows place) (remove runs index) (remove names index) after
 in_runs_gone rows runs names before after index place row count is within own read lies long one changes =
     let stays = in_runs_without rows runs names before after index place row count is within own read lies long changes in
     record {
@@ -70,14 +74,21 @@ in_runs_gone rows runs names before after index place row count is within own re
     }
 
 -- a run is divided, and the second half has another name
-pub in_runs_divided : (rows : List Row) (runs names : List ℕ) (before after : BTreeMap ℕ ℕ) (index count half name from : ℕ) → IsInRuns rows runs names before → index < length runs → slice_get runs index ≡ Some count → half ≤ count
+pub in_runs_divided : (rows : List Row) (runs names : List ℕ) (before after : BTreeMap ℕ ℕ) (index count half name from : ℕ) → IsInRuns rows runs names before
+    → index < length runs → slice_get runs index ≡ Some count → half ≤ count
     → from ≡ start_of runs index + half
     → WritesRun rows from (count - half) name before after
     → IsInRuns rows (slice_set (insert runs (suc index) (count - half)) index half) (insert names (suc index) name) after
 in_runs_divided rows runs names before after index count half name from is there long within here writes =
     let divided = beside_divided runs names index count half name is.each long within in
     record {
-      each = omega (arith, length-insert names (suc index) name (omega (arith, is.each, there)), length-set (insert runs (suc index) (count - half)) index half, length-insert runs (suc index) (count - half) (omega (arith, there)), is.each);
+      each = omega (
+        arith,
+        length-insert names (suc index) name (omega (arith, is.each, there)),
+        length-set (insert runs (suc index) (count - half)) index half,
+        length-insert runs (suc index) (count - half) (omega (arith, there)),
+        is.each,
+      );
       named = subst (λ xs. IsNamed rows xs after) (ap (λ n. written (beside runs names) n (count - half) name) here ∙ sym divided) (writes (beside runs names) is.named);
     }
 
@@ -106,7 +117,8 @@ pub start_of_divided : (runs more : List ℕ) (index count half : ℕ) → slice
 start_of_divided runs more index count half long is =
     ap (λ xs. start_of xs (index + 1)) (is ∙ divided_next runs index count half) ∙ ap (start_of (slice_set (insert runs (suc index) (count - half)) index half)) (add-one index) ∙ start_divided runs index count half long
 
-pub in_runs_after : (rows : List Row) (runs more names others : List ℕ) (before after : BTreeMap ℕ ℕ) (index count half name from : ℕ) → IsInRuns rows runs names before → index < length runs → slice_get runs index ≡ Some count → half ≤ count
+pub in_runs_after : (rows : List Row) (runs more names others : List ℕ) (before after : BTreeMap ℕ ℕ) (index count half name from : ℕ)
+    → IsInRuns rows runs names before → index < length runs → slice_get runs index ≡ Some count → half ≤ count
     → more ≡ divided runs index count half → others ≡ insert names (index + 1) name → from ≡ start_of runs index + half
     → WritesRun rows from (count - half) name before after → IsInRuns rows more others after
 in_runs_after rows runs more names others before after index count half name from is there long within more_is others_is here writes =
@@ -124,11 +136,13 @@ err_from (Ok x) answer P is some err = cc
 err_from (Err e) answer P is some err = err
 
 -- a number that was noted and forgotten
-pub in_runs_again : (rows : List Row) (runs names : List ℕ) (before after : BTreeMap ℕ ℕ) (number : ℕ) → IsFresh number rows → IsInRuns rows runs names before → Changes before after number None → IsInRuns rows runs names after
+pub in_runs_again : (rows : List Row) (runs names : List ℕ) (before after : BTreeMap ℕ ℕ) (number : ℕ) → IsFresh number rows → IsInRuns rows runs names before
+    → Changes before after number None → IsInRuns rows runs names after
 in_runs_again rows runs names before after number fresh is changes = record { each = is.each; named = named_again rows (beside runs names) before after number fresh is.named changes }
 
 -- a row more, of the lists that the code has
-pub in_runs_put : (rows more : List Row) (runs longer names : List ℕ) (before after : BTreeMap ℕ ℕ) (index place : ℕ) (row item : Row) (count name run : ℕ) → IsInRuns rows runs names before → place ≤ length rows → IsFresh row.number rows
+pub in_runs_put : (rows more : List Row) (runs longer names : List ℕ) (before after : BTreeMap ℕ ℕ) (index place : ℕ) (row item : Row) (count name run : ℕ)
+    → IsInRuns rows runs names before → place ≤ length rows → IsFresh row.number rows
     → TakesRow runs index place → slice_get runs index ≡ Some count → slice_get names index ≡ Some name → Writes before after row.number name
     → item ≡ row → more ≡ insert rows place item → run ≡ count + 1 → longer ≡ slice_set runs index run → IsInRuns more longer names after
 in_runs_put rows more runs longer names before after index place row item count name run is within fresh takes long there writes item_is more_is run_is longer_is =
@@ -137,7 +151,8 @@ in_runs_put rows more runs longer names before after index place row item count 
     (in_runs_with rows runs names before after index place row count name is within fresh takes long there writes))
 
 -- a timeline with a row more
-pub kept_put : (rows more : List Row) (first firsts runs longer names : List ℕ) (before after : BTreeMap ℕ ℕ) (index place : ℕ) (row item : Row) (count name run : ℕ) → RepresentsRows rows first firsts before → MayCome rows place row
+pub kept_put : (rows more : List Row) (first firsts runs longer names : List ℕ) (before after : BTreeMap ℕ ℕ) (index place : ℕ) (row item : Row)
+    (count name run : ℕ) → RepresentsRows rows first firsts before → MayCome rows place row
     → length names ≡ length runs → beside runs names ≡ beside first firsts → TakesRow runs index place → slice_get runs index ≡ Some count → slice_get names index ≡ Some name → Writes before after row.number name
     → item ≡ row → more ≡ insert rows place item → run ≡ count + 1 → longer ≡ slice_set runs index run → RepresentsRows more longer names after
 kept_put rows more first firsts runs longer names before after index place row item count name run kept comes each same takes long there writes item_is more_is run_is longer_is = record {

@@ -1,5 +1,6 @@
 -- Rows are found by the names beside them.
-use Rattle.std.proofs.Common.{◌≡◌, ℕ, zero, suc, ◌+◌, ◌<◌, ◌≤◌, Bool, true, false, not, cond, Some, None, List, [], ◌∷◌, ◌++◌, length, replicate, slice_get, ◌==◌, nat_lt, refl, sym, ap, ◌∙◌, arith, inl, inr, eq-eqb, position}
+use Rattle.std.proofs.Common.{◌≡◌, ℕ, zero, suc, ◌+◌, ◌<◌, ◌≤◌, Bool, true, false, not, cond, Some, None, List, [], ◌∷◌, ◌++◌, length}
+use Rattle.std.proofs.Common.{replicate, slice_get, ◌==◌, nat_lt, refl, sym, ap, ◌∙◌, arith, inl, inr, eq-eqb, position}
 use Rattle.std.proofs.lemmas.Bool.{cases_Bool, lt-ltb, le-ltb, ltb-false}
 use Rattle.std.proofs.lemmas.List.{take_all}
 use Rattle.std.specs.List.{position_or_len}
@@ -119,7 +120,8 @@ run_begins name (run ∷ runs) (next ∷ names) = elim (cases_Bool (next == name
 ]
 
 -- so the row is looked for from there on
-pub not_before_run : (number name run : ℕ) (rows : List Row) (runs names : List ℕ) → name_of number rows (beside runs names) ≡ Some name → position (is_name name) names ≡ Some run → IsNotBefore rows (start_of runs run) number
+pub not_before_run : (number name run : ℕ) (rows : List Row) (runs names : List ℕ) → name_of number rows (beside runs names) ≡ Some name
+    → position (is_name name) names ≡ Some run → IsNotBefore rows (start_of runs run) number
 not_before_run number name run rows runs names is found =
     omega (arith, ap (start_of runs) (position_is (is_name name) names run found), run_begins name runs names, no_earlier number name rows (beside runs names) is)
 
@@ -127,7 +129,8 @@ all_runs : (runs : List ℕ) (index : ℕ) → length runs ≤ index → start_o
 all_runs runs index end = ap rows_in (take_all index runs end)
 
 -- a name that no run has is that of no row
-pub no_run : (number name : ℕ) (rows : List Row) (runs names : List ℕ) → length names ≡ length runs → rows_in runs ≡ length rows → name_of number rows (beside runs names) ≡ Some name → position (is_name name) names ≡ None → place_of_row number rows ≡ None
+pub no_run : (number name : ℕ) (rows : List Row) (runs names : List ℕ) → length names ≡ length runs → rows_in runs ≡ length rows
+    → name_of number rows (beside runs names) ≡ Some name → position (is_name name) names ≡ None → place_of_row number rows ≡ None
 no_run number name rows runs names each all is none =
     position_nowhere (has_number number) rows (length rows) (omega arith)
     (omega (arith, all_runs runs (position_or_len (is_name name) names) (omega (arith, position_none (is_name name) names none)), run_begins name runs names, no_earlier number name rows (beside runs names) is))

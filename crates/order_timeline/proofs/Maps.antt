@@ -1,5 +1,6 @@
 -- What the map of names keeps.
-use Rattle.std.proofs.Common.{◌≡◌, ℕ, zero, suc, ◌+◌, ◌-◌, ◌<◌, ◌≤◌, cond, Option, Some, None, IsSome, List, [], ◌∷◌, ◌++◌, length, slice_get, get_or, set, take, drop, replicate, ◌==◌, refl, sym, ap, ◌∙◌, subst, arith, inl, inr, eqb-true}
+use Rattle.std.proofs.Common.{◌≡◌, ℕ, zero, suc, ◌+◌, ◌-◌, ◌<◌, ◌≤◌, cond, Option, Some, None, IsSome, List, [], ◌∷◌, ◌++◌, length}
+use Rattle.std.proofs.Common.{slice_get, get_or, set, take, drop, replicate, ◌==◌, refl, sym, ap, ◌∙◌, subst, arith, inl, inr, eqb-true}
 use Rattle.std.proofs.lemmas.Bool.{cases_Bool}
 use Rattle.std.proofs.lemmas.List.{drop_more, set_at, length-append, length-take-le, length-replicate, append_assoc, append-nil, replicate_more, take-append-drop, length-set}
 use Rattle.std.proofs.lemmas.List.Edits.{length-insert, length-remove}
@@ -61,7 +62,8 @@ read_there (x ∷ xs) zero within = (x, refl)
 read_there (x ∷ xs) (suc place) within = read_there xs place (omega arith)
 
 -- a row's number is there
-pub number_there : (place : ℕ) (rows : List Row) (names : List ℕ) (numbers : BTreeMap ℕ ℕ) (row : Row) → HaveOwnNumbers rows → IsNamed rows names numbers → slice_get rows place ≡ Some row → IsSome (get nat_cmp numbers row.number)
+pub number_there : (place : ℕ) (rows : List Row) (names : List ℕ) (numbers : BTreeMap ℕ ℕ) (row : Row) → HaveOwnNumbers rows → IsNamed rows names numbers
+    → slice_get rows place ≡ Some row → IsSome (get nat_cmp numbers row.number)
 number_there place rows names numbers row own named read =
     let there = read_there names place (omega (arith, read_within rows place row read, named.beside)) in
     subst IsSome (sym (named.filed row.number ∙ name_at rows names place row there.0 read there.1 own)) refl
@@ -70,7 +72,8 @@ set_written : (names : List ℕ) (from count name : ℕ) → from + count < leng
 set_written names from count name within =
     let front = take from names ++ replicate count name in
     let rest = drop (from + (count + 1)) names in
-    ap (λ xs. set (front ++ xs) (from + count) name) (drop_more names (from + count) 0 within ∙ ap (λ n. get_or names (from + count) 0 ∷ drop n names) (let same : from + count + 1 ≡ from + (count + 1) = omega arith in same))
+    ap (λ xs. set (front ++ xs) (from + count) name) (drop_more names (from + count) 0 within
+    ∙ ap (λ n. get_or names (from + count) 0 ∷ drop n names) (let same : from + count + 1 ≡ from + (count + 1) = omega arith in same))
     ∙ set_at front (get_or names (from + count) 0) rest name (from + count) (omega (arith, length-append (take from names) (replicate count name), length-take-le from names (omega arith), length-replicate count name))
     ∙ sym (append_assoc front (name ∷ []) rest)
     ∙ ap (λ xs. xs ++ rest) (append_assoc (take from names) (replicate count name) (name ∷ []) ∙ ap (λ xs. take from names ++ xs) (replicate_more count name))

@@ -9,7 +9,8 @@ use Rattle.retro_base.specs.EntriesInOrder.{AreInOrder}
 use Rattle.retro_base.specs.State.{comes_before, with_entry}
 use Rattle.retro_base.specs.lemmas.bridges.EntryOrder.{before_one_way}
 use Rattle.pq_fusion.specs.Pieces.{PieceParts, IsRising, no_parts, after_take, after_row, together, greatest, all_but_greatest, met, kept, fuse}
-use Rattle.pq_fusion.proofs.Order.{IsLeast, least_further, least_first, least_with, order_with, with_either, length_with, together_none, together_more, order_together, least_together, length_together, together_alone, with_in_first, with_in_second, with_none}
+use Rattle.pq_fusion.proofs.Order.{IsLeast, least_further, least_first, least_with, order_with, with_either, length_with, together_none, together_more}
+use Rattle.pq_fusion.proofs.Order.{order_together, least_together, length_together, together_alone, with_in_first, with_in_second, with_none}
 use Rattle.pq_fusion.proofs.Split.{InParts, parts_of, lesser_is, greater_is, order_front, order_back, least_moves, with_lesser, with_greater}
 
 -- a piece by its parts

@@ -14,8 +14,10 @@
 //! than a given one, follows from piece to piece by a search of each list by halves, and the key at an index is the greatest one
 //! that enough entries reach.
 //!
-//! Verdicts, changes and the present are those of a `BridgeQueue` beside the tree. An edit makes the pieces of its path anew, so it is dearer than by bridges alone. Where a side would weigh over 3 times the other, the part of the tree below that node
-//! is made anew, as light as it can be on both sides of each node; a share of its rows have come or gone before that is so again.
+//! Verdicts, changes and the present are those of a `BridgeQueue` beside the tree. An edit makes the pieces of its path
+//! anew, so it is dearer than by bridges alone. Where a side would weigh over 3 times the other, the part of the tree
+//! below that node is made anew, as light as it can be on both sides of each node; a share of its rows have come or gone
+//! before that is so again.
 //!
 //! | Call | Cost, with m rows | Memory |
 //! |---|---|---|

@@ -67,7 +67,8 @@ module _ (kind : Kind) (rows : List Row) (line : IsLine kind) (replayable : IsRe
 
   one_more : (zs : List ℤ) (index : ℕ) (value : ℤ) → slice_get zs index ≡ Some value → map (λ x. contents.Single x) (take (index + 1) zs) ≡ map (λ x. contents.Single x) (take index zs) ++ contents.Single value ∷ []
   one_more zs index value is = listed_more zs index (index + 1) (omega arith) is where
-    listed_more : (zs : List ℤ) (index next : ℕ) → next ≡ suc index → slice_get zs index ≡ Some value → map (λ x. contents.Single x) (take next zs) ≡ map (λ x. contents.Single x) (take index zs) ++ contents.Single value ∷ []
+    listed_more : (zs : List ℤ) (index next : ℕ) → next ≡ suc index → slice_get zs index ≡ Some value → map (λ x. contents.Single x) (take next zs)
+        ≡ map (λ x. contents.Single x) (take index zs) ++ contents.Single value ∷ []
     listed_more [] zero next more is = absurd (cc)
     listed_more [] (suc index) next more is = absurd (cc)
     listed_more (z ∷ zs) zero next more is = ap (λ n. map (λ x. contents.Single x) (take n (z ∷ zs))) more ∙ ap (λ y. contents.Single y ∷ []) (same_value z value is)

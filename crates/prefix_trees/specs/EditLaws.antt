@@ -125,7 +125,16 @@ module _ (rows : List Row) (place : ℕ) (never : NeverFalls rows) where
       | inl far ↦ omega arith
       | inr near ↦
           let same : later ≡ suc place = omega (arith, first.above) in
-          absurd (omega (arith, ints, first.reached, prefix-grown rows later, ap (grown sign_of rows) same, grown-remove-after sign_of rows place row place (omega arith) at, grown-remove-before sign_of rows place place (omega arith), enough place (omega arith)))
+          absurd (omega (
+            arith,
+            ints,
+            first.reached,
+            prefix-grown rows later,
+            ap (grown sign_of rows) same,
+            grown-remove-after sign_of rows place row place (omega arith) at,
+            grown-remove-before sign_of rows place place (omega arith),
+            enough place (omega arith),
+          ))
     ]
 
     length_without : length (remove rows place) + 1 ≡ length rows

@@ -12,7 +12,8 @@ use Rattle.prefix_trees.specs.WriterLaws.{IsWrittenAt}
 abbrev pub FindsWriter : Kind → List Row → ℕ → ℕ → Option ℕ → Type 0
 FindsWriter kind rows place index answer = (items : List ℤ) → LineAt kind rows place items → MatchOption answer ⊥ (IsWrittenAt rows items index)
 
-module _ (kind : Kind) (line : IsLine kind) (rows : List Row) (replayable : IsReplayable kind rows) (place index : ℕ) (within : place ≤ length rows) (answer : Option ℕ) (finds : FindsWriter kind rows place index answer) where
+module _ (kind : Kind) (line : IsLine kind) (rows : List Row) (replayable : IsReplayable kind rows) (place index : ℕ) (within : place ≤ length rows)
+    (answer : Option ℕ) (finds : FindsWriter kind rows place index answer) where
   some_found : (o : Option ℕ) (items : List ℤ) → MatchOption o ⊥ (IsWrittenAt rows items index) → IsSome o
   some_found None items found = absurd found
   some_found (Some written) items found = search rules

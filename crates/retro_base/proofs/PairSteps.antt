@@ -1,5 +1,6 @@
 -- What the operations and questions of a dictionary come to.
-use Rattle.std.proofs.Common.{◌≡◌, ℕ, ℤ, Bool, true, false, List, [], ◌∷◌, ◌++◌, ◌+◌, ◌-◌, ◌^◌, ◌<◌, ◌≤◌, suc, cond, ◌&&◌, length, map, length-append, arith, fold, ◌+ℤ◌, int_le, reverse, IsSome, refl, sym, ap, ◌∙◌, Option, Some, None}
+use Rattle.std.proofs.Common.{◌≡◌, ℕ, ℤ, Bool, true, false, List, [], ◌∷◌, ◌++◌, ◌+◌, ◌-◌, ◌^◌, ◌<◌, ◌≤◌, suc, cond, ◌&&◌, length, map}
+use Rattle.std.proofs.Common.{length-append, arith, fold, ◌+ℤ◌, int_le, reverse, IsSome, refl, sym, ap, ◌∙◌, Option, Some, None}
 use Rattle.std.specs.Prelude.{if◌then◌else◌}
 use Rattle.std.specs.Option.{option_map, option_or, is_some}
 use Rattle.std.specs.Ordering.{int_eq}

@@ -1,5 +1,6 @@
 -- What stands in the sink where a run ends.
-use Rattle.std.proofs.Common.{◌≡◌, ℕ, Bool, false, ◌||◌, ◌≤◌, ◌<◌, ◌-◌, ◌+◌, List, [], ◌∷◌, ◌++◌, length, take, drop, arith, refl, sym, ap, ◌∙◌, subst, append_assoc, append-nil, length-append, length-drop, Option, Some, None, Result, Err, inl, inr}
+use Rattle.std.proofs.Common.{◌≡◌, ℕ, Bool, false, ◌||◌, ◌≤◌, ◌<◌, ◌-◌, ◌+◌, List, [], ◌∷◌, ◌++◌, length, take, drop, arith, refl, sym, ap, ◌∙◌}
+use Rattle.std.proofs.Common.{subst, append_assoc, append-nil, length-append, length-drop, Option, Some, None, Result, Err, inl, inr}
 use Rattle.std.specs.Ffi.{without_last}
 use Rattle.std.specs.Prelude.{IfSome}
 use Rattle.std.proofs.Math.Seq.{take-append-add}
@@ -85,7 +86,8 @@ module _ (audience : Audience) where
   -- the whole output is a prefix of it
   pub prefix_of_all : (script before after : Option (List ℕ)) → AppendsOutput (followed audience) script before after → AppendsOutputPrefix (followed audience) script before after
   prefix_of_all None before after all = tt
-  prefix_of_all (Some bytes) before after all = AppendsPrefixOf-from before (output_by (followed audience) bytes) (output_by (followed audience) bytes) [] after (sym (append-nil (output_by (followed audience) bytes))) all
+  prefix_of_all (Some bytes) before after all = AppendsPrefixOf-from before (output_by (followed audience) bytes) (output_by (followed audience) bytes) [] after
+      (sym (append-nil (output_by (followed audience) bytes))) all
 
   -- and so it is of the output, at the answer to a line
   part_at_line : (bytes now after : List ℕ) (first : Option (List ℕ)) (bench : Bench) (who : Audience) (refused : Bool) (mark : Mark) (long : Bool) (shown : List ℕ) (ended : Bool)
@@ -181,7 +183,8 @@ module _ (audience : Audience) where
   part_at_end (Some bytes) first bench who refused ended rest rest' written written' shown has_ended on next part =
       let all = given_at_end bytes first bench who refused ended rest rest' written shown has_ended (on bytes refl) next in
       let close : closing bench ≡ close_of (lines bytes) = ap closing (sym all.bench_is) in
-      prefix_between first written written' (answers_by (followed audience) (lines bytes)) (close_of (lines bytes)).answer [] (output_by (followed audience) bytes) (sym (append-nil (output_by (followed audience) bytes))) all.appended
+      prefix_between first written written' (answers_by (followed audience) (lines bytes)) (close_of (lines bytes)).answer []
+      (output_by (followed audience) bytes) (sym (append-nil (output_by (followed audience) bytes))) all.appended
       (subst (λ (r : Reaction). AppendsProperPrefix written r.answer written') close part)
 
   -- at a read that failed all is answered whose line feed was taken

@@ -85,7 +85,8 @@ prefix_of_some (Some bytes) before first last some =
     (ap (λ xs. output_by (followed before) bytes ++ xs) (cut_after texts 0 some.count) ∙ sym (append_assoc (output_by (followed before) bytes) front back)) some.appended
 
 module _ {S K : Type 0} (I : sources.Ghosts S) (O : sinks.Ghosts K) (audience : Audience) (source source' : S) where
-  last_of : (script left : Option (List ℕ)) (before after : K) → EndsAtSink O (followed audience) script left before after → EndsWithFailedWrite O before after ⊎ (EndsWithFlush O before false after ⊎ EndsWithFailedSend O before after)
+  last_of : (script left : Option (List ℕ)) (before after : K) → EndsAtSink O (followed audience) script left before after → EndsWithFailedWrite O before after
+      ⊎ (EndsWithFlush O before false after ⊎ EndsWithFailedSend O before after)
   last_of script left before after (inl part) = inl part.1
   last_of script left before after (inr (inl all)) = inr (inl all.1)
   last_of script left before after (inr (inr sent)) = inr (inr sent.1)

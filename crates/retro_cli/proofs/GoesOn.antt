@@ -27,10 +27,12 @@ some_same o e f = cc
 -- a long line mutes nobody, whatever stands after its first bytes
 long_mutes_none : (bench : Bench) (who : Audience) (line shown : List ℕ) → reacts_to bench line true ≡ reacts_to bench shown true
     → follows_to bench who line true ≡ follows_to bench who shown true
-long_mutes_none bench who line shown same = elim bench.block as (λ (block : Option OpenBlock). turn who (mutes block line true) (reacts_to bench line true) ≡ turn who (mutes block shown true) (reacts_to bench shown true)) [
-  | None ↦ ap (answers who) same
-  | Some block ↦ ap (answers who) same
-]
+long_mutes_none bench who line shown same = elim bench.block as
+    (λ (block : Option OpenBlock). turn who (mutes block line true) (reacts_to bench line true)
+    ≡ turn who (mutes block shown true) (reacts_to bench shown true)) [
+      | None ↦ ap (answers who) same
+      | Some block ↦ ap (answers who) same
+    ]
 
 -- The lines given so far are the first ones of the script, and were answered; the others are those of what is left. Some follow the
 -- script from its start, and some, maybe fewer, now.

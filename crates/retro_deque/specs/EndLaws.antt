@@ -72,7 +72,8 @@ left-bounded (row ∷ rows) (suc place) =
     let rest = left-bounded rows place in
     (omega (arith, ints, one.0, rest.0), omega (arith, ints, one.1, rest.1))
 
-module _ (rows : List Row) (place index : ℕ) (position : ℤ) (items : List ℤ) (all : AreOfKind Deque rows) (within : place ≤ length rows) (at : LineAt Deque rows place items) (there : index < length items) (position_is : position ≡ pos index -ℤ grown left_growth rows place) where
+module _ (rows : List Row) (place index : ℕ) (position : ℤ) (items : List ℤ) (all : AreOfKind Deque rows) (within : place ≤ length rows)
+    (at : LineAt Deque rows place items) (there : index < length items) (position_is : position ≡ pos index -ℤ grown left_growth rows place) where
   -- the left end reaches the position after so many rows, and the right end does
   inside : (earlier : ℕ) → (negsuc 0 -ℤ position) <ℤ prefix (growths left_growth rows) earlier → position <ℤ prefix (growths right_growth rows) earlier → InsideAfter rows place index earlier
   inside earlier left right = record {
@@ -110,7 +111,8 @@ module _ (rows : List Row) (place index : ℕ) (position : ℤ) (items : List �
   ]
 
 -- the item at an index was written by the later of two rows
-pub found-by_ends : (rows : List Row) (place index : ℕ) (position beside : ℤ) (lefts rights : List (ℤ × Bool)) (by_left by_right : Option ℕ) → AreOfKind Deque rows → place ≤ length rows → pos index <ℤ grown sign_of rows place
+pub found-by_ends : (rows : List Row) (place index : ℕ) (position beside : ℤ) (lefts rights : List (ℤ × Bool)) (by_left by_right : Option ℕ)
+    → AreOfKind Deque rows → place ≤ length rows → pos index <ℤ grown sign_of rows place
     → position ≡ pos index -ℤ grown left_growth rows place → beside ≡ negsuc 0 -ℤ position → lefts ≡ growths left_growth rows → rights ≡ growths right_growth rows
     → FindsLastAtMost lefts 0 place beside by_left → FindsLastAtMost rights 0 place position by_right → FindsWriter Deque rows place index (later by_left by_right)
 found-by_ends rows place index position beside lefts rights by_left by_right all within there position_is beside_is lefts_are rights_are left right items at =

@@ -1,5 +1,6 @@
 -- Each question of a dictionary is answered by what is found of the pairs in a range of keys.
-use Rattle.std.proofs.Common.{◌≡◌, ℕ, suc, ◌+◌, ◌-◌, ◌*◌, ◌^◌, ◌<◌, ◌≤◌, ◌≤ℤ◌, ◌+ℤ◌, neg_ℤ, ℤ, pos, negsuc, Bool, true, false, ◌&&◌, cond, Option, Some, None, List, [], ◌∷◌, ◌++◌, length, reverse, refl, sym, ap, ◌∙◌, arith}
+use Rattle.std.proofs.Common.{◌≡◌, ℕ, suc, ◌+◌, ◌-◌, ◌*◌, ◌^◌, ◌<◌, ◌≤◌, ◌≤ℤ◌, ◌+ℤ◌, neg_ℤ, ℤ, pos, negsuc, Bool, true, false, ◌&&◌}
+use Rattle.std.proofs.Common.{cond, Option, Some, None, List, [], ◌∷◌, ◌++◌, length, reverse, refl, sym, ap, ◌∙◌, arith}
 use Rattle.std.specs.Prelude.{int_le, slice_get}
 use Rattle.std.specs.Int.{w128}
 use Rattle.std.specs.Int.RustNames.{FitsSigned}
@@ -27,7 +28,8 @@ get-found : (key : ℤ) (ps : List (ℤ × ℤ)) → lookup (int_eq key) ps ≡ 
 get-found key [] = refl
 get-found key (p ∷ ps) =
     ap (λ b. cond b (Some p.1) (lookup (int_eq key) ps)) (one_key key p.0)
-    ∙ elim (int_le key p.0 && int_le p.0 key) as (λ b. cond b (Some p.1) (lookup (int_eq key) ps) ≡ option_map (λ (pair : ℤ × ℤ). pair.1) (slice_get (cond b (p ∷ pairs_between key key ps) (pairs_between key key ps)) 0)) [
+    ∙ elim (int_le key p.0 && int_le p.0 key) as (λ b. cond b (Some p.1) (lookup (int_eq key) ps)
+    ≡ option_map (λ (pair : ℤ × ℤ). pair.1) (slice_get (cond b (p ∷ pairs_between key key ps) (pairs_between key key ps)) 0)) [
       | true ↦ refl
       | false ↦ get-found key ps
     ]

@@ -84,7 +84,8 @@ module _ (rows : List Row) (labels : List ℕ) (index : List KeyRow) (lifetimes 
   sorted_first : AreSorted first_rows.left
   sorted_first =
       let below = before_after in
-      (held (label_before 0 labels place) (omega (arith, below.0, below.1)) (labelled labels rows) [] first_rows.left (rises label_limit 0 labels rows apart) sorted_nil (run_first (label_before 0 labels place) refl)).sorted
+      (held (label_before 0 labels place) (omega (arith, below.0, below.1)) (labelled labels rows) [] first_rows.left
+      (rises label_limit 0 labels rows apart) sorted_nil (run_first (label_before 0 labels place) refl)).sorted
 
   found_later : (earlier : ℕ) (range : KeyRange) → place ≡ suc earlier → found_at labels lifetimes (suc earlier) range ≡ found_in first_rows.left range
   found_later earlier range is =

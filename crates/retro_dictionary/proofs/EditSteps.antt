@@ -11,7 +11,8 @@ use Rattle.retro_dictionary.specs.Labelled.{labelled}
 use Rattle.retro_dictionary.proofs.LabelledRows.{front-below, in_two, with_row-parts, without-parts}
 
 -- what is put in is taken out again
-pub undone : (rows : List Row) (labels : List ℕ) (index : List KeyRow) (lifetimes : List (Lifetime (ℤ × ℤ))) → AreKept rows labels index lifetimes → (place label : ℕ) (row : Row) → IsBetween labels place label → without label (with_row label row.op index) ≡ index
+pub undone : (rows : List Row) (labels : List ℕ) (index : List KeyRow) (lifetimes : List (Lifetime (ℤ × ℤ))) → AreKept rows labels index lifetimes
+    → (place label : ℕ) (row : Row) → IsBetween labels place label → without label (with_row label row.op index) ≡ index
 undone rows labels index lifetimes kept place label row between =
     ap (λ i. without label (with_row label row.op i)) kept.indexed
     ∙ ap (without label) (with_row-parts labels rows place kept.as_many kept.rising.rising label row.op (omega (arith, between.before)) between.after_it)
@@ -24,10 +25,12 @@ remove-insert xs zero x within = refl
 remove-insert [] (suc place) x within = absurd (omega arith)
 remove-insert (y ∷ ys) (suc place) x within = ap (λ rest. y ∷ rest) (remove-insert ys place x (omega arith))
 
-pub labels-back : (rows : List Row) (labels : List ℕ) (index : List KeyRow) (lifetimes : List (Lifetime (ℤ × ℤ))) → AreKept rows labels index lifetimes → (place label : ℕ) → place ≤ length rows → remove (insert labels place label) place ≡ labels
+pub labels-back : (rows : List Row) (labels : List ℕ) (index : List KeyRow) (lifetimes : List (Lifetime (ℤ × ℤ))) → AreKept rows labels index lifetimes
+    → (place label : ℕ) → place ≤ length rows → remove (insert labels place label) place ≡ labels
 labels-back rows labels index lifetimes kept place label within = remove-insert labels place label (omega (arith, within, kept.as_many))
 
 -- the same is kept
-pub kept-as : (rows more : List Row) (labels marks : List ℕ) (index listed : List KeyRow) (lifetimes lives : List (Lifetime (ℤ × ℤ))) → AreKept rows labels index lifetimes → more ≡ rows → marks ≡ labels → listed ≡ index → lives ≡ lifetimes → AreKept more marks listed lives
+pub kept-as : (rows more : List Row) (labels marks : List ℕ) (index listed : List KeyRow) (lifetimes lives : List (Lifetime (ℤ × ℤ)))
+    → AreKept rows labels index lifetimes → more ≡ rows → marks ≡ labels → listed ≡ index → lives ≡ lifetimes → AreKept more marks listed lives
 kept-as rows more labels marks index listed lifetimes lives kept p q r s =
     subst (AreKept more marks listed) (sym s) (subst (λ i. AreKept more marks i lifetimes) (sym r) (subst (λ ls. AreKept more ls index lifetimes) (sym q) (subst (λ rs. AreKept rs labels index lifetimes) (sym p) kept)))

@@ -102,7 +102,17 @@ module _ (new : KeyRow) (after : List KeyRow) where
         with_row = rw same (among own (fronts front (new ∷ after)) (up_to_label (option_and_then placed_by left) new.0) cut.others cut.with_row);
       } where
         among : (own all one others : List (Lifetime (ℤ × ℤ))) → HaveSameItems all (one ++ others) → HaveSameItems (own ++ all) (one ++ (own ++ others))
-        among own all one others is = record { as_many = λ test. omega (arith, is.as_many test, count-append test own all, count-append test one others, count-append test own others, count-append test one (own ++ others)) }
+        among own all one others is = record {
+          as_many = λ test.
+              omega (
+                arith,
+                is.as_many test,
+                count-append test own all,
+                count-append test one others,
+                count-append test own others,
+                count-append test one (own ++ others),
+              );
+        }
 
   -- the last row on the key of the new one
   cut_by : (row : KeyRow) (front : List KeyRow) (put : Option (ℤ × ℤ)) → put_by row.1 ≡ put → key_of row.1 ≡ k → last_on k front ≡ None → IsCut front None → IsCut (row ∷ front) (Some row)
@@ -114,10 +124,12 @@ module _ (new : KeyRow) (after : List KeyRow) where
   cut_by row front (Some pair) puts on none cut =
       let same_key : pair.0 ≡ k = sym (put_key row.1 pair puts) ∙ on in
       let ends : end_of pair.0 (front ++ after) ≡ end_of k after = ap (λ key. end_of key (front ++ after)) same_key ∙ end-after k front after none in
-      let cuts : end_of pair.0 (front ++ new ∷ after) ≡ new.0 = ap (λ key. end_of key (front ++ new ∷ after)) same_key ∙ end-after k front (new ∷ after) none ∙ ap (λ b. cond b new.0 (end_of k after)) (int_eq_equiv.refl k) in
+      let cuts : end_of pair.0 (front ++ new ∷ after) ≡ new.0 = ap (λ key. end_of key (front ++ new ∷ after)) same_key ∙ end-after k front (new ∷ after) none
+      ∙ ap (λ b. cond b new.0 (end_of k after)) (int_eq_equiv.refl k) in
       record {
         others = cut.others;
-        without_row = rw puts (rw ends (same-append (lifetime row.0 (end_of k after) pair ∷ []) (lifetime row.0 (end_of k after) pair ∷ []) (fronts front after) cut.others (same-refl (lifetime row.0 (end_of k after) pair ∷ [])) cut.without_row));
+        without_row = rw puts (rw ends (same-append (lifetime row.0 (end_of k after) pair ∷ []) (lifetime row.0 (end_of k after) pair ∷ [])
+            (fronts front after) cut.others (same-refl (lifetime row.0 (end_of k after) pair ∷ [])) cut.without_row));
         with_row = rw puts (rw cuts (same-append (lifetime row.0 new.0 pair ∷ []) (lifetime row.0 new.0 pair ∷ []) (fronts front (new ∷ after)) cut.others (same-refl (lifetime row.0 new.0 pair ∷ [])) cut.with_row));
       }
 
@@ -155,7 +167,14 @@ module _ (new : KeyRow) (after : List KeyRow) where
         others = part.others ++ lifetimes_of after;
         without_row = rw (lifetimes-append front after) (record {
           as_many = λ test.
-              omega (arith, part.without_row.as_many test, count-append test (fronts front after) (lifetimes_of after), count-append test (up_to_label left (end_of k after)) part.others, count-append test part.others (lifetimes_of after), count-append test (up_to_label left (end_of k after)) (part.others ++ lifetimes_of after));
+              omega (
+                arith,
+                part.without_row.as_many test,
+                count-append test (fronts front after) (lifetimes_of after),
+                count-append test (up_to_label left (end_of k after)) part.others,
+                count-append test part.others (lifetimes_of after),
+                count-append test (up_to_label left (end_of k after)) (part.others ++ lifetimes_of after),
+              );
         });
         with_row = rw (lifetimes-append front (new ∷ after)) (record {
           as_many = λ test.

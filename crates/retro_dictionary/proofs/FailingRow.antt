@@ -1,5 +1,6 @@
 -- The row that fails first, by its label and by its place.
-use Rattle.std.proofs.Common.{◌≡◌, ℕ, zero, suc, ◌+◌, ◌-◌, ◌<◌, ◌≤◌, ℤ, not, ◌==◌, cond, Option, Some, None, List, [], ◌∷◌, ◌++◌, map, length, take, drop, slice_get, position, refl, sym, ap, ◌∙◌, arith, inl, inr, subst, ltb}
+use Rattle.std.proofs.Common.{◌≡◌, ℕ, zero, suc, ◌+◌, ◌-◌, ◌<◌, ◌≤◌, ℤ, not, ◌==◌, cond, Option, Some, None, List, [], ◌∷◌, ◌++◌, map}
+use Rattle.std.proofs.Common.{length, take, drop, slice_get, position, refl, sym, ap, ◌∙◌, arith, inl, inr, subst, ltb}
 use Rattle.std.specs.List.{position_or_len, insert, remove}
 use Rattle.std.specs.Prelude.{IfNone, IfSome, IsSome, Result, Ok, Err}
 use Rattle.std.specs.Result.{result_err}
@@ -146,7 +147,8 @@ stands-at (next ∷ labels) (suc place) (suc index) label there =
     let rest = stands-at labels place index label there in
     record { at = suc rest.at; there = rest.there; moved = back place rest.at index rest.moved }
 
-pub place-of_bad_label : (labels : List ℕ) (place last : ℕ) → AreApart 1 0 last labels → (bad failure : Option ℕ) → bad ≡ option_and_then (slice_get (remove labels place)) failure → (bad ≡ None → failure ≡ None) → place_of_bad_label labels place bad ≡ failure
+pub place-of_bad_label : (labels : List ℕ) (place last : ℕ) → AreApart 1 0 last labels → (bad failure : Option ℕ) → bad
+    ≡ option_and_then (slice_get (remove labels place)) failure → (bad ≡ None → failure ≡ None) → place_of_bad_label labels place bad ≡ failure
 place-of_bad_label labels place last apart None failure is none = sym (none refl)
 place-of_bad_label labels place last apart (Some label) None is none = absurd (cc)
 place-of_bad_label labels place last apart (Some label) (Some index) is none =
@@ -175,7 +177,8 @@ row-at (row ∷ rows) (suc place) within = row-at rows place (omega arith)
 
 -- the place of the row that fails first where a row is put in
 module _ (rows : List Row) (labels : List ℕ) (index : List KeyRow) (lifetimes : List (Lifetime (ℤ × ℤ))) (kept : AreKept rows labels index lifetimes) (place : ℕ) where
-  failing-with : (row : Row) → place ≤ length rows → (bad : Option Bad) → bad ≡ bad_with (label_before 0 labels place) row.op index → IfNone bad (Replays (with_row (label_before 0 labels place) row.op index)) → place_of_bad labels place bad ≡ failure Dict (insert rows place row)
+  failing-with : (row : Row) → place ≤ length rows → (bad : Option Bad) → bad ≡ bad_with (label_before 0 labels place) row.op index
+      → IfNone bad (Replays (with_row (label_before 0 labels place) row.op index)) → place_of_bad labels place bad ≡ failure Dict (insert rows place row)
   failing-with row within bad is good =
       let label = label_before 0 labels place in
       let fits = beside 0 label_limit labels place (omega (arith, within, kept.as_many)) kept.rising.rising in
@@ -183,9 +186,11 @@ module _ (rows : List Row) (labels : List ℕ) (index : List KeyRow) (lifetimes 
       ap (λ i. failure_of (with_row label row.op i)) kept.indexed ∙ ap failure_of (with_row-is labels rows place kept.as_many kept.rising.rising label row (omega arith) fits.0)
       ∙ failure-labelled (insert labels place label) (insert rows place row) (omega (arith, length-insert labels place label (omega (arith, within, kept.as_many)), length-insert rows place row within, kept.as_many)) in
       let front : named (up_to label index) ≡ map (λ l. Present l) (take place labels) =
-      ap (λ i. named (up_to label i)) kept.indexed ∙ ap named (up_to-is labels rows place kept.as_many kept.rising.rising label (omega arith) fits.0) ∙ named-labelled (take place labels) (take place rows) (length-fronts labels rows place kept.as_many) in
+      ap (λ i. named (up_to label i)) kept.indexed ∙ ap named (up_to-is labels rows place kept.as_many kept.rising.rising label (omega arith) fits.0)
+      ∙ named-labelled (take place labels) (take place rows) (length-fronts labels rows place kept.as_many) in
       let after_it : named (after label index) ≡ map (λ l. Present l) (drop place labels) =
-      ap (λ i. named (after label i)) kept.indexed ∙ ap named (after-is labels rows place kept.as_many kept.rising.rising label (omega arith) fits.0) ∙ named-labelled (drop place labels) (drop place rows) (length-backs labels rows place kept.as_many) in
+      ap (λ i. named (after label i)) kept.indexed ∙ ap named (after-is labels rows place kept.as_many kept.rising.rising label (omega arith) fits.0)
+      ∙ named-labelled (drop place labels) (drop place rows) (length-backs labels rows place kept.as_many) in
       place-of_bad labels place (omega (arith, within, kept.as_many)) label_limit kept.rising.rising bad (failure Dict (insert rows place row))
       (is ∙ ap (λ names. option_and_then (slice_get (names ++ Inserted ∷ named (after label index))) (failure_of (with_row label row.op index))) front
       ∙ ap (λ names. option_and_then (slice_get (map (λ l. Present l) (take place labels) ++ Inserted ∷ names)) (failure_of (with_row label row.op index))) after_it
@@ -196,14 +201,17 @@ module _ (rows : List Row) (labels : List ℕ) (index : List KeyRow) (lifetimes 
         if_none P (Some bad) is p = absurd (cc)
 
   -- the same where the row's operation is given, and the label that is read before the place
-  pub fails-with : (op : Op) (row : Row) → row.op ≡ op → place ≤ length rows → (front : ℕ) → front ≡ label_before 0 labels place → (bad : Option Bad) → bad ≡ bad_with front op index → IfNone bad (Replays (with_row front op index)) → place_of_bad labels place bad ≡ failure Dict (insert rows place row)
+  pub fails-with : (op : Op) (row : Row) → row.op ≡ op → place ≤ length rows → (front : ℕ) → front ≡ label_before 0 labels place → (bad : Option Bad) → bad
+      ≡ bad_with front op index → IfNone bad (Replays (with_row front op index)) → place_of_bad labels place bad ≡ failure Dict (insert rows place row)
   fails-with op row same within front at bad is good =
       failing-with row within bad (is ∙ ap (λ label. bad_with label op index) at ∙ ap (λ o. bad_with (label_before 0 labels place) o index) (sym same))
       (subst (λ o. IfNone bad (Replays (with_row (label_before 0 labels place) o index))) (sym same) (subst (λ label. IfNone bad (Replays (with_row label op index))) at good))
 
-  failing-without : (row : Row) (label : ℕ) → slice_get labels place ≡ Some label → slice_get rows place ≡ Some row → (bad : Option ℕ) → bad ≡ bad_label (without label index) → IfNone bad (Replays (without label index)) → place_of_bad_label labels place bad ≡ failure Dict (remove rows place)
+  failing-without : (row : Row) (label : ℕ) → slice_get labels place ≡ Some label → slice_get rows place ≡ Some row → (bad : Option ℕ) → bad
+      ≡ bad_label (without label index) → IfNone bad (Replays (without label index)) → place_of_bad_label labels place bad ≡ failure Dict (remove rows place)
   failing-without row label label_there row_there bad is good =
-      let left : without label index ≡ labelled (remove labels place) (remove rows place) = ap (without label) kept.indexed ∙ without-is labels rows place kept.as_many kept.rising.rising label row label_there row_there in
+      let left : without label index ≡ labelled (remove labels place) (remove rows place) = ap (without label) kept.indexed
+      ∙ without-is labels rows place kept.as_many kept.rising.rising label row label_there row_there in
       let as_many : length (remove labels place) ≡ length (remove rows place) =
       omega (arith, length-remove labels place (slice_get_within labels place label label_there), length-remove rows place (slice_get_within rows place row row_there), kept.as_many) in
       let new : failure_of (without label index) ≡ failure Dict (remove rows place) = ap failure_of left ∙ failure-labelled (remove labels place) (remove rows place) as_many in

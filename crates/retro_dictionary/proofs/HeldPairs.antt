@@ -131,7 +131,8 @@ module _ (label : ℕ) (below : label < label_end) where
   off_stay : (row : KeyRow) (rows : List KeyRow) (ps : List (ℤ × ℤ)) → row.0 ≤ label → filter (stays label rows) (filter (is_off (key_of row.1)) ps) ≡ filter (stays label (row ∷ rows)) ps
   off_stay row rows [] up = refl
   off_stay row rows (e ∷ es) up =
-      elim (is_on e.0 row) as (λ b. filter (stays label rows) (cond (not b) (e ∷ filter (is_off (key_of row.1)) es) (filter (is_off (key_of row.1)) es)) ≡ cond (ltb label (cond b row.0 (end_of e.0 rows))) (e ∷ filter (stays label (row ∷ rows)) es) (filter (stays label (row ∷ rows)) es)) [
+      elim (is_on e.0 row) as (λ b. filter (stays label rows) (cond (not b) (e ∷ filter (is_off (key_of row.1)) es) (filter (is_off (key_of row.1)) es))
+      ≡ cond (ltb label (cond b row.0 (end_of e.0 rows))) (e ∷ filter (stays label (row ∷ rows)) es) (filter (stays label (row ∷ rows)) es)) [
         | true ↦ off_stay row rows es up ∙ sym (ap (λ b. cond b (e ∷ filter (stays label (row ∷ rows)) es) (filter (stays label (row ∷ rows)) es)) (le-ltb label row.0 up))
         | false ↦ ap (λ ps. cond (ltb label (end_of e.0 rows)) (e ∷ ps) ps) (off_stay row rows es up)
       ]
@@ -141,7 +142,9 @@ module _ (label : ℕ) (below : label < label_end) where
       → filter (stays label rows) (pair ∷ ps) ≡ items_at label (begun from (Some pair) rows) ++ filter (stays label rows) ps
   pair_held from pair rows ps up =
       rw (le-leb from label up)
-      (elim (ltb label (end_of pair.0 rows)) as (λ b. cond b (pair ∷ filter (stays label rows) ps) (filter (stays label rows) ps) ≡ map (λ (l : Lifetime (ℤ × ℤ)). l.item) (cond b (lifetime from (end_of pair.0 rows) pair ∷ []) []) ++ filter (stays label rows) ps) [ true ↦ refl | false ↦ refl ])
+      (elim (ltb label (end_of pair.0 rows)) as (λ b. cond b (pair ∷ filter (stays label rows) ps) (filter (stays label rows) ps)
+      ≡ map (λ (l : Lifetime (ℤ × ℤ)). l.item) (cond b (lifetime from (end_of pair.0 rows) pair ∷ []) []) ++ filter (stays label rows) ps)
+      [ true ↦ refl | false ↦ refl ])
 
   held_put : (row : KeyRow) (pair : ℤ × ℤ) (rows : List KeyRow) (ps after : List (ℤ × ℤ)) → row.0 ≤ label → key_of row.1 ≡ pair.0 → put_by row.1 ≡ Some pair → AreSorted ps
       → IsHeld rows (with_key pair.0 pair.1 ps) after → IsHeld (row ∷ rows) ps after
@@ -155,11 +158,13 @@ module _ (label : ℕ) (below : label < label_end) where
         let grown : HaveSameItems (filter (stays label rows) (with_key pair.0 pair.1 ps)) (new ++ kept) =
         subst (HaveSameItems (filter (stays label rows) (with_key pair.0 pair.1 ps))) (pair_held row.0 pair rows (filter (is_off pair.0) ps) up ∙ ap (λ xs. new ++ xs) off)
         (same-filter (stays label rows) (with_key pair.0 pair.1 ps) (pair ∷ filter (is_off pair.0) ps) (with_key-same pair.0 pair.1 ps s)) in
-        let is : items_at label (begun row.0 (put_by row.1) rows ++ lifetimes_of rows) ≡ new ++ old = ap (λ put. items_at label (begun row.0 put rows ++ lifetimes_of rows)) puts ∙ pairs-append (begun row.0 (Some pair) rows) (lifetimes_of rows) in
+        let is : items_at label (begun row.0 (put_by row.1) rows ++ lifetimes_of rows) ≡ new ++ old =
+        ap (λ put. items_at label (begun row.0 put rows ++ lifetimes_of rows)) puts ∙ pairs-append (begun row.0 (Some pair) rows) (lifetimes_of rows) in
         rw is
         (same-trans ((new ++ old) ++ kept) (old ++ filter (stays label rows) (with_key pair.0 pair.1 ps)) after
         (same-trans ((new ++ old) ++ kept) (old ++ (new ++ kept)) (old ++ filter (stays label rows) (with_key pair.0 pair.1 ps))
-        (same-regroup new old kept) (same-append old old (new ++ kept) (filter (stays label rows) (with_key pair.0 pair.1 ps)) (same-refl old) (same-sym (filter (stays label rows) (with_key pair.0 pair.1 ps)) (new ++ kept) grown)))
+        (same-regroup new old kept) (same-append old old (new ++ kept) (filter (stays label rows) (with_key pair.0 pair.1 ps)) (same-refl old)
+        (same-sym (filter (stays label rows) (with_key pair.0 pair.1 ps)) (new ++ kept) grown)))
         rest.same);
   }
 
@@ -173,7 +178,8 @@ module _ (label : ℕ) (below : label < label_end) where
   abbrev Held : List KeyRow → List (ℤ × ℤ) → Type 0
   Held rows after = (ps : List (ℤ × ℤ)) → AreSorted ps → run (map as_row (up_to label rows)) (pairs ps) ≡ Ok (pairs after) → IsHeld rows ps after
 
-  ran_first : (row : KeyRow) (rows : List KeyRow) (ps : List (ℤ × ℤ)) (r : Result State ℕ) → row.0 ≤ label → run (map as_row (up_to label (row ∷ rows))) (pairs ps) ≡ r → run (as_row row ∷ map as_row (up_to label rows)) (pairs ps) ≡ r
+  ran_first : (row : KeyRow) (rows : List KeyRow) (ps : List (ℤ × ℤ)) (r : Result State ℕ) → row.0 ≤ label
+      → run (map as_row (up_to label (row ∷ rows))) (pairs ps) ≡ r → run (as_row row ∷ map as_row (up_to label rows)) (pairs ps) ≡ r
   ran_first row rows ps r up ran = sym (ap (λ b. run (map as_row (cond b (row ∷ up_to label rows) (up_to label rows))) (pairs ps)) (le-leb row.0 label up)) ∙ ran
 
   held_other : (from : ℕ) (op : Op) (rows : List KeyRow) (ps after : List (ℤ × ℤ)) → from ≤ label → IsOther op → run (map as_row (up_to label ((from, op) ∷ rows))) (pairs ps) ≡ Ok (pairs after) → ⊥
@@ -187,11 +193,13 @@ module _ (label : ℕ) (below : label < label_end) where
       held_put (from, Put key value) (key, value) rows ps after up refl refl s
       (rest (with_key key value ps) (sorted_with key value ps s)
       (not_later (run (map as_row (up_to label rows)) (pairs (with_key key value ps))) (pairs after)
-      (sym (goes (as_row (from, Put key value)) (map as_row (up_to label rows)) (pairs ps) (pairs (with_key key value ps)) (put_steps from key value ps)) ∙ ran_first (from, Put key value) rows ps (Ok (pairs after)) up ran)))
+      (sym (goes (as_row (from, Put key value)) (map as_row (up_to label rows)) (pairs ps) (pairs (with_key key value ps)) (put_steps from key value ps))
+      ∙ ran_first (from, Put key value) rows ps (Ok (pairs after)) up ran)))
   held_up from (Del key) rows after up rest ps s ran =
       elim (is_some (lookup (int_eq key) ps)) as (λ b. is_some (lookup (int_eq key) ps) ≡ b → IsHeld ((from, Del key) ∷ rows) ps after) [
         | true ↦ λ there.
-            let steps : step (as_row (from, Del key)) (pairs ps) ≡ Some (pairs (remove_entry (int_eq key) ps)) = del_steps from key ps ∙ ap (λ b. option_map pairs (if b then Some (remove_entry (int_eq key) ps) else None)) there in
+            let steps : step (as_row (from, Del key)) (pairs ps) ≡ Some (pairs (remove_entry (int_eq key) ps)) = del_steps from key ps
+            ∙ ap (λ b. option_map pairs (if b then Some (remove_entry (int_eq key) ps) else None)) there in
             held_del from key rows ps after up s
             (rest (remove_entry (int_eq key) ps) (sorted_without key ps s)
             (not_later (run (map as_row (up_to label rows)) (pairs (remove_entry (int_eq key) ps))) (pairs after)

@@ -19,7 +19,8 @@ use Rattle.retro_dictionary.specs.Labelled.{labelled}
 use Rattle.retro_dictionary.specs.Lifetimes.{end_of, put_by, lifetimes_of}
 use Rattle.retro_dictionary.specs.Numbers.{IsOfNumbers}
 use Rattle.retro_dictionary.proofs.KeptLifetimes.{cut-is, joined-is, length-ordered}
-use Rattle.retro_dictionary.proofs.LabelledRows.{AllAbove, AllBelow, in_two, with-inserted, front-below, back-above, below-last, label_before-below, label-after, beside, with_row-is, fresh-is, last-is, next-is, at-parts, removed-parts, without-is, last-at, next-at, length-labelled}
+use Rattle.retro_dictionary.proofs.LabelledRows.{AllAbove, AllBelow, in_two, with-inserted, front-below, back-above, below-last, label_before-below, label-after, beside}
+use Rattle.retro_dictionary.proofs.LabelledRows.{with_row-is, fresh-is, last-is, next-is, at-parts, removed-parts, without-is, last-at, next-at, length-labelled}
 
 -- the row that left a pair stands before a label
 placed_below : (label : ℕ) (row : KeyRow) → row.0 < label → (put : Option (ℤ × ℤ)) → IfSome (option_map (λ (pair : ℤ × ℤ). let placed : Placed = (row.0, pair) in placed) put) (λ (pair : Placed). pair.0 < label)
@@ -59,7 +60,8 @@ below_all [] back all = all
 below_all (row ∷ front) back all = below_all front back all.1
 
 -- a row that is put in at a label between those beside its place
-module _ (rows : List Row) (labels : List ℕ) (index : List KeyRow) (lifetimes : List (Lifetime (ℤ × ℤ))) (kept : AreKept rows labels index lifetimes) (place label : ℕ) (row : Row) (within : place ≤ length rows) (between : IsBetween labels place label) where
+module _ (rows : List Row) (labels : List ℕ) (index : List KeyRow) (lifetimes : List (Lifetime (ℤ × ℤ))) (kept : AreKept rows labels index lifetimes)
+    (place label : ℕ) (row : Row) (within : place ≤ length rows) (between : IsBetween labels place label) where
   apart : AreApart 1 0 label_limit labels
   apart = kept.rising.rising
 
@@ -100,7 +102,9 @@ module _ (rows : List Row) (labels : List ℕ) (index : List KeyRow) (lifetimes 
       ∙ ap (cut_at (option_and_then placed_by (last_of (filter (is_on (key_of row.op)) front))) label (put_by row.op) (end_of (key_of row.op) back))
       (kept.held ∙ ap (λ i. ordered (lifetimes_of i)) (kept.indexed ∙ in_two labels rows place kept.as_many))
       ∙ cut-is front (label, row.op) back
-      ∙ sym (ap (λ i. ordered (lifetimes_of i)) (ap (with_row label row.op) kept.indexed ∙ with_row-is labels rows place kept.as_many apart label row (omega (arith, between.before)) between.after_it ∙ with-inserted labels rows place label row kept.as_many))
+      ∙ sym (ap (λ i. ordered (lifetimes_of i)) (ap (with_row label row.op) kept.indexed
+      ∙ with_row-is labels rows place kept.as_many apart label row (omega (arith, between.before)) between.after_it
+      ∙ with-inserted labels rows place label row kept.as_many))
 
   pub no_row-at : op_at label index ≡ None
   no_row-at = ap (op_at label) kept.indexed ∙ fresh-is labels rows place kept.as_many apart label between
@@ -119,7 +123,8 @@ module _ (rows : List Row) (labels : List ℕ) (index : List KeyRow) (lifetimes 
   }
 
 -- a row that is taken out
-module _ (rows : List Row) (labels : List ℕ) (index : List KeyRow) (lifetimes : List (Lifetime (ℤ × ℤ))) (kept : AreKept rows labels index lifetimes) (place label : ℕ) (row : Row) (label_there : slice_get labels place ≡ Some label) (row_there : slice_get rows place ≡ Some row) where
+module _ (rows : List Row) (labels : List ℕ) (index : List KeyRow) (lifetimes : List (Lifetime (ℤ × ℤ))) (kept : AreKept rows labels index lifetimes)
+    (place label : ℕ) (row : Row) (label_there : slice_get labels place ≡ Some label) (row_there : slice_get rows place ≡ Some row) where
   rising_labels : AreApart 1 0 label_limit labels
   rising_labels = kept.rising.rising
 
@@ -158,7 +163,10 @@ module _ (rows : List Row) (labels : List ℕ) (index : List KeyRow) (lifetimes 
   pub can-join : CanPut (left_of index label row.op) (next_of index label row.op) lifetimes
   unfolding former
   can-join = record {
-    rises = rw left-at (rw following-at (raised (end_of (key_of row.op) later) (option_and_then placed_by (last_of (filter (is_on (key_of row.op)) former))) label_next (last_below label (key_of row.op) former (front-below label_limit 0 labels rows place label rising_labels (label_before-below label_limit 0 labels place label rising_labels label_there)))));
+    rises = rw left-at (rw following-at (raised (end_of (key_of row.op) later)
+        (option_and_then placed_by (last_of (filter (is_on (key_of row.op)) former))) label_next
+        (last_below label (key_of row.op) former (front-below label_limit 0 labels rows place label rising_labels
+        (label_before-below label_limit 0 labels place label rising_labels label_there)))));
     within = rw following-at (end_within (key_of row.op) later (below_all former ((label, row.op) ∷ later) all_rows).1);
     room = omega (arith, ap length kept.held, ap length kept.indexed, length-ordered index, length-labelled labels rows, kept.replayable.few);
   }
@@ -171,7 +179,9 @@ module _ (rows : List Row) (labels : List ℕ) (index : List KeyRow) (lifetimes 
       ∙ ap (joined_at (option_and_then placed_by (last_of (filter (is_on (key_of row.op)) former))) label (put_by row.op) (end_of (key_of row.op) later))
       (kept.held ∙ ap (λ i. ordered (lifetimes_of i)) (kept.indexed ∙ parts))
       ∙ joined-is former (label, row.op) later
-      ∙ sym (ap (λ i. ordered (lifetimes_of i)) (ap (without label) kept.indexed ∙ without-is labels rows place kept.as_many rising_labels label row label_there row_there ∙ removed-parts labels rows place kept.as_many rising_labels label row label_there row_there))
+      ∙ sym (ap (λ i. ordered (lifetimes_of i)) (ap (without label) kept.indexed
+      ∙ without-is labels rows place kept.as_many rising_labels label row label_there row_there
+      ∙ removed-parts labels rows place kept.as_many rising_labels label row label_there row_there))
 
   pub kept-without : CanRemove rows place → AreKept (remove rows place) (remove labels place) (without label index) (joined_by label row.op index lifetimes)
   kept-without can = record {
@@ -194,4 +204,7 @@ insertions-kept rows labels index lifetimes place label row kept between can = (
 )
 
 pub removals-kept : RemovalsAreKept
-removals-kept rows labels index lifetimes place label row kept label_there row_there can = (can-join rows labels index lifetimes kept place label row label_there row_there, kept-without rows labels index lifetimes kept place label row label_there row_there can)
+removals-kept rows labels index lifetimes place label row kept label_there row_there can = (
+  can-join rows labels index lifetimes kept place label row label_there row_there,
+  kept-without rows labels index lifetimes kept place label row label_there row_there can,
+)

@@ -63,7 +63,9 @@ module _ (front : List KeyRow) (row : KeyRow) (after : List KeyRow) where
       let others = (edited row after front).others in
       ap (λ xs. cut_at left row.0 (put_by row.1) next xs) without-is
       ∙ ap (λ xs. all_taken (up_to_label left next) (all_put (up_to_label left row.0) xs)) (put-ordered (placed_at row.0 (put_by row.1)) next (up_to_label left next ++ others))
-      ∙ ap (all_taken (up_to_label left next)) (put-ordered left row.0 (own ++ (up_to_label left next ++ others)) ∙ same-ordered (up_to_label left row.0 ++ (own ++ (up_to_label left next ++ others))) (up_to_label left next ++ (up_to_label left row.0 ++ (own ++ others))) (moved others))
+      ∙ ap (all_taken (up_to_label left next)) (put-ordered left row.0 (own ++ (up_to_label left next ++ others))
+      ∙ same-ordered (up_to_label left row.0 ++ (own ++ (up_to_label left next ++ others)))
+      (up_to_label left next ++ (up_to_label left row.0 ++ (own ++ others))) (moved others))
       ∙ taken-ordered left next (up_to_label left row.0 ++ (own ++ others))
       ∙ sym with-is where
         moved : (others : Lives) → HaveSameItems (up_to_label left row.0 ++ (own ++ (up_to_label left next ++ others))) (up_to_label left next ++ (up_to_label left row.0 ++ (own ++ others)))
@@ -84,7 +86,10 @@ module _ (front : List KeyRow) (row : KeyRow) (after : List KeyRow) where
   joined-is =
       let others = (edited row after front).others in
       ap (λ xs. joined_at left row.0 (put_by row.1) next xs) with-is
-      ∙ ap (λ xs. all_taken own (all_taken (up_to_label left row.0) xs)) (put-ordered left next (up_to_label left row.0 ++ (own ++ others)) ∙ same-ordered (up_to_label left next ++ (up_to_label left row.0 ++ (own ++ others))) (up_to_label left row.0 ++ (own ++ (up_to_label left next ++ others))) (moved others))
+      ∙ ap (λ xs. all_taken own (all_taken (up_to_label left row.0) xs))
+      (put-ordered left next (up_to_label left row.0 ++ (own ++ others))
+      ∙ same-ordered (up_to_label left next ++ (up_to_label left row.0 ++ (own ++ others)))
+      (up_to_label left row.0 ++ (own ++ (up_to_label left next ++ others))) (moved others))
       ∙ ap (all_taken own) (taken-ordered left row.0 (own ++ (up_to_label left next ++ others)))
       ∙ taken-ordered (placed_at row.0 (put_by row.1)) next (up_to_label left next ++ others)
       ∙ sym without-is where

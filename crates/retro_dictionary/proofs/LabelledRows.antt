@@ -52,14 +52,16 @@ module _ (last : ℕ) where
   first_up_to first [] (suc place) apart = omega arith
   first_up_to first (label ∷ labels) (suc place) apart = omega (arith, apart.0, first_up_to label labels place apart.1)
 
-  pub front-below : (first : ℕ) (labels : List ℕ) (rows : List Row) (place label : ℕ) → AreApart 1 first last labels → label_before first labels place < label → AllBelow label (labelled (take place labels) (take place rows))
+  pub front-below : (first : ℕ) (labels : List ℕ) (rows : List Row) (place label : ℕ) → AreApart 1 first last labels → label_before first labels place < label
+      → AllBelow label (labelled (take place labels) (take place rows))
   front-below first labels rows zero label apart before = tt
   front-below first [] rows (suc place) label apart before = tt
   front-below first (next ∷ labels) [] (suc place) label apart before = tt
   front-below first (next ∷ labels) (row ∷ rows) (suc place) label apart before =
       (omega (arith, first_up_to next labels place apart.1), front-below next labels rows place label apart.1 before)
 
-  pub back-above : (first : ℕ) (labels : List ℕ) (rows : List Row) (place label : ℕ) → AreApart 1 first last labels → label < label_later last labels place → AllAbove label (labelled (drop place labels) (drop place rows))
+  pub back-above : (first : ℕ) (labels : List ℕ) (rows : List Row) (place label : ℕ) → AreApart 1 first last labels → label < label_later last labels place
+      → AllAbove label (labelled (drop place labels) (drop place rows))
   back-above first [] rows zero label apart after = tt
   back-above first [] rows (suc place) label apart after = tt
   back-above first (next ∷ labels) [] zero label apart after = tt
@@ -119,20 +121,24 @@ module _ (label : ℕ) where
 
   pub without-parts : (front back : List KeyRow) (op : Op) → AllBelow label front → without label (front ++ (label, op) ∷ back) ≡ front ++ back
   without-parts [] back op below = ap (λ b. cond b back ((label, op) ∷ without label back)) (eq-eqb label label refl)
-  without-parts (row ∷ front) back op below = ap (λ b. cond b (front ++ (label, op) ∷ back) (row ∷ without label (front ++ (label, op) ∷ back))) (ne_eqb row.0 label (λ same. omega arith)) ∙ ap (λ rest. row ∷ rest) (without-parts front back op below.1)
+  without-parts (row ∷ front) back op below = ap (λ b. cond b (front ++ (label, op) ∷ back) (row ∷ without label (front ++ (label, op) ∷ back)))
+      (ne_eqb row.0 label (λ same. omega arith)) ∙ ap (λ rest. row ∷ rest) (without-parts front back op below.1)
 
   -- the rows on a key beside it
   before-none : (key : ℤ) (back : List KeyRow) → AllByRecursion (λ (row : KeyRow). label ≤ row.0) back → filter (λ (row : KeyRow). is_on key row && ltb row.0 label) back ≡ []
   before-none key [] from = refl
   before-none key (row ∷ back) from =
       ap (λ b. cond (is_on key row && b) (row ∷ filter (λ (r : KeyRow). is_on key r && ltb r.0 label) back) (filter (λ (r : KeyRow). is_on key r && ltb r.0 label) back)) (le-ltb row.0 label from.0)
-      ∙ elim (is_on key row) as (λ b. cond (b && false) (row ∷ filter (λ (r : KeyRow). is_on key r && ltb r.0 label) back) (filter (λ (r : KeyRow). is_on key r && ltb r.0 label) back) ≡ []) [ true ↦ before-none key back from.1 | false ↦ before-none key back from.1 ]
+      ∙ elim (is_on key row) as (λ b. cond (b && false) (row ∷ filter (λ (r : KeyRow). is_on key r && ltb r.0 label) back)
+      (filter (λ (r : KeyRow). is_on key r && ltb r.0 label) back) ≡ []) [ true ↦ before-none key back from.1 | false ↦ before-none key back from.1 ]
 
-  before-parts : (key : ℤ) (front back : List KeyRow) → AllBelow label front → AllByRecursion (λ (row : KeyRow). label ≤ row.0) back → filter (λ (row : KeyRow). is_on key row && ltb row.0 label) (front ++ back) ≡ filter (is_on key) front
+  before-parts : (key : ℤ) (front back : List KeyRow) → AllBelow label front → AllByRecursion (λ (row : KeyRow). label ≤ row.0) back
+      → filter (λ (row : KeyRow). is_on key row && ltb row.0 label) (front ++ back) ≡ filter (is_on key) front
   before-parts key [] back below from = before-none key back from
   before-parts key (row ∷ front) back below from =
       ap (λ b. cond (is_on key row && b) (row ∷ filter (λ (r : KeyRow). is_on key r && ltb r.0 label) (front ++ back)) (filter (λ (r : KeyRow). is_on key r && ltb r.0 label) (front ++ back))) (lt-ltb row.0 label below.0)
-      ∙ elim (is_on key row) as (λ b. cond (b && true) (row ∷ filter (λ (r : KeyRow). is_on key r && ltb r.0 label) (front ++ back)) (filter (λ (r : KeyRow). is_on key r && ltb r.0 label) (front ++ back)) ≡ cond b (row ∷ filter (is_on key) front) (filter (is_on key) front)) [
+      ∙ elim (is_on key row) as (λ b. cond (b && true) (row ∷ filter (λ (r : KeyRow). is_on key r && ltb r.0 label) (front ++ back))
+      (filter (λ (r : KeyRow). is_on key r && ltb r.0 label) (front ++ back)) ≡ cond b (row ∷ filter (is_on key) front) (filter (is_on key) front)) [
         | true ↦ ap (λ rest. row ∷ rest) (before-parts key front back below.1 from)
         | false ↦ before-parts key front back below.1 from
       ]
@@ -150,7 +156,8 @@ module _ (label : ℕ) where
   first_after-parts key [] back up_to above = after-all key back above
   first_after-parts key (row ∷ front) back up_to above =
       ap (λ b. cond (is_on key row && b) (Some row) (first_after key label (front ++ back))) (le-ltb label row.0 up_to.0)
-      ∙ elim (is_on key row) as (λ b. cond (b && false) (Some row) (first_after key label (front ++ back)) ≡ find (is_on key) back) [ true ↦ first_after-parts key front back up_to.1 above | false ↦ first_after-parts key front back up_to.1 above ]
+      ∙ elim (is_on key row) as (λ b. cond (b && false) (Some row) (first_after key label (front ++ back)) ≡ find (is_on key) back)
+      [ true ↦ first_after-parts key front back up_to.1 above | false ↦ first_after-parts key front back up_to.1 above ]
 
 pub end-first : (key : ℤ) (rows : List KeyRow) → end_of key rows ≡ label_or_end (find (is_on key) rows)
 end-first key [] = refl
@@ -177,7 +184,8 @@ module _ (last : ℕ) where
   label-after first (next ∷ other ∷ labels) (suc place) label apart there = label-after next (other ∷ labels) place label apart.1 there
 
 -- the labels beside a place
-pub beside : (first last : ℕ) (labels : List ℕ) (place : ℕ) → place ≤ length labels → AreApart 1 first last labels → (label_before first labels place < label_later last labels place) × (label_later last labels place ≤ last)
+pub beside : (first last : ℕ) (labels : List ℕ) (place : ℕ) → place ≤ length labels → AreApart 1 first last labels
+    → (label_before first labels place < label_later last labels place) × (label_later last labels place ≤ last)
 beside first last [] zero within apart = (omega arith, omega arith)
 beside first last [] (suc place) within apart = absurd (omega arith)
 beside first last (label ∷ labels) zero within apart = (omega (arith, apart.0), omega (arith, first_below_last last label labels apart.1))
@@ -208,12 +216,14 @@ module _ (labels : List ℕ) (rows : List Row) (place : ℕ) (same : length labe
   pub with_row-parts : (label : ℕ) (op : Op) → label_before 0 labels place ≤ label → label < label_later label_limit labels place → with_row label op (labelled labels rows) ≡ front_rows ++ (label, op) ∷ back_rows
   with_row-parts label op before after_it = ap (λ xs. xs ++ (label, op) ∷ after label (labelled labels rows)) (up_to-is label before after_it) ∙ ap (λ xs. front_rows ++ (label, op) ∷ xs) (after-is label before after_it)
 
-  pub with_row-is : (label : ℕ) (row : Row) → label_before 0 labels place ≤ label → label < label_later label_limit labels place → with_row label row.op (labelled labels rows) ≡ labelled (insert labels place label) (insert rows place row)
+  pub with_row-is : (label : ℕ) (row : Row) → label_before 0 labels place ≤ label → label < label_later label_limit labels place
+      → with_row label row.op (labelled labels rows) ≡ labelled (insert labels place label) (insert rows place row)
   with_row-is label row before after_it = with_row-parts label row.op before after_it ∙ sym (with-inserted labels rows place label row same)
 
   pub fresh-is : (label : ℕ) → IsBetween labels place label → op_at label (labelled labels rows) ≡ None
   fresh-is label between =
-      ap (op_at label) (in_two labels rows place same) ∙ lookup-none label front_rows back_rows (front-below label_limit 0 labels rows place label apart between.before) (back-above label_limit 0 labels rows place label apart between.after_it)
+      ap (op_at label) (in_two labels rows place same) ∙ lookup-none label front_rows back_rows
+      (front-below label_limit 0 labels rows place label apart between.before) (back-above label_limit 0 labels rows place label apart between.after_it)
 
   -- the rows beside it on a key
   pub last-is : (label : ℕ) (key : ℤ) → IsBetween labels place label → last_before key label (labelled labels rows) ≡ last_of (filter (is_on key) front_rows)

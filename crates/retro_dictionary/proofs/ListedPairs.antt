@@ -1,5 +1,6 @@
 -- Pairs whose keys rise, listed one after another: after each the next one is the least that is left.
-use Rattle.std.proofs.Common.{◌≡◌, ℕ, zero, suc, ◌+◌, ◌<◌, ◌≤◌, ℤ, pos, negsuc, ◌+ℤ◌, ◌≤ℤ◌, true, false, ◌&&◌, cond, Some, None, Less, List, [], ◌∷◌, ◌++◌, map, length, take, drop, slice_get, refl, sym, ap, ◌∙◌, arith, subst, w64}
+use Rattle.std.proofs.Common.{◌≡◌, ℕ, zero, suc, ◌+◌, ◌<◌, ◌≤◌, ℤ, pos, negsuc, ◌+ℤ◌, ◌≤ℤ◌, true, false, ◌&&◌, cond, Some, None, Less}
+use Rattle.std.proofs.Common.{List, [], ◌∷◌, ◌++◌, map, length, take, drop, slice_get, refl, sym, ap, ◌∙◌, arith, subst, w64}
 use Rattle.std.specs.Prelude.{int_le}
 use Rattle.std.specs.Int.{saturate_signed}
 use Rattle.std.specs.List.{AllByRecursion}
@@ -108,7 +109,8 @@ module _ (ps : List (ℤ × ℤ)) (count : ℕ) (low : ℤ) (listing : List Item
   pub not-none : slice_get (pairs_from low ps) 0 ≡ None → ⊥
   not-none none = is-there ps count within (sym least ∙ none)
 
-  pub listed-more : AreSorted ps → AreOfNumbers ps → (p : ℤ × ℤ) (next : ℤ) → slice_get (pairs_from low ps) 0 ≡ Some p → next ≡ saturate_signed w64 (p.0 +ℤ pos 1) → IsListed ps (count + 1) next (listing ++ contents.Pair p.0 p.1 ∷ [])
+  pub listed-more : AreSorted ps → AreOfNumbers ps → (p : ℤ × ℤ) (next : ℤ) → slice_get (pairs_from low ps) 0 ≡ Some p → next
+      ≡ saturate_signed w64 (p.0 +ℤ pos 1) → IsListed ps (count + 1) next (listing ++ contents.Pair p.0 p.1 ∷ [])
   listed-more rising all p next first is =
       let there : slice_get ps count ≡ Some p = sym least ∙ first in
       let later : suc count ≡ count + 1 = omega arith in

@@ -53,7 +53,8 @@ module _ (labels : List ℕ) (rows : List Row) (index : List KeyRow) (same : len
       ap (λ next. all_put (up_to_label (placed_at label (put_by row.op)) next) (ordered (lifetimes_of later))) following-is
       ∙ put-ordered (placed_at label (put_by row.op)) (end_of (key_of row.op) later) (lifetimes_of later)
       ∙ ap (λ own. ordered (own ++ lifetimes_of later)) (sym (begun-is (label, row.op) later (put_by row.op) refl))
-      ∙ sym (ap (λ ls. ordered (lifetimes_of (labelled ls (drop place rows)))) (drop-at labels place label label_there) ∙ ap (λ rs. ordered (lifetimes_of (labelled (label ∷ drop (suc place) labels) rs))) (drop-at rows place row row_there))
+      ∙ sym (ap (λ ls. ordered (lifetimes_of (labelled ls (drop place rows)))) (drop-at labels place label label_there)
+      ∙ ap (λ rs. ordered (lifetimes_of (labelled (label ∷ drop (suc place) labels) rs))) (drop-at rows place row row_there))
 
   -- where all rows after it have theirs
   module _ (next : ℕ) (lifetimes : List (Lifetime (ℤ × ℤ))) (next_is : next ≡ suc place) (made : lifetimes ≡ ordered (lifetimes_of (labelled (drop next labels) (drop next rows)))) where

@@ -102,7 +102,9 @@ IfPairs count (Some ps) = AreOfNumbers ps × (length ps ≤ suc count)
 
 keys-after : (op : Op) (ps : List (ℤ × ℤ)) → IsOfNumbers op → AreOfNumbers ps → IfPairs (length ps) (pairs_after op ps)
 keys-after (Put key value) ps is all = (keys-with key value ps is.0 is.1 all, one_more key value ps)
-keys-after (Del key) ps is all = elim (is_some (lookup (int_eq key) ps)) as (λ b. IfPairs (length ps) (if b then Some (remove_entry (int_eq key) ps) else None)) [ true ↦ (keys-without key ps all, omega (arith, no_more key ps)) | false ↦ tt ]
+keys-after (Del key) ps is all = elim (is_some (lookup (int_eq key) ps)) as
+    (λ b. IfPairs (length ps) (if b then Some (remove_entry (int_eq key) ps) else None))
+    [ true ↦ (keys-without key ps all, omega (arith, no_more key ps)) | false ↦ tt ]
 keys-after (Enq v) ps is all = tt
 keys-after Deq ps is all = tt
 keys-after (Push v) ps is all = tt

@@ -68,7 +68,9 @@ filter-ordered test (p ∷ ps) ordered = elim (test p) as (λ b. AreInOrder pair
   | false ↦ filter-ordered test ps ordered.1
 ]
 
-module _ (items : List (ℤ × ℤ)) (low high : ℤ) (from to : ℕ) (front : take from items ≡ filter (reaches (Below low)) items) (back : drop from items ≡ filter (λ (pair : ℤ × ℤ). not (reaches (Below low) pair)) items) (front_to : take to items ≡ filter (reaches (UpTo high)) items) where
+module _ (items : List (ℤ × ℤ)) (low high : ℤ) (from to : ℕ) (front : take from items ≡ filter (reaches (Below low)) items)
+    (back : drop from items ≡ filter (λ (pair : ℤ × ℤ). not (reaches (Below low) pair)) items)
+    (front_to : take to items ≡ filter (reaches (UpTo high)) items) where
   abbrev from_low : ℤ × ℤ → Bool
   from_low pair = int_le low pair.0
 
@@ -82,10 +84,14 @@ module _ (items : List (ℤ × ℤ)) (low high : ℤ) (from to : ℕ) (front : t
   is_from pair above = grind (arith, ints)
 
   all_below : AllByRecursion (λ (pair : ℤ × ℤ). from_low pair ≡ false) (take from items)
-  all_below = subst (AllByRecursion (λ (pair : ℤ × ℤ). from_low pair ≡ false)) (sym front) (all_weaker (λ (pair : ℤ × ℤ). reaches (Below low) pair ≡ true) (λ (pair : ℤ × ℤ). from_low pair ≡ false) (filter (reaches (Below low)) items) is_below (filter_passes (reaches (Below low)) items))
+  all_below = subst (AllByRecursion (λ (pair : ℤ × ℤ). from_low pair ≡ false)) (sym front)
+      (all_weaker (λ (pair : ℤ × ℤ). reaches (Below low) pair ≡ true) (λ (pair : ℤ × ℤ). from_low pair ≡ false) (filter (reaches (Below low)) items) is_below
+      (filter_passes (reaches (Below low)) items))
 
   all_from : AllByRecursion (λ (pair : ℤ × ℤ). from_low pair ≡ true) (drop from items)
-  all_from = subst (AllByRecursion (λ (pair : ℤ × ℤ). from_low pair ≡ true)) (sym back) (all_weaker (λ (pair : ℤ × ℤ). not (reaches (Below low) pair) ≡ true) (λ (pair : ℤ × ℤ). from_low pair ≡ true) (filter (λ (pair : ℤ × ℤ). not (reaches (Below low) pair)) items) is_from (filter_passes (λ (pair : ℤ × ℤ). not (reaches (Below low) pair)) items))
+  all_from = subst (AllByRecursion (λ (pair : ℤ × ℤ). from_low pair ≡ true)) (sym back)
+      (all_weaker (λ (pair : ℤ × ℤ). not (reaches (Below low) pair) ≡ true) (λ (pair : ℤ × ℤ). from_low pair ≡ true)
+      (filter (λ (pair : ℤ × ℤ). not (reaches (Below low) pair)) items) is_from (filter_passes (λ (pair : ℤ × ℤ). not (reaches (Below low) pair)) items))
 
   pub none-inside : to ≤ from → pairs_between low high items ≡ []
   none-inside order =

@@ -151,7 +151,8 @@ former-below labels place within some apart =
 pub middle-between : (labels : List ℕ) (place : ℕ) → label_before 0 labels place + 2 ≤ label_later label_limit labels place → IsBetween labels place (middle labels place)
 middle-between labels place room = record { before = omega arith; after_it = omega arith }
 
-pub after-between : (labels : List ℕ) (place : ℕ) → place ≡ length labels → label_before 0 labels place + 2 ≤ label_limit → IsBetween labels place (label_after (label_before 0 labels (place - 1)) (label_before 0 labels place))
+pub after-between : (labels : List ℕ) (place : ℕ) → place ≡ length labels → label_before 0 labels place + 2 ≤ label_limit
+    → IsBetween labels place (label_after (label_before 0 labels (place - 1)) (label_before 0 labels place))
 after-between labels place same room =
     let last = label_before 0 labels place in
     let gap = last - label_before 0 labels (place - 1) in

@@ -141,7 +141,8 @@ module _ (count place : ℕ) (within : place ≤ count) (few : count < most_rows
   }
 
 -- the rows of a dictionary get them
-module _ (rows : List Row) (labels : List ℕ) (index : List KeyRow) (lifetimes : List (Lifetime (ℤ × ℤ))) (kept : AreKept rows labels index lifetimes) (place : ℕ) (within : place ≤ length rows) (few : length rows < most_rows) where
+module _ (rows : List Row) (labels : List ℕ) (index : List KeyRow) (lifetimes : List (Lifetime (ℤ × ℤ))) (kept : AreKept rows labels index lifetimes)
+    (place : ℕ) (within : place ≤ length rows) (few : length rows < most_rows) where
   abbrev others : List ℕ
   others = other_labels (length rows) place
 
@@ -197,7 +198,8 @@ module _ (rows : List Row) (labels : List ℕ) (index : List KeyRow) (lifetimes 
   }
 
   -- where they were counted and listed
-  module _ (former fresh : List ℕ) (label count counted : ℕ) (former_is : former ≡ labels) (fresh_is : fresh ≡ other_labels count place) (count_is : count ≡ length rows) (label_is : label ≡ new_label counted place) (counted_is : counted ≡ length rows) where
+  module _ (former fresh : List ℕ) (label count counted : ℕ) (former_is : former ≡ labels) (fresh_is : fresh ≡ other_labels count place)
+      (count_is : count ≡ length rows) (label_is : label ≡ new_label counted place) (counted_is : counted ≡ length rows) where
     pub can-relabel-listed : CanRelabel former fresh label index
     can-relabel-listed =
         subst (λ ls. CanRelabel ls fresh label index) (sym former_is)
@@ -212,7 +214,8 @@ module _ (rows : List Row) (labels : List ℕ) (index : List KeyRow) (lifetimes 
         ∙ all-are row
 
 -- the new row is taken out again
-pub taken-out : (former fresh : List ℕ) (label : ℕ) (op : Op) (index more less : List KeyRow) → CanRelabel former fresh label index → more ≡ relabelled_with former fresh label op index → less ≡ without label more → less ≡ relabelled former fresh index
+pub taken-out : (former fresh : List ℕ) (label : ℕ) (op : Op) (index more less : List KeyRow) → CanRelabel former fresh label index → more
+    ≡ relabelled_with former fresh label op index → less ≡ without label more → less ≡ relabelled former fresh index
 taken-out former fresh label op index more less can put taken = taken ∙ ap (without label) put ∙ can.undone op
 
 -- where no label is left

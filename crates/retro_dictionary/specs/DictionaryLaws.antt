@@ -44,13 +44,15 @@ EditsEndOne = (front : List KeyRow) (row : KeyRow) (after : List KeyRow) → End
 -- a row that is put in at a label between those beside its place has this label alone, its lifetimes have room, and what is kept of the rows is kept with it
 abbrev pub InsertionsAreKept : Type 0
 InsertionsAreKept =
-    (rows : List Row) (labels : List ℕ) (index : List KeyRow) (lifetimes : List (Lifetime (ℤ × ℤ))) (place label : ℕ) (row : Row) → AreKept rows labels index lifetimes → IsBetween labels place label → CanInsert rows place row
+    (rows : List Row) (labels : List ℕ) (index : List KeyRow) (lifetimes : List (Lifetime (ℤ × ℤ))) (place label : ℕ) (row : Row)
+    → AreKept rows labels index lifetimes → IsBetween labels place label → CanInsert rows place row
     → (op_at label index ≡ None) × CanCut (left_of index label row.op) label (next_of index label row.op) lifetimes
     × AreKept (insert rows place row) (insert labels place label) (with_row label row.op index) (cut_by label row.op index lifetimes)
 
 -- so it is where a row is taken out
 abbrev pub RemovalsAreKept : Type 0
 RemovalsAreKept =
-    (rows : List Row) (labels : List ℕ) (index : List KeyRow) (lifetimes : List (Lifetime (ℤ × ℤ))) (place label : ℕ) (row : Row) → AreKept rows labels index lifetimes → slice_get labels place ≡ Some label → slice_get rows place ≡ Some row → CanRemove rows place
+    (rows : List Row) (labels : List ℕ) (index : List KeyRow) (lifetimes : List (Lifetime (ℤ × ℤ))) (place label : ℕ) (row : Row)
+    → AreKept rows labels index lifetimes → slice_get labels place ≡ Some label → slice_get rows place ≡ Some row → CanRemove rows place
     → CanPut (left_of index label row.op) (next_of index label row.op) lifetimes
     × AreKept (remove rows place) (remove labels place) (without label index) (joined_by label row.op index lifetimes)

@@ -178,7 +178,8 @@ regroup_bits m n o =
 -- what is found of some pairs together
 together-swap : (a b : Found) → found_together a b ≡ found_together b a
 together-swap a b =
-    same (a.count + b.count) (b.count + a.count) (in_bits (a.sum +ℤ b.sum)) (in_bits (b.sum +ℤ a.sum)) _ _ _ _ (omega arith) (ap in_bits (let turned_round : a.sum +ℤ b.sum ≡ b.sum +ℤ a.sum = omega (arith, ints) in turned_round))
+    same (a.count + b.count) (b.count + a.count) (in_bits (a.sum +ℤ b.sum)) (in_bits (b.sum +ℤ a.sum)) _ _ _ _ (omega arith)
+    (ap in_bits (let turned_round : a.sum +ℤ b.sum ≡ b.sum +ℤ a.sum = omega (arith, ints) in turned_round))
     (lesser-swap a.least b.least) (greater-swap a.greatest b.greatest)
 
 together-regroup : (a b c : Found) → found_together (found_together a b) c ≡ found_together a (found_together b c)
@@ -253,7 +254,9 @@ module _ (range : KeyRange) where
       last-cons p q ps ∙ rest.is ∙ sym (ap (greater (Some p)) rest.is ∙ ap (λ b. cond b (Some p) (Some rest.last)) rest.holding)
 
   found-cons : (p : ℤ × ℤ) (ps : List (ℤ × ℤ)) → AllByRecursion (λ later. pair_before later p ≡ false) ps → found_of (p ∷ ps) ≡ found_together (found_of (p ∷ [])) (found_of ps)
-  found-cons p ps all = same (suc (length ps)) (1 + length ps) _ _ (Some p) (lesser (Some p) (slice_get ps 0)) (last_of (p ∷ ps)) (greater (Some p) (last_of ps)) (omega arith) (ap in_bits (values-from (pos 0 +ℤ p.1) ps) ∙ sym (both_bits (pos 0 +ℤ p.1) (sum_of_values ps))) (least-cons p ps all) (greatest-cons p ps all)
+  found-cons p ps all = same (suc (length ps)) (1 + length ps) _ _ (Some p) (lesser (Some p) (slice_get ps 0)) (last_of (p ∷ ps))
+      (greater (Some p) (last_of ps)) (omega arith) (ap in_bits (values-from (pos 0 +ℤ p.1) ps) ∙ sym (both_bits (pos 0 +ℤ p.1) (sum_of_values ps)))
+      (least-cons p ps all) (greatest-cons p ps all)
 
   abbrev inside : ℤ × ℤ → Bool
   inside pair = int_le range.low pair.0 && int_le pair.0 range.high

@@ -30,7 +30,9 @@ module _ {S E : Type 0} (reads : S → ℕ → Result (List ℕ) E → S → Typ
   -- reads gave these bytes, each into a buffer of such a size, and each where none of the bytes held and given so far ended a line and no read had closed
   pub data ReadsDue (left : ℕ) (held : List ℕ) (closed : Bool) (before : S) : List ℕ → Bool → S → Type 0 where
     none : ReadsDue left held closed before [] closed before
-    read : (got : List ℕ) (room : ℕ) (answer : Result (List ℕ) E) (middle after : S) → ReadsDue left held closed before got false middle → has_line_feed (held ++ got) ≡ false → Offers (left - length got) room → reads middle room answer after → ReadsDue left held closed before (got ++ given_by answer) (closes answer) after
+    read : (got : List ℕ) (room : ℕ) (answer : Result (List ℕ) E) (middle after : S) → ReadsDue left held closed before got false middle
+        → has_line_feed (held ++ got) ≡ false → Offers (left - length got) room → reads middle room answer after
+        → ReadsDue left held closed before (got ++ given_by answer) (closes answer) after
 
   -- the same, whether or not the last of them closed
   pub record WereDue (left : ℕ) (held : List ℕ) (closed : Bool) (before : S) (got : List ℕ) (after : S) : Type 0 where

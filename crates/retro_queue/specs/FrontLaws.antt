@@ -76,7 +76,8 @@ left_falls rows (suc place) zero all order = absurd (omega arith)
 left_falls [] (suc place) (suc later) all order = omega (arith, ints)
 left_falls (row ∷ rows) (suc place) (suc later) all order = omega (arith, ints, left_falls rows place later all.1 (omega arith))
 
-module _ (rows : List Row) (place index taken : ℕ) (items : List ℤ) (all : AreOfKind Queue rows) (within : place ≤ length rows) (at : LineAt Queue rows place items) (there : index < length items) (taken_is : (grown left_growth rows place +ℤ pos taken) ≡ pos 0) where
+module _ (rows : List Row) (place index taken : ℕ) (items : List ℤ) (all : AreOfKind Queue rows) (within : place ≤ length rows)
+    (at : LineAt Queue rows place items) (there : index < length items) (taken_is : (grown left_growth rows place +ℤ pos taken) ≡ pos 0) where
   -- enough were put in
   enough : taken + index < marks_in (take place (signs_and_marks rows))
   enough = omega (arith, ints, at.size, whole_is rows place all, put_in rows place all, taken_is)
@@ -113,7 +114,8 @@ number-le rows place index taken all within taken_is there =
     omega (arith, ints, taken_is, there, all_counted rows place all within, whole_is rows place all, put_in rows place all)
 
 -- the item at an index was put in by the row whose number is the index and the number of those that were taken
-pub found-by_counts : (rows : List Row) (place index taken : ℕ) (signs : List (ℤ × Bool)) (answer : Option ℕ) → AreOfKind Queue rows → place ≤ length rows → (grown left_growth rows place +ℤ pos taken) ≡ pos 0 → pos index <ℤ grown sign_of rows place
+pub found-by_counts : (rows : List Row) (place index taken : ℕ) (signs : List (ℤ × Bool)) (answer : Option ℕ) → AreOfKind Queue rows → place ≤ length rows
+    → (grown left_growth rows place +ℤ pos taken) ≡ pos 0 → pos index <ℤ grown sign_of rows place
     → signs ≡ signs_and_marks rows → FindsKthMarked signs (taken + index) answer → FindsWriter Queue rows place index answer
 found-by_counts rows place index taken signs answer all within taken_is there signs_are kth items at =
     found rows place index taken items all within at (omega (arith, ints, at.size, there)) taken_is answer (subst (λ s. FindsKthMarked s (taken + index) answer) signs_are kth)

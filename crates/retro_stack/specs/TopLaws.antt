@@ -49,7 +49,8 @@ right_is rows zero all = refl
 right_is [] (suc place) all = refl
 right_is (row ∷ rows) (suc place) all = omega (arith, ints, (at_top row.op all.0).right, right_is rows place all.1)
 
-module _ (rows : List Row) (place index : ℕ) (depth : ℤ) (items : List ℤ) (all : AreOfKind Stack rows) (within : place ≤ length rows) (at : LineAt Stack rows place items) (there : index < length items) (depth_is : depth ≡ (grown sign_of rows place -ℤ pos 1) -ℤ pos index) where
+module _ (rows : List Row) (place index : ℕ) (depth : ℤ) (items : List ℤ) (all : AreOfKind Stack rows) (within : place ≤ length rows)
+    (at : LineAt Stack rows place items) (there : index < length items) (depth_is : depth ≡ (grown sign_of rows place -ℤ pos 1) -ℤ pos index) where
   found_at : (written : ℕ) → IsLastAtMost (signs_and_marks rows) 0 place depth written → IsWrittenAt rows items index written
   found_at written last =
       written-at Stack tt rows place index items all within at there written last.within

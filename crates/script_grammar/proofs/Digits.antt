@@ -28,7 +28,8 @@ pub digit_from_range : (byte : ℕ) → 48 ≤ byte → byte ≤ 57 → is_digit
 digit_from_range byte low high = and_from _ _ (le-leb 48 byte low) (le-leb byte 57 high)
 
 -- a number that grows too large is none
-pub stopped : (most : ℕ) (bytes : List ℕ) (i n : ℕ) → eqb (length bytes) 0 ≡ false → natural_after n (drop i bytes) ≡ natural_after 0 bytes → i < length bytes → is_digit (get_or bytes i 0) ≡ true → up_to most (10 * n + (get_or bytes i 0 - 48)) ≡ None → None ≡ option_and_then (up_to most) (natural_of bytes)
+pub stopped : (most : ℕ) (bytes : List ℕ) (i n : ℕ) → eqb (length bytes) 0 ≡ false → natural_after n (drop i bytes) ≡ natural_after 0 bytes → i < length bytes
+    → is_digit (get_or bytes i 0) ≡ true → up_to most (10 * n + (get_or bytes i 0 - 48)) ≡ None → None ≡ option_and_then (up_to most) (natural_of bytes)
 stopped most bytes i n filled so_far within digit none =
     let here : natural_after n (drop i bytes) ≡ natural_after n (get_or bytes i 0 ∷ drop (i + 1) bytes) = at_drop_more (natural_after n) bytes i 0 within in
     let next : natural_after n (get_or bytes i 0 ∷ drop (i + 1) bytes) ≡ natural_after (10 * n + (get_or bytes i 0 - 48)) (drop (i + 1) bytes) = rw digit refl in
@@ -36,7 +37,8 @@ stopped most bytes i n filled so_far within digit none =
     rw whole (sym (too_large most _ (drop (i + 1) bytes) none))
 
 -- at the end the number is the one that was read
-pub ended : (most : ℕ) (bytes : List ℕ) (i n : ℕ) → eqb (length bytes) 0 ≡ false → natural_after n (drop i bytes) ≡ natural_after 0 bytes → length bytes ≤ i → n ≤ most → Some n ≡ option_and_then (up_to most) (natural_of bytes)
+pub ended : (most : ℕ) (bytes : List ℕ) (i n : ℕ) → eqb (length bytes) 0 ≡ false → natural_after n (drop i bytes) ≡ natural_after 0 bytes → length bytes ≤ i → n
+    ≤ most → Some n ≡ option_and_then (up_to most) (natural_of bytes)
 ended most bytes i n filled so_far past small =
     let here : natural_after n (drop i bytes) ≡ Some n = at_drop_all (natural_after n) bytes i past in
     let whole : natural_of bytes ≡ Some n = natural_start bytes filled ∙ sym so_far ∙ here in

@@ -10,7 +10,8 @@ use Rattle.script_grammar.specs.declared.command.Command.TheVariants.{New, Undo,
 use Rattle.script_grammar.specs.declared.command.LineError.{LineError}
 use Rattle.script_grammar.specs.declared.command.LineError.TheVariants.{Syntax}
 use Rattle.script_grammar.specs.declared.command.Spot.{Spot}
-use Rattle.script_grammar.specs.Command.{IsProper, about, ask_at, ask_of, ask_then, change_of, command_of, delete_of, fate_of, header_count, header_end, header_kind, header_next, header_of, header_rows, insert_of, kind_of_word, move_at, move_of, move_time, mute_of, new_kind, new_of, save_of}
+use Rattle.script_grammar.specs.Command.{IsProper, about, ask_at, ask_of, ask_then, change_of, command_of, delete_of, fate_of, header_count, header_end, header_kind}
+use Rattle.script_grammar.specs.Command.{header_next, header_of, header_rows, insert_of, kind_of_word, move_at, move_of, move_time, mute_of, new_kind, new_of, save_of}
 use Rattle.script_grammar.specs.Numbers.{between, count_of, natural_of, next_of}
 use Rattle.script_grammar.specs.Operands.{alone}
 use Rattle.retro_base.specs.Limits.{next_limit}

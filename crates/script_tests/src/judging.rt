@@ -21,11 +21,15 @@ fn judgement(rt: &impl Abort, alloc: Global, lines: &[u8]) -> Result<u32, (u32, 
 fn what_is_made_of_lines(rt: HostRuntime) -> Result<(), Fail> {
     let cases: [(&[u8], Result<u32, (u32, CheckError)>); 31] = [
         (
-            b"edit p add 0 #1 ins 4 bridge 0 gain #1 4\nedit p add 1 #2 ins 2 bridge 1 gain #2 2\nedit p add 2 #3 delmin bridge 2 lose #2 2\nedit p add 3 #4 delmin bridge 3 lose #1 4\nedit p add 4 #5 ins 3 bridge 4 gain #5 3\nedit p add 1 #6 ins 1 bridge 0 gain #1 4",
+            b"edit p add 0 #1 ins 4 bridge 0 gain #1 4\nedit p add 1 #2 ins 2 bridge 1 gain #2 2\n\
+              edit p add 2 #3 delmin bridge 2 lose #2 2\nedit p add 3 #4 delmin bridge 3 lose #1 4\n\
+              edit p add 4 #5 ins 3 bridge 4 gain #5 3\nedit p add 1 #6 ins 1 bridge 0 gain #1 4",
             Ok(6),
         ),
         (
-            b"edit p add 0 #1 ins 4 bridge 0 gain #1 4\nedit p add 1 #2 ins 2 bridge 1 gain #2 2\nedit p add 2 #3 delmin bridge 2 lose #2 2\nedit p add 3 #4 delmin bridge 3 lose #1 4\nedit p add 4 #5 ins 3 bridge 4 gain #5 3\nedit p add 1 #6 ins 1 bridge 4 gain #1 4",
+            b"edit p add 0 #1 ins 4 bridge 0 gain #1 4\nedit p add 1 #2 ins 2 bridge 1 gain #2 2\n\
+              edit p add 2 #3 delmin bridge 2 lose #2 2\nedit p add 3 #4 delmin bridge 3 lose #1 4\n\
+              edit p add 4 #5 ins 3 bridge 4 gain #5 3\nedit p add 1 #6 ins 1 bridge 4 gain #1 4",
             Err((6, CheckError::Bridge)),
         ),
         (
@@ -109,7 +113,8 @@ fn what_is_made_of_lines(rt: HostRuntime) -> Result<(), Fail> {
             Err((2, CheckError::Place)),
         ),
         (
-            b"ok\nedit p add 0 #1 ins 4 bridge 0 gain #1 4\nedit p add 0 #1 ins 4 bridge 0 gain #1 4\nedit p add 1 #2 delmin bridge 1 lose #1 4\nedit p add 0 #3 ins 2 bridge 0 gain #1 4\n= 4\n= 2",
+            b"ok\nedit p add 0 #1 ins 4 bridge 0 gain #1 4\nedit p add 0 #1 ins 4 bridge 0 gain #1 4\n\
+              edit p add 1 #2 delmin bridge 1 lose #1 4\nedit p add 0 #3 ins 2 bridge 0 gain #1 4\n= 4\n= 2",
             Err((3, CheckError::Number)),
         ),
         (
@@ -121,23 +126,29 @@ fn what_is_made_of_lines(rt: HostRuntime) -> Result<(), Fail> {
             Err((4, CheckError::Syntax)),
         ),
         (
-            b"ok\nedit p add 0 #1 ins 4 bridge 0 gain #1 4\nedit p add 1 #2 delmin bridge 1 lose #1 4\nedit p add 0 #3 ins 2 bridge 0 gain #1 4\n= 4\n= 2\nedit p cut 0 #3 ins 2 bridge 3 lose #1 4",
+            b"ok\nedit p add 0 #1 ins 4 bridge 0 gain #1 4\nedit p add 1 #2 delmin bridge 1 lose #1 4\n\
+              edit p add 0 #3 ins 2 bridge 0 gain #1 4\n= 4\n= 2\nedit p cut 0 #3 ins 2 bridge 3 lose #1 4",
             Ok(4),
         ),
         (
-            b"ok\nedit p add 0 #1 ins 4 bridge 0 gain #1 4\nedit p add 1 #2 delmin bridge 1 lose #1 4\nedit p add 0 #3 ins 2 bridge 0 gain #1 4\n= 4\n= 2\nedit p cut 0 #3 ins 3 bridge 3 lose #1 4",
+            b"ok\nedit p add 0 #1 ins 4 bridge 0 gain #1 4\nedit p add 1 #2 delmin bridge 1 lose #1 4\n\
+              edit p add 0 #3 ins 2 bridge 0 gain #1 4\n= 4\n= 2\nedit p cut 0 #3 ins 3 bridge 3 lose #1 4",
             Err((7, CheckError::Row)),
         ),
         (
-            b"ok\nedit p add 0 #1 ins 4 bridge 0 gain #1 4\nedit p add 1 #2 delmin bridge 1 lose #1 4\nedit p add 0 #3 ins 2 bridge 0 gain #1 4\n= 4\n= 2\nedit p cut 3 #3 ins 2 bridge 3 lose #1 4",
+            b"ok\nedit p add 0 #1 ins 4 bridge 0 gain #1 4\nedit p add 1 #2 delmin bridge 1 lose #1 4\n\
+              edit p add 0 #3 ins 2 bridge 0 gain #1 4\n= 4\n= 2\nedit p cut 3 #3 ins 2 bridge 3 lose #1 4",
             Err((7, CheckError::Place)),
         ),
         (
-            b"ok\nedit p add 0 #1 ins 4 bridge 0 gain #1 4\nedit p add 1 #2 delmin bridge 1 lose #1 4\nedit p add 0 #3 ins 2 bridge 0 gain #1 4\n= 4\n= 2\nedit p cut 0 #3 ins 2 bridge none lose #1 4",
+            b"ok\nedit p add 0 #1 ins 4 bridge 0 gain #1 4\nedit p add 1 #2 delmin bridge 1 lose #1 4\n\
+              edit p add 0 #3 ins 2 bridge 0 gain #1 4\n= 4\n= 2\nedit p cut 0 #3 ins 2 bridge none lose #1 4",
             Err((7, CheckError::Bridge)),
         ),
         (
-            b"edit a add 0 #1 ins 1 bridge 0 gain #1 1\nedit b add 0 #1 ins 1 bridge 0 gain #1 1\nedit c add 0 #1 ins 1 bridge 0 gain #1 1\nedit d add 0 #1 ins 1 bridge 0 gain #1 1\nedit e add 0 #1 ins 1 bridge 0 gain #1 1\nedit f add 0 #1 ins 1 bridge 0 gain #1 1\nedit g add 0 #1 ins 1 bridge 0 gain #1 1\nedit h add 0 #1 ins 1 bridge 0 gain #1 1\nedit i add 0 #1 ins 1 bridge 0 gain #1 1",
+            b"edit a add 0 #1 ins 1 bridge 0 gain #1 1\nedit b add 0 #1 ins 1 bridge 0 gain #1 1\nedit c add 0 #1 ins 1 bridge 0 gain #1 1\n\
+              edit d add 0 #1 ins 1 bridge 0 gain #1 1\nedit e add 0 #1 ins 1 bridge 0 gain #1 1\nedit f add 0 #1 ins 1 bridge 0 gain #1 1\n\
+              edit g add 0 #1 ins 1 bridge 0 gain #1 1\nedit h add 0 #1 ins 1 bridge 0 gain #1 1\nedit i add 0 #1 ins 1 bridge 0 gain #1 1",
             Err((9, CheckError::Timelines)),
         ),
         (

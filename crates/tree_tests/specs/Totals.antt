@@ -64,7 +64,9 @@ total_laws = record {
       (total-in_order (xs ++ ys) ∙ total-append xs ys);
   commutes = λ xs ys query lawful. same_totals (length xs + length ys) (length ys + length xs) (min (total_of xs + total_of ys) greatest) (min (total_of ys + total_of xs) greatest) (omega arith) (omega arith);
   regroups = λ xs ys zs query lawful last few.
-      same_totals (length xs + length ys + length zs) (length xs + (length ys + length zs)) (min (min (total_of xs + total_of ys) greatest + total_of zs) greatest) (min (total_of xs + min (total_of ys + total_of zs) greatest) greatest) (omega arith) (omega arith);
+      same_totals (length xs + length ys + length zs) (length xs + (length ys + length zs))
+      (min (min (total_of xs + total_of ys) greatest + total_of zs) greatest) (min (total_of xs + min (total_of ys + total_of zs) greatest) greatest)
+      (omega arith) (omega arith);
   of_none = λ query. refl;
   left_unit = λ xs query lawful. same_totals (0 + length xs) (length xs) (min (0 + total_of xs) greatest) (total_of xs) (omega arith) (omega (arith, total-few xs));
   right_unit = λ xs query lawful. same_totals (length xs + 0) (length xs) (min (total_of xs + 0) greatest) (total_of xs) (omega arith) (omega (arith, total-few xs));

@@ -35,16 +35,26 @@ module _ (holds : ℕ → Bool) (place : ℕ) where
   }
 
 -- what a search that may come to the end answers where the test holds there
-pub found_within : {F M : Type 0} (calls : Shared F (Bor M × Unit {0}) Bool) (test : F) (counts : M → ℕ) (measures : ℕ → M) (to end place : ℕ) → to ≡ end → IsSought calls test counts measures to (Found place) → IsBoundaryWithin calls test measures end place
-found_within calls test counts measures to end place same sought = subst (λ k. IsBoundaryWithin calls test measures k place) same (record { boundary = λ holds tells end. sought.boundary holds tells; within = sought.end })
+pub found_within : {F M : Type 0} (calls : Shared F (Bor M × Unit {0}) Bool) (test : F) (counts : M → ℕ) (measures : ℕ → M) (to end place : ℕ) → to ≡ end
+    → IsSought calls test counts measures to (Found place) → IsBoundaryWithin calls test measures end place
+found_within calls test counts measures to end place same sought =
+    subst (λ k. IsBoundaryWithin calls test measures k place) same (record { boundary = λ holds tells end. sought.boundary holds tells; within = sought.end })
 
-pub open_within : {F M : Type 0} (calls : Shared F (Bor M × Unit {0}) Bool) (test : F) (counts : M → ℕ) (measures : ℕ → M) (to end : ℕ) (measure : M) → to ≡ end → IsSought calls test counts measures to (Open measure) → IsBoundaryWithin calls test measures end end
-open_within calls test counts measures to end measure same sought = subst (λ k. IsBoundaryWithin calls test measures k k) same (record { boundary = λ holds tells end. absurd (cc (sought.boundary holds tells, end)); within = omega arith })
+pub open_within : {F M : Type 0} (calls : Shared F (Bor M × Unit {0}) Bool) (test : F) (counts : M → ℕ) (measures : ℕ → M) (to end : ℕ) (measure : M) → to ≡ end
+    → IsSought calls test counts measures to (Open measure) → IsBoundaryWithin calls test measures end end
+open_within calls test counts measures to end measure same sought =
+    subst (λ k. IsBoundaryWithin calls test measures k k) same
+    (record { boundary = λ holds tells end. absurd (cc (sought.boundary holds tells, end)); within = omega arith })
 
 -- before the first item, as many were joined as there are
-pub from_start : {F M : Type 0} (calls : Shared F (Bor M × Unit {0}) Bool) (test : F) (counts : M → ℕ) (measures : M → ℕ → M) (to : ℕ) (start unit : M) (answer : Search M) → start ≡ unit → counts unit ≡ 0 → IsSought calls test (joined_after counts start) (measures start) to answer → IsSought calls test counts (measures unit) to answer
-from_start calls test counts measures to start unit (Found place) start_is none sought = subst (λ m. IsSought calls test counts (measures m) to (Found place)) start_is (record { boundary = sought.boundary; end = sought.end })
-from_start calls test counts measures to start unit (Open measure) start_is none sought = subst (λ m. IsSought calls test counts (measures m) to (Open measure)) start_is (record { boundary = sought.boundary; end = (sought.end.0, omega (arith, sought.end.1, ap counts start_is)) })
+pub from_start : {F M : Type 0} (calls : Shared F (Bor M × Unit {0}) Bool) (test : F) (counts : M → ℕ) (measures : M → ℕ → M) (to : ℕ) (start unit : M)
+    (answer : Search M) → start ≡ unit → counts unit ≡ 0 → IsSought calls test (joined_after counts start) (measures start) to answer
+    → IsSought calls test counts (measures unit) to answer
+from_start calls test counts measures to start unit (Found place) start_is none sought =
+    subst (λ m. IsSought calls test counts (measures m) to (Found place)) start_is (record { boundary = sought.boundary; end = sought.end })
+from_start calls test counts measures to start unit (Open measure) start_is none sought =
+    subst (λ m. IsSought calls test counts (measures m) to (Open measure)) start_is
+    (record { boundary = sought.boundary; end = (sought.end.0, omega (arith, sought.end.1, ap counts start_is)) })
 
 module _ {A M : Type 0} {count : M → ℕ} {unit : M} {join : M → M → M} (laws : MonoidLaws count unit join) (measured : A → M) (before : M) where
   abbrev passed : M → List A → ℕ → M
@@ -55,12 +65,15 @@ module _ {A M : Type 0} {count : M → ℕ} {unit : M} {join : M → M → M} (l
 
   module _ {F : Type 0} (calls : Shared F (Bor M × Unit {0}) Bool) (test : F) where
     -- what a call at the measure of a place says of that place
-    said : (items : List A) (holds : ℕ → Bool) (to : ℕ) → Tells calls test (passed before items) holds 0 to → (place : ℕ) → place ≤ to → (measure : M) (answer : Bool) → measure ≡ passed before items place → FnReturnsAt calls test measure answer → holds place ≡ answer
+    said : (items : List A) (holds : ℕ → Bool) (to : ℕ) → Tells calls test (passed before items) holds 0 to → (place : ℕ) → place ≤ to
+        → (measure : M) (answer : Bool) → measure ≡ passed before items place → FnReturnsAt calls test measure answer → holds place ≡ answer
     said items holds to tells place within measure answer is call = sym (tells place answer (omega arith) within (subst (λ m. FnReturnsAt calls test m answer) is call))
 
     -- the same, where the list and its length have other names
-    pub carried : (rest items : List A) (length to : ℕ) → rest ≡ items → length ≡ to → (answer : Search M) → IsSought calls test count (passed before items) to answer → IsSought calls test count (passed before rest) length answer
-    carried rest items length to same end answer sought = subst (λ xs. IsSought calls test count (passed before xs) length answer) (sym same) (subst (λ k. IsSought calls test count (passed before items) k answer) (sym end) sought)
+    pub carried : (rest items : List A) (length to : ℕ) → rest ≡ items → length ≡ to → (answer : Search M)
+        → IsSought calls test count (passed before items) to answer → IsSought calls test count (passed before rest) length answer
+    carried rest items length to same end answer sought = subst (λ xs. IsSought calls test count (passed before xs) length answer) (sym same)
+        (subst (λ k. IsSought calls test count (passed before items) k answer) (sym end) sought)
 
     -- all items at once
     module _ (items : List A) (to : ℕ) (size : length items ≡ to) (all : M) (answer : Bool) (all_is : all ≡ join before (measure_of unit join measured items)) (call : FnReturnsAt calls test all answer) where
@@ -110,9 +123,11 @@ module _ {A M : Type 0} {count : M → ℕ} {unit : M} {join : M → M → M} (l
       }
 
       near_said : (all : M) (answer : Bool) → all ≡ through → FnReturnsAt calls test all answer → (holds : ℕ → Bool) → Tells calls test (passed before items) holds 0 to → holds here ≡ answer
-      near_said all answer same call holds tells = said calls test near holds here (near_tells holds tells) here (omega arith) all answer (same ∙ sym (passed_all before near) ∙ ap (passed before near) parts.near_size) call
+      near_said all answer same call holds tells = said calls test near holds here (near_tells holds tells) here (omega arith) all answer
+          (same ∙ sym (passed_all before near) ∙ ap (passed before near) parts.near_size) call
 
-      pub near_within : (place : ℕ) (all : M) (answer : Bool) → all ≡ through → FnReturnsAt calls test all answer → answer ≡ true → IsBoundaryWithin calls test (passed before near) here place → IsBoundaryWithin calls test (passed before items) to place
+      pub near_within : (place : ℕ) (all : M) (answer : Bool) → all ≡ through → FnReturnsAt calls test all answer → answer ≡ true
+          → IsBoundaryWithin calls test (passed before near) here place → IsBoundaryWithin calls test (passed before items) to place
       near_within place all answer same call is boundary = record {
         boundary = λ holds tells end. boundary.boundary holds (near_tells holds tells) (near_said all answer same call holds tells ∙ is);
         within = omega (arith, boundary.within, parts.ends);
@@ -150,7 +165,10 @@ module _ {A M : Type 0} {count : M → ℕ} {unit : M} {join : M → M → M} (l
         -- it fails of the item too, and the far side turns
         pub far_within : answer ≡ false → (place : ℕ) → IsBoundaryWithin calls test (passed next far) beyond place → (found : ℕ) → found ≡ here + 1 + place → IsBoundaryWithin calls test (passed before items) to found
         far_within is place boundary found place_is = subst (IsBoundaryWithin calls test (passed before items) to) (sym place_is) (record {
-          boundary = λ holds tells end. boundary_later holds (here + 1) place (at_item holds tells ∙ is) (boundary.boundary (λ k. holds (here + 1 + k)) (subst (λ m. Tells calls test (passed m far) (λ k. holds (here + 1 + k)) 0 beyond) (sym same) (far_tells holds tells)) (ap holds (sym parts.ends) ∙ end));
+          boundary = λ holds tells end. boundary_later holds (here + 1) place (at_item holds tells ∙ is)
+              (boundary.boundary (λ k. holds (here + 1 + k))
+              (subst (λ m. Tells calls test (passed m far) (λ k. holds (here + 1 + k)) 0 beyond) (sym same) (far_tells holds tells))
+              (ap holds (sym parts.ends) ∙ end));
           within = omega (arith, boundary.within, parts.ends);
         })
 
@@ -167,7 +185,8 @@ module _ {A M : Type 0} {count : M → ℕ} {unit : M} {join : M → M → M} (l
           at_end : (holds : ℕ → Bool) → Tells calls test (passed before items) holds 0 to → holds to ≡ end
           at_end holds tells = said calls test items holds to tells to (omega arith) all end all_same all_call
 
-          pub far_found : answer ≡ false → end ≡ true → (place : ℕ) → IsBoundaryWithin calls test (passed next far) beyond place → (found : ℕ) → found ≡ here + 1 + place → IsSought calls test count (passed before items) to (Found found)
+          pub far_found : answer ≡ false → end ≡ true → (place : ℕ) → IsBoundaryWithin calls test (passed next far) beyond place → (found : ℕ) → found ≡ here
+              + 1 + place → IsSought calls test count (passed before items) to (Found found)
           far_found is holding place boundary found place_is =
               let deep = far_within is place boundary found place_is in
               record { boundary = λ holds tells. deep.boundary holds tells (at_end holds tells ∙ holding); end = deep.within }

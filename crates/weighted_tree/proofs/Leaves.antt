@@ -36,7 +36,8 @@ module _ {A M : Type 0} {count : M → ℕ} {unit : M} {join : M → M → M} (l
       ∙ sym (laws.assoc before (measure_of unit join measured xs) (measured x))
 
   -- the measure of a range that is one item longer
-  pub range_next : (xs : List A) (from end : ℕ) (x : A) → from ≤ end → end < length xs → get_or xs end x ≡ x → measure_of unit join measured (slice_range xs from (end + 1)) ≡ join (measure_of unit join measured (slice_range xs from end)) (measured x)
+  pub range_next : (xs : List A) (from end : ℕ) (x : A) → from ≤ end → end < length xs → get_or xs end x ≡ x
+      → measure_of unit join measured (slice_range xs from (end + 1)) ≡ join (measure_of unit join measured (slice_range xs from end)) (measured x)
   range_next xs from end x order within is =
       ap (λ n. measure_of unit join measured (take n (drop from xs))) (let more : end + 1 - from ≡ end - from + 1 = omega arith in more)
       ∙ ap (measure_of unit join measured) (take_next xs from (end - from) x x (omega arith) (ap (λ n. get_or xs n x) (let same : from + (end - from) ≡ end = omega arith in same) ∙ is))
@@ -45,12 +46,14 @@ module _ {A M : Type 0} {count : M → ℕ} {unit : M} {join : M → M → M} (l
       ∙ ap (λ m. join m (measured x)) (laws.left_unit (measure_of unit join measured (slice_range xs from end)))
 
 -- so many items were passed, and where they end the test fails
-pub record HasPassed {A M F : Type 0} (count : M → ℕ) (unit : M) (join : M → M → M) (measured : A → M) (calls : Shared F (Bor M × Unit {0}) Bool) (test : F) (before : M) (items : List A) (to place : ℕ) (passed : M) : Type 0 where
+pub record HasPassed {A M F : Type 0} (count : M → ℕ) (unit : M) (join : M → M → M) (measured : A → M) (calls : Shared F (Bor M × Unit {0}) Bool) (test : F)
+    (before : M) (items : List A) (to place : ℕ) (passed : M) : Type 0 where
   pub value : passed ≡ join before (measure_of unit join measured (take place items))
   pub counted : count passed ≡ count before + place
   pub fails : (holds : ℕ → Bool) → Tells calls test (λ k. join before (measure_of unit join measured (take k items))) holds 0 to → holds place ≡ false
 
-module _ {A M F : Type 0} {count : M → ℕ} {unit : M} {join : M → M → M} (laws : MonoidLaws count unit join) (measured : A → M) (calls : Shared F (Bor M × Unit {0}) Bool) (test : F) (before : M) (items : List A) (to : ℕ) where
+module _ {A M F : Type 0} {count : M → ℕ} {unit : M} {join : M → M → M} (laws : MonoidLaws count unit join) (measured : A → M)
+    (calls : Shared F (Bor M × Unit {0}) Bool) (test : F) (before : M) (items : List A) (to : ℕ) where
   abbrev at : ℕ → M
   at k = join before (measure_of unit join measured (take k items))
 
@@ -80,7 +83,8 @@ module _ {A M F : Type 0} {count : M → ℕ} {unit : M} {join : M → M → M} 
       end = (former.value ∙ ap at end, omega (arith, former.counted));
     }
 
-    module _ (x : A) (next : M) (answer : Bool) (within : place < to) (longer : take (place + 1) items ≡ take place items ++ x ∷ []) (single : count (measured x) ≡ 1) (next_is : next ≡ join passed (measured x)) (call : FnReturnsAt calls test next answer) where
+    module _ (x : A) (next : M) (answer : Bool) (within : place < to) (longer : take (place + 1) items ≡ take place items ++ x ∷ [])
+        (single : count (measured x) ≡ 1) (next_is : next ≡ join passed (measured x)) (call : FnReturnsAt calls test next answer) where
       value_next : next ≡ at (place + 1)
       value_next =
           next_is
@@ -109,7 +113,8 @@ pub record IsTurnBetween {A : Type 0} (holds : A → Bool) (items : List A) (low
   pub below : (k : ℕ) (d : A) → k < low → holds (get_or items k d) ≡ true
   pub above : (k : ℕ) (d : A) → high ≤ k → k < length items → holds (get_or items k d) ≡ false
 
-module _ {A : Type 0} (holds : A → Bool) (items : List A) (low high middle : ℕ) (x : A) (parted : IsPartitionedBy holds items) (turn : IsTurnBetween holds items low high) (within : middle < length items) (is : get_or items middle x ≡ x) where
+module _ {A : Type 0} (holds : A → Bool) (items : List A) (low high middle : ℕ) (x : A) (parted : IsPartitionedBy holds items)
+    (turn : IsTurnBetween holds items low high) (within : middle < length items) (is : get_or items middle x ≡ x) where
   same_at : (d : A) → get_or items middle d ≡ x
   same_at d = sym (get_or_any items middle x d within) ∙ is where
     get_or_any : (xs : List A) (k : ℕ) (c e : A) → k < length xs → get_or xs k c ≡ get_or xs k e
@@ -133,7 +138,10 @@ module _ {A : Type 0} (holds : A → Bool) (items : List A) (low high middle : �
   }
 
 -- one write more, next to those before
-pub written_next : {A B : Type 0} (shows : A → B) (former written : List B) (leaf : List A) (from filled k : ℕ) (x : A) → filled + k < length former → length written ≡ length former → from + k < length leaf → get_or leaf (from + k) x ≡ x → written ≡ overwritten former filled (map shows (take k (drop from leaf))) → slice_set written (filled + k) (shows x) ≡ overwritten former filled (map shows (take (k + 1) (drop from leaf)))
+pub written_next : {A B : Type 0} (shows : A → B) (former written : List B) (leaf : List A) (from filled k : ℕ) (x : A) → filled + k < length former
+    → length written ≡ length former → from + k < length leaf → get_or leaf (from + k) x ≡ x → written
+    ≡ overwritten former filled (map shows (take k (drop from leaf))) → slice_set written (filled + k) (shows x)
+    ≡ overwritten former filled (map shows (take (k + 1) (drop from leaf)))
 written_next shows former written leaf from filled k x room size within is written_is =
     let front = take k (drop from leaf) in
     let long : length (map shows front) ≡ k = length-map front shows ∙ length-take-le k (drop from leaf) (omega (arith, length-drop from leaf)) in

@@ -101,7 +101,8 @@ one_more whole side start visited end visit some light below zero within = absur
 one_more whole side start visited end visit some light below (suc levels) within = omega (arith, below levels (within side light))
 
 -- down on one side, and then on the other
-pub two_more : (whole near far start visited middle end : ℕ) → visited ≡ start + 1 → 2 ≤ whole → 4 * near ≤ 3 * whole → 4 * far ≤ 3 * whole → OneALevel near visited middle → OneALevel far middle end → FourALevel whole start end
+pub two_more : (whole near far start visited middle end : ℕ) → visited ≡ start + 1 → 2 ≤ whole → 4 * near ≤ 3 * whole → 4 * far ≤ 3 * whole
+    → OneALevel near visited middle → OneALevel far middle end → FourALevel whole start end
 two_more whole near far start visited middle end visit some light_near light_far first second zero within = absurd (omega arith)
 two_more whole near far start visited middle end visit some light_near light_far first second (suc levels) within = omega (arith, first levels (within near light_near), second levels (within far light_far))
 
@@ -116,7 +117,8 @@ module _ {A M : Type 0} (part : Part A) (node : Node A M) (start visited : ℕ) 
   one_right end below = one_more (weight part) (weight node.right) start visited end visit (omega (arith, sides)) (omega (arith, sides, root.balanced)) below
 
   pub both_sides : (middle end : ℕ) → OneALevel (weight node.left) visited middle → OneALevel (weight node.right) middle end → FourALevel (weight part) start end
-  both_sides middle end left right = two_more (weight part) (weight node.left) (weight node.right) start visited middle end visit (omega (arith, sides)) (omega (arith, sides, root.balanced)) (omega (arith, sides, root.balanced)) left right
+  both_sides middle end left right = two_more (weight part) (weight node.left) (weight node.right) start visited middle end visit (omega (arith, sides))
+      (omega (arith, sides, root.balanced)) (omega (arith, sides, root.balanced)) left right
 
 -- of a root that is seen from a side
 module _ {A M : Type 0} {side : Side} {part near far : Part A} {node : Node A M} (root : IsOpened side part near far node) (start visited : ℕ) (visit : visited ≡ start + 1) where
@@ -130,7 +132,8 @@ module _ {A M : Type 0} {side : Side} {part near far : Part A} {node : Node A M}
   four_near end below = level_more (weight part) (weight near) start visited end end visit (omega (arith, root.counts)) (omega (arith, root.counts, root.balanced)) below (omega arith)
 
   pub near_then_far : (middle end : ℕ) → OneALevel (weight near) visited middle → OneALevel (weight far) middle end → FourALevel (weight part) start end
-  near_then_far middle end first second = two_more (weight part) (weight near) (weight far) start visited middle end visit (omega (arith, root.counts)) (omega (arith, root.counts, root.balanced)) (omega (arith, root.counts, root.balanced)) first second
+  near_then_far middle end first second = two_more (weight part) (weight near) (weight far) start visited middle end visit (omega (arith, root.counts))
+      (omega (arith, root.counts, root.balanced)) (omega (arith, root.counts, root.balanced)) first second
 
   -- whatever the search of the far side answers
   pub search_far : (end : ℕ) (answer : Search M) → VisitsOfSearch (weight far) visited end answer → VisitsOfSearch (weight part) start end answer

@@ -8,7 +8,8 @@ use Rattle.std.specs.List.Sorted.{IsPartitionedBy, IsPartitionPoint}
 -- so many items on, the part has the turn of the whole
 pub record HasBoundary {A : Type 0} (holds : A → Bool) (whole : List A) (count : ℕ) (part : List A) : Type 0 where
   pub parted : IsPartitionedBy holds part
-  pub boundary : (place : ℕ) → place ≤ length part → IsPartitionPoint (λ item. holds item ≡ true) (λ item. holds item ≡ false) part place → IsPartitionPoint (λ item. holds item ≡ true) (λ item. holds item ≡ false) whole (count + place)
+  pub boundary : (place : ℕ) → place ≤ length part → IsPartitionPoint (λ item. holds item ≡ true) (λ item. holds item ≡ false) part place
+      → IsPartitionPoint (λ item. holds item ≡ true) (λ item. holds item ≡ false) whole (count + place)
 
 module _ {A : Type 0} (holds : A → Bool) (left right : List A) (item : A) where
   abbrev items : List A
@@ -68,12 +69,16 @@ module _ {A : Type 0} (holds : A → Bool) (left right : List A) (item : A) wher
     }
 
 -- one way down after another
-pub boundary_after : {A : Type 0} {holds : A → Bool} {whole part inner : List A} {count more : ℕ} → HasBoundary holds whole count part → (IsPartitionedBy holds part → HasBoundary holds part more inner) → more + length inner ≤ length part → (next : ℕ) → next ≡ count + more → HasBoundary holds whole next inner
+pub boundary_after : {A : Type 0} {holds : A → Bool} {whole part inner : List A} {count more : ℕ} → HasBoundary holds whole count part
+    → (IsPartitionedBy holds part → HasBoundary holds part more inner) → more + length inner ≤ length part → (next : ℕ) → next ≡ count + more
+    → HasBoundary holds whole next inner
 boundary_after {holds} {whole} {count} {more} outer step within next next_is =
     let inner = step outer.parted in
     record {
       parted = inner.parted;
-      boundary = λ place below point. subst (IsPartitionPoint (λ item. holds item ≡ true) (λ item. holds item ≡ false) whole) (let same : count + (more + place) ≡ next + place = omega arith in same) (outer.boundary (more + place) (omega arith) (inner.boundary place below point));
+      boundary = λ place below point. subst (IsPartitionPoint (λ item. holds item ≡ true) (λ item. holds item ≡ false) whole)
+          (let same : count + (more + place) ≡ next + place = omega arith in same)
+          (outer.boundary (more + place) (omega arith) (inner.boundary place below point));
     }
 
 -- the whole has its own turn
@@ -84,7 +89,11 @@ own_boundary holds whole parted none none_is = record {
 }
 
 -- the turn of what is left is that of the whole
-pub turned : {A : Type 0} {holds : A → Bool} {whole part : List A} {count : ℕ} → HasBoundary holds whole count part → (leaf : List A) → leaf ≡ part → (place : ℕ) → place ≤ length leaf → (IsPartitionedBy holds leaf → IsPartitionPoint (λ item. holds item ≡ true) (λ item. holds item ≡ false) leaf place) → (found : ℕ) → found ≡ count + place → IsPartitionPoint (λ item. holds item ≡ true) (λ item. holds item ≡ false) whole found
+pub turned : {A : Type 0} {holds : A → Bool} {whole part : List A} {count : ℕ} → HasBoundary holds whole count part → (leaf : List A) → leaf ≡ part
+    → (place : ℕ) → place ≤ length leaf → (IsPartitionedBy holds leaf → IsPartitionPoint (λ item. holds item ≡ true) (λ item. holds item ≡ false) leaf place)
+    → (found : ℕ) → found ≡ count + place → IsPartitionPoint (λ item. holds item ≡ true) (λ item. holds item ≡ false) whole found
 turned {holds} {whole} outer leaf same place within point found is =
     let parted = subst (IsPartitionedBy holds) (sym same) outer.parted in
-    subst (IsPartitionPoint (λ item. holds item ≡ true) (λ item. holds item ≡ false) whole) (sym is) (outer.boundary place (omega (arith, ap length same)) (subst (λ xs. IsPartitionPoint (λ item. holds item ≡ true) (λ item. holds item ≡ false) xs place) same (point parted)))
+    subst (IsPartitionPoint (λ item. holds item ≡ true) (λ item. holds item ≡ false) whole) (sym is)
+    (outer.boundary place (omega (arith, ap length same))
+    (subst (λ xs. IsPartitionPoint (λ item. holds item ≡ true) (λ item. holds item ≡ false) xs place) same (point parted)))

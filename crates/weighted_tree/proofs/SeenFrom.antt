@@ -69,7 +69,8 @@ module _ {A M : Type 0} {side : Side} {part near far : Part A} {node : Node A M}
       ∙ ap (λ n. drop (from - n - 1) (seen_from side far.items)) (length-seen side near.items)
 
   -- the items from a place on, parted at the node
-  pub parted_from : (from : ℕ) → from ≤ length near.items → IsParted (drop from (seen_from side part.items)) (drop from (seen_from side near.items)) (seen_from side far.items) node.item (length part.items - from) (length near.items - from) (length far.items)
+  pub parted_from : (from : ℕ) → from ≤ length near.items → IsParted (drop from (seen_from side part.items)) (drop from (seen_from side near.items))
+      (seen_from side far.items) node.item (length part.items - from) (length near.items - from) (length far.items)
   parted_from from within = record {
     split = ap (drop from) root.seen ∙ drop-append-le from (seen_from side near.items) (node.item ∷ seen_from side far.items) (omega (arith, length-seen side near.items));
     ends = omega (arith, root.sizes);

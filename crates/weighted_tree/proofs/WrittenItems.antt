@@ -13,7 +13,8 @@ use Rattle.weighted_tree.proofs.Ranges.{drop-before, drop-after}
 
 module _ {A : Type 0} (former : List A) where
   -- two writes side by side are one
-  pub overwritten_on : (place : ℕ) (first second : List A) (next : ℕ) → place ≤ length former → next ≡ place + length first → overwritten (overwritten former place first) next second ≡ overwritten former place (first ++ second)
+  pub overwritten_on : (place : ℕ) (first second : List A) (next : ℕ) → place ≤ length former → next ≡ place + length first
+      → overwritten (overwritten former place first) next second ≡ overwritten former place (first ++ second)
   overwritten_on place first second next within next_is =
       let front = take place former ++ first in
       let rest = drop (place + length first) former in
@@ -48,14 +49,17 @@ module _ {A : Type 0} (items left right : List A) (item : A) (split : items ≡ 
     take_own [] = refl
     take_own (x ∷ xs) = ap (λ ys. x ∷ ys) (take_own xs)
 
-  pub written_both : {B : Type 0} (shows : A → B) (former first last : List B) (filled from end result : ℕ) → filled ≤ length former → from ≤ length left → end ≡ filled + (length left - from) → end < length first → end + 1 ≤ result
+  pub written_both : {B : Type 0} (shows : A → B) (former first last : List B) (filled from end result : ℕ) → filled ≤ length former → from ≤ length left → end
+      ≡ filled + (length left - from) → end < length first → end + 1 ≤ result
       → first ≡ overwritten former filled (map shows (take (end - filled) (drop from left)))
       → last ≡ overwritten (slice_set first end (shows item)) (end + 1) (map shows (take (result - (end + 1)) (drop 0 right)))
       → last ≡ overwritten former filled (map shows (take (result - filled) (drop from items)))
   written_both shows former first last filled from end result room within end_is free after first_is last_is =
       let near = map shows (drop from left) in
       let far = map shows (take (result - (end + 1)) right) in
-      let near_is : first ≡ overwritten former filled near = first_is ∙ ap (λ n. overwritten former filled (map shows (take n (drop from left)))) (let all : end - filled ≡ length left - from = omega arith in all) ∙ ap (λ xs. overwritten former filled (map shows xs)) (take_left from within) in
+      let near_is : first ≡ overwritten former filled near = first_is
+      ∙ ap (λ n. overwritten former filled (map shows (take n (drop from left)))) (let all : end - filled ≡ length left - from = omega arith in all)
+      ∙ ap (λ xs. overwritten former filled (map shows xs)) (take_left from within) in
       let far_is : slice_set first end (shows item) ≡ overwritten first end (shows item ∷ []) = set_overwritten first end (shows item) free in
       let long : length near ≡ length left - from = length-map (drop from left) shows ∙ length-drop from left in
       let next : end ≡ filled + length near = omega arith in

@@ -68,7 +68,8 @@ module _ {A : Type 0} (test : A → Bool) where
   ] refl
 
   -- what a search finds, whatever the closure is that tells the test
-  module _ {F : Type 0} (calls : Shared F (Bor A × Unit {0}) Bool) (closure : F) (xs : List A) (count : ℕ) (found : FindsPartition calls closure xs count) (tells : TellsItems calls closure test) (parted : IsPartitioned test xs) where
+  module _ {F : Type 0} (calls : Shared F (Bor A × Unit {0}) Bool) (closure : F) (xs : List A) (count : ℕ) (found : FindsPartition calls closure xs count)
+      (tells : TellsItems calls closure test) (parted : IsPartitioned test xs) where
     pub point_found : IsPoint xs count
     point_found = found test tells (parted_by xs parted)
 

@@ -14,7 +14,8 @@ use Rattle.workbench.specs.declared.outcome.Outcome.TheVariants.{Accepted, Inser
 use Rattle.workbench.specs.declared.outcome.Refusal.TheVariants as refusals
 use Rattle.workbench.specs.declared.position.Position.{Position}
 use Rattle.workbench.specs.Bench.{NamedTimeline}
-use Rattle.workbench.specs.TimelineEffects.{TimelineEffect, refuses, accepted_or_refused, after_step, makes, edits, tells, new_row, row_named, position_of, inserts_at, cut_of, deletes_by, inserts, deletes, shift_of_row, shifts_by, shifts, moves, changes, undoes_step, undoes, redoes_step, redoes}
+use Rattle.workbench.specs.TimelineEffects.{TimelineEffect, refuses, accepted_or_refused, after_step, makes, edits, tells, new_row, row_named, position_of, inserts_at, cut_of}
+use Rattle.workbench.specs.TimelineEffects.{deletes_by, inserts, deletes, shift_of_row, shifts_by, shifts, moves, changes, undoes_step, undoes, redoes_step, redoes}
 
 -- the effect keeps the name
 abbrev pub KeepsName : NamedTimeline → TimelineEffect → Type 0

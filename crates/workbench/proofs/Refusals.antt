@@ -27,7 +27,9 @@ use Rattle.workbench.specs.declared.position.Position.{Position}
 use Rattle.workbench.specs.Bench.{NamedTimeline, OpenBlock, Bench, fresh, is_named, has_timeline}
 use Rattle.workbench.specs.Outcome.{is_refusal}
 use Rattle.workbench.specs.Reaction.{Effect, BenchEffect, leaves, if_startable, with_timeline, on_named, obeys, opened, outside, happens, loads, closes, ends, with_line, with_block, without_block}
-use Rattle.workbench.specs.TimelineEffects.{TimelineEffect, refuses, accepted_or_refused, after_step, makes, edits, tells, new_row, row_named, position_of, inserts_there, inserts_at, cut_of, deletes_by, inserts, deletes, shift_of_row, shifts_there, shifts_by, shifts, moves, changes, unchanged, answers, answers_fate, undoes_step, undoes, redoes_step, redoes, saves}
+use Rattle.workbench.specs.TimelineEffects.{TimelineEffect, refuses, accepted_or_refused, after_step, makes, edits, tells, new_row, row_named, position_of}
+use Rattle.workbench.specs.TimelineEffects.{inserts_there, inserts_at, cut_of, deletes_by, inserts, deletes, shift_of_row, shifts_there, shifts_by, shifts}
+use Rattle.workbench.specs.TimelineEffects.{moves, changes, unchanged, answers, answers_fate, undoes_step, undoes, redoes_step, redoes, saves}
 use Rattle.timeline_undo.specs.History.{newest_step}
 use Rattle.timeline_undo.specs.declared.shift.Target.{Target}
 use Rattle.timeline_undo.specs.declared.shift.Target.TheVariants.{At, Into}

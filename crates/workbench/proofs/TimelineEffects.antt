@@ -35,7 +35,8 @@ use Rattle.workbench.specs.declared.position.Position.{Position}
 use Rattle.workbench.specs.Bench.{NamedTimeline, named}
 use Rattle.std.proofs.lemmas.Bool.{lt-leb}
 use Rattle.retro_base.specs.Order.{Fits}
-use Rattle.workbench.specs.TimelineEffects.{TimelineEffect, refuses, row_named, position_before, next_position, position_of, inserts_there, new_row, after_step, makes, edits, tells, inserts, deletes, shifts_there, shifts_by, shifts, changes, answers, undoes_step, undoes, redoes_step, redoes}
+use Rattle.workbench.specs.TimelineEffects.{TimelineEffect, refuses, row_named, position_before, next_position, position_of, inserts_there, new_row, after_step, makes, edits}
+use Rattle.workbench.specs.TimelineEffects.{tells, inserts, deletes, shifts_there, shifts_by, shifts, changes, answers, undoes_step, undoes, redoes_step, redoes}
 use Rattle.retro_base.specs.OrderLaws.{time_fits, fits_before, fits_after}
 
 pub inserts_other_kind : (t : NamedTimeline) (spot : Spot) (op : Op) → same_kind (kind_of op) t.kind ≡ false → inserts t spot op ≡ refuses t refusals.Kind

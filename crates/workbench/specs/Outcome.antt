@@ -13,7 +13,8 @@ use Rattle.timeline_file.specs.Saved.{saved}
 use Rattle.workbench.specs.declared.outcome.Outcome.{Outcome}
 use Rattle.workbench.specs.declared.outcome.Outcome.TheVariants.{Silent, Accepted, Inserted, Changed, Loaded, Answered, Listed, Saved, Taken, Stays, Refused}
 use Rattle.workbench.specs.declared.outcome.Refusal.{Refusal}
-use Rattle.workbench.specs.declared.outcome.Refusal.TheVariants.{Long, Syntax, NoTimeline, NameTaken, Timelines, Kind, NoRow, Full, Numbers, At, NothingToUndo, NothingToRedo, RowLine, Unfinished, Next, Rows, NoItem, NoFollower}
+use Rattle.workbench.specs.declared.outcome.Refusal.TheVariants.{Long, Syntax, NoTimeline, NameTaken, Timelines, Kind, NoRow, Full, Numbers, At}
+use Rattle.workbench.specs.declared.outcome.Refusal.TheVariants.{NothingToUndo, NothingToRedo, RowLine, Unfinished, Next, Rows, NoItem, NoFollower}
 
 -- why a row line of a block is bad
 abbrev pub cause_text : RowCause → List ℕ

@@ -37,7 +37,9 @@ use Rattle.workbench.specs.declared.outcome.Refusal.TheVariants as refusals
 use Rattle.workbench.specs.declared.position.Position.{Position}
 use Rattle.workbench.specs.Bench.{NamedTimeline}
 use Rattle.workbench.specs.Outcome.{reply_text}
-use Rattle.workbench.specs.TimelineEffects.{TimelineEffect, accepted_or_refused, after_step, makes, shifts_there, shifts_by, shifts, moves, changes, answers, answers_fate, cut_of, deletes, deletes_by, edits, inserts, inserts_at, inserts_there, new_row, position_of, redoes, redoes_step, refusal_at, refuses, row_named, saves, unchanged, undoes, undoes_step}
+use Rattle.workbench.specs.TimelineEffects.{TimelineEffect, accepted_or_refused, after_step, makes, shifts_there, shifts_by, shifts, moves, changes}
+use Rattle.workbench.specs.TimelineEffects.{answers, answers_fate, cut_of, deletes, deletes_by, edits, inserts, inserts_at, inserts_there, new_row}
+use Rattle.workbench.specs.TimelineEffects.{position_of, redoes, redoes_step, refusal_at, refuses, row_named, saves, unchanged, undoes, undoes_step}
 use Rattle.workbench.specs.Reported.{evidence_of_step, reported}
 use Rattle.retro_cli.proofs.accepted.Leads.{Leads, leads_last, leads_later, leads_more, leads_so}
 use Rattle.retro_cli.proofs.accepted.Made.{IsRanged, IsSound, Makes, MakesStep, TakesBack, leads_to, sound_after, sound_later, step_back, step_later}

@@ -19,7 +19,9 @@ use Rattle.script_grammar.specs.declared.command.Moment.TheVariants.{Now, Then}
 use Rattle.script_grammar.specs.declared.operands.Operands.{Operands}
 use Rattle.script_grammar.specs.declared.operands.Operands.TheVariants.{Bare, Unary, Binary}
 use Rattle.script_grammar.specs.BlockLines.{row_of, row_spelled, row_with}
-use Rattle.script_grammar.specs.Command.{about, ask_at, ask_of, ask_then, begins_comment, begins_spot, change_of, command, command_of, delete_of, fate_of, header_count, header_end, header_kind, header_next, header_of, header_rows, insert_of, kind_of_word, move_at, move_of, move_time, mute_of, new_kind, new_of, save_of, spot_of}
+use Rattle.script_grammar.specs.Command.{about, ask_at, ask_of, ask_then, begins_comment, begins_spot, change_of, command, command_of}
+use Rattle.script_grammar.specs.Command.{delete_of, fate_of, header_count, header_end, header_kind, header_next, header_of, header_rows}
+use Rattle.script_grammar.specs.Command.{insert_of, kind_of_word, move_at, move_of, move_time, mute_of, new_kind, new_of, save_of, spot_of}
 use Rattle.script_grammar.specs.Numbers.{between, count_of, follower_of, natural_of, next_of, row_number_of, time_of, up_to, value_of}
 use Rattle.script_grammar.specs.Operands.{alone, operands_after, operands_of}
 use Rattle.script_grammar.specs.Operations.{op_of, op_with}

@@ -95,7 +95,8 @@ is_some_not_none : {X : Type 0} (o : Option X) → is_none o ≡ false → is_so
 is_some_not_none None is = absurd (cc)
 is_some_not_none (Some x) is = refl
 
-found_once : (name other : List ℕ) (rows first : List Row) (others : Option (List Row)) → cond (bytes_eq name other) (Some rows) others ≡ cond (bytes_eq name other) (Some rows) (cond (bytes_eq name other) (Some first) others)
+found_once : (name other : List ℕ) (rows first : List Row) (others : Option (List Row)) → cond (bytes_eq name other) (Some rows) others
+    ≡ cond (bytes_eq name other) (Some rows) (cond (bytes_eq name other) (Some first) others)
 found_once name other rows first others = elim (bytes_eq name other) as (λ b. cond b (Some rows) others ≡ cond b (Some rows) (cond b (Some first) others)) [ true ↦ refl | false ↦ refl ]
 
 pub rows_of-with : (name : List ℕ) (rows : List Row) (reported : List Reported) (other : List ℕ) → rows_of other (with_rows name rows reported) ≡ cond (bytes_eq name other) (Some rows) (rows_of other reported)
@@ -137,7 +138,13 @@ few_with names name rows reported listed few =
       | None ↦ λ none.
           let longer : length (with_rows name rows reported) ≡ length reported + 1 = length-with name rows reported ∙ rw none refl in
           let out : is_some (rows_of name reported) ≡ false = rw none refl in
-          omega (arith, longer, few, one_more (λ n. is_some (rows_of n reported)) (λ n. is_some (rows_of n (with_rows name rows reported))) (still_reported name rows reported) name out (now_reported name rows reported) names listed)
+          omega (
+            arith,
+            longer,
+            few,
+            one_more (λ n. is_some (rows_of n reported)) (λ n. is_some (rows_of n (with_rows name rows reported)))
+                (still_reported name rows reported) name out (now_reported name rows reported) names listed,
+          )
       | Some old ↦ λ some.
           let as_long : length (with_rows name rows reported) ≡ length reported + 0 = length-with name rows reported ∙ rw some refl in
           omega (arith, as_long, few, no_fewer (λ n. is_some (rows_of n reported)) (λ n. is_some (rows_of n (with_rows name rows reported))) (still_reported name rows reported) names)

@@ -17,13 +17,15 @@ pub put_row_with_entry-requires-clause-few : goal.put_row_with_entry-requires-cl
 put_row_with_entry-requires-clause-few g c = few-entries c.args.rows.now c.args.entries.now c.requires.bridged
 
 pub put_row_with_entry-requires-clause-absent : goal.put_row_with_entry-requires-clause-absent
-put_row_with_entry-requires-clause-absent g c = new-absent c.args.rows.now c.args.entries.now c.requires.bridged c.args.place c.args.row c.requires.within c.requires.room c.requires.fresh c.requires.of_kind c.requires.replays c.args.new c.requires.adds
+put_row_with_entry-requires-clause-absent g c = new-absent c.args.rows.now c.args.entries.now c.requires.bridged c.args.place c.args.row c.requires.within
+    c.requires.room c.requires.fresh c.requires.of_kind c.requires.replays c.args.new c.requires.adds
 
 pub put_row_with_entry-requires-2-clause-few : goal.put_row_with_entry-requires-2-clause-few
 put_row_with_entry-requires-2-clause-few g c = few-entries c.args.rows.now c.args.entries.now c.requires.bridged
 
 pub put_row_with_entry-requires-2-clause-absent : goal.put_row_with_entry-requires-2-clause-absent
-put_row_with_entry-requires-2-clause-absent g c = new-absent c.args.rows.now c.args.entries.now c.requires.bridged c.args.place c.args.row c.requires.within c.requires.room c.requires.fresh c.requires.of_kind c.requires.replays c.args.new c.requires.adds
+put_row_with_entry-requires-2-clause-absent g c = new-absent c.args.rows.now c.args.entries.now c.requires.bridged c.args.place c.args.row c.requires.within
+    c.requires.room c.requires.fresh c.requires.of_kind c.requires.replays c.args.new c.requires.adds
 
 pub returns-in_err-put_row_with_entry-clause-visits : goal.returns-in_err-put_row_with_entry-clause-visits
 returns-in_err-put_row_with_entry-clause-visits g c =
@@ -42,7 +44,9 @@ returns-in_err-put_row_with_entry-2-clause-visits g c =
     c.put_row_with_entry-2.ensures.visits)
 
 pub returns-then-flip-place-clause-bridged : goal.returns-then-flip-place-clause-bridged
-returns-then-flip-place-clause-bridged g c = (put-gained c.args.rows.now c.args.entries.now c.requires.bridged c.args.place c.args.row c.requires.within c.requires.room c.requires.fresh c.requires.of_kind c.requires.replays c.args.new c.gained_with-flip.result.entry c.gained_with-flip.result.survives c.requires.adds
+returns-then-flip-place-clause-bridged g c = (put-gained c.args.rows.now c.args.entries.now c.requires.bridged c.args.place c.args.row c.requires.within
+    c.requires.room c.requires.fresh c.requires.of_kind c.requires.replays c.args.new c.gained_with-flip.result.entry c.gained_with-flip.result.survives
+    c.requires.adds
     (subst (λ p. AddsAt (insert (rows_of c.args.rows.now) c.args.place c.args.row) p c.gained_with-flip.result.entry) (omega (arith, c.if-flip-place.true)) c.gained_with-flip.ensures.flips.there)
     c.gained_with-flip.ensures.flips.marks c.put_row_with_entry.new.rows c.put_row_with_entry.new.entries c.in_ok-put_row_with_entry.ensures.rows c.in_ok-put_row_with_entry.ensures.entries).0
 
@@ -53,35 +57,66 @@ returns-then-flip-place-clause-rows g c =
 pub returns-then-flip-place-clause-visits : goal.returns-then-flip-place-clause-visits
 returns-then-flip-place-clause-visits g c =
     let put = c.put_row_with_entry.new.rows in
-    let longer : length put ≡ length c.args.rows.now + 1 = ap length c.in_ok-put_row_with_entry.ensures.rows ∙ length-insert c.args.rows.now c.args.place (record { row = c.args.row; survives = c.gained_with-flip.result.survives }) c.requires.within in
+    let longer : length put ≡ length c.args.rows.now + 1 = ap length c.in_ok-put_row_with_entry.ensures.rows
+    ∙ length-insert c.args.rows.now c.args.place (record { row = c.args.row; survives = c.gained_with-flip.result.survives }) c.requires.within in
     visits-more 84 60 (length put) _ _
     (visits-add 48 36 (length put) _ _ _
     (visits-longer 48 (length c.args.rows.now) _ _ _ (omega (arith, longer)) c.gained_with-flip.ensures.visits)
     c.in_ok-put_row_with_entry.ensures.ok_visits)
 
 pub flip_marks-requires-clause-within : goal.flip_marks-requires-clause-within
-flip_marks-requires-clause-within g c = flip_marks-within (insert (rows_of c.args.rows.now) c.args.place c.args.row) (survivors (rows_of c.args.rows.now)) c.put_row_with_entry-2.new.rows c.put_row_with_entry-2.new.entries (put-adding c.args.rows.now c.args.entries.now c.requires.bridged c.args.place c.args.row c.requires.within c.requires.room c.requires.fresh c.requires.of_kind c.requires.replays c.args.new c.requires.adds c.put_row_with_entry-2.new.rows c.put_row_with_entry-2.new.entries c.in_ok-put_row_with_entry-2.ensures.rows c.in_ok-put_row_with_entry-2.ensures.entries) c.gained_with-flip.result.place c.gained_with-flip.result.entry c.gained_with-flip.ensures.flips.there
+flip_marks-requires-clause-within g c = flip_marks-within (insert (rows_of c.args.rows.now) c.args.place c.args.row)
+    (survivors (rows_of c.args.rows.now)) c.put_row_with_entry-2.new.rows c.put_row_with_entry-2.new.entries
+    (put-adding c.args.rows.now c.args.entries.now c.requires.bridged c.args.place c.args.row c.requires.within c.requires.room c.requires.fresh
+    c.requires.of_kind c.requires.replays c.args.new c.requires.adds c.put_row_with_entry-2.new.rows c.put_row_with_entry-2.new.entries
+    c.in_ok-put_row_with_entry-2.ensures.rows c.in_ok-put_row_with_entry-2.ensures.entries) c.gained_with-flip.result.place c.gained_with-flip.result.entry
+    c.gained_with-flip.ensures.flips.there
 
 pub flip_marks-requires-clause-few : goal.flip_marks-requires-clause-few
-flip_marks-requires-clause-few g c = flip_marks-few (insert (rows_of c.args.rows.now) c.args.place c.args.row) (survivors (rows_of c.args.rows.now)) c.put_row_with_entry-2.new.rows c.put_row_with_entry-2.new.entries (put-adding c.args.rows.now c.args.entries.now c.requires.bridged c.args.place c.args.row c.requires.within c.requires.room c.requires.fresh c.requires.of_kind c.requires.replays c.args.new c.requires.adds c.put_row_with_entry-2.new.rows c.put_row_with_entry-2.new.entries c.in_ok-put_row_with_entry-2.ensures.rows c.in_ok-put_row_with_entry-2.ensures.entries) c.gained_with-flip.result.place c.gained_with-flip.result.entry c.gained_with-flip.ensures.flips.there
+flip_marks-requires-clause-few g c = flip_marks-few (insert (rows_of c.args.rows.now) c.args.place c.args.row)
+    (survivors (rows_of c.args.rows.now)) c.put_row_with_entry-2.new.rows c.put_row_with_entry-2.new.entries
+    (put-adding c.args.rows.now c.args.entries.now c.requires.bridged c.args.place c.args.row c.requires.within c.requires.room c.requires.fresh
+    c.requires.of_kind c.requires.replays c.args.new c.requires.adds c.put_row_with_entry-2.new.rows c.put_row_with_entry-2.new.entries
+    c.in_ok-put_row_with_entry-2.ensures.rows c.in_ok-put_row_with_entry-2.ensures.entries) c.gained_with-flip.result.place c.gained_with-flip.result.entry
+    c.gained_with-flip.ensures.flips.there
 
 pub flip_marks-requires-clause-rise : goal.flip_marks-requires-clause-rise
-flip_marks-requires-clause-rise g c = (put-adding c.args.rows.now c.args.entries.now c.requires.bridged c.args.place c.args.row c.requires.within c.requires.room c.requires.fresh c.requires.of_kind c.requires.replays c.args.new c.requires.adds c.put_row_with_entry-2.new.rows c.put_row_with_entry-2.new.entries c.in_ok-put_row_with_entry-2.ensures.rows c.in_ok-put_row_with_entry-2.ensures.entries).holds.rise
+flip_marks-requires-clause-rise g c = (put-adding c.args.rows.now c.args.entries.now c.requires.bridged c.args.place c.args.row c.requires.within
+    c.requires.room c.requires.fresh c.requires.of_kind c.requires.replays c.args.new c.requires.adds c.put_row_with_entry-2.new.rows
+    c.put_row_with_entry-2.new.entries c.in_ok-put_row_with_entry-2.ensures.rows c.in_ok-put_row_with_entry-2.ensures.entries).holds.rise
 
 pub flip_marks-requires-clause-among : goal.flip_marks-requires-clause-among
-flip_marks-requires-clause-among g c = flip_marks-among (insert (rows_of c.args.rows.now) c.args.place c.args.row) (survivors (rows_of c.args.rows.now)) c.put_row_with_entry-2.new.rows c.put_row_with_entry-2.new.entries (put-adding c.args.rows.now c.args.entries.now c.requires.bridged c.args.place c.args.row c.requires.within c.requires.room c.requires.fresh c.requires.of_kind c.requires.replays c.args.new c.requires.adds c.put_row_with_entry-2.new.rows c.put_row_with_entry-2.new.entries c.in_ok-put_row_with_entry-2.ensures.rows c.in_ok-put_row_with_entry-2.ensures.entries) c.gained_with-flip.result.place c.gained_with-flip.result.entry c.gained_with-flip.ensures.flips.there
+flip_marks-requires-clause-among g c = flip_marks-among (insert (rows_of c.args.rows.now) c.args.place c.args.row)
+    (survivors (rows_of c.args.rows.now)) c.put_row_with_entry-2.new.rows c.put_row_with_entry-2.new.entries
+    (put-adding c.args.rows.now c.args.entries.now c.requires.bridged c.args.place c.args.row c.requires.within c.requires.room c.requires.fresh
+    c.requires.of_kind c.requires.replays c.args.new c.requires.adds c.put_row_with_entry-2.new.rows c.put_row_with_entry-2.new.entries
+    c.in_ok-put_row_with_entry-2.ensures.rows c.in_ok-put_row_with_entry-2.ensures.entries) c.gained_with-flip.result.place c.gained_with-flip.result.entry
+    c.gained_with-flip.ensures.flips.there
 
 pub returns-clause-bridged : goal.returns-clause-bridged
-returns-clause-bridged g c = (flip_marks-done (insert (rows_of c.args.rows.now) c.args.place c.args.row) (survivors (rows_of c.args.rows.now)) c.put_row_with_entry-2.new.rows c.put_row_with_entry-2.new.entries (put-adding c.args.rows.now c.args.entries.now c.requires.bridged c.args.place c.args.row c.requires.within c.requires.room c.requires.fresh c.requires.of_kind c.requires.replays c.args.new c.requires.adds c.put_row_with_entry-2.new.rows c.put_row_with_entry-2.new.entries c.in_ok-put_row_with_entry-2.ensures.rows c.in_ok-put_row_with_entry-2.ensures.entries) c.gained_with-flip.result.place c.gained_with-flip.result.entry c.gained_with-flip.ensures.flips.there c.gained_with-flip.result.survives c.gained_with-flip.ensures.flips.marks c.flip_marks.new.rows c.flip_marks.new.entries c.flip_marks.ensures.rows c.flip_marks.ensures.entries).0
+returns-clause-bridged g c = (flip_marks-done (insert (rows_of c.args.rows.now) c.args.place c.args.row)
+    (survivors (rows_of c.args.rows.now)) c.put_row_with_entry-2.new.rows c.put_row_with_entry-2.new.entries
+    (put-adding c.args.rows.now c.args.entries.now c.requires.bridged c.args.place c.args.row c.requires.within c.requires.room c.requires.fresh
+    c.requires.of_kind c.requires.replays c.args.new c.requires.adds c.put_row_with_entry-2.new.rows c.put_row_with_entry-2.new.entries
+    c.in_ok-put_row_with_entry-2.ensures.rows c.in_ok-put_row_with_entry-2.ensures.entries) c.gained_with-flip.result.place c.gained_with-flip.result.entry
+    c.gained_with-flip.ensures.flips.there c.gained_with-flip.result.survives c.gained_with-flip.ensures.flips.marks c.flip_marks.new.rows
+    c.flip_marks.new.entries c.flip_marks.ensures.rows c.flip_marks.ensures.entries).0
 
 pub returns-clause-rows : goal.returns-clause-rows
-returns-clause-rows g c = (flip_marks-done (insert (rows_of c.args.rows.now) c.args.place c.args.row) (survivors (rows_of c.args.rows.now)) c.put_row_with_entry-2.new.rows c.put_row_with_entry-2.new.entries (put-adding c.args.rows.now c.args.entries.now c.requires.bridged c.args.place c.args.row c.requires.within c.requires.room c.requires.fresh c.requires.of_kind c.requires.replays c.args.new c.requires.adds c.put_row_with_entry-2.new.rows c.put_row_with_entry-2.new.entries c.in_ok-put_row_with_entry-2.ensures.rows c.in_ok-put_row_with_entry-2.ensures.entries) c.gained_with-flip.result.place c.gained_with-flip.result.entry c.gained_with-flip.ensures.flips.there c.gained_with-flip.result.survives c.gained_with-flip.ensures.flips.marks c.flip_marks.new.rows c.flip_marks.new.entries c.flip_marks.ensures.rows c.flip_marks.ensures.entries).1
+returns-clause-rows g c = (flip_marks-done (insert (rows_of c.args.rows.now) c.args.place c.args.row)
+    (survivors (rows_of c.args.rows.now)) c.put_row_with_entry-2.new.rows c.put_row_with_entry-2.new.entries
+    (put-adding c.args.rows.now c.args.entries.now c.requires.bridged c.args.place c.args.row c.requires.within c.requires.room c.requires.fresh
+    c.requires.of_kind c.requires.replays c.args.new c.requires.adds c.put_row_with_entry-2.new.rows c.put_row_with_entry-2.new.entries
+    c.in_ok-put_row_with_entry-2.ensures.rows c.in_ok-put_row_with_entry-2.ensures.entries) c.gained_with-flip.result.place c.gained_with-flip.result.entry
+    c.gained_with-flip.ensures.flips.there c.gained_with-flip.result.survives c.gained_with-flip.ensures.flips.marks c.flip_marks.new.rows
+    c.flip_marks.new.entries c.flip_marks.ensures.rows c.flip_marks.ensures.entries).1
 
 pub returns-clause-visits : goal.returns-clause-visits
 returns-clause-visits g c =
     let put = c.put_row_with_entry-2.new.rows in
     let flip : length c.flip_marks.new.rows ≡ length c.args.rows.now + 1 = one_longer c.args.rows.now c.flip_marks.new.rows c.args.place c.args.row c.requires.within (returns-clause-rows g c) in
-    let longer : length put ≡ length c.args.rows.now + 1 = ap length c.in_ok-put_row_with_entry-2.ensures.rows ∙ length-insert c.args.rows.now c.args.place (record { row = c.args.row; survives = false }) c.requires.within in
+    let longer : length put ≡ length c.args.rows.now + 1 = ap length c.in_ok-put_row_with_entry-2.ensures.rows
+    ∙ length-insert c.args.rows.now c.args.place (record { row = c.args.row; survives = false }) c.requires.within in
     visits-more 132 12 (length c.flip_marks.new.rows) _ _
     (visits-add 84 48 (length c.flip_marks.new.rows) _ _ _
     (visits-add 48 36 (length c.flip_marks.new.rows) _ _ _

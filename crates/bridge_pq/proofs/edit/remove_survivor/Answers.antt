@@ -8,10 +8,12 @@ pub take_entry-requires-clause-among : goal.take_entry-requires-clause-among
 take_entry-requires-clause-among g c = own-among c.args.rows.now c.args.entries.now c.requires.bridged c.args.place c.args.row c.requires.there c.requires.replays c.args.own c.requires.adds
 
 pub returns-clause-bridged : goal.returns-clause-bridged
-returns-clause-bridged g c = (cut-survivor c.args.rows.now c.args.entries.now c.requires.bridged c.args.place c.args.row c.requires.there c.requires.replays c.args.own c.requires.adds c.requires.lives c.remove.new.self c.take_entry.new.entries c.remove.ensures.items c.take_entry.ensures.taken).0
+returns-clause-bridged g c = (cut-survivor c.args.rows.now c.args.entries.now c.requires.bridged c.args.place c.args.row c.requires.there c.requires.replays
+    c.args.own c.requires.adds c.requires.lives c.remove.new.self c.take_entry.new.entries c.remove.ensures.items c.take_entry.ensures.taken).0
 
 pub returns-clause-rows : goal.returns-clause-rows
-returns-clause-rows g c = (cut-survivor c.args.rows.now c.args.entries.now c.requires.bridged c.args.place c.args.row c.requires.there c.requires.replays c.args.own c.requires.adds c.requires.lives c.remove.new.self c.take_entry.new.entries c.remove.ensures.items c.take_entry.ensures.taken).1
+returns-clause-rows g c = (cut-survivor c.args.rows.now c.args.entries.now c.requires.bridged c.args.place c.args.row c.requires.there c.requires.replays
+    c.args.own c.requires.adds c.requires.lives c.remove.new.self c.take_entry.new.entries c.remove.ensures.items c.take_entry.ensures.taken).1
 
 pub returns-clause-change : goal.returns-clause-change
 returns-clause-change g c = survivor-changes c.args.rows.now c.args.entries.now c.requires.bridged c.args.place c.args.row c.requires.there c.requires.replays c.args.own c.requires.adds c.requires.lives

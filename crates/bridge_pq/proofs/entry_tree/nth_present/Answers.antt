@@ -15,7 +15,8 @@ returns-in_err-end-clause-entry g c =
 
 pub overflow_sub-end : goal.overflow_sub-end
 overflow_sub-end g c =
-    let first : IsFirstPlace (has_more c.args.entries.now c.args.index) 0 (length c.args.entries.now) c.in_ok-end.end = c.in_ok-end.ensures.first (has_more c.args.entries.now c.args.index) (λ place answer above within call.
+    let first : IsFirstPlace (has_more c.args.entries.now c.args.index) 0 (length c.args.entries.now) c.in_ok-end.end =
+    c.in_ok-end.ensures.first (has_more c.args.entries.now c.args.index) (λ place answer above within call.
     let reported : answer ≡ lt_z (pos c.args.index) (measures_in (slice_range c.args.entries.now 0 place)).sum = search rules in
     reported ∙ more-reported c.args.entries.now c.args.index place)
     (more-rises c.args.entries.now c.args.index) in
@@ -23,7 +24,8 @@ overflow_sub-end g c =
 
 pub get-requires : goal.get-requires
 get-requires g c =
-    let first : IsFirstPlace (has_more c.args.entries.now c.args.index) 0 (length c.args.entries.now) c.in_ok-end.end = c.in_ok-end.ensures.first (has_more c.args.entries.now c.args.index) (λ place answer above within call.
+    let first : IsFirstPlace (has_more c.args.entries.now c.args.index) 0 (length c.args.entries.now) c.in_ok-end.end =
+    c.in_ok-end.ensures.first (has_more c.args.entries.now c.args.index) (λ place answer above within call.
     let reported : answer ≡ lt_z (pos c.args.index) (measures_in (slice_range c.args.entries.now 0 place)).sum = search rules in
     reported ∙ more-reported c.args.entries.now c.args.index place)
     (more-rises c.args.entries.now c.args.index) in
@@ -33,7 +35,8 @@ get-requires g c =
 
 pub returns-clause-entry : goal.returns-clause-entry
 returns-clause-entry g c =
-    let first : IsFirstPlace (has_more c.args.entries.now c.args.index) 0 (length c.args.entries.now) c.in_ok-end.end = c.in_ok-end.ensures.first (has_more c.args.entries.now c.args.index) (λ place answer above within call.
+    let first : IsFirstPlace (has_more c.args.entries.now c.args.index) 0 (length c.args.entries.now) c.in_ok-end.end =
+    c.in_ok-end.ensures.first (has_more c.args.entries.now c.args.index) (λ place answer above within call.
     let reported : answer ≡ lt_z (pos c.args.index) (measures_in (slice_range c.args.entries.now 0 place)).sum = search rules in
     reported ∙ more-reported c.args.entries.now c.args.index place)
     (more-rises c.args.entries.now c.args.index) in

@@ -14,5 +14,7 @@ returns-clause-ok g c =
 
 pub returns-clause-visits : goal.returns-clause-visits
 returns-clause-visits g c =
-    let kept : length c.args.entries.now ≤ length c.insert.new.self = no_shorter c.insert.result c.args.entries.now c.insert.new.self c.place_of-place.result _ c.place_of-place.ensures.within c.insert.ensures.ok c.insert.ensures.err in
+    let kept : length c.args.entries.now ≤ length c.insert.new.self =
+    no_shorter c.insert.result c.args.entries.now c.insert.new.self c.place_of-place.result _ c.place_of-place.ensures.within c.insert.ensures.ok
+    c.insert.ensures.err in
     visits-add 12 12 (length c.insert.new.self) _ _ _ (visits-longer 12 (length c.args.entries.now) _ _ _ kept c.place_of-place.ensures.visits) c.insert.ensures.visits

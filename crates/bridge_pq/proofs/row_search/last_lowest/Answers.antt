@@ -21,9 +21,11 @@ returns-clause-last g c =
     (c.last_place.ensures.last (is_lowest_up_to (weights_of items) to)
     (λ place answer above within call.
     let inside : place ≤ length items = omega (arith, within, c.len-2.ensures) in
-    let reported : answer ≡ nat_le (c.len.result - to) ((measures_of entry_order (slice_range items place c.len-2.result)).0.items - place_in (measures_of entry_order (slice_range items place c.len-2.result)).0.low) = search rules in
+    let reported : answer ≡ nat_le (c.len.result - to) ((measures_of entry_order (slice_range items place c.len-2.result)).0.items - place_in
+    (measures_of entry_order (slice_range items place c.len-2.result)).0.low) = search rules in
     reported
-    ∙ ap (λ n. nat_le (n - to) ((measures_of entry_order (slice_range items place c.len-2.result)).0.items - place_in (measures_of entry_order (slice_range items place c.len-2.result)).0.low)) (c.len.ensures ∙ simp length-map)
+    ∙ ap (λ n. nat_le (n - to) ((measures_of entry_order (slice_range items place c.len-2.result)).0.items - place_in
+    (measures_of entry_order (slice_range items place c.len-2.result)).0.low)) (c.len.ensures ∙ simp length-map)
     ∙ ap (λ (d : Dip). nat_le (length (weights_of items) - to) (d.items - place_in d.low))
     (ap (λ end. (measures_of entry_order (slice_range items place end)).0) c.len-2.ensures ∙ ap (λ l. (measures_of entry_order l).0) (range-after items place inside) ∙ dip-after entry_order items place)
     ∙ lowest-by-end (weights_of items) to place (omega (arith, inside, weights)) (omega (arith, c.requires, weights)))

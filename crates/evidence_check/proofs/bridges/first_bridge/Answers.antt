@@ -14,7 +14,8 @@ dead_before-dead-requires-clause-held c =
 
 counted : (c : After-dead_before-dead) → Counted c.args.rows.now (c.loop-index.index - 1) c.dead_before-dead.result
 counted c =
-    rw c.dead_before-dead.ensures (next_there c.weights_count_the_dead.ensures.count c.args.rows.now c.requires.kept (c.loop-index.index - 1) c.loop-index.index c.loop-index.dead (omega arith) (omega arith) c.loop-index.invariant.0)
+    rw c.dead_before-dead.ensures (next_there c.weights_count_the_dead.ensures.count c.args.rows.now c.requires.kept
+    (c.loop-index.index - 1) c.loop-index.index c.loop-index.dead (omega arith) (omega arith) c.loop-index.invariant.0)
 
 pub loop-index-preserved-then-dead-eq0 : goal.loop-index-preserved-then-dead-eq0
 loop-index-preserved-then-dead-eq0 c = (

@@ -21,7 +21,8 @@ returns-then-dead-eq0-clause-bridge c =
 pub loop-index-preserved : goal.loop-index-preserved
 loop-index-preserved c =
     let counted : Counted c.args.rows.now (c.loop-index.index - 1) c.dead_before-dead.result =
-    rw c.dead_before-dead.ensures (next_there c.weights_count_the_dead.ensures.count c.args.rows.now c.requires.kept (c.loop-index.index - 1) c.loop-index.index c.loop-index.dead (omega arith) (omega arith) c.loop-index.invariant.0) in (
+    rw c.dead_before-dead.ensures (next_there c.weights_count_the_dead.ensures.count c.args.rows.now c.requires.kept
+    (c.loop-index.index - 1) c.loop-index.index c.loop-index.dead (omega arith) (omega arith) c.loop-index.invariant.0) in (
       counted,
       elim c.else-index-place.branch [
         | else-index-place-via-then-index-place+else-dead-eq0 w ↦ λ reached.

@@ -17,7 +17,8 @@ overflow_sub-place g c =
     let key_is : to_z w64 (of_z w64 c.key_of-key.result) ≡ key_of c.args.op = to_z-of_z w64 c.key_of-key.result (record { sfits = c.key_of-key.type_inv }) ∙ c.key_of-key.ensures in
     omega (
       arith,
-      place_is c.args.label c.args.op c.args.rows.now c.args.by_key.now c.requires.indexed c.requires.there c.count_up_to-place.result c.count_up_to-place_by_key.result c.count_up_to-place.ensures.within c.count_up_to-place_by_key.ensures.within
+      place_is c.args.label c.args.op c.args.rows.now c.args.by_key.now c.requires.indexed c.requires.there c.count_up_to-place.result
+          c.count_up_to-place_by_key.result c.count_up_to-place.ensures.within c.count_up_to-place_by_key.ensures.within
           c.count_up_to-place.ensures.front (rw key_is at c.count_up_to-place_by_key.ensures.front),
     )
 
@@ -26,7 +27,8 @@ overflow_sub-place_by_key g c =
     let key_is : to_z w64 (of_z w64 c.key_of-key.result) ≡ key_of c.args.op = to_z-of_z w64 c.key_of-key.result (record { sfits = c.key_of-key.type_inv }) ∙ c.key_of-key.ensures in
     omega (
       arith,
-      place_by_key_is c.args.label c.args.op c.args.rows.now c.args.by_key.now c.requires.indexed c.requires.there c.count_up_to-place.result c.count_up_to-place_by_key.result c.count_up_to-place.ensures.within c.count_up_to-place_by_key.ensures.within
+      place_by_key_is c.args.label c.args.op c.args.rows.now c.args.by_key.now c.requires.indexed c.requires.there c.count_up_to-place.result
+          c.count_up_to-place_by_key.result c.count_up_to-place.ensures.within c.count_up_to-place_by_key.ensures.within
           c.count_up_to-place.ensures.front (rw key_is at c.count_up_to-place_by_key.ensures.front),
     )
 
@@ -34,12 +36,14 @@ pub returns-clause-indexed : goal.returns-clause-indexed
 returns-clause-indexed g c =
     let key_is : to_z w64 (of_z w64 c.key_of-key.result) ≡ key_of c.args.op = to_z-of_z w64 c.key_of-key.result (record { sfits = c.key_of-key.type_inv }) ∙ c.key_of-key.ensures in
     rw (c.remove.ensures.items, c.remove-2.ensures.items)
-    (taken_indexed c.args.label c.args.op c.args.rows.now c.args.by_key.now c.requires.indexed c.requires.there c.count_up_to-place.result c.count_up_to-place_by_key.result c.count_up_to-place.ensures.within c.count_up_to-place_by_key.ensures.within
+    (taken_indexed c.args.label c.args.op c.args.rows.now c.args.by_key.now c.requires.indexed c.requires.there c.count_up_to-place.result
+    c.count_up_to-place_by_key.result c.count_up_to-place.ensures.within c.count_up_to-place_by_key.ensures.within
     c.count_up_to-place.ensures.front (rw key_is at c.count_up_to-place_by_key.ensures.front))
 
 pub returns-clause-rows : goal.returns-clause-rows
 returns-clause-rows g c =
     let key_is : to_z w64 (of_z w64 c.key_of-key.result) ≡ key_of c.args.op = to_z-of_z w64 c.key_of-key.result (record { sfits = c.key_of-key.type_inv }) ∙ c.key_of-key.ensures in
     c.remove.ensures.items
-    ∙ left_is c.args.label c.args.op c.args.rows.now c.args.by_key.now c.requires.indexed c.requires.there c.count_up_to-place.result c.count_up_to-place_by_key.result c.count_up_to-place.ensures.within c.count_up_to-place_by_key.ensures.within
+    ∙ left_is c.args.label c.args.op c.args.rows.now c.args.by_key.now c.requires.indexed c.requires.there c.count_up_to-place.result
+    c.count_up_to-place_by_key.result c.count_up_to-place.ensures.within c.count_up_to-place_by_key.ensures.within
     c.count_up_to-place.ensures.front (rw key_is at c.count_up_to-place_by_key.ensures.front)

@@ -16,7 +16,10 @@ ask-returns-in_default g t c lives is_of few =
 
 pub ask-ask-own-requires : goal.ask-ask-own-requires
 ask-ask-own-requires g t c =
-    let has : NodeHas g.D.Decomposable.stands_before c.args.level c.deref.result.now = node_has (subst (IsOpened c.args.trie.now) (sym c.deref.ensures) (subst (λ trie. IsOpened trie c.in-Full.node.value) (sym c.in-Full.is) (record { items_are = refl; left_is = refl; right_is = refl }))) c.requires.has in
+    let has : NodeHas g.D.Decomposable.stands_before c.args.level c.deref.result.now =
+    node_has (subst (IsOpened c.args.trie.now) (sym c.deref.ensures)
+    (subst (λ trie. IsOpened trie c.in-Full.node.value) (sym c.in-Full.is) (record { items_are = refl; left_is = refl; right_is = refl }))) c.requires.has
+    in
     record {
       lawful = record {
         ordered = node_ordered g.met.D.Decomposable.order c.args.level has.lives c.deref.result.now has.is_of;
@@ -26,15 +29,20 @@ ask-ask-own-requires g t c =
 
 pub ask-returns-then-level-eq0 : goal.ask-returns-then-level-eq0
 ask-returns-then-level-eq0 g t c lives is_of few =
-    let opened : IsOpened c.args.trie.now c.deref.result.now = subst (IsOpened c.args.trie.now) (sym c.deref.ensures) (subst (λ trie. IsOpened trie c.in-Full.node.value) (sym c.in-Full.is) (record { items_are = refl; left_is = refl; right_is = refl })) in
+    let opened : IsOpened c.args.trie.now c.deref.result.now =
+    subst (IsOpened c.args.trie.now) (sym c.deref.ensures)
+    (subst (λ trie. IsOpened trie c.in-Full.node.value) (sym c.in-Full.is) (record { items_are = refl; left_is = refl; right_is = refl })) in
     c.ask-own.ensures
     ∙ ap (λ items. g.D.Decomposable.answer items c.args.query)
-    (node_at_zero g.met.D.Decomposable.order c.args.level c.args.label lives c.deref.result.now c.if-level-eq0.true c.requires.within (node_of g.D.Decomposable.stands_before c.args.level lives c.args.trie.now c.deref.result.now opened is_of))
+    (node_at_zero g.met.D.Decomposable.order c.args.level c.args.label lives c.deref.result.now c.if-level-eq0.true c.requires.within
+    (node_of g.D.Decomposable.stands_before c.args.level lives c.args.trie.now c.deref.result.now opened is_of))
 
 pub ask-ask_half-requires : goal.ask-ask_half-requires
 ask-ask_half-requires g t c κs within =
     let below : c.args.level ≡ suc (c.args.level - 1) = omega arith in
-    let opened : IsOpened c.args.trie.now c.deref-2.result.now = subst (IsOpened c.args.trie.now) (sym c.deref-2.ensures) (subst (λ trie. IsOpened trie c.in-Full.node.value) (sym c.in-Full.is) (record { items_are = refl; left_is = refl; right_is = refl })) in
+    let opened : IsOpened c.args.trie.now c.deref-2.result.now =
+    subst (IsOpened c.args.trie.now) (sym c.deref-2.ensures)
+    (subst (λ trie. IsOpened trie c.in-Full.node.value) (sym c.in-Full.is) (record { items_are = refl; left_is = refl; right_is = refl })) in
     let near : c.args.label < 2 ^ suc (c.args.level - 1) = subst (λ n. c.args.label < 2 ^ n) below c.requires.within in
     let has : NodeHas g.D.Decomposable.stands_before (suc (c.args.level - 1)) c.deref-2.result.now = subst (λ n. NodeHas g.D.Decomposable.stands_before n c.deref-2.result.now) below (node_has opened c.requires.has) in
     search rules
@@ -43,7 +51,9 @@ pub ask-combine-requires : goal.ask-combine-requires
 ask-combine-requires g t c =
     let before = g.D.Decomposable.stands_before in
     let below : c.args.level ≡ suc (c.args.level - 1) = omega arith in
-    let opened : IsOpened c.args.trie.now c.deref.result.now = subst (IsOpened c.args.trie.now) (sym c.deref.ensures) (subst (λ trie. IsOpened trie c.in-Full.node.value) (sym c.in-Full.is) (record { items_are = refl; left_is = refl; right_is = refl })) in
+    let opened : IsOpened c.args.trie.now c.deref.result.now =
+    subst (IsOpened c.args.trie.now) (sym c.deref.ensures)
+    (subst (λ trie. IsOpened trie c.in-Full.node.value) (sym c.in-Full.is) (record { items_are = refl; left_is = refl; right_is = refl })) in
     let near : c.args.label < 2 ^ suc (c.args.level - 1) = subst (λ n. c.args.label < 2 ^ n) below c.requires.within in
     let is_of : IsOfNode before (suc (c.args.level - 1)) c.requires.has.lives c.deref.result.now =
     subst (λ n. IsOfNode before n c.requires.has.lives c.deref.result.now) below (node_of before c.args.level c.requires.has.lives c.args.trie.now c.deref.result.now opened c.requires.has.is_of) in
@@ -63,15 +73,19 @@ pub ask-returns : goal.ask-returns
 ask-returns g t c lives is_of few =
     let before = g.D.Decomposable.stands_before in
     let below : c.args.level ≡ suc (c.args.level - 1) = omega arith in
-    let opened : IsOpened c.args.trie.now c.deref.result.now = subst (IsOpened c.args.trie.now) (sym c.deref.ensures) (subst (λ trie. IsOpened trie c.in-Full.node.value) (sym c.in-Full.is) (record { items_are = refl; left_is = refl; right_is = refl })) in
+    let opened : IsOpened c.args.trie.now c.deref.result.now =
+    subst (IsOpened c.args.trie.now) (sym c.deref.ensures)
+    (subst (λ trie. IsOpened trie c.in-Full.node.value) (sym c.in-Full.is) (record { items_are = refl; left_is = refl; right_is = refl })) in
     let near : c.args.label < 2 ^ suc (c.args.level - 1) = subst (λ n. c.args.label < 2 ^ n) below c.requires.within in
     let is_of_node : IsOfNode before (suc (c.args.level - 1)) lives c.deref.result.now =
     subst (λ n. IsOfNode before n lives c.deref.result.now) below (node_of before c.args.level lives c.args.trie.now c.deref.result.now opened is_of) in
     let items = items_below (c.args.level - 1) c.args.label lives in
     c.combine.ensures
     ∙ ap (λ part. g.D.Decomposable.combined part c.ask_half.result) c.ask-own.ensures
-    ∙ ap (g.D.Decomposable.combined (g.D.Decomposable.answer c.deref.result.now.items c.args.query)) (c.ask_half.ensures lives (subst (IsOfNode before (suc (c.args.level - 1)) lives) (c.deref.ensures ∙ sym c.deref-2.ensures) is_of_node) few)
-    ∙ sym (g.met.D.Decomposable.laws.together c.deref.result.now.items (in_order before items) c.args.query (node_lawful g.met.D.Decomposable.order (c.args.level - 1) c.args.label lives c.deref.result.now near few is_of_node))
+    ∙ ap (g.D.Decomposable.combined (g.D.Decomposable.answer c.deref.result.now.items c.args.query))
+    (c.ask_half.ensures lives (subst (IsOfNode before (suc (c.args.level - 1)) lives) (c.deref.ensures ∙ sym c.deref-2.ensures) is_of_node) few)
+    ∙ sym (g.met.D.Decomposable.laws.together c.deref.result.now.items (in_order before items) c.args.query
+    (node_lawful g.met.D.Decomposable.order (c.args.level - 1) c.args.label lives c.deref.result.now near few is_of_node))
     ∙ ap (λ all. g.D.Decomposable.answer all c.args.query) (node_at g.met.D.Decomposable.order (c.args.level - 1) c.args.label lives c.deref.result.now near is_of_node)
 
 pub ask_half-ask-requires : goal.ask_half-ask-requires

@@ -29,7 +29,8 @@ returns-clause-held g c =
           (held_kept before c.args.held.now c.args.root.now c.add-added.new.trie c.requires.held (err_of c.add-added.result (sym c.is_err.ensures.value ∙ w.if-is_err.true) c.add-added.ensures.err))
       | else-is_err w ↦
           subst (λ held. AreHeld before held c.add-added.new.trie) (sym (w.held-is ∙ c.in_ok-put.ensures.ok))
-          (held_with g.met.D.Decomposable.order c.args.life c.args.held.now c.args.root.now c.add-added.new.trie c.requires.range c.requires.room c.requires.held (ok_of c.add-added.result (sym c.is_err.ensures.value ∙ w.if-is_err.false) c.add-added.ensures.ok))
+          (held_with g.met.D.Decomposable.order c.args.life c.args.held.now c.args.root.now c.add-added.new.trie c.requires.range c.requires.room
+          c.requires.held (ok_of c.add-added.result (sym c.is_err.ensures.value ∙ w.if-is_err.false) c.add-added.ensures.ok))
     ]
 
 pub returns-clause-err : goal.returns-clause-err
@@ -37,6 +38,7 @@ returns-clause-err g c =
     elim c.if-is_err.branch [
       | then-is_err w ↦
           err_always c.add-added.result
-          (w.held-is ∙ w.take_out.ensures ∙ ap (without (stands_earlier g.D.Decomposable.stands_before) c.args.life) c.in_ok-put.ensures.ok ∙ without-put_in (earlier_order g.met.D.Decomposable.order) c.args.life c.args.held.now)
+          (w.held-is ∙ w.take_out.ensures ∙ ap (without (stands_earlier g.D.Decomposable.stands_before) c.args.life) c.in_ok-put.ensures.ok
+          ∙ without-put_in (earlier_order g.met.D.Decomposable.order) c.args.life c.args.held.now)
       | else-is_err w ↦ err_never (c.if-is_err.held ≡ c.args.held.now) c.add-added.result (sym c.is_err.ensures.value ∙ w.if-is_err.false)
     ]

@@ -8,12 +8,16 @@ use Rattle.order_labels.proofs.labels.find.Goals as goal
 
 pub returns-then-count-eq0-clause-place : goal.returns-then-count-eq0-clause-place
 returns-then-count-eq0-clause-place g c =
-    let counted : c.partition_point-count.result ≡ count_up_to itself c.args.rows.now c.args.label = count_found itself c.args.label _ _ c.args.rows.now _ c.partition_point-count.ensures.partition (λ row answer call. search rules) (never_fall 0 label_limit c.args.rows.now c.requires.labels.rising) c.partition_point-count.ensures.within in
+    let counted : c.partition_point-count.result ≡ count_up_to itself c.args.rows.now c.args.label =
+    count_found itself c.args.label _ _ c.args.rows.now _ c.partition_point-count.ensures.partition (λ row answer call. search rules)
+    (never_fall 0 label_limit c.args.rows.now c.requires.labels.rising) c.partition_point-count.ensures.within in
     sym (no_label c.args.label c.args.rows.now (sym counted ∙ c.if-count-eq0.true))
 
 pub returns-then-number-label-clause-place : goal.returns-then-number-label-clause-place
 returns-then-number-label-clause-place g c =
-    let counted : c.partition_point-count.result ≡ count_up_to itself c.args.rows.now c.args.label = count_found itself c.args.label _ _ c.args.rows.now _ c.partition_point-count.ensures.partition (λ row answer call. search rules) (never_fall 0 label_limit c.args.rows.now c.requires.labels.rising) c.partition_point-count.ensures.within in
+    let counted : c.partition_point-count.result ≡ count_up_to itself c.args.rows.now c.args.label =
+    count_found itself c.args.label _ _ c.args.rows.now _ c.partition_point-count.ensures.partition (λ row answer call. search rules)
+    (never_fall 0 label_limit c.args.rows.now c.requires.labels.rising) c.partition_point-count.ensures.within in
     let last = c.partition_point-count.result - 1 in
     sym (label_found c.args.label 0 label_limit last c.get.result c.args.rows.now (omega arith) c.requires.labels.rising
     (let last_is : count_up_to itself c.args.rows.now c.args.label ≡ suc last = omega (arith, counted) in last_is)
@@ -21,7 +25,9 @@ returns-then-number-label-clause-place g c =
 
 pub returns-clause-place : goal.returns-clause-place
 returns-clause-place g c =
-    let counted : c.partition_point-count.result ≡ count_up_to itself c.args.rows.now c.args.label = count_found itself c.args.label _ _ c.args.rows.now _ c.partition_point-count.ensures.partition (λ row answer call. search rules) (never_fall 0 label_limit c.args.rows.now c.requires.labels.rising) c.partition_point-count.ensures.within in
+    let counted : c.partition_point-count.result ≡ count_up_to itself c.args.rows.now c.args.label =
+    count_found itself c.args.label _ _ c.args.rows.now _ c.partition_point-count.ensures.partition (λ row answer call. search rules)
+    (never_fall 0 label_limit c.args.rows.now c.requires.labels.rising) c.partition_point-count.ensures.within in
     let last = c.partition_point-count.result - 1 in
     sym (label_missing c.args.label 0 label_limit last c.get.result c.args.rows.now c.requires.labels.rising
     (let last_is : count_up_to itself c.args.rows.now c.args.label ≡ suc last = omega (arith, counted) in last_is)

@@ -18,7 +18,8 @@ overflow_add-count g c =
 
 pub returns-then-is_err-clause-kept : goal.returns-then-is_err-clause-kept
 returns-then-is_err-clause-kept g c =
-    kept_again c.args.rows.now c.insert.new.self c.args.runs.now c.args.names.now c.first_run.new.runs c.first_run.new.names c.args.numbers.now c.forget.new.numbers c.args.row.number c.requires.kept c.requires.comes.fresh
+    kept_again c.args.rows.now c.insert.new.self c.args.runs.now c.args.names.now c.first_run.new.runs c.first_run.new.names c.args.numbers.now
+    c.forget.new.numbers c.args.row.number c.requires.kept c.requires.comes.fresh
     c.first_run.ensures.each c.first_run.ensures.same (err_from c.insert.result c.is_err.result _ c.is_err.ensures.value c.if-is_err.true c.insert.ensures.err)
     (twice c.args.numbers.now c.add.new.numbers c.forget.new.numbers c.args.row.number (Some c.name_at-name.result) None c.in_ok-add.ensures.ok c.forget.ensures)
 

@@ -21,7 +21,8 @@ returns-in_err-run g c =
     let names = c.args.names.now in
     let name = c.in_ok-name.field-0.now in
     let some : name_of c.args.number rows (beside runs names) ≡ Some name = sym (c.requires.kept.in_runs.named.filed c.args.number) ∙ sym c.in_ok-name.ensures.value in
-    c.from_residual-in_err-run.ensures ∙ sym (no_run c.args.number name rows runs names c.requires.kept.in_runs.each (all_rows rows runs names c.args.numbers.now c.requires.kept.in_runs) some (sym c.place_of.ensures.place ∙ c.in_err-run.was))
+    c.from_residual-in_err-run.ensures ∙ sym (no_run c.args.number name rows runs names c.requires.kept.in_runs.each
+    (all_rows rows runs names c.args.numbers.now c.requires.kept.in_runs) some (sym c.place_of.ensures.place ∙ c.in_err-run.was))
 
 pub place_from-requires : goal.place_from-requires
 place_from-requires g c =

@@ -12,7 +12,8 @@ push-requires g c =
     let rows = g.S.Sequence.rows c.args.structure.now in
     let size = c.size_at-size.ensures in
     let small : length c.loop-index.listing ≡ c.loop-index.index =
-    listed-length g.S.Sequence.kind rows g.met.S.Sequence.is_line size.replayable c.args.place c.size_at-size.result c.loop-index.index c.loop-index.listing c.requires.within size.size c.loop-index.auto.index-end c.loop-index.invariant in
+    listed-length g.S.Sequence.kind rows g.met.S.Sequence.is_line size.replayable c.args.place c.size_at-size.result c.loop-index.index c.loop-index.listing
+    c.requires.within size.size c.loop-index.auto.index-end c.loop-index.invariant in
     omega (arith, small, c.loop-index-test.true, size.few, size.replayable.few)
 
 pub loop-index-preserved : goal.loop-index-preserved

@@ -38,14 +38,16 @@ pub returns-in-Ok-count-clause-first : goal.returns-in-Ok-count-clause-first
 returns-in-Ok-count-clause-first c = λ row same.
     let e : counted (quantity_of c.args.op) (take c.args.place c.args.rows.now) 0 ≡ Ok c.in-Ok.size = rw (← c.split_at.ensures.front, ← c.quantity_of-quantity.ensures) (sym c.count.ensures ∙ c.in-Ok.is) in
     let goes : quantity_after (quantity_of c.args.op) row.op c.in-Ok.size ≡ Some c.in-Some.next = rw (same, ← c.quantity_of-quantity.ensures) (sym c.counted_after.ensures ∙ c.in-Some.is) in
-    let rest : counted (quantity_of c.args.op) (drop c.args.place c.args.rows.now) c.in-Some.next ≡ Ok c.in-Ok-count.field-0 = rw (← c.split_at.ensures.back, ← c.quantity_of-quantity.ensures) (sym c.count-2.ensures ∙ c.in-Ok-count.is) in
+    let rest : counted (quantity_of c.args.op) (drop c.args.place c.args.rows.now) c.in-Some.next ≡ Ok c.in-Ok-count.field-0 =
+    rw (← c.split_at.ensures.back, ← c.quantity_of-quantity.ensures) (sym c.count-2.ensures ∙ c.in-Ok-count.is) in
     sym (ap result_err (between_goes (λ r n. quantity_after (quantity_of c.args.op) r.op n) _ _ row 0 _ _ e goes ∙ ap (later (length (take c.args.place c.args.rows.now) + 1)) rest))
 
 pub returns-in-Err-count-clause-first : goal.returns-in-Err-count-clause-first
 returns-in-Err-count-clause-first c = λ row same.
     let e : counted (quantity_of c.args.op) (take c.args.place c.args.rows.now) 0 ≡ Ok c.in-Ok.size = rw (← c.split_at.ensures.front, ← c.quantity_of-quantity.ensures) (sym c.count.ensures ∙ c.in-Ok.is) in
     let goes : quantity_after (quantity_of c.args.op) row.op c.in-Ok.size ≡ Some c.in-Some.next = rw (same, ← c.quantity_of-quantity.ensures) (sym c.counted_after.ensures ∙ c.in-Some.is) in
-    let rest : counted (quantity_of c.args.op) (drop c.args.place c.args.rows.now) c.in-Some.next ≡ Err c.in-Err-count.index = rw (← c.split_at.ensures.back, ← c.quantity_of-quantity.ensures) (sym c.count-2.ensures ∙ c.in-Err-count.is) in
+    let rest : counted (quantity_of c.args.op) (drop c.args.place c.args.rows.now) c.in-Some.next ≡ Err c.in-Err-count.index =
+    rw (← c.split_at.ensures.back, ← c.quantity_of-quantity.ensures) (sym c.count-2.ensures ∙ c.in-Err-count.is) in
     let at_place : length (take c.args.place c.args.rows.now) ≡ c.args.place = omega (arith, length-take c.args.place c.args.rows.now) in
     ap (λ i. Some (i + 1 + c.in-Err-count.index)) (sym at_place)
     ∙ sym (ap result_err (between_goes (λ r n. quantity_after (quantity_of c.args.op) r.op n) _ _ row 0 _ _ e goes ∙ ap (later (length (take c.args.place c.args.rows.now) + 1)) rest))

@@ -14,9 +14,40 @@ loop-key-preserved-then-lies_between c =
     let inside = simp to_z-of_z at (sym c.lies_between.ensures ∙ c.if-lies_between.true) in
     let value_is = simp to_z-of_z at c.from-sum.ensures in
     record {
-      exact = turn_added _ _ _ _ _ _ _ _ c.in-Some.ensures.steps c.loop-key.invariant.exact _ inside (omega (arith, ints, value_is, c.loop-key.invariant.above, c.loop-key.invariant.below, c.loop-key.invariant.place, c.iter-key-items.ensures.fits, ap length c.in-Some.ensures.steps, length_push c.loop-key.yielded (c.in-Some.key, c.in-Some.value)));
-      above = omega (arith, ints, value_is, c.loop-key.invariant.above, c.loop-key.invariant.below, c.loop-key.invariant.place, c.iter-key-items.ensures.fits, ap length c.in-Some.ensures.steps, length_push c.loop-key.yielded (c.in-Some.key, c.in-Some.value));
-      below = omega (arith, ints, value_is, c.loop-key.invariant.above, c.loop-key.invariant.below, c.loop-key.invariant.place, c.iter-key-items.ensures.fits, ap length c.in-Some.ensures.steps, length_push c.loop-key.yielded (c.in-Some.key, c.in-Some.value));
+      exact = turn_added _ _ _ _ _ _ _ _ c.in-Some.ensures.steps c.loop-key.invariant.exact _ inside
+          (omega (
+            arith,
+            ints,
+            value_is,
+            c.loop-key.invariant.above,
+            c.loop-key.invariant.below,
+            c.loop-key.invariant.place,
+            c.iter-key-items.ensures.fits,
+            ap length c.in-Some.ensures.steps,
+            length_push c.loop-key.yielded (c.in-Some.key, c.in-Some.value),
+          ));
+      above = omega (
+        arith,
+        ints,
+        value_is,
+        c.loop-key.invariant.above,
+        c.loop-key.invariant.below,
+        c.loop-key.invariant.place,
+        c.iter-key-items.ensures.fits,
+        ap length c.in-Some.ensures.steps,
+        length_push c.loop-key.yielded (c.in-Some.key, c.in-Some.value),
+      );
+      below = omega (
+        arith,
+        ints,
+        value_is,
+        c.loop-key.invariant.above,
+        c.loop-key.invariant.below,
+        c.loop-key.invariant.place,
+        c.iter-key-items.ensures.fits,
+        ap length c.in-Some.ensures.steps,
+        length_push c.loop-key.yielded (c.in-Some.key, c.in-Some.value),
+      );
       place = omega (arith, length_push c.loop-key.yielded (c.in-Some.key, c.in-Some.value), ap length c.in-Some.ensures.steps, c.loop-key.invariant.place);
     }
 

@@ -20,7 +20,9 @@ change_without-requires-clause-alive c = kept_survivors c.args.kind c.args.rows.
 pub returns-in-Entries : goal.returns-in-Entries
 returns-in-Entries c = λ row there. subst (λ r. IsChange c.args.kind c.args.rows.now (cut c.args.place r) c.change_without.result)
     (get_or_from_slice_get c.args.rows.now c.args.place row no_row there)
-    (kept_changes c.args.kind c.args.rows.now _ c.in-Entries.alive (cut c.args.place (get_or c.args.rows.now c.args.place no_row)) c.change_without.result c.requires.kept (ap state_of c.in-Entries.is) c.change_without.ensures)
+    (kept_changes c.args.kind c.args.rows.now _ c.in-Entries.alive
+    (cut c.args.place (get_or c.args.rows.now c.args.place no_row)) c.change_without.result c.requires.kept
+    (ap state_of c.in-Entries.is) c.change_without.ensures)
 
 pub returns-in-Line : goal.returns-in-Line
 returns-in-Line c = λ row there. elim c.in-Line.is [

@@ -11,7 +11,8 @@ use Rattle.retro_base.specs.declared.row.Entry.{Entry}
 use Rattle.retro_base.specs.declared.row.Row.{Row}
 use Rattle.retro_base.specs.Replay.{fold_rows}
 use Rattle.retro_base.specs.Edits.{Edit, add, cut}
-use Rattle.retro_base.specs.Bridges.{survivors, survives, IsBridge, is_bridge, IsLastBridge, IsFirstBridge, last_bridge, first_bridge, first_bridge_among, Sought, back_from, on_from, nowhere, sought, sought_for_added, sought_for_cut, bridge_found, IsFound, stated_bridge}
+use Rattle.retro_base.specs.Bridges.{survivors, survives, IsBridge, is_bridge, IsLastBridge, IsFirstBridge, last_bridge, first_bridge, first_bridge_among}
+use Rattle.retro_base.specs.Bridges.{Sought, back_from, on_from, nowhere, sought, sought_for_added, sought_for_cut, bridge_found, IsFound, stated_bridge}
 use Rattle.retro_base.specs.Carried.{IsPqEdit}
 use Rattle.retro_base.specs.ChangeLaws.{IsTheStatedBridge}
 use Rattle.retro_base.specs.lemmas.bridges.Entries.{In, in_contains}

@@ -8,5 +8,7 @@ use Rattle.retro_cli.proofs.script.answer_by_bench.Goals as goal
 
 pub returns-clause-handed : goal.returns-clause-handed
 returns-clause-handed g c =
-    subst (λ (r : Reaction). map (λ f. option_map (λ b. (goal.Follower-dyn g (b.vtable, b.value)).report_after b.value) f) c.hand_on.new.followers ≡ hears (events_among r.answer) (map (λ f. option_map (λ b. (goal.Follower-dyn g (b.vtable, b.value)).report_after b.value) f) c.args.followers.now)) (sym c.in_ok-reply.ensures.reacts)
+    subst (λ (r : Reaction). map (λ f. option_map (λ b. (goal.Follower-dyn g (b.vtable, b.value)).report_after b.value) f) c.hand_on.new.followers
+    ≡ hears (events_among r.answer) (map (λ f. option_map (λ b. (goal.Follower-dyn g (b.vtable, b.value)).report_after b.value) f) c.args.followers.now))
+    (sym c.in_ok-reply.ensures.reacts)
     (rw c.as_bytes.ensures at c.in_ok-hand_on.ensures)

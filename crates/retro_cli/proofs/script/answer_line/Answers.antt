@@ -6,12 +6,14 @@ use Rattle.retro_cli.proofs.script.answer_line.Goals as goal
 
 pub returns-in-Some-clause-answered : goal.returns-in-Some-clause-answered
 returns-in-Some-clause-answered g c =
-    answered_by_follower c.args.bench.now.bench (map (λ f. option_map (λ b. (goal.Follower-dyn g (b.vtable, b.value)).report_after b.value) f) c.args.followers.now) c.args.line.now c.args.long c.in-Some.number c.in-Some.ensures.speaks.0
+    answered_by_follower c.args.bench.now.bench (map (λ f. option_map (λ b. (goal.Follower-dyn g (b.vtable, b.value)).report_after b.value) f)
+    c.args.followers.now) c.args.line.now c.args.long c.in-Some.number c.in-Some.ensures.speaks.0
     _ refl c.in-Some.ensures.speaks.1 c.answer_by_follower.result _ _ _ _ (search rules) c.answer_by_follower.ensures.answered
 
 pub returns-in-Some-clause-part : goal.returns-in-Some-clause-part
 returns-in-Some-clause-part g c = λ is.
-    part_by_follower c.args.bench.now.bench (map (λ f. option_map (λ b. (goal.Follower-dyn g (b.vtable, b.value)).report_after b.value) f) c.args.followers.now) c.args.line.now c.args.long c.in-Some.number c.in-Some.ensures.speaks.0
+    part_by_follower c.args.bench.now.bench (map (λ f. option_map (λ b. (goal.Follower-dyn g (b.vtable, b.value)).report_after b.value) f) c.args.followers.now)
+    c.args.line.now c.args.long c.in-Some.number c.in-Some.ensures.speaks.0
     _ refl c.in-Some.ensures.speaks.1 _ _ (c.answer_by_follower.ensures.part is)
 
 pub returns-in-None-clause-answered : goal.returns-in-None-clause-answered

@@ -29,7 +29,8 @@ returns-in_err-next_line-clause-stands g c =
     let answers = before_end _ _ _ _ _ _ _ _ _ not_ended (goes_on_sent _ _ _ _ _ _ _ _ _ _ c.send_before_read.ensures.written c.loop-bench.invariant.answers) in
     rw p.1
     (stands_at_error _ g.K.Sink _ _ _ _ _ c.in_err-next_line.field-0.0 p.0 p.2
-    (first_answers _ _ _ _ _ _ _ _ _ (goes_on_sent _ _ _ _ _ _ _ _ _ _ c.send_before_read.ensures.written c.loop-bench.invariant.answers)) (StaysUnflushed-more g.K.Sink _ _ _ c.loop-bench.invariant.unflushed c.in_ok-send_before_read.ensures.unflushed)
+    (first_answers _ _ _ _ _ _ _ _ _ (goes_on_sent _ _ _ _ _ _ _ _ _ _ c.send_before_read.ensures.written c.loop-bench.invariant.answers))
+    (StaysUnflushed-more g.K.Sink _ _ _ c.loop-bench.invariant.unflushed c.in_ok-send_before_read.ensures.unflushed)
     (λ fault. answers_of_taken _ _ _ _ _ _ (held c.loop-bench.reader) _ _ _ _ answers stops.unbroken c.in_err-next_line.ensures.moves.left (stops.unbroken_taken fault))
     (λ too_long. rw (← moves.limit)
     (answers_of_first _ _ _ _ _ (held c.args.reader.now) (held c.loop-bench.reader) _ _ (taken c.args.reader.now) (taken c.loop-bench.reader) _ _
@@ -44,9 +45,13 @@ returns-in_err-refused-clause-stands g c =
     let not_ended : has_ended c.loop-bench.reader ≡ false = open_before_line _ _ _ as_given c.in_ok-next_line.ensures.kept_end in
     rw (p.1, p.2)
     (stands_at_answer _ g.K.Sink _ _ _ _ _ _ c.in_err-refused.field-0.0
-    (first_answers _ _ _ _ _ _ _ _ _ (goes_on_sent _ _ _ _ _ _ _ _ _ _ c.send_before_read.ensures.written c.loop-bench.invariant.answers)) (StaysUnflushed-more g.K.Sink _ _ _ c.loop-bench.invariant.unflushed c.in_ok-send_before_read.ensures.unflushed) c.in_err-refused.ensures.untouched c.in_err-refused.ensures.reads_nothing
+    (first_answers _ _ _ _ _ _ _ _ _ (goes_on_sent _ _ _ _ _ _ _ _ _ _ c.send_before_read.ensures.written c.loop-bench.invariant.answers))
+    (StaysUnflushed-more g.K.Sink _ _ _ c.loop-bench.invariant.unflushed c.in_ok-send_before_read.ensures.unflushed) c.in_err-refused.ensures.untouched
+    c.in_err-refused.ensures.reads_nothing
     (λ is. part_in_line _ _ _ _ _ _ c.in_ok-next_line.field-0 c.match-branch-3.long (line_of c.next_line.new.reader) (has_ended c.next_line.new.reader) _ _ _ _
-    as_given c.in_ok-next_line.ensures.gives.lines (before_end _ _ _ _ _ _ _ _ _ not_ended (goes_on_sent _ _ _ _ _ _ _ _ _ _ c.send_before_read.ensures.written c.loop-bench.invariant.answers)) (rw c.line.ensures at (c.in_err-refused.ensures.part is)))
+    as_given c.in_ok-next_line.ensures.gives.lines (before_end _ _ _ _ _ _ _ _ _ not_ended
+    (goes_on_sent _ _ _ _ _ _ _ _ _ _ c.send_before_read.ensures.written c.loop-bench.invariant.answers))
+    (rw c.line.ensures at (c.in_err-refused.ensures.part is)))
     c.in_err-refused.ensures.last)
 
 pub returns-in_err-refused-in-End-clause-stands : goal.returns-in_err-refused-in-End-clause-stands
@@ -55,7 +60,8 @@ returns-in_err-refused-in-End-clause-stands g c =
     let failed = c.in_err-refused-in-End.ensures in
     rw (p.1, p.2)
     (stands_at_answer _ g.K.Sink _ _ _ _ _ _ c.in_err-refused-in-End.field-0.0
-    (first_answers _ _ _ _ _ _ _ _ _ (goes_on_sent _ _ _ _ _ _ _ _ _ _ c.send_before_read.ensures.written c.loop-bench.invariant.answers)) (StaysUnflushed-more g.K.Sink _ _ _ c.loop-bench.invariant.unflushed c.in_ok-send_before_read.ensures.unflushed) failed.untouched failed.reads_nothing
+    (first_answers _ _ _ _ _ _ _ _ _ (goes_on_sent _ _ _ _ _ _ _ _ _ _ c.send_before_read.ensures.written c.loop-bench.invariant.answers))
+    (StaysUnflushed-more g.K.Sink _ _ _ c.loop-bench.invariant.unflushed c.in_ok-send_before_read.ensures.unflushed) failed.untouched failed.reads_nothing
     (λ is. part_at_end _ _ _ _ _ _ _ _ _ _ _ (line_of c.next_line.new.reader) (has_ended c.next_line.new.reader) (goes_on_sent _ _ _ _ _ _ _ _ _ _ c.send_before_read.ensures.written c.loop-bench.invariant.answers)
     (rw c.in-End.is at c.in_ok-next_line.ensures.gives.lines) (failed.part is))
     failed.last)
@@ -121,7 +127,8 @@ returns-in-End-clause-handed g c =
     (goes_on_sent _ _ _ _ _ _ _ _ _ _ c.send_before_read.ensures.written c.loop-bench.invariant.answers) (rw c.in-End.is at c.in_ok-next_line.ensures.gives.lines)
 
 pub returns-in-End-clause-unflushed : goal.returns-in-End-clause-unflushed
-returns-in-End-clause-unflushed g c = StaysUnflushed-more g.K.Sink _ _ _ (StaysUnflushed-more g.K.Sink _ _ _ c.loop-bench.invariant.unflushed c.in_ok-send_before_read.ensures.unflushed) c.in_ok-refused-in-End.ensures.unflushed
+returns-in-End-clause-unflushed g c = StaysUnflushed-more g.K.Sink _ _ _
+    (StaysUnflushed-more g.K.Sink _ _ _ c.loop-bench.invariant.unflushed c.in_ok-send_before_read.ensures.unflushed) c.in_ok-refused-in-End.ensures.unflushed
 
 pub returns-in_err-send_before_read-clause-stands : goal.returns-in_err-send_before_read-clause-stands
 returns-in_err-send_before_read-clause-stands g c =

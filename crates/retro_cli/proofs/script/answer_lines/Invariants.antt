@@ -16,7 +16,9 @@ invariant-loop-bench g l = record {
   sink_faults : g.K.Sink.faults l.sink ≡ g.K.Sink.faults l.fn.sink;
   unflushed : StaysUnflushed g.K.Sink l.fn.sink l.sink;
   answers : (bytes : List ℕ) → rest_of l.fn.reader ≡ Some bytes
-      → GoesOn (map (λ f. option_map (λ b. (goal.Follower-dyn g (b.vtable, b.value)).report_after b.value) f) l.fn.followers) bytes (g.K.Sink.written l.fn.sink) l.bench.bench (map (λ f. option_map (λ b. (goal.Follower-dyn g (b.vtable, b.value)).report_after b.value) f) l.followers) l.refused (has_ended l.reader) (rest_of l.reader) (g.K.Sink.written l.sink);
+      → GoesOn (map (λ f. option_map (λ b. (goal.Follower-dyn g (b.vtable, b.value)).report_after b.value) f) l.fn.followers) bytes
+      (g.K.Sink.written l.fn.sink) l.bench.bench (map (λ f. option_map (λ b. (goal.Follower-dyn g (b.vtable, b.value)).report_after b.value) f) l.followers)
+      l.refused (has_ended l.reader) (rest_of l.reader) (g.K.Sink.written l.sink);
   so_far : (script left : List ℕ) → g.S.Source.left (source_of l.fn.reader) ≡ Some script → g.S.Source.left (source_of l.reader) ≡ Some left
       → IsReadSoFar g.S.Source (source_of l.fn.reader) (source_of l.reader) script left (held l.reader);
 }

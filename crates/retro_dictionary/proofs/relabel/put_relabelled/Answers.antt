@@ -15,13 +15,15 @@ use Rattle.retro_dictionary.proofs.relabel.put_relabelled.Goals.{After-new_label
 -- all rows can be relabelled
 can : (g : Over) (c : After-new_label-label g) → CanRelabel c.in_ok-former.former c.in_ok-fresh.fresh c.new_label-label.result c.args.index.now
 can g c =
-    can-relabel-listed _ _ _ _ c.requires.kept c.args.place c.requires.can.within c.requires.few _ _ _ c.len.result c.len-2.result c.in_ok-former.ensures c.in_ok-fresh.ensures c.len.ensures c.new_label-label.ensures c.len-2.ensures
+    can-relabel-listed _ _ _ _ c.requires.kept c.args.place c.requires.can.within c.requires.few _ _ _ c.len.result c.len-2.result c.in_ok-former.ensures
+    c.in_ok-fresh.ensures c.len.ensures c.new_label-label.ensures c.len-2.ensures
 
 -- and are, with the new one
 indexed : (g : Over) (c : In_ok-relabel_with g) → c.relabel_with.new.index ≡ labelled (spread (length c.args.rows.now + 1)) (insert c.args.rows.now c.args.place c.args.row)
 indexed g c =
     c.in_ok-relabel_with.ensures.ok
-    ∙ all-listed _ _ _ _ c.requires.kept c.args.place c.requires.can.within c.requires.few _ _ _ c.len.result c.len-2.result c.in_ok-former.ensures c.in_ok-fresh.ensures c.len.ensures c.new_label-label.ensures c.len-2.ensures c.args.row
+    ∙ all-listed _ _ _ _ c.requires.kept c.args.place c.requires.can.within c.requires.few _ _ _ c.len.result c.len-2.result c.in_ok-former.ensures
+    c.in_ok-fresh.ensures c.len.ensures c.new_label-label.ensures c.len-2.ensures c.args.row
 
 pub relabel_with-requires-clause-can : goal.relabel_with-requires-clause-can
 relabel_with-requires-clause-can g c = can g (goal.at.relabel_with-requires-clause-can g c).After-new_label-label

@@ -13,11 +13,14 @@ loop-place-init g c = c.new-segments.ensures ∙ sym (none-made (spread (length 
 -- the label of the row that comes next
 next-label : (g : Over) (c : After-label_of g) → slice_get (spread (length c.args.rows.now)) (c.loop-place.place - 1) ≡ Some c.label_of.result
 next-label g c =
-    label-there (length c.args.rows.now) c.len-count.result c.gap_of-gap.result (c.loop-place.place - 1) c.label_of.result c.len-count.ensures c.gap_of-gap.ensures.value c.label_of.ensures (omega (arith, c.loop-place.auto.place, c.len-count.ensures))
+    label-there (length c.args.rows.now) c.len-count.result c.gap_of-gap.result
+    (c.loop-place.place - 1) c.label_of.result c.len-count.ensures c.gap_of-gap.ensures.value c.label_of.ensures
+    (omega (arith, c.loop-place.auto.place, c.len-count.ensures))
 
 pub begin-requires : goal.begin-requires
 begin-requires g c = record {
-  can = can-begin (spread (length c.args.rows.now)) c.args.rows.now c.args.index.now (length-spread (length c.args.rows.now)) (spread-rises (length c.args.rows.now) (omega (arith, c.requires.few))) c.requires.few c.requires.indexed
+  can = can-begin (spread (length c.args.rows.now)) c.args.rows.now c.args.index.now (length-spread (length c.args.rows.now))
+      (spread-rises (length c.args.rows.now) (omega (arith, c.requires.few))) c.requires.few c.requires.indexed
       (c.loop-place.place - 1) c.label_of.result c.row-op.result (next-label g (goal.at.begin-requires g c).After-label_of) (c.get.ensures.item ∙ ap Some (sym c.row-op.ensures))
       c.loop-place.place c.loop-place.segments (omega arith) c.loop-place.invariant;
 }
@@ -25,6 +28,7 @@ begin-requires g c = record {
 pub loop-place-preserved : goal.loop-place-preserved
 loop-place-preserved g c =
     c.in_ok-begin.ensures.ok
-    ∙ one-made (spread (length c.args.rows.now)) c.args.rows.now c.args.index.now (length-spread (length c.args.rows.now)) (spread-rises (length c.args.rows.now) (omega (arith, c.requires.few))) c.requires.few c.requires.indexed
+    ∙ one-made (spread (length c.args.rows.now)) c.args.rows.now c.args.index.now (length-spread (length c.args.rows.now))
+    (spread-rises (length c.args.rows.now) (omega (arith, c.requires.few))) c.requires.few c.requires.indexed
     (c.loop-place.place - 1) c.label_of.result c.row-op.result (next-label g (goal.at.loop-place-preserved g c).After-label_of) (c.get.ensures.item ∙ ap Some (sym c.row-op.ensures))
     c.loop-place.place c.loop-place.segments (omega arith) c.loop-place.invariant

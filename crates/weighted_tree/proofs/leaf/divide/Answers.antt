@@ -12,6 +12,20 @@ returns-clause-ok g c =
     let within = c.cut_at-cut.ensures.within in
     let item_is = ap (λ n. n.item) (c.deref_mut.ensures.value ∙ c.in_ok-node.ensures.ok) ∙ c.alone.ensures.item in
     elim (cases_lt cut c.args.place) [
-      | inl after ↦ cc (c.divide_left.ensures.after after, item_is, c.of_items.ensures.items, c.in_ok-right.ensures.after after, c.as_slice.ensures.value, divided_after items cut middle c.args.item (omega arith) is c.args.place after)
-      | inr before ↦ cc (c.divide_left.ensures.before before, item_is, c.of_items.ensures.items, c.in_ok-right.ensures.before before, c.as_slice.ensures.value, divided_before items cut middle c.args.item (omega arith) is c.args.place before)
+      | inl after ↦ cc (
+        c.divide_left.ensures.after after,
+        item_is,
+        c.of_items.ensures.items,
+        c.in_ok-right.ensures.after after,
+        c.as_slice.ensures.value,
+        divided_after items cut middle c.args.item (omega arith) is c.args.place after,
+      )
+      | inr before ↦ cc (
+        c.divide_left.ensures.before before,
+        item_is,
+        c.of_items.ensures.items,
+        c.in_ok-right.ensures.before before,
+        c.as_slice.ensures.value,
+        divided_before items cut middle c.args.item (omega arith) is c.args.place before,
+      )
     ]

@@ -9,7 +9,14 @@ on-preserved g c =
     let next = range_next laws g.T.Measured.measured c.args.items.now c.args.from c.on.end x c.on.invariant.above (omega arith) (search rules) in
     record {
       value = cc (next, c.join-joined.ensures, c.measure.ensures, c.on.invariant.value);
-      items = omega (arith, ap g.T.Measure.Monoid.items_of c.join-joined.ensures, ap g.T.Measure.Monoid.items_of c.measure.ensures, laws.join_items c.on.joined c.measure.result, g.met.T.Measured.single x, c.on.invariant.items);
+      items = omega (
+        arith,
+        ap g.T.Measure.Monoid.items_of c.join-joined.ensures,
+        ap g.T.Measure.Monoid.items_of c.measure.ensures,
+        laws.join_items c.on.joined c.measure.result,
+        g.met.T.Measured.single x,
+        c.on.invariant.items,
+      );
       above = omega arith;
       within = omega arith;
     }

@@ -4,14 +4,16 @@ use Rattle.weighted_tree.proofs.leaf.partition_in.Goals as goal
 
 pub halve-preserved-then-passes : goal.halve-preserved-then-passes
 halve-preserved-then-passes g c = record {
-  turn = λ holds tells parted. turn_above holds c.args.items.now c.halve.low c.halve.high _ c.index-items-middle.result parted (c.halve.invariant.turn holds tells parted) (omega arith) (search rules) (sym (tells c.index-items-middle.result _ c.passes.ensures) ∙ c.if-passes.true);
+  turn = λ holds tells parted. turn_above holds c.args.items.now c.halve.low c.halve.high _ c.index-items-middle.result parted
+      (c.halve.invariant.turn holds tells parted) (omega arith) (search rules) (sym (tells c.index-items-middle.result _ c.passes.ensures) ∙ c.if-passes.true);
   order = omega arith;
   within = omega arith;
 }
 
 pub halve-preserved : goal.halve-preserved
 halve-preserved g c = record {
-  turn = λ holds tells parted. turn_below holds c.args.items.now c.halve.low c.halve.high _ c.index-items-middle.result parted (c.halve.invariant.turn holds tells parted) (omega arith) (search rules) (sym (tells c.index-items-middle.result _ c.passes.ensures) ∙ c.if-passes.false);
+  turn = λ holds tells parted. turn_below holds c.args.items.now c.halve.low c.halve.high _ c.index-items-middle.result parted
+      (c.halve.invariant.turn holds tells parted) (omega arith) (search rules) (sym (tells c.index-items-middle.result _ c.passes.ensures) ∙ c.if-passes.false);
   order = omega arith;
   within = omega arith;
 }

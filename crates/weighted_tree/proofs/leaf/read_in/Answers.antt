@@ -10,7 +10,9 @@ pub on-preserved : goal.on-preserved
 on-preserved g c =
     let x = c.index-leaf-from.result in
     record {
-      written = λ shows tells. ap (slice_set c.on.items (c.args.filled + c.on.done)) (tells x _ c.show.ensures) ∙ written_next shows c.args.items.now c.on.items c.args.leaf.now c.args.from c.args.filled c.on.done x (omega arith) c.on.invariant.size (omega arith) (search rules) (c.on.invariant.written shows tells);
+      written = λ shows tells. ap (slice_set c.on.items (c.args.filled + c.on.done)) (tells x _ c.show.ensures)
+          ∙ written_next shows c.args.items.now c.on.items c.args.leaf.now c.args.from c.args.filled c.on.done x (omega arith) c.on.invariant.size (omega arith)
+          (search rules) (c.on.invariant.written shows tells);
       size = length-set c.on.items (c.args.filled + c.on.done) c.show.result ∙ c.on.invariant.size;
       within = omega arith;
       visits = elim c.if-done-gt0.branch [
@@ -20,4 +22,6 @@ on-preserved g c =
     }
 
 pub returns-clause-items : goal.returns-clause-items
-returns-clause-items g c = λ shows tells. c.on.invariant.written shows tells ∙ ap (λ n. overwritten c.args.items.now c.args.filled (map shows (take n (drop c.args.from c.args.leaf.now)))) (let all : c.on.done ≡ c.args.count = omega arith in all)
+returns-clause-items g c = λ shows tells. c.on.invariant.written shows tells
+    ∙ ap (λ n. overwritten c.args.items.now c.args.filled (map shows (take n (drop c.args.from c.args.leaf.now))))
+    (let all : c.on.done ≡ c.args.count = omega arith in all)

@@ -19,7 +19,8 @@ returns-in_default-clause-first g c =
     sym (subst (λ l. failure Pq (remove l c.args.place) ≡ None) c.self.view_is
     (cut-survivor-goes (rows_of c.self.inside.rows) c.args.place c.get-item.result.row c.in-Some.own (history-of c.self.inside.rows c.self.inside.entries c.self.invariant)
     (get-map (λ (item : MarkedRow). item.row) c.self.inside.rows c.args.place c.get-item.result c.get-item.ensures.item) (sym c.added_entry.ensures ∙ c.in-Some.is)
-    (mark-lives c.self.inside.rows c.self.inside.entries c.self.invariant c.args.place c.get-item.result c.in-Some.own c.get-item.ensures.item (sym c.added_entry.ensures ∙ c.in-Some.is) (marked-set _ c.if-not-item.false))))
+    (mark-lives c.self.inside.rows c.self.inside.entries c.self.invariant c.args.place c.get-item.result c.in-Some.own c.get-item.ensures.item
+    (sym c.added_entry.ensures ∙ c.in-Some.is) (marked-set _ c.if-not-item.false))))
 
 pub returns-in_default-2-clause-first : goal.returns-in_default-2-clause-first
 returns-in_default-2-clause-first g c =

@@ -7,13 +7,15 @@ use Rattle.bridge_pq.proofs.bridge_queue.BridgeQueuePartial.remove.Goals.{in-Som
 use Rattle.bridge_pq.proofs.bridge_queue.BridgeQueuePartial.remove.Goals as goal
 
 pub remove_survivor-change-requires-clause-lives : goal.remove_survivor-change-requires-clause-lives
-remove_survivor-change-requires-clause-lives g c = mark-lives c.self.inside.rows c.self.inside.entries c.self.invariant c.args.place c.get-item.result c.in-Some.own c.get-item.ensures.item (sym c.added_entry.ensures ∙ c.in-Some.is) c.if-item.true
+remove_survivor-change-requires-clause-lives g c = mark-lives c.self.inside.rows c.self.inside.entries c.self.invariant c.args.place c.get-item.result
+    c.in-Some.own c.get-item.ensures.item (sym c.added_entry.ensures ∙ c.in-Some.is) c.if-item.true
 
 pub remove_dead-change-requires-clause-there : goal.remove_dead-change-requires-clause-there
 remove_dead-change-requires-clause-there g c = get-map (λ (item : MarkedRow). item.row) c.self.inside.rows c.args.place c.get-item.result c.get-item.ensures.item
 
 pub remove_dead-change-requires-clause-dead : goal.remove_dead-change-requires-clause-dead
-remove_dead-change-requires-clause-dead g c = mark-dead c.self.inside.rows c.self.inside.entries c.self.invariant c.args.place c.get-item.result c.in-Some.own c.get-item.ensures.item (sym c.added_entry.ensures ∙ c.in-Some.is) c.if-item.false
+remove_dead-change-requires-clause-dead g c = mark-dead c.self.inside.rows c.self.inside.entries c.self.invariant c.args.place c.get-item.result c.in-Some.own
+    c.get-item.ensures.item (sym c.added_entry.ensures ∙ c.in-Some.is) c.if-item.false
 
 pub remove_taking-change-requires-clause-there : goal.remove_taking-change-requires-clause-there
 remove_taking-change-requires-clause-there g c = get-map (λ (item : MarkedRow). item.row) c.self.inside.rows c.args.place c.get-item.result c.get-item.ensures.item

@@ -26,5 +26,7 @@ returns-clause-writer g c =
     subst (λ l. FindsWriter Deque l c.args.place c.args.index c.later.result) c.self.view_is
     (subst (FindsWriter Deque rows c.args.place c.args.index) (sym c.later.ensures)
     (found-by_ends rows c.args.place c.args.index _ _ c.self.inside.lefts c.self.inside.rights c.last_at_most-by_left.result c.last_at_most-by_right.result
-    c.self.invariant.replayable.of_kind few (search rules) position (omega (arith, ints, c.from.ensures, left, bound.0, bound.1, few, c.self.invariant.replayable.few)) c.self.invariant.lefts_are c.self.invariant.rights_are
+    c.self.invariant.replayable.of_kind few (search rules) position
+    (omega (arith, ints, c.from.ensures, left, bound.0, bound.1, few, c.self.invariant.replayable.few)) c.self.invariant.lefts_are
+    c.self.invariant.rights_are
     c.last_at_most-by_left.ensures.last c.last_at_most-by_right.ensures.last))

@@ -12,7 +12,8 @@ use Rattle.retro_io.specs.Lines.{has_line_feed, line_feed, without_return}
 use Rattle.retro_io.specs.Marks.{Shows}
 use Rattle.retro_io.specs.Reads.{GivesFirst, GivesPiece, MakesOf, Took}
 use Rattle.retro_io.proofs.DueLemmas.{WereDue-none}
-use Rattle.retro_io.proofs.ReadLemmas.{Took-left, Gives-nil, GivesFirst-of, GivesFirst-piece, GivesNextOf-from, end_of_call, gives_line_from, lines_of_call, Took-none, progress_of_call, measures_shown, measures_of_call, shows_no_end}
+use Rattle.retro_io.proofs.ReadLemmas.{Took-left, Gives-nil, GivesFirst-of, GivesFirst-piece, GivesNextOf-from, end_of_call, gives_line_from}
+use Rattle.retro_io.proofs.ReadLemmas.{lines_of_call, Took-none, progress_of_call, measures_shown, measures_of_call, shows_no_end}
 use Rattle.retro_io.proofs.line_reader.LineReader.next.Goals as goal
 
 -- the line that a line feed ends among the bytes held

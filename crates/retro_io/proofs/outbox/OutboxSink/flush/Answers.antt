@@ -22,4 +22,5 @@ returns-then-self-clause-does g c =
 
 pub returns-clause-does : goal.returns-clause-does
 returns-clause-does g c =
-    passes_all g.K.Sink c.args.self.now c.hand_on.new.self _ c.hand_on.ensures.hands_on g.K.Sink.flushes _ c.flush.result (sym c.is_err.ensures.value ∙ c.if-is_err.false) c.if-self.false c.if-self.false c.flush.ensures.counts c.flush.ensures.does c.hand_on.ensures.faults
+    passes_all g.K.Sink c.args.self.now c.hand_on.new.self _ c.hand_on.ensures.hands_on g.K.Sink.flushes _ c.flush.result
+    (sym c.is_err.ensures.value ∙ c.if-is_err.false) c.if-self.false c.if-self.false c.flush.ensures.counts c.flush.ensures.does c.hand_on.ensures.faults

@@ -20,7 +20,8 @@ returns-then-passes-clause-sought g t c =
     let laws = laws_from g.met.T.Measure.Monoid.laws c.args.side in
     let items = seen_from c.args.side c.args.self.now.items in
     let all = c.whole-all.ensures.value ∙ sym (measure-seen g.met.T.Measure.Monoid.laws g.T.Measured.measured c.args.side c.args.self.now.items) ∙ sym (laws.left_unit _) in
-    let boundary = subst (λ m. IsBoundaryWithin g.F.Fn c.args.test.now (passing c.args.side g.T.Measured g.T.Measure.Monoid m items) (length c.args.self.now.items) c.boundary_within.result) c.unit-then-passes.ensures c.boundary_within.ensures.boundary in
+    let boundary = subst (λ m. IsBoundaryWithin g.F.Fn c.args.test.now (passing c.args.side g.T.Measured g.T.Measure.Monoid m items)
+    (length c.args.self.now.items) c.boundary_within.result) c.unit-then-passes.ensures c.boundary_within.ensures.boundary in
     carried laws g.T.Measured.measured g.T.Measure.Monoid.unit_value g.F.Fn c.args.test.now _ items _ (length c.args.self.now.items) (ap (λ k. drop k items) c.if-from-eq0.true) (omega arith) _
     (whole_found laws g.T.Measured.measured g.T.Measure.Monoid.unit_value g.F.Fn c.args.test.now items _ (length-seen c.args.side c.args.self.now.items) _ _ all c.passes.ensures c.if-passes.true _ boundary)
 
@@ -33,7 +34,8 @@ returns-else-passes-clause-sought g t c =
     let items = seen_from c.args.side c.args.self.now.items in
     let all = c.whole-all.ensures.value ∙ sym (measure-seen g.met.T.Measure.Monoid.laws g.T.Measured.measured c.args.side c.args.self.now.items) ∙ sym (laws.left_unit _) in
     carried laws g.T.Measured.measured g.T.Measure.Monoid.unit_value g.F.Fn c.args.test.now _ items _ (length c.args.self.now.items) (ap (λ k. drop k items) c.if-from-eq0.true) (omega arith) _
-    (whole_open laws g.T.Measured.measured g.T.Measure.Monoid.unit_value g.F.Fn c.args.test.now items _ (length-seen c.args.side c.args.self.now.items) _ _ all c.passes.ensures c.if-passes.false c.whole-all.ensures.items)
+    (whole_open laws g.T.Measured.measured g.T.Measure.Monoid.unit_value g.F.Fn c.args.test.now items _
+    (length-seen c.args.side c.args.self.now.items) _ _ all c.passes.ensures c.if-passes.false c.whole-all.ensures.items)
 
 pub returns-else-passes-clause-visits : goal.returns-else-passes-clause-visits
 returns-else-passes-clause-visits g t c = one_left _ c.in-Some.node.now _ _ c.in-Some.ensures.0 c.in-Some.ensures.1 _ (λ levels within. omega arith)
@@ -75,7 +77,9 @@ returns-then-passes-3-clause-sought g t c =
     let root = c.sides.ensures _ c.in-Some.ensures.0 in
     let parts = parted_from root c.args.from (omega arith) in
     let near = near_open laws g.T.Measured.measured g.T.Measure.Monoid.unit_value parts g.F.Fn c.args.test.now _ c.in-Open.ensures.sought in
-    far_found laws g.T.Measured.measured g.T.Measure.Monoid.unit_value parts g.F.Fn c.args.test.now near.0 _ _ _ near.1 c.passed-next.ensures.value c.passes-2.ensures _ _ c.passed-all.ensures.value c.passes-3.ensures c.if-passes-2.false c.if-passes-3.true _ c.boundary_within-then-passes-3.ensures.boundary _ (omega arith)
+    far_found laws g.T.Measured.measured g.T.Measure.Monoid.unit_value parts g.F.Fn c.args.test.now near.0 _ _ _ near.1 c.passed-next.ensures.value
+    c.passes-2.ensures _ _ c.passed-all.ensures.value c.passes-3.ensures c.if-passes-2.false c.if-passes-3.true _
+    c.boundary_within-then-passes-3.ensures.boundary _ (omega arith)
 
 pub returns-then-passes-3-clause-visits : goal.returns-then-passes-3-clause-visits
 returns-then-passes-3-clause-visits g t c = near_then_far (c.sides.ensures _ c.in-Some.ensures.0) _ _ c.in-Some.ensures.1 _ _ c.in-Open.ensures.visits c.boundary_within-then-passes-3.ensures.visits
@@ -86,7 +90,8 @@ returns-else-passes-3-clause-sought g t c =
     let root = c.sides.ensures _ c.in-Some.ensures.0 in
     let parts = parted_from root c.args.from (omega arith) in
     let near = near_open laws g.T.Measured.measured g.T.Measure.Monoid.unit_value parts g.F.Fn c.args.test.now _ c.in-Open.ensures.sought in
-    all_open laws g.T.Measured.measured g.T.Measure.Monoid.unit_value parts g.F.Fn c.args.test.now near.0 _ _ _ near.1 c.passed-next.ensures.value c.passes-2.ensures _ _ c.passed-all.ensures.value c.passes-3.ensures c.if-passes-3.false (omega (arith, root.sizes, c.in-Open.ensures.sought.end.1))
+    all_open laws g.T.Measured.measured g.T.Measure.Monoid.unit_value parts g.F.Fn c.args.test.now near.0 _ _ _ near.1 c.passed-next.ensures.value
+    c.passes-2.ensures _ _ c.passed-all.ensures.value c.passes-3.ensures c.if-passes-3.false (omega (arith, root.sizes, c.in-Open.ensures.sought.end.1))
 
 pub returns-else-passes-3-clause-visits : goal.returns-else-passes-3-clause-visits
 returns-else-passes-3-clause-visits g t c = one_near (c.sides.ensures _ c.in-Some.ensures.0) _ _ c.in-Some.ensures.1 _ c.in-Open.ensures.visits

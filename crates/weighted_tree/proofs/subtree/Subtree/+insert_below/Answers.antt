@@ -54,7 +54,9 @@ returns-clause-ok g t c =
           c.settle.ensures.items ∙ new ∙ sym (insert-before node.left.items node.right.items node.item c.args.place item (omega arith)) ∙ whole
       | else-place-before+in_ok-insert_below-2 w ↦
           let place : c.args.place - c.len-before.result - 1 ≡ c.args.place - length node.left.items - 1 = omega arith in
-          let new : items_of c.if-place-before.self-inside.link ≡ node.left.items ++ node.item ∷ insert node.right.items (c.args.place - length node.left.items - 1) item = rw (w.self-inside-is, w.in_ok-insert_below-2.ensures.ok, opened, place) refl in
+          let new : items_of c.if-place-before.self-inside.link ≡ node.left.items ++ node.item
+          ∷ insert node.right.items (c.args.place - length node.left.items - 1) item =
+          rw (w.self-inside-is, w.in_ok-insert_below-2.ensures.ok, opened, place) refl in
           c.settle.ensures.items ∙ new ∙ sym (insert-after node.left.items node.right.items node.item c.args.place item (omega arith)) ∙ whole
     ]
 

@@ -14,7 +14,8 @@ pub returns-then-from-before-clause-visits : goal.returns-then-from-before-claus
 returns-then-from-before-clause-visits g t c =
     let node = c.in-Some.node.now in
     let sizes = sizes_of c.args.self.now.items node.left.items node.right.items node.item c.in-Some.ensures.0.items_are in
-    read_right c.args.self.now node _ _ c.in-Some.ensures.0 c.in-Some.ensures.1 c.args.from (length c.args.self.now.items - c.args.from - (c.read.result - c.args.filled)) _ _ _ _ (omega arith) (omega arith) c.read.ensures.visits
+    read_right c.args.self.now node _ _ c.in-Some.ensures.0 c.in-Some.ensures.1 c.args.from
+    (length c.args.self.now.items - c.args.from - (c.read.result - c.args.filled)) _ _ _ _ (omega arith) (omega arith) c.read.ensures.visits
 
 pub returns-then-end-items-clause-visits : goal.returns-then-end-items-clause-visits
 returns-then-end-items-clause-visits g t c =
@@ -25,7 +26,8 @@ returns-then-end-items-clause-visits g t c =
 pub returns-clause-items : goal.returns-clause-items
 returns-clause-items g t c =
     let node = c.in-Some.node.now in
-    λ shows tells. written_both c.args.self.now.items node.left.items node.right.items node.item c.in-Some.ensures.0.items_are shows c.args.items.now c.read-end.new.items c.read-2.new.items c.args.filled c.args.from c.read-end.result c.read-2.result
+    λ shows tells. written_both c.args.self.now.items node.left.items node.right.items node.item c.in-Some.ensures.0.items_are shows c.args.items.now
+    c.read-end.new.items c.read-2.new.items c.args.filled c.args.from c.read-end.result c.read-2.result
     c.requires.room (omega arith) (omega arith) (omega arith) (omega arith) (c.read-end.ensures.items shows tells)
     (rw (← tells node.item _ c.show.ensures) (c.read-2.ensures.items shows tells))
 

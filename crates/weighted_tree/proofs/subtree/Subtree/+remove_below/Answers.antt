@@ -52,10 +52,12 @@ returns-clause-item g t c =
     let before = ap (λ n. length n.left.items) opened in
     let there = ap (λ part. slice_get part.items c.args.place) (sym c.self.view_is ∙ ap part_of c.in-Full.is) in
     elim c.if-place-before.branch [
-      | then-place-before w ↦ there ∙ get-before node.left.items (node.item ∷ node.right.items) c.args.place (omega arith) ∙ ap (λ n. slice_get n.left.items c.args.place) (sym opened) ∙ w.remove_below-item.ensures.item ∙ ap Some (sym w.item-is)
+      | then-place-before w ↦ there ∙ get-before node.left.items (node.item ∷ node.right.items) c.args.place (omega arith)
+          ∙ ap (λ n. slice_get n.left.items c.args.place) (sym opened) ∙ w.remove_below-item.ensures.item ∙ ap Some (sym w.item-is)
       | else-place-before+then-place-before-2 w ↦
           let place : c.args.place - length node.left.items - 1 ≡ c.args.place - c.len-before.result - 1 = omega arith in
-          there ∙ get-after node.left.items node.right.items node.item c.args.place (omega arith) ∙ ap (slice_get node.right.items) place ∙ ap (λ n. slice_get n.right.items (c.args.place - c.len-before.result - 1)) (sym opened) ∙ w.remove_below.ensures.item ∙ ap Some (sym w.item-is)
+          there ∙ get-after node.left.items node.right.items node.item c.args.place (omega arith) ∙ ap (slice_get node.right.items) place
+          ∙ ap (λ n. slice_get n.right.items (c.args.place - c.len-before.result - 1)) (sym opened) ∙ w.remove_below.ensures.item ∙ ap Some (sym w.item-is)
       | else-place-before+else-place-before-2+then-len-gt0 w ↦
           let place : c.args.place ≡ length node.left.items = omega arith in
           there ∙ ap (slice_get (node_items node)) place ∙ get-middle node.left.items node.right.items node.item ∙ ap (λ n. Some n.item) (sym opened) ∙ ap Some (sym w.replace.ensures.value ∙ sym w.item-is)
@@ -73,7 +75,8 @@ returns-clause-items g t c =
           c.settle.ensures.items ∙ new ∙ sym (remove-before node.left.items node.right.items node.item c.args.place (omega arith)) ∙ whole
       | else-place-before+then-place-before-2 w ↦
           let place : c.args.place - c.len-before.result - 1 ≡ c.args.place - length node.left.items - 1 = omega arith in
-          let new : items_of c.if-place-before.self-inside.link ≡ node.left.items ++ node.item ∷ remove node.right.items (c.args.place - length node.left.items - 1) = rw (w.self-inside-is, w.remove_below.ensures.items, opened, place) refl in
+          let new : items_of c.if-place-before.self-inside.link ≡ node.left.items ++ node.item
+          ∷ remove node.right.items (c.args.place - length node.left.items - 1) = rw (w.self-inside-is, w.remove_below.ensures.items, opened, place) refl in
           c.settle.ensures.items ∙ new ∙ sym (remove-after node.left.items node.right.items node.item c.args.place (omega arith)) ∙ whole
       | else-place-before+else-place-before-2+then-len-gt0 w ↦
           let place : length node.left.items ≡ c.args.place = omega arith in

@@ -31,10 +31,12 @@ returns-clause-item g t c =
     let before = ap (λ n. length n.left.items) opened in
     let there = ap (λ part. slice_get part.items c.args.place) (sym c.self.view_is ∙ ap part_of c.in-Full.is) in
     elim c.if-place-before.branch [
-      | then-place-before w ↦ there ∙ get-before node.left.items (node.item ∷ node.right.items) c.args.place (omega arith) ∙ ap (λ n. slice_get n.left.items c.args.place) (sym opened) ∙ w.replace_below-old.ensures.item ∙ ap Some (sym w.old-is)
+      | then-place-before w ↦ there ∙ get-before node.left.items (node.item ∷ node.right.items) c.args.place (omega arith)
+          ∙ ap (λ n. slice_get n.left.items c.args.place) (sym opened) ∙ w.replace_below-old.ensures.item ∙ ap Some (sym w.old-is)
       | else-place-before+then-place-before-2 w ↦
           let place : c.args.place - length node.left.items - 1 ≡ c.args.place - c.len-before.result - 1 = omega arith in
-          there ∙ get-after node.left.items node.right.items node.item c.args.place (omega arith) ∙ ap (slice_get node.right.items) place ∙ ap (λ n. slice_get n.right.items (c.args.place - c.len-before.result - 1)) (sym opened) ∙ w.replace_below.ensures.item ∙ ap Some (sym w.old-is)
+          there ∙ get-after node.left.items node.right.items node.item c.args.place (omega arith) ∙ ap (slice_get node.right.items) place
+          ∙ ap (λ n. slice_get n.right.items (c.args.place - c.len-before.result - 1)) (sym opened) ∙ w.replace_below.ensures.item ∙ ap Some (sym w.old-is)
       | else-place-before+else-place-before-2 w ↦
           let place : c.args.place ≡ length node.left.items = omega arith in
           there ∙ ap (slice_get (node_items node)) place ∙ get-middle node.left.items node.right.items node.item ∙ ap (λ n. Some n.item) (sym opened) ∙ ap Some (sym w.replace.ensures.value ∙ sym w.old-is)

@@ -40,10 +40,19 @@ returns-else-start-before-clause-value g c =
     let end : c.down.end - c.len-before.result - 1 ≡ c.down.end - length node.left.items - 1 = omega arith in
     let here = ap (λ xs. slice_range xs c.down.start c.down.end) c.in-Some.ensures.0.items_are ∙ range-around node.left.items node.right.items node.item c.down.start c.down.end (omega arith) (omega arith) in
     rw (sym c.down.invariant.range ∙ here)
-    (cc (measure_of-around g.met.T.Measure.Monoid.laws g.T.Measured.measured (drop c.down.start node.left.items) (take (c.down.end - length node.left.items - 1) node.right.items) node.item, c.suffix-left.ensures.value, c.prefix-right.ensures.value, c.around.ensures, end))
+    (cc (
+      measure_of-around g.met.T.Measure.Monoid.laws g.T.Measured.measured (drop c.down.start node.left.items)
+          (take (c.down.end - length node.left.items - 1) node.right.items) node.item,
+      c.suffix-left.ensures.value,
+      c.prefix-right.ensures.value,
+      c.around.ensures,
+      end,
+    ))
 
 pub returns-else-start-before-clause-visits : goal.returns-else-start-before-clause-visits
-returns-else-start-before-clause-visits g c = c.down.invariant.levels _ (both_sides c.down.subtree.now c.in-Some.node.now c.down.steps c.root.new.steps c.in-Some.ensures.0 c.in-Some.ensures.1 _ _ c.suffix-left.ensures.visits c.prefix-right.ensures.visits)
+returns-else-start-before-clause-visits g c = c.down.invariant.levels _
+    (both_sides c.down.subtree.now c.in-Some.node.now c.down.steps c.root.new.steps c.in-Some.ensures.0 c.in-Some.ensures.1 _ _ c.suffix-left.ensures.visits
+    c.prefix-right.ensures.visits)
 
 pub returns-clause-visits : goal.returns-clause-visits
 returns-clause-visits g c = c.down.invariant.levels c.down.steps (λ levels within. omega arith)

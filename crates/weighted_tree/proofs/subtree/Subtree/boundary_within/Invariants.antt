@@ -9,7 +9,9 @@ use Rattle.weighted_tree.proofs.subtree.Subtree.boundary_within.Given as goal
 -- a turn of the subtree is one of the whole
 abbrev pub invariant-down : goal.invariant-down
 invariant-down g l = record {
-  boundary : (place found : ℕ) → found ≡ l.count + place → IsBoundaryWithin g.F.Fn l.test (passing l.side g.T.Measured g.T.Measure.Monoid l.passed (seen_from l.side l.subtree.items)) (length l.subtree.items) place → IsBoundaryWithin g.F.Fn l.test (passing l.side g.T.Measured g.T.Measure.Monoid l.fn.before (seen_from l.side l.self.items)) (length l.self.items) found;
+  boundary : (place found : ℕ) → found ≡ l.count + place → IsBoundaryWithin g.F.Fn l.test
+      (passing l.side g.T.Measured g.T.Measure.Monoid l.passed (seen_from l.side l.subtree.items)) (length l.subtree.items) place
+      → IsBoundaryWithin g.F.Fn l.test (passing l.side g.T.Measured g.T.Measure.Monoid l.fn.before (seen_from l.side l.self.items)) (length l.self.items) found;
   items : g.T.Measure.Monoid.items_of l.passed + length l.subtree.items ≤ g.T.Measure.Monoid.items_of l.fn.before + length l.self.items;
   within : l.count + length l.subtree.items ≤ length l.self.items;
   none_lost : l.initial.steps ≤ l.steps;

@@ -6,4 +6,13 @@ pub of_items-requires-in-Ok-divide : goal.of_items-requires-in-Ok-divide
 of_items-requires-in-Ok-divide g c =
     let node = c.in-Ok-divide.node.value in
     let same = ap length c.take_or_new-items.ensures.items in
-    record { fits = omega (arith, ap length c.in-Ok-divide.ensures.ok, length-append c.divide.new.items.items (node.item ∷ node.right.items), length-insert c.take_or_new-items.result.items c.args.place c.args.item (omega arith), same, c.requires.fits) }
+    record {
+      fits = omega (
+        arith,
+        ap length c.in-Ok-divide.ensures.ok,
+        length-append c.divide.new.items.items (node.item ∷ node.right.items),
+        length-insert c.take_or_new-items.result.items c.args.place c.args.item (omega arith),
+        same,
+        c.requires.fits,
+      );
+    }

@@ -21,7 +21,10 @@ down-preserved-then-passes g c =
     let root = c.in-Some.ensures.0 in
     let sizes = sizes_of c.down.subtree.now.items node.left.items node.right.items node.item root.items_are in
     record {
-      boundary = λ holds tells parted. boundary_after (c.down.invariant.boundary holds tells parted) (λ part. subst (λ items. HasBoundary holds items (length node.left.items + 1) node.right.items) (sym root.items_are) (turn_right holds node.left.items node.right.items node.item (subst (IsPartitionedBy holds) root.items_are part) (sym (tells node.item _ c.passes.ensures) ∙ c.if-passes.true))) (omega arith) _ (omega arith);
+      boundary = λ holds tells parted. boundary_after (c.down.invariant.boundary holds tells parted)
+          (λ part. subst (λ items. HasBoundary holds items (length node.left.items + 1) node.right.items) (sym root.items_are)
+          (turn_right holds node.left.items node.right.items node.item (subst (IsPartitionedBy holds) root.items_are part)
+          (sym (tells node.item _ c.passes.ensures) ∙ c.if-passes.true))) (omega arith) _ (omega arith);
       some_left = omega arith;
       within = omega arith;
       none_lost = omega (arith, c.in-Some.ensures.1);
@@ -35,7 +38,10 @@ down-preserved g c =
     let root = c.in-Some.ensures.0 in
     let sizes = sizes_of c.down.subtree.now.items node.left.items node.right.items node.item root.items_are in
     record {
-      boundary = λ holds tells parted. boundary_after (c.down.invariant.boundary holds tells parted) (λ part. subst (λ items. HasBoundary holds items 0 node.left.items) (sym root.items_are) (turn_left holds node.left.items node.right.items node.item (subst (IsPartitionedBy holds) root.items_are part) (sym (tells node.item _ c.passes.ensures) ∙ c.if-passes.false))) (omega arith) _ (omega arith);
+      boundary = λ holds tells parted. boundary_after (c.down.invariant.boundary holds tells parted)
+          (λ part. subst (λ items. HasBoundary holds items 0 node.left.items) (sym root.items_are)
+          (turn_left holds node.left.items node.right.items node.item (subst (IsPartitionedBy holds) root.items_are part)
+          (sym (tells node.item _ c.passes.ensures) ∙ c.if-passes.false))) (omega arith) _ (omega arith);
       some_left = omega arith;
       within = omega arith;
       none_lost = omega (arith, c.in-Some.ensures.1);
@@ -44,7 +50,9 @@ down-preserved g c =
     }
 
 pub returns-in-Some-leaf-clause-partition : goal.returns-in-Some-leaf-clause-partition
-returns-in-Some-leaf-clause-partition g c = λ holds tells parted. turned (c.down.invariant.boundary holds tells parted) c.in-Some-leaf.items.now c.in-Some-leaf.ensures.0 c.partition_in.result c.partition_in.ensures.within (c.partition_in.ensures.partition holds tells) _ (omega (arith, ap length c.in-Some-leaf.ensures.0))
+returns-in-Some-leaf-clause-partition g c = λ holds tells parted.
+    turned (c.down.invariant.boundary holds tells parted) c.in-Some-leaf.items.now c.in-Some-leaf.ensures.0 c.partition_in.result c.partition_in.ensures.within
+    (c.partition_in.ensures.partition holds tells) _ (omega (arith, ap length c.in-Some-leaf.ensures.0))
 
 pub returns-in-Some-leaf-clause-visits : goal.returns-in-Some-leaf-clause-visits
 returns-in-Some-leaf-clause-visits g c = c.down.invariant.levels _ (λ levels within. omega (arith, c.in-Some-leaf.ensures.1))

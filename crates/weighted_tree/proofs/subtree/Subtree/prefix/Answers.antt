@@ -8,7 +8,8 @@ down-preserved-then-rest-count g c =
     let node = c.in-Some.node.now in
     let root = c.in-Some.ensures.0 in
     record {
-      value = first-left g.met.T.Measure.Monoid.laws g.T.Measured.measured c.down.subtree.now.items node.left.items node.right.items node.item root.items_are c.down.before _ c.down.rest c.down.invariant.value (omega arith);
+      value = first-left g.met.T.Measure.Monoid.laws g.T.Measured.measured c.down.subtree.now.items node.left.items node.right.items node.item root.items_are
+          c.down.before _ c.down.rest c.down.invariant.value (omega arith);
       items = c.down.invariant.items;
       within = omega arith;
       none_lost = omega (arith, c.in-Some.ensures.1);
@@ -21,7 +22,8 @@ down-preserved g c =
     let root = c.in-Some.ensures.0 in
     let next = c.passed-before.ensures.value ∙ ap (λ m. g.T.Measure.Monoid.joined m (g.T.Measured.measured node.item)) c.passed.ensures.value in
     record {
-      value = first-right g.met.T.Measure.Monoid.laws g.T.Measured.measured c.down.subtree.now.items node.left.items node.right.items node.item root.items_are c.down.before _ c.down.rest c.down.invariant.value (omega arith) _ (omega arith) c.passed-before.result next;
+      value = first-right g.met.T.Measure.Monoid.laws g.T.Measured.measured c.down.subtree.now.items node.left.items node.right.items node.item root.items_are
+          c.down.before _ c.down.rest c.down.invariant.value (omega arith) _ (omega arith) c.passed-before.result next;
       items = omega (arith, c.passed-before.ensures.items, c.passed.ensures.items, c.down.invariant.items);
       within = omega (arith, sizes_of c.down.subtree.now.items node.left.items node.right.items node.item root.items_are);
       none_lost = omega (arith, c.in-Some.ensures.1);

@@ -11,7 +11,8 @@ down-preserved-then-rest-count g c =
     let node = c.in-Some.node.now in
     let root = c.in-Some.ensures.0 in
     record {
-      value = last-right g.met.T.Measure.Monoid.laws g.T.Measured.measured c.down.subtree.now.items node.left.items node.right.items node.item root.items_are c.down.after _ c.down.rest c.down.invariant.value (omega arith);
+      value = last-right g.met.T.Measure.Monoid.laws g.T.Measured.measured c.down.subtree.now.items node.left.items node.right.items node.item root.items_are
+          c.down.after _ c.down.rest c.down.invariant.value (omega arith);
       items = c.down.invariant.items;
       within = omega arith;
       none_lost = omega (arith, c.in-Some.ensures.1);
@@ -25,7 +26,8 @@ down-preserved g c =
     let seen = c.passed.ensures.value ∙ ap (λ m. g.T.Measure.Monoid.joined m c.down.after) (measure-seen g.met.T.Measure.Monoid.laws g.T.Measured.measured Right node.right.items) in
     let next = c.passed-after.ensures.value ∙ ap (g.T.Measure.Monoid.joined (g.T.Measured.measured node.item)) seen in
     record {
-      value = last-left g.met.T.Measure.Monoid.laws g.T.Measured.measured c.down.subtree.now.items node.left.items node.right.items node.item root.items_are c.down.after _ c.down.rest c.down.invariant.value (omega arith) _ (omega arith) c.passed-after.result next;
+      value = last-left g.met.T.Measure.Monoid.laws g.T.Measured.measured c.down.subtree.now.items node.left.items node.right.items node.item root.items_are
+          c.down.after _ c.down.rest c.down.invariant.value (omega arith) _ (omega arith) c.passed-after.result next;
       items = omega (arith, c.passed-after.ensures.items, c.passed.ensures.items, c.down.invariant.items);
       within = omega (arith, sizes_of c.down.subtree.now.items node.left.items node.right.items node.item root.items_are);
       none_lost = omega (arith, c.in-Some.ensures.1);

@@ -7,7 +7,8 @@ use Rattle.weighted_tree.proofs.subtree.Subtree.suffix.Given as goal
 -- the items that are left at the end of the subtree, joined with what was passed after it, are the whole
 abbrev pub invariant-down : goal.invariant-down
 invariant-down g l = record {
-  value : g.T.Measure.Monoid.joined (measure_in g.T.Measured g.T.Measure.Monoid (drop (length l.subtree.items - l.rest) l.subtree.items)) l.after ≡ measure_in g.T.Measured g.T.Measure.Monoid (drop l.fn.from l.self.items);
+  value : g.T.Measure.Monoid.joined (measure_in g.T.Measured g.T.Measure.Monoid (drop (length l.subtree.items - l.rest) l.subtree.items)) l.after
+      ≡ measure_in g.T.Measured g.T.Measure.Monoid (drop l.fn.from l.self.items);
   items : g.T.Measure.Monoid.items_of l.after + l.rest + l.fn.from ≡ length l.self.items;
   within : l.rest ≤ length l.subtree.items;
   none_lost : l.initial.steps ≤ l.steps;

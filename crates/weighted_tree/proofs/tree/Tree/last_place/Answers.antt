@@ -6,12 +6,14 @@ use Rattle.weighted_tree.proofs.tree.Tree.last_place.Goals as goal
 pub returns-in-Found-clause-last : goal.returns-in-Found-clause-last
 returns-in-Found-clause-last g c =
     let same = ap length c.self.view_is in
-    rw (← c.self.view_is) (found-last g.met.T.Measure.Monoid.laws g.T.Measured.measured g.F.Fn c.args.test c.self.inside.root.items c.args.to (c.len.result - c.args.to) (omega arith) (omega arith) _ c.in-Found.ensures.sought)
+    rw (← c.self.view_is) (found-last g.met.T.Measure.Monoid.laws g.T.Measured.measured g.F.Fn c.args.test c.self.inside.root.items c.args.to
+    (c.len.result - c.args.to) (omega arith) (omega arith) _ c.in-Found.ensures.sought)
 
 pub returns-clause-last : goal.returns-clause-last
 returns-clause-last g c =
     let same = ap length c.self.view_is in
-    rw (← c.self.view_is) (open-last g.met.T.Measure.Monoid.laws g.T.Measured.measured g.F.Fn c.args.test c.self.inside.root.items c.args.to (c.len.result - c.args.to) (omega arith) (omega arith) _ c.in-Open.ensures.sought)
+    rw (← c.self.view_is) (open-last g.met.T.Measure.Monoid.laws g.T.Measured.measured g.F.Fn c.args.test c.self.inside.root.items c.args.to
+    (c.len.result - c.args.to) (omega arith) (omega arith) _ c.in-Open.ensures.sought)
 
 pub returns-in-Found-clause-visits : goal.returns-in-Found-clause-visits
 returns-in-Found-clause-visits g c =
