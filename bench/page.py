@@ -195,6 +195,29 @@ class Page:
                 rows.append([kind, "{:,}".format(size)] + ["%.0f" % value if value else "" for value in used] + ["%.1f" % (most / 1e6) if most else ""])
         yield from table(["Kind", "Rows"] + [NAMES[peer] + ", bytes a row" for peer in peers] + ["retro at most, MB"], rows)
 
+    def fused(self):
+        """The two forms of a priority queue side by side."""
+        if "pq" not in self.kinds or "pqf" not in self.kinds:
+            return
+        yield "## `pq` or `pqf`"
+        yield ""
+        yield "Both answer alike. `pq` makes up to 31 checkpoints at the first question about its past, and from then on every edit goes to each of them; `pqf` keeps"
+        yield "pieces of the whole history from the first row on. Each cell has `pq` first, then `pqf`:"
+        yield ""
+        sizes = [size for size in self.made.sizes if size > 1_024]
+        phases = [phase for phase in ("end", "edit", "mixed", "past", "forward", "first", "burst") if self.cost("pqf", self.main, phase, "retro")]
+        rows = [["%s, µs" % MEANT[phase][0]] + [self.both(size, phase) for size in sizes] for phase in phases]
+        for what, name, unit in (("row", "bytes a row, before the past is asked", 1), ("most", "MB at most, after it was asked", 1e6)):
+            pairs = [[self.made.used.get((kind, size, what, "retro")) for kind in ("pq", "pqf")] for size in sizes]
+            rows.append([name] + [" / ".join("%.0f" % (used / unit) if used else "-" for used in pair) for pair in pairs])
+        yield from table([""] + ["{:,} rows".format(size) for size in sizes], rows)
+        yield "Take `pq` for a history that grows at its end, whose past is asked rarely or in order of time; take `pqf` where edits of the past and questions about it at"
+        yield "random moments take turns."
+        yield ""
+
+    def both(self, rows, phase):
+        return " / ".join(number(self.cost(kind, rows, phase, "retro")) or "-" for kind in ("pq", "pqf"))
+
     def texts(self):
         times, used = self.made.times, self.made.used
         yield "## Texts and streams"
@@ -210,7 +233,7 @@ class Page:
             yield from table(["Program", "µs a line"], [[name, "%.3f" % times["asked", peer]] for peer, name in names.items() if ("asked", peer) in times])
 
     def text(self):
-        for part in (self.head, self.programs, self.marks, self.growth, self.memory, self.texts):
+        for part in (self.head, self.programs, self.marks, self.growth, self.memory, self.fused, self.texts):
             yield from part()
 
 

@@ -1,5 +1,5 @@
 -- What is claimed of a run over an outbox before a sink, with the followers that the program hands in.
-use Rattle.std.specs.Prelude.{◌≡◌, ◌<◌, ◌-◌, ◌↔◌, [], ◌∷◌, false, ℕ, List}
+use Rattle.std.specs.Prelude.{◌≡◌, ◌<◌, ◌-◌, ◌↔◌, [], false, ℕ, List}
 use Rattle.retro_base.specs.Limits.{most_bytes}
 use Rattle.retro_io.specs.declared.outbox.Outbox.{Outbox}
 use Rattle.retro_io.specs.declared.sink.Sink as sinks
@@ -11,7 +11,7 @@ use Rattle.retro_cli.specs.declared.status.Status.{Status}
 use Rattle.retro_cli.specs.declared.status.Status.TheVariants as statuses
 use Rattle.retro_cli.specs.Audience.{Audience, audience_of}
 use Rattle.retro_cli.specs.FollowedProgram.{HasForm, RunsFollowed}
-use Rattle.followers.specs.Totals.{tally}
+use Rattle.retro.specs.Followers.{followers_of}
 use Rattle.retro_cli.specs.Run.{EndsWithoutFault, is_read_fault, is_write_fault}
 
 -- the followers, the source before and after, the sink before, the outbox after, the status, and the words
@@ -41,4 +41,4 @@ pub record RunsGathered {S K : Type 0} (I : sources.Ghosts S) (O : sinks.Ghosts 
 -- some run of these words over some streams ended with this status
 abbrev pub EndsARun : {S K : Type 0} → sources.Ghosts S → sinks.Ghosts K → sinks.Ghosts (Outbox K) → Status → List (List ℕ) → Type 0
 EndsARun {S} {K} I O G status words =
-    (source : S) × (source' : S) × (sink : K) × (outbox : Outbox K) × RunsGathered I O G (tally ∷ []) source source' sink outbox status words
+    (source : S) × (source' : S) × (sink : K) × (outbox : Outbox K) × RunsGathered I O G (followers_of words) source source' sink outbox status words

@@ -1,2 +1,3 @@
+pub mod Followers
 pub mod Gathered
 pub mod Words

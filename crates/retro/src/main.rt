@@ -5,17 +5,18 @@
 //! the next line is asked for.
 #![tactic(auto)]
 
-ghost use Rattle.std.specs.Prelude.{◌≡◌, ◌≢◌, ◌<◌, ◌-◌, ◌^◌, ◌⊎◌, ◌↔◌, ◌∷◌, [], length, IfOk, IfErr, OnErr};
+ghost use Rattle.std.specs.Prelude.{◌≡◌, ◌≢◌, ◌<◌, ◌≤◌, ◌-◌, ◌^◌, ◌⊎◌, ◌↔◌, ◌∷◌, [], length, map, IfOk, IfErr, OnErr};
 ghost use Rattle.std.specs.IoError.{error_kind};
 ghost use Rattle.std.specs.Process.{exit_status};
 ghost use Rattle.followers.specs.Totals.{tally};
+ghost use Rattle.retro.specs.Followers.{followers_of, mirror, name_followed};
 ghost use Rattle.retro.specs.Gathered.{EndsARun, RunsGathered};
 ghost use Rattle.retro.specs.Words.{words_after_name, words_refused};
-ghost use Rattle.retro_cli.specs.FollowedProgram.{HasNoForm};
+ghost use Rattle.retro_cli.specs.FollowedProgram.{HasNoForm, most_followers};
 ghost use Rattle.retro_cli.specs.Status.{code_of};
 
-use followers::{Follower, Tally};
-use retro_base::NoMemory;
+use followers::{Follower, Mirror, Tally};
+use retro_base::{Name, NoMemory};
 use retro_cli::{Status, Words, run_followed};
 use retro_io::{Outbox, Sink, Source, StdSink, StdSource};
 use std::alloc::Global;
@@ -55,15 +56,43 @@ fn answer(rt: &HostRuntime, words: &Words) -> Status
 {
     let mut source = StdSource::new(rt.stdin());
     let sink = StdSink::new(rt.stdout());
-    match run_with_tally(rt.alloc(), words, &mut source, sink) {
+    match run_gathered(rt.alloc(), words, &mut source, sink) {
         Ok((status, _outbox)) => status,
         Err(NoMemory) => Status::NoMemory,
     }
 }
 
-/// Runs the program over an outbox before this sink, with a tally as follower, and gives the outbox back. All that `run_followed`
-/// promises holds of the outbox, and where the sink did not fail, all that was written to it has gone on to the sink. After `NoMemory`
-/// nothing was read.
+/// Runs the program over an outbox before this sink, with a tally as follower, and after it a mirror where the words have a name, and
+/// gives the outbox back. After `NoMemory` nothing was read.
+fn run_gathered<S: Source, K: Sink + Drop>(
+    alloc: Global,
+    words: &Words,
+    source: &mut S,
+    sink: K,
+) -> Result<(Status, Outbox<K>), NoMemory>
+    ensures runs { IfOk result (λ ended. RunsGathered ⟦<S as Source>⟧ ⟦<K as Sink>⟧ ⟦<Outbox<K> as Sink>⟧ (followers_of words.now)
+        source.old source.new sink ended.1 ended.0 words.now) }
+    ensures words { IfOk result (λ ended. (ended.0 ≡ Status.Words) ↔ HasNoForm words.now) }
+    ensures err { OnErr result (source.new ≡ source.old) }
+{
+    match name_followed(words) {
+        Some(name) => run_with_mirror(alloc, name, words, source, sink),
+        None => run_with_tally(alloc, words, source, sink),
+    }
+}
+
+/// The second of two words, if it is a name.
+fn name_followed(words: &Words) -> Option<Name>
+    ensures { result ≡ name_followed words.now }
+{
+    if words.len() == 2 {
+        Name::read(words.word(1))
+    } else {
+        None
+    }
+}
+
+/// Runs the program over an outbox before this sink, with a tally as follower.
 fn run_with_tally<S: Source, K: Sink + Drop>(
     alloc: Global,
     words: &Words,
@@ -75,9 +104,47 @@ fn run_with_tally<S: Source, K: Sink + Drop>(
     ensures words { IfOk result (λ ended. (ended.0 ≡ Status.Words) ↔ HasNoForm words.now) }
     ensures err { OnErr result (source.new ≡ source.old) }
 {
-    let mut outbox = Outbox::new(alloc, sink)?;
     let mut followers: Vec<Box<dyn Follower>> = Vec::new(alloc);
     followers.push(Box::new(alloc, Tally::new())?)?;
+    run_before(alloc, words, source, sink, followers)
+}
+
+/// Runs the program over an outbox before this sink, with a tally and a mirror of this name as followers.
+fn run_with_mirror<S: Source, K: Sink + Drop>(
+    alloc: Global,
+    name: Name,
+    words: &Words,
+    source: &mut S,
+    sink: K,
+) -> Result<(Status, Outbox<K>), NoMemory>
+    ensures runs { IfOk result (λ ended. RunsGathered ⟦<S as Source>⟧ ⟦<K as Sink>⟧ ⟦<Outbox<K> as Sink>⟧ (tally ∷ mirror name ∷ [])
+        source.old source.new sink ended.1 ended.0 words.now) }
+    ensures words { IfOk result (λ ended. (ended.0 ≡ Status.Words) ↔ HasNoForm words.now) }
+    ensures err { OnErr result (source.new ≡ source.old) }
+{
+    let mut followers: Vec<Box<dyn Follower>> = Vec::new(alloc);
+    followers.push(Box::new(alloc, Tally::new())?)?;
+    followers.push(Box::new(alloc, Mirror::new(alloc, name))?)?;
+    run_before(alloc, words, source, sink, followers)
+}
+
+/// Runs the program with these followers over an outbox before this sink, and gives the outbox back. All that `run_followed` promises
+/// holds of the outbox, and where the sink did not fail, all that was written to it has gone on to the sink. After `NoMemory` nothing was
+/// read.
+fn run_before<S: Source, K: Sink + Drop>(
+    alloc: Global,
+    words: &Words,
+    source: &mut S,
+    sink: K,
+    followers: Vec<Box<dyn Follower>>,
+) -> Result<(Status, Outbox<K>), NoMemory>
+    requires { length followers.items ≤ most_followers }
+    ensures runs { IfOk result (λ ended. RunsGathered ⟦<S as Source>⟧ ⟦<K as Sink>⟧ ⟦<Outbox<K> as Sink>⟧
+        (map (λ f. report_after f) followers.items) source.old source.new sink ended.1 ended.0 words.now) }
+    ensures words { IfOk result (λ ended. (ended.0 ≡ Status.Words) ↔ HasNoForm words.now) }
+    ensures err { OnErr result (source.new ≡ source.old) }
+{
+    let mut outbox = Outbox::new(alloc, sink)?;
     let status = run_followed(alloc, words, source, &mut outbox, followers);
     Ok((status, outbox))
 }
