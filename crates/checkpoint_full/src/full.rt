@@ -10,6 +10,7 @@ ghost use Rattle.retro_base.specs.Questions.{suits};
 ghost use Rattle.retro_base.specs.Replay.{failure, IsValid, present, state_at};
 ghost use Rattle.retro_base.specs.Timeline.{IsFresh, IsReplayable};
 ghost use Rattle.retro_base.specs.Visits.{VisitsWithin};
+ghost use Rattle.checkpoint_full.specs.Rule.{places_after_insertion, places_after_removal, width_after_insertion, width_after_removal};
 ghost use Rattle.checkpoint_full.specs.Widths.{least_width, made_places, narrowest};
 
 use crate::kept::{ask_kept, insert_kept, list_kept, remove_kept};
@@ -184,6 +185,8 @@ impl<P: Partial + Drop> Retro for Full<P> {
         ensures replayable { OnOk result (IsReplayable self.new.kind self.new.rows) }
         ensures change { IfOk result (IsChange self.old.kind self.old.rows (add place row)) }
         ensures made { OnOk result (self.new.made ≡ self.old.made) }
+        ensures width { OnOk result (self.new.width ≡ width_after_insertion self.old place) }
+        ensures places { OnOk result (self.new.places ≡ places_after_insertion self.old place) }
         ensures wider { OnOk result (self.old.width ≤ self.new.width) }
         ensures err { OnErr result (self.new ≡ self.old) }
     {
@@ -210,6 +213,8 @@ impl<P: Partial + Drop> Retro for Full<P> {
         ensures replayable { OnOk result (IsReplayable self.new.kind self.new.rows) }
         ensures change { IfOk result (λ taken. IsChange self.old.kind self.old.rows (cut place taken.0) taken.1) }
         ensures made { OnOk result (self.new.made ≡ self.old.made) }
+        ensures width { OnOk result (self.new.width ≡ width_after_removal self.old place) }
+        ensures places { OnOk result (self.new.places ≡ places_after_removal self.old place) }
         ensures wider { OnOk result (self.old.width ≤ self.new.width) }
         ensures err { OnErr result (self.new ≡ self.old) }
     {
