@@ -1,15 +1,15 @@
 -- The rule of checkpoints at an edit: the places that are made, moved and left are those that it says.
 use Rattle.std.proofs.Common.{◌≡◌, ℕ, zero, suc, ◌+◌, ◌-◌, ◌<◌, ◌≤◌, true, false, List, [], ◌∷◌, ◌++◌, length, map, reverse, get_or, refl, sym, subst, ap, ◌∙◌, arith, inl, inr}
 use Rattle.std.specs.List.{insert, remove}
-use Rattle.std.proofs.lemmas.Bool.{leb-true, leb-false, lt-ltb, le-ltb, cases_lt}
+use Rattle.std.proofs.lemmas.Bool.{leb-true, leb-false, le-leb, lt-leb, lt-ltb, le-ltb, cases_lt}
 use Rattle.std.proofs.lemmas.List.{reverse-append, reverse-reverse}
 use Rattle.std.proofs.lemmas.List.Edits.{length-insert, length-remove}
 use Rattle.retro_base.specs.declared.row.Row.{Row}
 use Rattle.retro_base.specs.Edits.{add, cut}
 use Rattle.retro_base.specs.Timeline.{Structure}
-use Rattle.checkpoint_full.specs.Checkpoints.{after, first_of, place_of, places_of, seen, with_row, without_row, KeepsCheckpoints}
+use Rattle.checkpoint_full.specs.Checkpoints.{Checkpointed, after, first_of, place_of, places_of, seen, with_row, without_row, KeepsCheckpoints}
 use Rattle.checkpoint_full.specs.Rule.{between, latest_first, one_earlier, one_further, places_after_insertion, places_after_removal, rising, width_after_insertion, width_after_removal, with_room, with_row_less, with_row_more}
-use Rattle.checkpoint_full.specs.Widths.{settled, settled_width, AreClose}
+use Rattle.checkpoint_full.specs.Widths.{most_checkpoints, settled, settled_width, thinned, AreClose}
 use Rattle.checkpoint_full.proofs.Between.{below_of, StandsBetween}
 use Rattle.checkpoint_full.proofs.FirstRows.{place_of-first_of}
 use Rattle.checkpoint_full.proofs.Places.{is_up_to}
@@ -158,3 +158,18 @@ settled_without width next now later checkpoints changed left place row below go
       wide ∙ ap (λ (rows : ℕ). settled_width width rows (map place_of changed)) one ∙ ap (λ places. settled_width width (place_of now - 1) places) moved,
       ap rising (all ∙ ap (λ (rows : ℕ). settled width rows (map place_of changed)) one ∙ ap (λ places. settled width (place_of now - 1) places) moved),
     )
+
+-- no edit makes the width less
+wide_settled : (width later : ℕ) (places : List ℕ) → width ≤ settled_width width later places
+wide_settled width later places = elim (cases_lt (1 + most_checkpoints) (length (thinned width later places))) [
+  | inl many ↦ rw (lt-leb (length (thinned width later places)) (1 + most_checkpoints) many) (omega arith)
+  | inr few ↦ rw (le-leb (length (thinned width later places)) (1 + most_checkpoints) few) (omega arith)
+]
+
+pub wide_with : (inside now : Checkpointed) (place width : ℕ) → inside ≡ now → width ≡ width_after_insertion inside place → now.width ≤ width
+unfolding width_after_insertion
+wide_with inside now place width same is = rw (← same, is) (wide_settled inside.width (length inside.rows + 1) (with_row_more inside place))
+
+pub wide_without : (inside now : Checkpointed) (place width : ℕ) → inside ≡ now → width ≡ width_after_removal inside place → now.width ≤ width
+unfolding width_after_removal
+wide_without inside now place width same is = rw (← same, is) (wide_settled inside.width (length inside.rows - 1) (with_row_less inside place))

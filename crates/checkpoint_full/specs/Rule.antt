@@ -15,7 +15,8 @@ one_earlier place checkpoint = if nat_lt place checkpoint then checkpoint - 1 el
 abbrev pub between : ℕ → ℕ → ℕ → ℕ
 between earlier later place = if nat_eq place later then later else earlier + (later - earlier) / 2
 
--- the places once there is room for a row at the place: where the two that it stands between are a width apart, one is made between them
+-- the places once there is room for a row at the place: where the neighbours that it stands between are a width apart, one is made between
+-- them
 abbrev pub with_room : ℕ → ℕ → ℕ → List ℕ → List ℕ
 with_room width place later [] = []
 with_room width place later (earlier ∷ places) =
@@ -39,14 +40,15 @@ with_row_more now place = map (one_further place) (with_room now.width place (le
 abbrev pub with_row_less : Checkpointed → ℕ → List ℕ
 with_row_less now place = map (one_earlier place) (latest_first now)
 
--- the width and the places after a row is put in at a place, once they were settled
+-- the width and the places after a row is put in at a place: those with a row more are settled. Where no checkpoints were made there are no
+-- places, and the width stays
 unfoldable pub width_after_insertion : Checkpointed → ℕ → ℕ
 width_after_insertion now place = settled_width now.width (length now.rows + 1) (with_row_more now place)
 
 unfoldable pub places_after_insertion : Checkpointed → ℕ → List ℕ
 places_after_insertion now place = rising (settled now.width (length now.rows + 1) (with_row_more now place))
 
--- the width and the places after the row at a place is taken out, once they were settled
+-- the width and the places after the row at a place is taken out: those with a row less are settled
 unfoldable pub width_after_removal : Checkpointed → ℕ → ℕ
 width_after_removal now place = settled_width now.width (length now.rows - 1) (with_row_less now place)
 

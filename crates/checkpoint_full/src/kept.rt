@@ -44,7 +44,6 @@ pub(crate) fn insert_kept<P: Partial + Drop, L: Ledger>(
     ensures made { OnOk result (were_made checkpoints.new.items ≡ were_made checkpoints.old.items) }
     ensures width { OnOk result (width.new ≡ width_after_insertion (seen width.old present.old checkpoints.old.items) place) }
     ensures places { OnOk result (places_of checkpoints.new.items ≡ places_after_insertion (seen width.old present.old checkpoints.old.items) place) }
-    ensures wider { OnOk result (width.old ≤ width.new) }
     ensures change { IfOk result (IsChange present.old.kind present.old.rows (add place row)) }
     ensures err { OnErr result ((present.new ≡ present.old) × (checkpoints.new.items ≡ checkpoints.old.items) × (width.new ≡ width.old)) }
 {
@@ -83,7 +82,6 @@ pub(crate) fn remove_kept<P: Partial + Drop, L: Ledger>(
     ensures made { were_made checkpoints.new.items ≡ were_made checkpoints.old.items }
     ensures width { width.new ≡ width_after_removal (seen width.old present.old checkpoints.old.items) place }
     ensures places { places_of checkpoints.new.items ≡ places_after_removal (seen width.old present.old checkpoints.old.items) place }
-    ensures wider { width.old ≤ width.new }
     ensures change { IsChange present.old.kind present.old.rows (cut place result.0) result.1 }
 {
     let mut steps = Steps::<L>::new(blank);
