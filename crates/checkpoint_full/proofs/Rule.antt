@@ -81,7 +81,7 @@ room_is_made width now checkpoints more place index count earlier later made sta
     (subst (λ s. place_of made ≡ between (place_of s) (place_of later) place) stands.earlier_is made_at) in
     ap (λ cs. map place_of cs) put ∙ one_made width place now checkpoints index made earlier below.0 below.2 below.1 far_there made_there
 
--- a checkpoint behind the place moves with the rows
+-- a checkpoint after the place moves with the rows
 one_with : (place : ℕ) (row : Row) (checkpoint : Structure) → place_of (with_row place row checkpoint) ≡ one_further place (place_of checkpoint)
 one_with place row checkpoint = elim (cases_lt place (place_of checkpoint)) [
   | inl less ↦ rw (lt-ltb place (place_of checkpoint) less) (omega (arith, length-insert checkpoint.rows place row (omega arith)))

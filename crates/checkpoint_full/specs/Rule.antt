@@ -4,7 +4,7 @@ use Rattle.std.specs.Prelude.{ℕ, suc, ◌+◌, ◌-◌, ◌/◌, nat_eq, nat_l
 use Rattle.checkpoint_full.specs.Checkpoints.{Checkpointed}
 use Rattle.checkpoint_full.specs.Widths.{settled, settled_width}
 
--- a checkpoint behind the place stands one further once a row is put in there, and one earlier once the row there is taken out
+-- a checkpoint after the place stands one further once a row is put in there, and one earlier once the row there is taken out
 abbrev pub one_further : ℕ → ℕ → ℕ
 one_further place checkpoint = if nat_lt place checkpoint then checkpoint + 1 else checkpoint
 
@@ -32,11 +32,11 @@ latest_first now = if now.made then reverse now.places ++ 0 ∷ [] else []
 abbrev pub rising : List ℕ → List ℕ
 rising places = drop 1 (reverse places)
 
--- the places with a row more: first there is room for it, and then each behind it stands one further
+-- the places with a row more: first there is room for it, and then each after it stands one further
 abbrev pub with_row_more : Checkpointed → ℕ → List ℕ
 with_row_more now place = map (one_further place) (with_room now.width place (length now.rows) (latest_first now))
 
--- the places with a row less: each behind it stands one earlier
+-- the places with a row less: each after it stands one earlier
 abbrev pub with_row_less : Checkpointed → ℕ → List ℕ
 with_row_less now place = map (one_earlier place) (latest_first now)
 
