@@ -1,6 +1,6 @@
 -- The rule of checkpoints at an edit: the places that are made, moved and left are those that it says.
 use Rattle.std.proofs.Common.{◌≡◌, ℕ, zero, suc, ◌+◌, ◌-◌, ◌<◌, ◌≤◌, true, false, List, [], ◌∷◌, ◌++◌, length, map, reverse, get_or, refl, sym, subst, ap, ◌∙◌, arith, inl, inr}
-use Rattle.std.specs.List.{insert, remove}
+use Rattle.std.specs.List.{insert}
 use Rattle.std.proofs.lemmas.Bool.{leb-true, leb-false, le-leb, lt-leb, lt-ltb, le-ltb, cases_lt}
 use Rattle.std.proofs.lemmas.List.{reverse-append, reverse-reverse}
 use Rattle.std.proofs.lemmas.List.Edits.{length-insert, length-remove}

@@ -1,6 +1,6 @@
 -- The rule of checkpoints at an edit, over the width, the places and the number of rows alone: where a checkpoint is made for a row that
 -- is put in, how all of them move with the rows, and which of them are left, at which width.
-use Rattle.std.specs.Prelude.{ℕ, suc, ◌+◌, ◌-◌, ◌/◌, nat_eq, nat_lt, if◌then◌else◌, List, [], ◌∷◌, ◌++◌, length, drop, map, reverse}
+use Rattle.std.specs.Prelude.{ℕ, ◌+◌, ◌-◌, ◌/◌, nat_eq, nat_lt, if◌then◌else◌, List, [], ◌∷◌, ◌++◌, length, drop, map, reverse}
 use Rattle.checkpoint_full.specs.Checkpoints.{Checkpointed}
 use Rattle.checkpoint_full.specs.Widths.{settled, settled_width}
 
