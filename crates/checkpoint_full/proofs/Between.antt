@@ -35,7 +35,7 @@ stands_between now checkpoints found seen nearest place index earlier later sear
       later_is = later_there ∙ ap (λ cs. get_or (now ∷ cs) index now) of_all_too ∙ any_default (now ∷ checkpoints) index now earlier (omega (arith, below));
     }
 
-below_of : (now : Structure) (checkpoints : List Structure) (place index : ℕ) (earlier later : Structure) → StandsBetween now checkpoints place index earlier later
+pub below_of : (now : Structure) (checkpoints : List Structure) (place index : ℕ) (earlier later : Structure) → StandsBetween now checkpoints place index earlier later
     → (index < length checkpoints) × (is_up_to place (get_or checkpoints index earlier) ≡ true) × ((k : ℕ) → k < index → is_up_to place (get_or checkpoints k earlier) ≡ false)
 below_of now checkpoints place index earlier later between = position-Some (is_up_to place) checkpoints index earlier between.at
 

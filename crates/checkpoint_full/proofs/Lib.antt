@@ -8,3 +8,4 @@ pub mod Keeping
 pub mod Made
 pub mod Thinned
 pub mod Settled
+pub mod Rule

@@ -1,2 +1,3 @@
 pub mod Checkpoints
+pub mod Rule
 pub mod Widths

@@ -1,6 +1,7 @@
 //! The checkpoints of a timeline, the latest first: how they are made, and which is nearest to a place.
 ghost use Rattle.std.specs.Prelude.{◌≡◌, ◌+◌, ◌-◌, ◌*◌, ◌/◌, ◌<◌, ◌≤◌, ◌∷◌, nat_le, length, get_or, map, position, true, IfOk, IfSome, OnOk, OnErr};
 ghost use Rattle.checkpoint_full.specs.Checkpoints.{place_of, places_of, were_made, without_made, AreCheckpoints, AreSettled, HasRoom, KeepsCheckpoints};
+ghost use Rattle.checkpoint_full.specs.Rule.{between, with_room};
 ghost use Rattle.checkpoint_full.specs.Widths.{made_places, most_checkpoints, multiples_below, IsWidth};
 
 use crate::snapshot::Snapshot;
@@ -73,9 +74,9 @@ pub(crate) fn neighbour_after<'a, P: Partial + Drop>(
 /// after all others, and in the middle otherwise.
 fn place_between(earlier: u32, later: u32, place: u32) -> u32
     requires apart { earlier + 2 ≤ later }
-    ensures between { (earlier < result) × (result ≤ later) }
+    ensures within { (earlier < result) × (result ≤ later) }
     ensures end { result ≡ later → place ≡ later }
-    ensures middle { place < later → result ≡ earlier + (later - earlier) / 2 }
+    ensures place { result ≡ between earlier later place }
 {
     if place == later {
         later
@@ -97,6 +98,7 @@ pub(crate) fn make_room<P: Partial + Drop, L: Ledger>(
     requires within { place ≤ place_of present.now }
     requires keeps { KeepsCheckpoints width present.now checkpoints.old.items }
     ensures keeps { OnOk result (KeepsCheckpoints width present.now checkpoints.new.items) }
+    ensures places { OnOk result (map place_of checkpoints.new.items ≡ with_room width place (place_of present.now) (map place_of checkpoints.old.items)) }
     ensures room { OnOk result (HasRoom width place (place_of present.now) (map place_of checkpoints.new.items)) }
     ensures made { OnOk result (were_made checkpoints.new.items ≡ were_made checkpoints.old.items) }
     ensures one { OnOk result (length checkpoints.new.items ≤ 1 + length checkpoints.old.items) }

@@ -10,6 +10,7 @@ ghost use Rattle.retro_base.specs.Questions.{suits};
 ghost use Rattle.retro_base.specs.Replay.{failure, IsValid, present, state_at};
 ghost use Rattle.retro_base.specs.Timeline.{IsFresh, IsReplayable};
 ghost use Rattle.retro_base.specs.Visits.{OpensCounter, VisitsWithin};
+ghost use Rattle.checkpoint_full.specs.Rule.{places_after_insertion, places_after_removal, width_after_insertion, width_after_removal};
 ghost use Rattle.checkpoint_full.specs.Widths.{least_width, made_places, narrowest};
 
 use crate::kept::{ask_kept, insert_kept, list_kept, remove_kept};
@@ -28,9 +29,14 @@ use std::sync::ledger::{Blank, Ledger};
 /// Contracts see its kind and rows, whether its checkpoints were made, the width, and the places of those after the
 /// start. The width is 1,024, 2,048, 4,096 or 8,192 rows, and never falls. The checkpoints are made at the first question
 /// about the past, at the start and at each multiple of the width below the number of rows, at the least width at which
-/// there are at most 31 after the start. From then on neighbours are at most a width apart, the two neighbours of each
-/// are more than a width apart, there are at most 31, and each performs the first rows of the timeline, as many as it
-/// stands for.
+/// there are at most 31 after the start. From then on they stand where the rule of an edit says (`specs/Rule.antt`):
+/// where a row is put in between neighbours that are a width apart, one is made between them first, right before a row
+/// that comes after all others, and in the middle otherwise; those after the place move with the rows; then, from the
+/// latest to the start, each whose neighbours are at most a width apart is dropped, and where more than 31 are left, the
+/// width is doubled and they are thinned again.
+///
+/// So neighbours are at most a width apart, the two neighbours of each are more than a width apart, there are at most
+/// 31, and each performs the first rows of the timeline, as many as it stands for.
 ///
 /// Where questions go forward in time, a copy of a checkpoint that was rolled to a place stays there for the next
 /// question. Contracts do not see it, and copying it is not counted among the visits.
@@ -171,6 +177,7 @@ impl<P: Partial + Drop> Retro for Full<P> {
         uncounted::failure_after_remove(self.present.structure(), place)
     }
 
+    /// The width and the places are then those of the rule; where no checkpoints were made, they stay as they are.
     fn insert(&mut self, place: u32, row: Row) -> Result<Change, NoMemory>
         requires within { place ≤ length self.old.rows }
         requires room { length self.old.rows < most_rows }
@@ -182,6 +189,8 @@ impl<P: Partial + Drop> Retro for Full<P> {
         ensures replayable { OnOk result (IsReplayable self.new.kind self.new.rows) }
         ensures change { IfOk result (IsChange self.old.kind self.old.rows (add place row)) }
         ensures made { OnOk result (self.new.made ≡ self.old.made) }
+        ensures width { OnOk result (self.new.width ≡ width_after_insertion self.old place) }
+        ensures places { OnOk result (self.new.places ≡ places_after_insertion self.old place) }
         ensures wider { OnOk result (self.old.width ≤ self.new.width) }
         ensures err { OnErr result (self.new ≡ self.old) }
     {
@@ -197,7 +206,8 @@ impl<P: Partial + Drop> Retro for Full<P> {
         Ok(change)
     }
 
-    /// It takes no memory, so it never answers `NoMemory`.
+    /// It takes no memory, so it never answers `NoMemory`. The width and the places are then those of the rule; where no
+    /// checkpoints were made, they stay as they are.
     fn remove(&mut self, place: u32) -> Result<(Row, Change), NoMemory>
         requires within { place < length self.old.rows }
         requires replays { IsValid self.old.kind (remove self.old.rows place) }
@@ -208,6 +218,8 @@ impl<P: Partial + Drop> Retro for Full<P> {
         ensures replayable { OnOk result (IsReplayable self.new.kind self.new.rows) }
         ensures change { IfOk result (λ taken. IsChange self.old.kind self.old.rows (cut place taken.0) taken.1) }
         ensures made { OnOk result (self.new.made ≡ self.old.made) }
+        ensures width { OnOk result (self.new.width ≡ width_after_removal self.old place) }
+        ensures places { OnOk result (self.new.places ≡ places_after_removal self.old place) }
         ensures wider { OnOk result (self.old.width ≤ self.new.width) }
         ensures err { OnErr result (self.new ≡ self.old) }
     {

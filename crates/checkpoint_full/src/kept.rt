@@ -8,7 +8,8 @@ ghost use Rattle.retro_base.specs.Questions.{suits};
 ghost use Rattle.retro_base.specs.Replay.{IsValid, state_at};
 ghost use Rattle.retro_base.specs.Timeline.{IsReplayable};
 ghost use Rattle.retro_base.specs.Visits.{OpensCounter, VisitsWithin};
-ghost use Rattle.checkpoint_full.specs.Checkpoints.{after, place_of, places_of, were_made, CanTake, HoldsFirstRows, KeepsRule};
+ghost use Rattle.checkpoint_full.specs.Checkpoints.{after, place_of, places_of, were_made, CanTake, HoldsFirstRows, KeepsRule, seen};
+ghost use Rattle.checkpoint_full.specs.Rule.{places_after_insertion, places_after_removal, width_after_insertion, width_after_removal};
 ghost use Rattle.checkpoint_full.specs.Widths.{least_width, made_places};
 
 use crate::checkpoints::{drop_made, make, make_room};
@@ -39,7 +40,8 @@ pub(crate) fn insert_kept<P: Partial + Drop, L: Ledger>(
     ensures replayable { OnOk result (IsReplayable present.new.kind present.new.rows) }
     ensures keeps { OnOk result (KeepsRule width.new present.new checkpoints.new.items) }
     ensures made { OnOk result (were_made checkpoints.new.items ≡ were_made checkpoints.old.items) }
-    ensures wider { OnOk result (width.old ≤ width.new) }
+    ensures width { OnOk result (width.new ≡ width_after_insertion (seen width.old present.old checkpoints.old.items) place) }
+    ensures places { OnOk result (places_of checkpoints.new.items ≡ places_after_insertion (seen width.old present.old checkpoints.old.items) place) }
     ensures change { IfOk result (IsChange present.old.kind present.old.rows (add place row)) }
     ensures err { OnErr result ((present.new ≡ present.old) × (checkpoints.new.items ≡ checkpoints.old.items) × (width.new ≡ width.old)) }
 {
@@ -74,7 +76,8 @@ pub(crate) fn remove_kept<P: Partial + Drop, L: Ledger>(
     ensures replayable { IsReplayable present.new.kind present.new.rows }
     ensures keeps { KeepsRule width.new present.new checkpoints.new.items }
     ensures made { were_made checkpoints.new.items ≡ were_made checkpoints.old.items }
-    ensures wider { width.old ≤ width.new }
+    ensures width { width.new ≡ width_after_removal (seen width.old present.old checkpoints.old.items) place }
+    ensures places { places_of checkpoints.new.items ≡ places_after_removal (seen width.old present.old checkpoints.old.items) place }
     ensures change { IsChange present.old.kind present.old.rows (cut place result.0) result.1 }
 {
     let mut steps = Steps::<L>::new(blank);

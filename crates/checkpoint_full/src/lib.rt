@@ -13,8 +13,9 @@
 //! keep the memory of at most 31 structures, however the timeline grows and shrinks.
 //!
 //! A `Full` is seen as its kind and rows, whether its checkpoints were made, their width and their places, by
-//! `specs/Checkpoints.antt`; the rule over places alone is `specs/Widths.antt`. It implements `Retro` of `retro_base`;
-//! after `NoMemory` each call leaves all that is seen, and the rows of every checkpoint, as they were.
+//! `specs/Checkpoints.antt`. How far apart places may stand, and which are dropped, is `specs/Widths.antt`; what an edit
+//! leaves of the width and the places, `specs/Rule.antt`, over these and the number of rows alone. It implements `Retro`
+//! of `retro_base`; after `NoMemory` each call leaves all that is seen, and the rows of every checkpoint, as they were.
 //!
 //! - `Full`. The least width: `NARROWEST`. The most checkpoints: `MOST_CHECKPOINTS`.
 #![tactic(auto)]

@@ -55,7 +55,6 @@ pub(crate) fn settle<P: Partial + Drop>(
     requires few { length checkpoints.old.items ≤ 2 + most_checkpoints }
     ensures width { result ≡ settled_width width (place_of present.now) (map place_of checkpoints.old.items) }
     ensures places { map place_of checkpoints.new.items ≡ settled width (place_of present.now) (map place_of checkpoints.old.items) }
-    ensures wider { width ≤ result }
     ensures keeps { KeepsRule result present.now checkpoints.new.items }
     ensures made { were_made checkpoints.new.items ≡ were_made checkpoints.old.items }
 {
