@@ -9,3 +9,4 @@ pub mod Made
 pub mod Thinned
 pub mod Settled
 pub mod Rule
+pub mod Examples

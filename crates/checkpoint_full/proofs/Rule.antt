@@ -94,20 +94,23 @@ one_without place checkpoint = elim (cases_lt place (place_of checkpoint)) [
   | inr less ↦ rw (le-ltb place (place_of checkpoint) less) refl
 ]
 
-all_with : (place : ℕ) (row : Row) (checkpoints : List Structure) → map place_of (map (with_row place row) checkpoints) ≡ map (one_further place) (map place_of checkpoints)
+all_with : (place : ℕ) (row : Row) (checkpoints : List Structure)
+    → map place_of (map (with_row place row) checkpoints) ≡ map (one_further place) (map place_of checkpoints)
 all_with place row [] = refl
 all_with place row (checkpoint ∷ checkpoints) =
     ap (λ (p : ℕ). p ∷ map place_of (map (with_row place row) checkpoints)) (one_with place row checkpoint)
     ∙ ap (λ places. one_further place (place_of checkpoint) ∷ places) (all_with place row checkpoints)
 
-all_without : (place : ℕ) (checkpoints : List Structure) → map place_of (map (without_row place) checkpoints) ≡ map (one_earlier place) (map place_of checkpoints)
+all_without : (place : ℕ) (checkpoints : List Structure)
+    → map place_of (map (without_row place) checkpoints) ≡ map (one_earlier place) (map place_of checkpoints)
 all_without place [] = refl
 all_without place (checkpoint ∷ checkpoints) =
     ap (λ (p : ℕ). p ∷ map place_of (map (without_row place) checkpoints)) (one_without place checkpoint)
     ∙ ap (λ places. one_earlier place (place_of checkpoint) ∷ places) (all_without place checkpoints)
 
 -- the start is the last of the places
-ends_at_start : (width later place : ℕ) (places : List ℕ) → AreClose width later (place ∷ places) 0 → (front : List ℕ) × (place ∷ places ≡ front ++ 0 ∷ [])
+ends_at_start : (width later place : ℕ) (places : List ℕ) → AreClose width later (place ∷ places) 0
+    → (front : List ℕ) × (place ∷ places ≡ front ++ 0 ∷ [])
 ends_at_start width later place [] close = ([], ap (λ (p : ℕ). p ∷ []) close.2)
 ends_at_start width later place (earlier ∷ places) close =
     let ends = ends_at_start width place earlier places close.2 in (place ∷ ends.0, ap (λ ps. place ∷ ps) ends.1)
@@ -129,7 +132,8 @@ pub moved_with : (width : ℕ) (now : Structure) (checkpoints roomy changed : Li
     → map place_of changed ≡ with_row_more (seen width now checkpoints) place
 moved_with width now checkpoints roomy changed place row kept room each =
     ap (λ cs. map place_of cs) each ∙ all_with place row roomy
-    ∙ ap (λ places. map (one_further place) places) (room ∙ ap (λ places. with_room width place (place_of now) places) (sym (all_seen width now checkpoints kept)))
+    ∙ ap (λ places. map (one_further place) places)
+    (room ∙ ap (λ places. with_room width place (place_of now) places) (sym (all_seen width now checkpoints kept)))
 
 pub moved_without : (width : ℕ) (now : Structure) (checkpoints changed : List Structure) (place : ℕ) → KeepsCheckpoints width now checkpoints
     → changed ≡ map (without_row place) checkpoints → map place_of changed ≡ with_row_less (seen width now checkpoints) place
