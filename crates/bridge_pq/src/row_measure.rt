@@ -1,5 +1,4 @@
 ghost use Rattle.std.specs.Prelude.{◌≡◌, ◌+◌, ◌-◌, ◌^◌, ◌<◌, pos, negsuc, List, Option, Some, None};
-ghost use Rattle.std.specs.Option.{option_map};
 ghost use Rattle.std.specs.Ordering.{flip_args};
 ghost use Rattle.monoid_laws.specs.Extreme.{extreme_of, one_element, IsGreatestOffset};
 ghost use Rattle.retro_base.specs.declared.row.Entry.{Entry};

@@ -1,4 +1,4 @@
-ghost use Rattle.std.specs.Prelude.{◌≡◌, ℕ, pos, ◌<◌, ◌≤◌, List, length, slice_get, slice_set, MatchOption, Some};
+ghost use Rattle.std.specs.Prelude.{◌≡◌, ◌<◌, ◌≤◌, length, slice_get, slice_set, MatchOption, Some};
 ghost use Rattle.retro_base.specs.declared.row.Entry.{Entry};
 ghost use Rattle.retro_base.specs.BridgeTable.{IsDeadFrom, IsSurvivorBefore, IsGreatest, IsLeast};
 ghost use Rattle.retro_base.specs.Bridges.{survivors, IsLastBridge, IsFirstBridge};

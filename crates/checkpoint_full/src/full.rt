@@ -7,7 +7,7 @@ ghost use Rattle.retro_base.specs.Edits.{add, cut};
 ghost use Rattle.retro_base.specs.Kind.{kind_of};
 ghost use Rattle.retro_base.specs.Limits.{most_rows};
 ghost use Rattle.retro_base.specs.Questions.{suits};
-ghost use Rattle.retro_base.specs.Replay.{failure, IsValid, present, state_at};
+ghost use Rattle.retro_base.specs.Replay.{IsValid, present, state_at};
 ghost use Rattle.retro_base.specs.Timeline.{IsFresh, IsReplayable};
 ghost use Rattle.retro_base.specs.Visits.{OpensCounter, VisitsWithin};
 ghost use Rattle.checkpoint_full.specs.Rule.{places_after_insertion, places_after_removal, width_after_insertion, width_after_removal};

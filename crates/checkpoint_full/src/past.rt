@@ -2,7 +2,7 @@
 ghost use Rattle.std.specs.Prelude.{◌≡◌, ◌+◌, ◌-◌, ◌*◌, ◌<◌, ◌≤◌, length, get_or, true, IfSome, IfOk};
 ghost use Rattle.retro_base.specs.Answers.{answer_of, content};
 ghost use Rattle.retro_base.specs.Questions.{suits};
-ghost use Rattle.retro_base.specs.Replay.{present, state_at};
+ghost use Rattle.retro_base.specs.Replay.{state_at};
 ghost use Rattle.retro_base.specs.Visits.{VisitsWithin};
 ghost use Rattle.checkpoint_full.specs.Checkpoints.{place_of, were_made, AreCheckpoints, HoldsFirstRows};
 

@@ -1,6 +1,6 @@
 ghost use Rattle.std.specs.Prelude.{◌≡◌, ◌++◌, OnOk, OnErr};
 ghost use Rattle.retro_base.specs.Text.{AppendsPrefix};
-ghost use Rattle.evidence.specs.Spelling.{bridge_text, change_text, changed_entry_text, changed_text, edit_text, edit_word, entry_text, number_text, row_text, spaced, spelling};
+ghost use Rattle.evidence.specs.Spelling.{bridge_text, change_text, changed_entry_text, changed_text, edit_text, entry_text, row_text, spaced, spelling};
 
 use crate::Evidence;
 use retro_base::{Change, Entry, NoMemory, Op, Text, print_op};

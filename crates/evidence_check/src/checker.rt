@@ -1,4 +1,4 @@
-ghost use Rattle.std.specs.Prelude.{◌≡◌, ◌≤◌, ◌<◌, ◌^◌, [], length, position, None, Ok, IsOk, IsTrue, OnOk, OnErr, false};
+ghost use Rattle.std.specs.Prelude.{◌≡◌, ◌≤◌, ◌<◌, ◌^◌, length, position, None, Ok, IsOk, IsTrue, OnOk, OnErr, false};
 ghost use Rattle.evidence.specs.Evidence.{IsEvidence};
 ghost use Rattle.retro_base.specs.Limits.{longest_line};
 ghost use Rattle.evidence_check.specs.Judgement.{decided, first_cause, is_evidence_line, is_named, judged_line, nothing_reported, reported_after};

@@ -1,5 +1,4 @@
-ghost use Rattle.std.specs.Prelude.{◌≡◌, ◌++◌, List, ℕ, OnOk, OnErr};
-ghost use Rattle.retro_base.specs.Text.{AppendsPrefix};
+ghost use Rattle.std.specs.Prelude.{◌≡◌};
 ghost use Rattle.followers.specs.Totals.{counted, no_changes, totals_after, totals_text};
 
 use crate::Follower;

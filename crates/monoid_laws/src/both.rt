@@ -1,4 +1,4 @@
-ghost use Rattle.std.specs.Prelude.{◌≡◌, ◌<◌, ⊤, List};
+ghost use Rattle.std.specs.Prelude.{◌≡◌, ⊤, List};
 ghost use Rattle.monoid_laws.specs.Both.{joined_both, both_of};
 ghost use Rattle.monoid_laws.specs.BothLaws.{both_laws};
 ghost use Rattle.monoid_laws.specs.Measure.{measure_of};

@@ -1,4 +1,4 @@
-ghost use Rattle.std.specs.Prelude.{◌≡◌, ◌+◌, None, OnOk, OnErr, IsSome, length, ◌≤◌};
+ghost use Rattle.std.specs.Prelude.{◌+◌, None, OnOk, OnErr, IsSome, length, ◌≤◌};
 ghost use Rattle.std.specs.BTreeMap.{get};
 ghost use Rattle.std.specs.Ordering.{nat_cmp};
 ghost use Rattle.order_timeline.specs.Numbers.{Changes, Writes, IsSame, HasSomeNames, WritesRun};

@@ -1,4 +1,4 @@
-ghost use Rattle.std.specs.Prelude.{◌≡◌, ◌^◌, ◌<◌, ◌≤◌, length, map, take, IfOk};
+ghost use Rattle.std.specs.Prelude.{◌≡◌, ◌^◌, ◌<◌, ◌≤◌, length, take, IfOk};
 ghost use Rattle.retro_base.specs.declared.question.Item.TheVariants.{Single};
 ghost use Rattle.retro_base.specs.Answers.{answer_of, content, number_of};
 ghost use Rattle.retro_base.specs.State.{entries};

@@ -2,7 +2,6 @@ ghost use Rattle.std.specs.Prelude.{◌≡◌, ◌+◌, ◌≤◌, length, slice
 ghost use Rattle.std.specs.Option.{option_map};
 ghost use Rattle.retro_base.specs.Answers.{key_of};
 ghost use Rattle.retro_base.specs.Limits.{most_rows};
-ghost use Rattle.pq_fusion.specs.Pieces.{tolerant};
 ghost use Rattle.pq_fusion.specs.Tallies.{LeadsTally, LeadsSpan, reaching, left_by};
 
 use crate::span::Span;

@@ -1,7 +1,7 @@
-ghost use Rattle.std.specs.Prelude.{◌≡◌, ◌≤◌, ◌<◌, ◌-◌, ◌+◌, ◌↔◌, [], false, true, IfOk, IfErr, IfSome, IsErrOf, OnOk, option_map};
+ghost use Rattle.std.specs.Prelude.{◌≡◌, ◌≤◌, ◌<◌, ◌-◌, ◌+◌, ◌↔◌, [], false, true, IfOk, IfSome, IsErrOf, OnOk, option_map};
 ghost use Rattle.retro_base.specs.Limits.{most_bytes};
 ghost use Rattle.retro_io.specs.Faults.{CountsFaults, last_count};
-ghost use Rattle.retro_io.specs.LineReader.{MovesOn, has_failed, held, limit_of, rest_of, source_of, taken};
+ghost use Rattle.retro_io.specs.LineReader.{MovesOn, has_failed, limit_of, rest_of, source_of, taken};
 ghost use Rattle.retro_cli.specs.Delivery.{StandsAt};
 ghost use Rattle.retro_cli.specs.Judging.{is_refusal, judged_output, judgement_after, judgement_of};
 ghost use Rattle.retro_cli.specs.Run.{MayBeTooLong};

@@ -1,4 +1,4 @@
-ghost use Rattle.std.specs.Prelude.{◌≡◌, [], Some, IfErr, OnErr, OnOk, IsErrOf};
+ghost use Rattle.std.specs.Prelude.{◌≡◌, [], Some, IfErr, OnErr, OnOk};
 ghost use Rattle.retro_io.specs.Faults.{CountsFaults};
 ghost use Rattle.retro_io.specs.Flushes.{EndsWithFailedSend, EndsWithFailedWrite, StaysUnflushed};
 ghost use Rattle.retro_io.specs.Sink.{Appends, AppendsProperPrefix};

@@ -1,4 +1,4 @@
-ghost use Rattle.std.specs.Prelude.{◌≡◌, ◌^◌, IfSome};
+ghost use Rattle.std.specs.Prelude.{◌≡◌, IfSome};
 ghost use Rattle.retro_cli.specs.Forms.{IsWithin, form_of, form_of_word, form_of_words, generation, is_follow};
 
 use crate::Words;

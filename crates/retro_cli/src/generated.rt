@@ -1,8 +1,7 @@
 ghost use Rattle.std.specs.Prelude.{◌≡◌, ◌≤◌, ◌<◌, ◌+◌, ◌-◌, ◌^◌, ◌++◌, [], false, length, Some, IfOk, IsErrOf, OnOk};
 ghost use Rattle.retro_io.specs.Faults.{CountsFaults};
-ghost use Rattle.script_gen.specs.Script.{generated};
 ghost use Rattle.workbench.specs.Answers.{bench_after};
-ghost use Rattle.workbench.specs.Bench.{empty_bench, present_size};
+ghost use Rattle.workbench.specs.Bench.{present_size};
 ghost use Rattle.retro_cli.specs.Delivery.{StandsAt};
 ghost use Rattle.retro_cli.specs.Forms.{most_generated};
 ghost use Rattle.retro_cli.specs.Stop.{stops_at_read, stops_at_write};

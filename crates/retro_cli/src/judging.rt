@@ -1,4 +1,4 @@
-ghost use Rattle.std.specs.Prelude.{◌≡◌, ◌<◌, ◌≤◌, ◌+◌, ◌^◌, ◌++◌, [], length, IsTrue, OnOk, OnErr, false};
+ghost use Rattle.std.specs.Prelude.{◌≡◌, ◌<◌, ◌≤◌, ◌^◌, ◌++◌, [], length, IsTrue, OnOk, OnErr, false};
 ghost use Rattle.evidence_check.specs.Judgement.{cause_text, nothing_reported};
 ghost use Rattle.retro_base.specs.Limits.{longest_line};
 ghost use Rattle.retro_cli.specs.Judging.{is_refusal, judgement_after, judgement_line, lines_read, so_far, with_line};

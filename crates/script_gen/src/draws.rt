@@ -1,4 +1,4 @@
-ghost use Rattle.std.specs.Prelude.{◌≡◌, ◌<◌, ◌^◌};
+ghost use Rattle.std.specs.Prelude.{◌≡◌};
 ghost use Rattle.script_gen.specs.Draws.{first_draw, next_state};
 
 const FACTOR: u64 = 6_364_136_223_846_793_005;

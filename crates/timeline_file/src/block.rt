@@ -1,4 +1,4 @@
-ghost use Rattle.std.specs.Prelude.{◌≡◌, ◌<◌, ◌≤◌, length, nat_eq, true, false, None, Some, Ok, IsTrue, IfSome, IfOk, OnOk, OnErr};
+ghost use Rattle.std.specs.Prelude.{◌≡◌, ◌<◌, ◌≤◌, length, true, None, Some, Ok, IsTrue, IfSome, IfOk, OnOk, OnErr};
 ghost use Rattle.retro_base.specs.Limits.{longest_line, most_rows, next_limit};
 ghost use Rattle.retro_base.specs.Timeline.{IsTimeline};
 ghost use Rattle.timeline_file.specs.Block.{are_below, begun, cause_of_row, fault_of, finished, grown, has_count, taken};

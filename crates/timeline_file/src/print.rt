@@ -1,4 +1,4 @@
-ghost use Rattle.std.specs.Prelude.{◌≡◌, ◌++◌, decimal, length, OnOk, OnErr};
+ghost use Rattle.std.specs.Prelude.{◌≡◌, ◌++◌, decimal, OnOk, OnErr};
 ghost use Rattle.retro_base.specs.OpText.{op_text};
 ghost use Rattle.retro_base.specs.Text.{AppendsPrefix};
 ghost use Rattle.timeline_file.specs.Saved.{count_text, header_text, kind_text, next_text, row_lines, row_text, saved, spaced, with_feed};

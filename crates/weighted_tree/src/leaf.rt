@@ -1,4 +1,4 @@
-ghost use Rattle.std.specs.Prelude.{◌≡◌, true, false, ℕ, Bool, ◌+◌, ◌-◌, ◌^◌, ◌<◌, ◌≤◌, ◌++◌, ◌∷◌, take, drop, length, slice_get, Some, IfOk, OnOk, OnErr};
+ghost use Rattle.std.specs.Prelude.{◌≡◌, ◌+◌, ◌-◌, ◌^◌, ◌<◌, ◌≤◌, ◌++◌, ◌∷◌, take, drop, length, slice_get, Some, IfOk, OnErr};
 ghost use Rattle.std.specs.List.{insert, slice_range};
 ghost use Rattle.weighted_tree.specs.Balance.{no_part};
 ghost use Rattle.weighted_tree.specs.Measures.{measure_in, passing};

@@ -1,4 +1,4 @@
-ghost use Rattle.std.specs.Prelude.{◌≡◌, true, false, ◌+◌, ◌-◌, ◌^◌, ◌<◌, ◌≤◌, drop, length};
+ghost use Rattle.std.specs.Prelude.{◌≡◌, ◌+◌, ◌-◌, ◌^◌, ◌<◌, ◌≤◌, drop, length};
 ghost use Rattle.std.specs.Fn.{FnReturnsAt};
 ghost use Rattle.weighted_tree.specs.Balance.{weight};
 ghost use Rattle.weighted_tree.specs.Levels.{OneALevel};

@@ -1,6 +1,6 @@
-ghost use Rattle.std.specs.Prelude.{◌≡◌, ◌≤◌, length, IsTrue, IfOk, OnOk, OnErr, MatchResult, Ok, Err};
+ghost use Rattle.std.specs.Prelude.{◌≡◌, ◌≤◌, length, IsTrue, IfOk, OnOk, OnErr, Ok, Err};
 ghost use Rattle.retro_base.specs.Limits.{longest_line, next_limit};
-ghost use Rattle.timeline_file.specs.Block.{begun, finished};
+ghost use Rattle.timeline_file.specs.Block.{begun};
 ghost use Rattle.workbench.specs.Reaction.{of_block, with_line};
 ghost use Rattle.workbench.specs.OpenBlocks.{ComesToTimeline};
 

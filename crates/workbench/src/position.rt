@@ -1,6 +1,5 @@
 ghost use Rattle.std.specs.Prelude.{◌≡◌, ◌≤◌, ◌<◌, length, IfSome};
 ghost use Rattle.retro_base.specs.Limits.{most_rows};
-ghost use Rattle.retro_base.specs.Order.{Fits};
 ghost use Rattle.workbench.specs.TimelineEffects.{row_named, position_before, position_of};
 
 use order_timeline::Timeline;

@@ -1,6 +1,5 @@
 ghost use Rattle.std.specs.Prelude.{◌≡◌, [], length, true, nat_le, position, Ok, Some, None, IfOk, OnErr, MatchOption};
-ghost use Rattle.retro_base.specs.Limits.{most_timelines, next_limit};
-ghost use Rattle.retro_base.specs.Timeline.{IsTimeline};
+ghost use Rattle.retro_base.specs.Limits.{most_timelines};
 ghost use Rattle.script_grammar.specs.Command.{IsProper};
 ghost use Rattle.timeline_file.specs.Block.{finished};
 ghost use Rattle.workbench.specs.Bench.{has_timeline, is_named, named, timeline_of};
