@@ -15,8 +15,8 @@ one_earlier place checkpoint = if nat_lt place checkpoint then checkpoint - 1 el
 abbrev pub between : ℕ → ℕ → ℕ → ℕ
 between earlier later place = if nat_eq place later then later else earlier + (later - earlier) / 2
 
--- the places once there is room for a row at the place: where the neighbours that it stands between are a width apart, one is made between
--- them
+-- the places once there is room for a row at the place: where the neighbours that it stands between are a width apart or more, one is made
+-- between them
 abbrev pub with_room : ℕ → ℕ → ℕ → List ℕ → List ℕ
 with_room width place later [] = []
 with_room width place later (earlier ∷ places) =
