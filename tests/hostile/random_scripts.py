@@ -6,7 +6,8 @@
 PROGRAM is build/retro where none is named; it goes on for so many SECONDS (60), with draws from START (1). Each script comes
 through a pipe in pieces of random sizes. One in four has its input cut off within a line, one in eight a reader that
 closes the pipe after some bytes of answers: then the answers are a prefix, and the status is 4 or the whole was written.
-What a script answers is handed to `check`, which has to accept it.
+Half of them are followed, by a tally and most of these by a mirror of a name, and mute them at times. What a script answers
+is handed to `check`, which has to accept it.
 """
 
 import os
@@ -90,8 +91,17 @@ class Script:
             self.lines.append("save %s" % name)
         elif draw < 0.955:
             self.block()
+        elif draw < 0.96:
+            self.lines.append("mute %d" % self.draws.choice([0, 1, 1, 2]))
         else:
             self.lines.append(self.draws.choice(ODD))
+
+    def words(self):
+        """The words of the program; a priority queue is followed where there is one."""
+        if self.draws.random() < 0.5:
+            return ["run"]
+        queues = [name for name, kind in self.names.items() if kind == "pq"]
+        return ["follow"] + ([self.draws.choice(queues or ["p"])] if self.draws.random() < 0.8 else [])
 
     def text(self):
         for _ in range(self.draws.choice([5, 30, 120, 400])):
@@ -130,22 +140,23 @@ def main():
     program = os.path.abspath(sys.argv[1] if len(sys.argv) > 1 else os.path.join(ROOT, "build", "retro"))
     until = time.time() + (float(sys.argv[2]) if len(sys.argv) > 2 else 60)
     start = int(sys.argv[3]) if len(sys.argv) > 3 else 1
-    scripts = lines = cut = closed = 0
+    scripts = lines = cut = closed = followed = 0
     while time.time() < until:
         draws = random.Random(start + scripts)
-        script = Script(draws).text()
+        drawn = Script(draws)
+        script, words = drawn.text(), drawn.words()
         if draws.random() < 0.25 and script:
             script = script[:draws.randint(1, len(script))]
             cut += 1
-        texts, refused = second_bench.output(script)
+        texts, refused = second_bench.output(script, words)
         wanted = b"".join(texts)
         if draws.random() < 0.125:
             most = draws.randint(0, len(wanted))
-            out, status = run(program, ["run"], script, draws, most)
+            out, status = run(program, words, script, draws, most)
             fits = out == wanted[:most] and status in (int(refused), 4)
             closed += 1
         else:
-            out, status = run(program, ["run"], script, draws)
+            out, status = run(program, words, script, draws)
             fits = (out, status) == (wanted, int(refused))
             if fits:
                 count = sum(line.startswith(b"edit ") for line in wanted.splitlines())
@@ -154,11 +165,12 @@ def main():
             kept = os.path.abspath("differs_%d.script" % (start + scripts))
             with open(kept, "wb") as file:
                 file.write(script)
-            print("script %d differs (%s)" % (start + scripts, kept))
+            print("script %d with the words %s differs (%s)" % (start + scripts, " ".join(words), kept))
             sys.exit(1)
         scripts += 1
         lines += script.count(b"\n")
-    print("%d scripts with %d lines, %d cut off, %d with a reader that closes: all as they should be" % (scripts, lines, cut, closed))
+        followed += words[0] == "follow"
+    print("%d scripts with %d lines, %d followed, %d cut off, %d with a reader that closes: all as they should be" % (scripts, lines, followed, cut, closed))
 
 
 if __name__ == "__main__":

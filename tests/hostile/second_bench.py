@@ -394,18 +394,61 @@ class Bench:
         return ["ok"] + told
 
 
-def output(script):
+class Followers:
+    """Who follows a script: a tally of the changes, and where a name is followed what its priority queue holds, which is found by replay."""
+
+    def __init__(self, words):
+        self.left = [word is not None for word in words]
+        self.name = words[1] if len(words) > 1 else None
+        self.gains = self.losses = self.sum = 0
+
+    def hear(self, texts):
+        """Takes the changes among answers."""
+        for text in texts:
+            if text.startswith("edit "):
+                what, _, key = text.split()[-3:]
+                self.gains += what == "gain"
+                self.losses += what == "lose"
+                self.sum += int(key) if what == "gain" else -int(key)
+
+    def report(self, index, bench):
+        if index == 0:
+            return "report 0 gains %d losses %d sum %d" % (self.gains, self.losses, self.sum)
+        timeline = bench.timelines.get(self.name)
+        state = replay(timeline.rows)[0] if timeline and timeline.kind == "pq" else []
+        return "report %d mirror %s %s" % (index, self.name, " ".join(str(key) for key, _ in state) or "empty")
+
+    def muted(self, bench, line):
+        """The report that a line asks for, if it mutes one who is left."""
+        words = [word for word in line.split(b" ") if word]
+        if bench.block is not None or len(line) > 4_096 or len(words) != 2 or words[0] != b"mute":
+            return None
+        try:
+            index = natural(words[1], 0, 2**32 - 1)
+        except NotInGrammar:
+            return None
+        if index >= len(self.left) or not self.left[index]:
+            return None
+        self.left[index] = False
+        return self.report(index, bench)
+
+
+def output(script, words=("run",)):
     """The answers of a whole script, as a list with one text a line of the script and one for the end of the input, and whether one is a refusal."""
     bench, texts, refused = Bench(), [], False
+    followers = Followers(words if words[0] == "follow" else [])
     pieces = script.split(b"\n")
     if pieces[-1] == b"":
         pieces.pop()
     for piece in pieces:
         line = piece[:-1] if piece.endswith(b"\r") else piece
-        given = bench.line(line)
+        muted = followers.muted(bench, line)
+        given = bench.line(line) if muted is None else [muted]
+        followers.hear(given)
         refused |= any(text.startswith("refused") for text in given)
         texts.append("".join(text + "\n" for text in given).encode())
     given = bench.close(False)
     refused |= bool(given)
+    given += [followers.report(index, bench) for index, left in enumerate(followers.left) if left]
     texts.append("".join(text + "\n" for text in given).encode())
     return texts, refused
