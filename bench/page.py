@@ -32,8 +32,9 @@ MEANT = {
 PLOTS = [("end", "measured-end.svg"), ("edit", "measured-edit.svg"), ("past", "measured-past.svg"), ("mixed", "measured-mixed.svg")]
 
 REASONS = {
-    "boxes": "Each item of a tree is a box of its own, and a timeline keeps its rows twice. An edit goes down several trees, and waits for memory at each "
-             "box that is in no cache. Many rows to a leaf, with one allocation a leaf, would change it.",
+    "trees": "A timeline keeps its rows in their order and their numbers in another, and the structure keeps the rows again, with their signs: an edit goes down "
+             "each of these trees, once to be tested and once to be made, and looks through a leaf of up to 32 items where it ends. The program of the last "
+             "column keeps one tree, with 64 rows to a leaf. One tree with all measures, and one way down it, would change it.",
     "trie": "A dictionary keeps each lifetime in up to some dozens of spans of a trie over labels, each a tree of its own: an edit changes two or three "
             "lifetimes, and each of their spans. The program of the last column keeps a list of rows for each key, which has no bound for `succ`, "
             "`count` and `sum` where few of many keys are there. Spans that share their trees, or a wider trie, would change it.",
@@ -56,14 +57,14 @@ def reason(kind, phase):
     if phase == "fate":
         return "walk"
     if phase in ("save", "load", "now"):
-        return "boxes"
+        return "trees"
     if kind == "dict":
         return "relabelling" if phase == "burst" else "trie"
     if kind == "pqf":
         return "pieces"
     if kind == "pq" and phase in ("first", "past", "forward", "mixed", "move", "undo", "redo", "burst"):
         return "checkpoints"
-    return "walk" if phase == "move" else "boxes"
+    return "walk" if phase == "move" else "trees"
 
 
 def number(value):
@@ -119,8 +120,8 @@ class Page:
         yield from table(["Program", "What it is"], [row for row in [
             ("retro", "the program as it is built and proved"),
             ("replay by hand", "what one writes in an hour: a vector of rows, performed again from the first one on (`bench/peers/replay.rs`)"),
-            ("same design, plain Rust", "the same trees, labels, spans, bridges and checkpoints without proofs (`bench/peers/same_*.rs`); it has no limits, "
-             "few refusals and knows one order of tests"),
+            ("same design, plain Rust", "the same trees, labels, spans, bridges and checkpoints without proofs (`bench/peers/same_*.rs`), with one item to a node of a "
+             "tree, where retro has leaves of up to 32; it has no limits, few refusals and knows one order of tests"),
             ("best without proofs", "the fastest program, of any design, that was written for this page: 64 rows to a leaf (`bench/peers/best_*.rs`)"),
             ("SQLite", "a table of rows with an index on time in SQLite %s, and queries that replay (`bench/sqlite_peer.py`); the script is read by Python" % self.made.sqlite),
         ] if row[0] in [NAMES[peer] for peer in self.peers]])
