@@ -1,4 +1,4 @@
-//! A list kept in a weight-balanced tree, an item to a box, as crates/weighted_tree has it.
+//! A list kept in a weight-balanced tree whose leaves hold up to 32 items, as crates/weighted_tree has it.
 
 /// An item, and what a range of items amounts to.
 pub trait Item: Copy {
@@ -6,6 +6,9 @@ pub trait Item: Copy {
     fn measure(&self) -> Self::Measure;
     fn join(one: Self::Measure, other: Self::Measure) -> Self::Measure;
 }
+
+/// The most items of a leaf.
+const FULL: usize = 32;
 
 #[derive(Clone)]
 struct Node<T: Item> {
@@ -15,17 +18,31 @@ struct Node<T: Item> {
 }
 
 #[derive(Clone)]
+enum Part<T: Item> {
+    Leaf(Vec<T>),
+    Node(Box<Node<T>>),
+}
+
+#[derive(Clone)]
 pub struct Link<T: Item> {
-    node: Option<Box<Node<T>>>,
+    part: Part<T>,
     size: u32,
+    nodes: u32,
     measure: T::Measure,
+}
+
+fn measured<T: Item>(items: &[T]) -> T::Measure {
+    items
+        .iter()
+        .fold(T::Measure::default(), |seen, item| T::join(seen, item.measure()))
 }
 
 impl<T: Item> Link<T> {
     pub fn empty() -> Link<T> {
         Link {
-            node: None,
+            part: Part::Leaf(Vec::new()),
             size: 0,
+            nodes: 0,
             measure: T::Measure::default(),
         }
     }
@@ -38,32 +55,57 @@ impl<T: Item> Link<T> {
         std::mem::replace(self, Link::empty())
     }
 
+    fn leaf(items: Vec<T>) -> Link<T> {
+        Link {
+            size: items.len() as u32,
+            nodes: 0,
+            measure: measured(&items),
+            part: Part::Leaf(items),
+        }
+    }
+
     fn of(node: Box<Node<T>>) -> Link<T> {
         let size = node.left.size + node.right.size + 1;
+        let nodes = node.left.nodes + node.right.nodes + 1;
         let measure = T::join(
             T::join(node.left.measure, node.item.measure()),
             node.right.measure,
         );
         Link {
-            node: Some(node),
+            part: Part::Node(node),
             size,
+            nodes,
             measure,
         }
     }
 
+    fn node(&self) -> &Node<T> {
+        match &self.part {
+            Part::Node(node) => node,
+            Part::Leaf(_) => unreachable!(),
+        }
+    }
+
+    fn into_node(self) -> Box<Node<T>> {
+        match self.part {
+            Part::Node(node) => node,
+            Part::Leaf(_) => unreachable!(),
+        }
+    }
+
     fn weight(&self) -> u32 {
-        self.size + 1
+        self.nodes + 1
     }
 
     fn rotate_left(mut node: Box<Node<T>>) -> Link<T> {
-        let mut right = node.right.take().node.unwrap();
+        let mut right = node.right.take().into_node();
         node.right = right.left.take();
         right.left = Link::of(node);
         Link::of(right)
     }
 
     fn rotate_right(mut node: Box<Node<T>>) -> Link<T> {
-        let mut left = node.left.take().node.unwrap();
+        let mut left = node.left.take().into_node();
         node.left = left.right.take();
         left.right = Link::of(node);
         Link::of(left)
@@ -71,15 +113,15 @@ impl<T: Item> Link<T> {
 
     fn balanced(mut node: Box<Node<T>>) -> Link<T> {
         if node.right.weight() > 3 * node.left.weight() {
-            let right = node.right.node.as_ref().unwrap();
+            let right = node.right.node();
             if right.left.weight() >= 2 * right.right.weight() {
-                node.right = Link::rotate_right(node.right.take().node.unwrap());
+                node.right = Link::rotate_right(node.right.take().into_node());
             }
             Link::rotate_left(node)
         } else if node.left.weight() > 3 * node.right.weight() {
-            let left = node.left.node.as_ref().unwrap();
+            let left = node.left.node();
             if left.right.weight() >= 2 * left.left.weight() {
-                node.left = Link::rotate_left(node.left.take().node.unwrap());
+                node.left = Link::rotate_left(node.left.take().into_node());
             }
             Link::rotate_right(node)
         } else {
@@ -87,14 +129,31 @@ impl<T: Item> Link<T> {
         }
     }
 
+    /// A node over the halves of a full leaf.
+    fn divided(mut items: Vec<T>) -> Box<Node<T>> {
+        let mut later = Vec::with_capacity(FULL);
+        later.extend_from_slice(&items[FULL / 2 + 1..]);
+        items.truncate(FULL / 2 + 1);
+        let item = items.pop().unwrap();
+        Box::new(Node {
+            left: Link::leaf(items),
+            item,
+            right: Link::leaf(later),
+        })
+    }
+
     pub fn insert(&mut self, place: usize, item: T) {
-        let Some(mut node) = self.take().node else {
-            *self = Link::of(Box::new(Node {
-                left: Link::empty(),
-                item,
-                right: Link::empty(),
-            }));
-            return;
+        let mut node = match self.take().part {
+            Part::Leaf(mut items) if items.len() < FULL => {
+                if items.capacity() == 0 {
+                    items.reserve_exact(FULL);
+                }
+                items.insert(place, item);
+                *self = Link::leaf(items);
+                return;
+            }
+            Part::Leaf(items) => Link::divided(items),
+            Part::Node(node) => node,
         };
         let before = node.left.len();
         if place <= before {
@@ -105,22 +164,33 @@ impl<T: Item> Link<T> {
         *self = Link::balanced(node);
     }
 
-    fn take_first(mut node: Box<Node<T>>) -> (Box<Node<T>>, Link<T>) {
-        match node.left.take().node {
-            None => {
-                let rest = node.right.take();
-                (node, rest)
+    fn take_first(self) -> (T, Link<T>) {
+        match self.part {
+            Part::Leaf(mut items) => {
+                let first = items.remove(0);
+                (first, Link::leaf(items))
             }
-            Some(left) => {
-                let (first, rest) = Link::take_first(left);
-                node.left = rest;
-                (first, Link::balanced(node))
+            Part::Node(mut node) => {
+                if node.left.size == 0 {
+                    (node.item, node.right.take())
+                } else {
+                    let (first, rest) = node.left.take().take_first();
+                    node.left = rest;
+                    (first, Link::balanced(node))
+                }
             }
         }
     }
 
     pub fn remove(&mut self, place: usize) {
-        let mut node = self.take().node.unwrap();
+        let mut node = match self.take().part {
+            Part::Leaf(mut items) => {
+                items.remove(place);
+                *self = Link::leaf(items);
+                return;
+            }
+            Part::Node(node) => node,
+        };
         let before = node.left.len();
         *self = if place < before {
             node.left.remove(place);
@@ -128,22 +198,25 @@ impl<T: Item> Link<T> {
         } else if place > before {
             node.right.remove(place - before - 1);
             Link::balanced(node)
+        } else if node.right.size == 0 {
+            node.left.take()
         } else {
-            let left = node.left.take();
-            match node.right.take().node {
-                None => left,
-                Some(right) => {
-                    let (mut first, rest) = Link::take_first(right);
-                    first.left = left;
-                    first.right = rest;
-                    Link::balanced(first)
-                }
-            }
+            let (first, rest) = node.right.take().take_first();
+            node.item = first;
+            node.right = rest;
+            Link::balanced(node)
         };
     }
 
     pub fn change(&mut self, place: usize, change: impl FnOnce(&mut T)) {
-        let mut node = self.take().node.unwrap();
+        let mut node = match self.take().part {
+            Part::Leaf(mut items) => {
+                change(&mut items[place]);
+                *self = Link::leaf(items);
+                return;
+            }
+            Part::Node(node) => node,
+        };
         let before = node.left.len();
         if place < before {
             node.left.change(place, change);
@@ -158,7 +231,10 @@ impl<T: Item> Link<T> {
     pub fn get(&self, mut place: usize) -> T {
         let mut link = self;
         loop {
-            let node = link.node.as_ref().unwrap();
+            let node = match &link.part {
+                Part::Leaf(items) => return items[place],
+                Part::Node(node) => node,
+            };
             let before = node.left.len();
             if place == before {
                 return node.item;
@@ -173,25 +249,29 @@ impl<T: Item> Link<T> {
 
     /// Visits the items in their order.
     pub fn each(&self, visit: &mut impl FnMut(T)) {
-        if let Some(node) = &self.node {
-            node.left.each(visit);
-            visit(node.item);
-            node.right.each(visit);
+        match &self.part {
+            Part::Leaf(items) => items.iter().for_each(|item| visit(*item)),
+            Part::Node(node) => {
+                node.left.each(visit);
+                visit(node.item);
+                node.right.each(visit);
+            }
         }
     }
 
     /// How many first items pass a test, which no item after one that fails it passes.
     pub fn partition_point(&self, test: impl Fn(&T) -> bool) -> usize {
         let (mut link, mut passed) = (self, 0);
-        while let Some(node) = &link.node {
-            if test(&node.item) {
-                passed += node.left.len() + 1;
-                link = &node.right;
-            } else {
-                link = &node.left;
+        loop {
+            match &link.part {
+                Part::Leaf(items) => return passed + items.partition_point(&test),
+                Part::Node(node) if test(&node.item) => {
+                    passed += node.left.len() + 1;
+                    link = &node.right;
+                }
+                Part::Node(node) => link = &node.left,
             }
         }
-        passed
     }
 
     /// The measure of the items before a place.
@@ -201,7 +281,10 @@ impl<T: Item> Link<T> {
             if place >= link.len() {
                 return T::join(seen, link.measure);
             }
-            let node = link.node.as_ref().unwrap();
+            let node = match &link.part {
+                Part::Leaf(items) => return T::join(seen, measured(&items[..place])),
+                Part::Node(node) => node,
+            };
             let before = node.left.len();
             if place <= before {
                 link = &node.left;
@@ -219,8 +302,9 @@ impl<T: Item> Link<T> {
         if place == 0 {
             return self.measure;
         }
-        let Some(node) = &self.node else {
-            return T::Measure::default();
+        let node = match &self.part {
+            Part::Leaf(items) => return measured(&items[place.min(items.len())..]),
+            Part::Node(node) => node,
         };
         let before = node.left.len();
         if place > before {
@@ -256,7 +340,18 @@ impl<T: Item> Link<T> {
                 return None;
             }
         }
-        let node = self.node.as_ref()?;
+        let node = match &self.part {
+            Part::Leaf(items) => {
+                for (index, item) in items.iter().enumerate().skip(from) {
+                    *seen = T::join(*seen, item.measure());
+                    if test(*seen) {
+                        return Some(base + index + 1);
+                    }
+                }
+                return None;
+            }
+            Part::Node(node) => node,
+        };
         let before = node.left.len();
         if from < before {
             if let Some(found) = node.left.on(from, base, test, seen) {
@@ -269,13 +364,8 @@ impl<T: Item> Link<T> {
                 return Some(base + before + 1);
             }
         }
-        let next = base + before + 1;
-        if node.right.size == 0 {
-            None
-        } else {
-            node.right
-                .on(from.saturating_sub(before + 1), next, test, seen)
-        }
+        node.right
+            .on(from.saturating_sub(before + 1), base + before + 1, test, seen)
     }
 
     /// The last place up to `to` from which on the measure up to there passes.
@@ -302,7 +392,18 @@ impl<T: Item> Link<T> {
                 return None;
             }
         }
-        let node = self.node.as_ref()?;
+        let node = match &self.part {
+            Part::Leaf(items) => {
+                for (index, item) in items.iter().enumerate().take(to).rev() {
+                    *seen = T::join(item.measure(), *seen);
+                    if test(*seen) {
+                        return Some(base + index);
+                    }
+                }
+                return None;
+            }
+            Part::Node(node) => node,
+        };
         let before = node.left.len();
         if to > before {
             if let Some(found) = node
@@ -316,11 +417,7 @@ impl<T: Item> Link<T> {
                 return Some(base + before);
             }
         }
-        if node.left.size == 0 {
-            None
-        } else {
-            node.left.back(to.min(before), base, test, seen)
-        }
+        node.left.back(to.min(before), base, test, seen)
     }
 }
 
