@@ -120,8 +120,8 @@ class Page:
         yield from table(["Program", "What it is"], [row for row in [
             ("retro", "the program as it is built and proved"),
             ("replay by hand", "what one writes in an hour: a vector of rows, performed again from the first one on (`bench/peers/replay.rs`)"),
-            ("same design, plain Rust", "the same trees, labels, spans, bridges and checkpoints without proofs (`bench/peers/same_*.rs`), with one item to a node of a "
-             "tree, where retro has leaves of up to 32; it has no limits, few refusals and knows one order of tests"),
+            ("same design, plain Rust", "the same trees, with leaves of up to 32 items, labels, spans, bridges and checkpoints without proofs (`bench/peers/same_*.rs`); "
+             "it has no limits, few refusals and knows one order of tests"),
             ("best without proofs", "the fastest program, of any design, that was written for this page: 64 rows to a leaf (`bench/peers/best_*.rs`)"),
             ("SQLite", "a table of rows with an index on time in SQLite %s, and queries that replay (`bench/sqlite_peer.py`); the script is read by Python" % self.made.sqlite),
         ] if row[0] in [NAMES[peer] for peer in self.peers]])

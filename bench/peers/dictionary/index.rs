@@ -45,8 +45,8 @@ pub struct KeyIndex {
 impl KeyIndex {
     pub fn new() -> KeyIndex {
         KeyIndex {
-            rows: Tree::Empty,
-            by_key: Tree::Empty,
+            rows: Tree::empty(),
+            by_key: Tree::empty(),
         }
     }
 

@@ -27,7 +27,7 @@ pub struct Labels(Tree<Label>);
 
 impl Labels {
     pub fn new() -> Labels {
-        Labels(Tree::Empty)
+        Labels(Tree::empty())
     }
 
     pub fn at(&self, place: u32) -> u64 {

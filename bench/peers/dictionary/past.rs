@@ -79,7 +79,7 @@ pub struct Dictionary {
 impl Dictionary {
     pub fn new() -> Dictionary {
         Dictionary {
-            rows: Tree::Empty,
+            rows: Tree::empty(),
             labels: Labels::new(),
             index: KeyIndex::new(),
             segments: Segments::new(),

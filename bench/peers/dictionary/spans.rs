@@ -184,7 +184,7 @@ fn closed(span: Box<Span>) -> Spans {
 fn add(spans: &mut Spans, level: u32, life: Lifetime) {
     let mut span = spans.take().unwrap_or_else(|| {
         Box::new(Span {
-            pairs: Tree::Empty,
+            pairs: Tree::empty(),
             left: None,
             right: None,
         })
@@ -242,7 +242,7 @@ pub struct Segments {
 impl Segments {
     pub fn new() -> Segments {
         Segments {
-            held: Tree::Empty,
+            held: Tree::empty(),
             root: None,
         }
     }

@@ -1,4 +1,4 @@
-//! Weight-balanced trees that measure ranges of their items, as crates/weighted_tree has them.
+//! Weight-balanced trees that measure ranges of their items, with up to 32 items to a leaf, as crates/weighted_tree has them.
 
 use std::mem;
 
@@ -13,10 +13,17 @@ pub trait Item: Copy {
     fn measure(&self) -> Self::Measure;
 }
 
+/// The most items of a leaf.
+const FULL: usize = 32;
+
 pub enum Tree<T: Item> {
-    Empty,
+    Leaf {
+        items: Vec<T>,
+        measure: T::Measure,
+    },
     Full {
         size: u32,
+        nodes: u32,
         node: Box<Node<T>>,
         measure: T::Measure,
     },
@@ -28,65 +35,88 @@ pub struct Node<T: Item> {
     right: Tree<T>,
 }
 
+fn measured<T: Item>(items: &[T]) -> T::Measure {
+    items
+        .iter()
+        .fold(T::Measure::UNIT, |seen, item| seen.join(item.measure()))
+}
+
 impl<T: Item> Tree<T> {
+    pub fn empty() -> Tree<T> {
+        Tree::Leaf {
+            items: Vec::new(),
+            measure: T::Measure::UNIT,
+        }
+    }
+
     pub fn len(&self) -> u32 {
         match self {
-            Tree::Empty => 0,
+            Tree::Leaf { items, .. } => items.len() as u32,
             Tree::Full { size, .. } => *size,
         }
     }
 
-    fn weight(&self) -> u64 {
-        u64::from(self.len()) + 1
+    fn nodes(&self) -> u32 {
+        match self {
+            Tree::Leaf { .. } => 0,
+            Tree::Full { nodes, .. } => *nodes,
+        }
+    }
+
+    fn weight(&self) -> u32 {
+        self.nodes() + 1
     }
 
     fn whole(&self) -> T::Measure {
         match self {
-            Tree::Empty => T::Measure::UNIT,
-            Tree::Full { measure, .. } => *measure,
-        }
-    }
-
-    fn root(&self) -> Option<&Node<T>> {
-        match self {
-            Tree::Empty => None,
-            Tree::Full { node, .. } => Some(node),
+            Tree::Leaf { measure, .. } | Tree::Full { measure, .. } => *measure,
         }
     }
 
     fn take(&mut self) -> Tree<T> {
-        mem::replace(self, Tree::Empty)
+        mem::replace(self, Tree::empty())
     }
 
-    fn into_root(self) -> Option<Box<Node<T>>> {
+    fn into_root(self) -> Box<Node<T>> {
         match self {
-            Tree::Empty => None,
-            Tree::Full { node, .. } => Some(node),
+            Tree::Leaf { .. } => unreachable!(),
+            Tree::Full { node, .. } => node,
+        }
+    }
+
+    fn leaf(items: Vec<T>) -> Tree<T> {
+        Tree::Leaf {
+            measure: measured(&items),
+            items,
         }
     }
 
     fn of(node: Box<Node<T>>) -> Tree<T> {
         Tree::Full {
             size: node.left.len() + 1 + node.right.len(),
+            nodes: node.left.nodes() + 1 + node.right.nodes(),
             measure: node.around(node.left.whole(), node.right.whole()),
             node,
         }
     }
 
-    fn node_at(&self, place: u32) -> &Node<T> {
-        let node = self.root().unwrap();
-        let before = node.left.len();
-        if place < before {
-            node.left.node_at(place)
-        } else if place > before {
-            node.right.node_at(place - before - 1)
-        } else {
-            node
-        }
-    }
-
     pub fn get(&self, place: u32) -> T {
-        self.node_at(place).item
+        let (mut tree, mut place) = (self, place);
+        loop {
+            let node = match tree {
+                Tree::Leaf { items, .. } => return items[place as usize],
+                Tree::Full { node, .. } => node,
+            };
+            let before = node.left.len();
+            if place == before {
+                return node.item;
+            } else if place < before {
+                tree = &node.left;
+            } else {
+                place -= before + 1;
+                tree = &node.right;
+            }
+        }
     }
 
     /// The measure of the items from `from` to before `to`.
@@ -94,7 +124,10 @@ impl<T: Item> Tree<T> {
     pub fn between(&self, from: u32, to: u32) -> T::Measure {
         let (mut tree, mut start, mut end) = (self, from, to);
         while start < end {
-            let node = tree.root().unwrap();
+            let node = match tree {
+                Tree::Leaf { items, .. } => return measured(&items[start as usize..end as usize]),
+                Tree::Full { node, .. } => node,
+            };
             let before = node.left.len();
             if end <= before {
                 tree = &node.left;
@@ -113,7 +146,10 @@ impl<T: Item> Tree<T> {
     fn before(&self, to: u32) -> T::Measure {
         let (mut tree, mut rest, mut passed) = (self, to, T::Measure::UNIT);
         while rest < tree.len() {
-            let node = tree.root().unwrap();
+            let node = match tree {
+                Tree::Leaf { items, .. } => return passed.join(measured(&items[..rest as usize])),
+                Tree::Full { node, .. } => node,
+            };
             let count = node.left.len();
             if rest <= count {
                 tree = &node.left;
@@ -130,7 +166,12 @@ impl<T: Item> Tree<T> {
     fn from(&self, from: u32) -> T::Measure {
         let (mut tree, mut rest, mut passed) = (self, self.len() - from, T::Measure::UNIT);
         while rest < tree.len() {
-            let node = tree.root().unwrap();
+            let node = match tree {
+                Tree::Leaf { items, .. } => {
+                    return measured(&items[items.len() - rest as usize..]).join(passed);
+                }
+                Tree::Full { node, .. } => node,
+            };
             let count = node.right.len();
             if rest <= count {
                 tree = &node.right;
@@ -145,43 +186,68 @@ impl<T: Item> Tree<T> {
 
     /// How many items a test holds of, where it holds of none after one of which it does not.
     pub fn partition_point(&self, test: impl Fn(&T) -> bool) -> u32 {
-        let (mut tree, mut end) = (self, self.len());
-        while let Some(node) = tree.root() {
-            if test(&node.item) {
-                tree = &node.right;
-            } else {
-                end -= node.right.len() + 1;
-                tree = &node.left;
+        let (mut tree, mut passed) = (self, 0);
+        loop {
+            match tree {
+                Tree::Leaf { items, .. } => return passed + items.partition_point(&test) as u32,
+                Tree::Full { node, .. } if test(&node.item) => {
+                    passed += node.left.len() + 1;
+                    tree = &node.right;
+                }
+                Tree::Full { node, .. } => tree = &node.left,
             }
         }
-        end
+    }
+
+    /// A node over the halves of a full leaf.
+    fn divided(mut items: Vec<T>) -> Box<Node<T>> {
+        let later = items.split_off(FULL / 2 + 1);
+        let item = items.pop().unwrap();
+        Box::new(Node {
+            left: Tree::leaf(items),
+            item,
+            right: Tree::leaf(later),
+        })
     }
 
     pub fn insert(&mut self, place: u32, item: T) {
-        let (left, right) = (Tree::Empty, Tree::Empty);
-        self.insert_below(place, Box::new(Node { left, item, right }));
-    }
-
-    fn insert_below(&mut self, place: u32, fresh: Box<Node<T>>) {
-        let Some(mut node) = self.take().into_root() else {
-            *self = Tree::of(fresh);
-            return;
+        let mut node = match self.take() {
+            Tree::Leaf { mut items, .. } if items.len() < FULL => {
+                items.insert(place as usize, item);
+                *self = Tree::leaf(items);
+                return;
+            }
+            Tree::Leaf { items, .. } => Tree::divided(items),
+            Tree::Full { node, .. } => node,
         };
         let before = node.left.len();
         if place <= before {
-            node.left.insert_below(place, fresh);
+            node.left.insert(place, item);
         } else {
-            node.right.insert_below(place - before - 1, fresh);
+            node.right.insert(place - before - 1, item);
         }
         *self = Tree::balanced(node);
     }
 
     pub fn remove(&mut self, place: u32) -> T {
-        let mut node = self.take().into_root().unwrap();
+        let mut node = match self.take() {
+            Tree::Leaf { mut items, .. } => {
+                let item = items.remove(place as usize);
+                *self = Tree::leaf(items);
+                return item;
+            }
+            Tree::Full { node, .. } => node,
+        };
         let before = node.left.len();
         if place == before {
-            *self = Tree::merged(node.left.take(), node.right.take());
-            return node.item;
+            let item = node.item;
+            if node.right.len() == 0 {
+                *self = node.left.take();
+            } else {
+                node.item = node.right.take_first();
+                *self = Tree::balanced(node);
+            }
+            return item;
         }
         let item = if place < before {
             node.left.remove(place)
@@ -192,21 +258,18 @@ impl<T: Item> Tree<T> {
         item
     }
 
-    fn merged(left: Tree<T>, mut right: Tree<T>) -> Tree<T> {
-        if right.len() == 0 {
-            return left;
-        }
-        let mut node = right.take_first();
-        node.left = left;
-        node.right = right;
-        Tree::balanced(node)
-    }
-
-    fn take_first(&mut self) -> Box<Node<T>> {
-        let mut node = self.take().into_root().unwrap();
+    fn take_first(&mut self) -> T {
+        let mut node = match self.take() {
+            Tree::Leaf { mut items, .. } => {
+                let first = items.remove(0);
+                *self = Tree::leaf(items);
+                return first;
+            }
+            Tree::Full { node, .. } => node,
+        };
         if node.left.len() == 0 {
             *self = node.right.take();
-            return node;
+            return node.item;
         }
         let first = node.left.take_first();
         *self = Tree::balanced(node);
@@ -214,7 +277,14 @@ impl<T: Item> Tree<T> {
     }
 
     pub fn replace(&mut self, place: u32, item: T) {
-        let mut node = self.take().into_root().unwrap();
+        let mut node = match self.take() {
+            Tree::Leaf { mut items, .. } => {
+                items[place as usize] = item;
+                *self = Tree::leaf(items);
+                return;
+            }
+            Tree::Full { node, .. } => node,
+        };
         let before = node.left.len();
         if place < before {
             node.left.replace(place, item);
@@ -229,26 +299,26 @@ impl<T: Item> Tree<T> {
     fn balanced(mut node: Box<Node<T>>) -> Tree<T> {
         let (left, right) = (node.left.weight(), node.right.weight());
         if left > 3 * right {
-            let mut child = node.left.take().into_root().unwrap();
+            let mut child = node.left.take().into_root();
             if child.right.weight() < 2 * child.left.weight() {
                 node.left = child.right.take();
                 child.right = Tree::of(node);
                 return Tree::of(child);
             }
-            let mut inner = child.right.take().into_root().unwrap();
+            let mut inner = child.right.take().into_root();
             child.right = inner.left.take();
             node.left = inner.right.take();
             inner.left = Tree::of(child);
             inner.right = Tree::of(node);
             Tree::of(inner)
         } else if right > 3 * left {
-            let mut child = node.right.take().into_root().unwrap();
+            let mut child = node.right.take().into_root();
             if child.left.weight() < 2 * child.right.weight() {
                 node.right = child.left.take();
                 child.left = Tree::of(node);
                 return Tree::of(child);
             }
-            let mut inner = child.left.take().into_root().unwrap();
+            let mut inner = child.left.take().into_root();
             child.left = inner.right.take();
             node.right = inner.left.take();
             inner.right = Tree::of(child);
