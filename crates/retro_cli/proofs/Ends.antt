@@ -16,7 +16,7 @@ use Rattle.retro_io.specs.SinkLaws.{Appends-append, Appends-none, AppendsPrefixO
 use Rattle.retro_io.specs.Source.{GivesCount}
 use Rattle.workbench.specs.Answers.{bench_after}
 use Rattle.workbench.specs.Bench.{Bench, empty_bench}
-use Rattle.workbench.specs.Reaction.{Reaction, closing, reacts, reacts_to}
+use Rattle.workbench.specs.Reaction.{Reaction, closing}
 use Rattle.retro_cli.specs.Audience.{Audience, Turn, audience_after, followed, follows, follows_to}
 use Rattle.retro_cli.specs.Output.{Answering, answers_by, close_of, output_by, refuses_by, up_to_last_feed}
 use Rattle.retro_cli.specs.declared.stop.Stop.{Stop}

@@ -1,6 +1,7 @@
 -- What stands in the sink where a followed run ends.
-use Rattle.std.proofs.Common.{◌≡◌, ℕ, ◌+◌, ◌-◌, ◌⊎◌, true, false, List, [], ◌++◌, length, take, drop, refl, sym, ap, ◌∙◌, subst, arith, append_assoc, append-nil, Option, Some, None, inl, inr}
+use Rattle.std.proofs.Common.{◌≡◌, ℕ, ◌+◌, ◌-◌, ◌⊎◌, true, false, List, [], ◌++◌, length, get_or, take, drop, refl, sym, ap, ◌∙◌, subst, append_assoc, append-nil, Option, Some, None, inl, inr}
 use Rattle.std.specs.Ffi.{without_last}
+use Rattle.std.specs.Prelude.{IsSome}
 use Rattle.std.proofs.lemmas.List.{take-append-drop}
 use Rattle.retro_base.specs.Limits.{most_bytes}
 use Rattle.retro_io.specs.declared.sink.Sink as sinks
@@ -70,7 +71,7 @@ some_reports (Some bytes) before now first middle last taken answered reported =
     let same = texts_are bytes before now taken in
     record {
       count = reported.count;
-      few = omega (arith, reported.few, ap length same);
+      asked = subst (λ texts. IsSome (get_or texts reported.count None)) same reported.asked;
       appended = Appends-append first middle last (output_by (followed before) bytes) _ answered
           (subst (λ texts. Appends middle (report_lines 0 (take reported.count texts)) last) same reported.appended);
     }

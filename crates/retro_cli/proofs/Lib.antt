@@ -22,3 +22,4 @@ pub mod FollowedEnds
 pub mod FollowedStatuses
 pub mod Numbered
 pub mod Muted
+pub mod Heard

@@ -1,5 +1,5 @@
 -- How a line is answered, by the follower that it mutes or by the bench.
-use Rattle.std.proofs.Common.{◌≡◌, ℕ, Bool, true, false, List, [], refl, sym, ap, ◌∙◌, Option, Some, None, Result, Ok, Err}
+use Rattle.std.proofs.Common.{◌≡◌, ℕ, Bool, false, List, [], refl, Option, Some, None, Result, Ok, Err}
 use Rattle.std.specs.Prelude.{IfOk, IfSome, IsSome, OnOk}
 use Rattle.retro_io.specs.Sink.{Appends, AppendsProperPrefix}
 use Rattle.followers.specs.Followers.{Reporting}

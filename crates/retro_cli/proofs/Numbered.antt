@@ -1,5 +1,5 @@
 -- Followers under their numbers, each seen as what it reports, if it is left.
-use Rattle.std.proofs.Common.{◌≡◌, ℕ, zero, suc, ◌<◌, ◌≤◌, List, [], ◌∷◌, length, get_or, set, map, refl, ap, sym, arith, Option, Some, None}
+use Rattle.std.proofs.Common.{◌≡◌, ℕ, zero, suc, ◌<◌, ◌≤◌, List, [], ◌∷◌, length, get_or, set, map, refl, ap, sym, arith, Option, None}
 use Rattle.followers.specs.Followers.{Reporting}
 use Rattle.retro_cli.specs.Audience.{follower_at, without}
 

@@ -1,5 +1,5 @@
 -- Who follows a script, and how its lines are answered then: the bench answers each line but those that mute a follower.
-use Rattle.std.specs.Prelude.{ℕ, zero, suc, Bool, false, List, [], ◌∷◌, ◌++◌, map, Option, None, Some, option_map, Result, Ok, Err}
+use Rattle.std.specs.Prelude.{ℕ, zero, suc, Bool, false, List, [], ◌∷◌, ◌++◌, map, Option, None, Some, option_map, Result, Ok}
 use Rattle.retro_base.specs.LineLength.{is_long}
 use Rattle.evidence.specs.declared.evidence.Evidence.{Evidence}
 use Rattle.followers.specs.Followers.{Reporting}

@@ -1,5 +1,5 @@
 -- The events among answers, and the lines in which followers report of them.
-use Rattle.std.specs.Prelude.{ℕ, ◌+◌, ◌<◌, List, [], ◌∷◌, ◌++◌, length, take, codes, decimal, filter_map, Option, None, Some}
+use Rattle.std.specs.Prelude.{ℕ, ◌+◌, List, [], ◌∷◌, ◌++◌, get_or, take, codes, decimal, filter_map, Option, None, Some, IsSome}
 use Rattle.retro_io.specs.declared.sink.Sink.{Ghosts}
 use Rattle.retro_io.specs.Flushes.{EndsWithFailedWrite, StaysUnflushed}
 use Rattle.retro_io.specs.Lines.{line_feed, lines}
@@ -31,10 +31,10 @@ abbrev pub report_lines : ℕ → List (Option (List ℕ)) → List ℕ
 report_lines number [] = []
 report_lines number (text ∷ texts) = line_of number text ++ report_lines (number + 1) texts
 
--- the whole lines of some first reports, and not of all, were appended
+-- the whole lines of some first reports were appended, up to a follower that is left
 pub record AppendsFirstReports (texts : List (Option (List ℕ))) (before after : Option (List ℕ)) : Type 0 where
   pub count : ℕ
-  pub few : count < length texts
+  pub asked : IsSome (get_or texts count None)
   pub appended : Appends before (report_lines 0 (take count texts)) after
 
 -- the sink before the reports and where they stop

@@ -1,5 +1,5 @@
 -- What is written of a script that is followed: the answers, and after the output what each follower that is left reports.
-use Rattle.std.specs.Prelude.{◌≡◌, ℕ, Bool, true, false, ◌<◌, ◌⊎◌, List, [], ◌++◌, length, map, take, flat_map, Option, None, Some, option_map}
+use Rattle.std.specs.Prelude.{◌≡◌, ℕ, Bool, true, false, ◌⊎◌, List, [], ◌++◌, get_or, map, take, flat_map, Option, None, Some, IsSome, option_map}
 use Rattle.retro_base.specs.Limits.{most_bytes}
 use Rattle.retro_io.specs.declared.sink.Sink as sinks
 use Rattle.retro_io.specs.declared.source.Source as sources
@@ -51,10 +51,10 @@ abbrev pub AppendsFollowedPrefix : Audience → Option (List ℕ) → Option (Li
 AppendsFollowedPrefix audience None before after = Unit {0}
 AppendsFollowedPrefix audience (Some bytes) before after = AppendsPrefixOf before (followed_output audience bytes) after
 
--- the output was appended, and the whole lines of some first reports, but not of all
+-- the output was appended, and the whole lines of some first reports, up to a follower that is left
 pub record AppendsReportsToOne (audience : Audience) (bytes : List ℕ) (before after : Option (List ℕ)) : Type 0 where
   pub count : ℕ
-  pub few : count < length (texts_after (lines bytes) audience)
+  pub asked : IsSome (get_or (texts_after (lines bytes) audience) count None)
   pub appended : Appends before (output_by (followed audience) bytes ++ report_lines 0 (take count (texts_after (lines bytes) audience))) after
 
 -- the same where the source tells the script

@@ -7,7 +7,7 @@ use Rattle.retro_base.specs.Limits.{most_bytes}
 use Rattle.retro_cli.specs.declared.form.Form.{Form}
 use Rattle.retro_cli.specs.declared.status.Status.{Status}
 use Rattle.retro_cli.specs.declared.status.Status.TheVariants as statuses
-use Rattle.retro_cli.specs.Audience.{Audience, audience_of, followed}
+use Rattle.retro_cli.specs.Audience.{Audience, followed}
 use Rattle.retro_cli.specs.Followed.{AppendsFollowed, EndsAtFault, EndsAtLine, EndsAtReport}
 use Rattle.retro_cli.specs.Forms.{form_of, is_follow}
 use Rattle.retro_cli.specs.Output.{has_refusal_by}

@@ -20,3 +20,4 @@ pub mod Audience
 pub mod Followed
 pub mod FollowedProgram
 pub mod Mirrored
+pub mod Heard

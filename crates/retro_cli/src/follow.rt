@@ -1,4 +1,4 @@
-ghost use Rattle.std.specs.Prelude.{◌≡◌, ◌<◌, ◌≤◌, ◌==◌, ◌∷◌, [], ◌++◌, false, length, map, option_map, IfErr, IsErrOf, OnErr, OnOk};
+ghost use Rattle.std.specs.Prelude.{◌≡◌, ◌<◌, ◌≤◌, ◌==◌, ◌∷◌, [], ◌++◌, false, length, map, option_map, IfErr, IsErrOf, IsSome, OnErr, OnOk};
 ghost use Rattle.retro_io.specs.Faults.{CountsFaults};
 ghost use Rattle.retro_io.specs.Flushes.{EndsWithFailedWrite, StaysUnflushed};
 ghost use Rattle.std.specs.List.{position_or_len};
@@ -131,6 +131,7 @@ fn write_report_left<K: Sink>(
 ) -> Result<(), Stop>
     ensures appended { OnOk result (Appends (K.written sink.old) (line_of number (option_map (λ report. report []) (option_map (λ f. report_after f) follower.now))) (K.written sink.new)) }
     ensures part { IsErrOf result Stop.WriteFault → AppendsProperPrefix (K.written sink.old) (line_of number (option_map (λ report. report []) (option_map (λ f. report_after f) follower.now))) (K.written sink.new) }
+    ensures asked { OnErr result (IsSome (option_map (λ report. report []) (option_map (λ f. report_after f) follower.now))) }
     ensures untouched { OnErr result (stops_at_write result ≡ false → sink.new ≡ sink.old) }
     ensures unflushed { OnOk result (StaysUnflushed ⟦<K as Sink>⟧ sink.old sink.new) }
     ensures last { IsErrOf result Stop.WriteFault → EndsWithFailedWrite ⟦<K as Sink>⟧ sink.old sink.new }

@@ -1,6 +1,7 @@
 //! Laws over the definitions of the output, of its events and of a saved text.
 
 ghost use Rattle.retro_cli.specs.Accepted.{WhatIsWrittenIsAccepted};
+ghost use Rattle.retro_cli.specs.Heard.{MirrorsReportThePresent, WhoIsLeftHasHeardAll};
 ghost use Rattle.retro_cli.specs.Mirrored.{ChangesAloneHoldThePresent};
 ghost use Rattle.retro_cli.specs.SavedText.{SavedTextReadsBack};
 
@@ -32,6 +33,19 @@ pub fn changes_alone_hold_the_present()
     lines_are_short();
     an_undo_leads_back();
     mirrors_hold_the_present();
+}
+
+/// Whoever is left after the lines of a script has heard of all that their answers changed: what it reports from then on is what it
+/// reports after the events among them.
+pub fn who_is_left_has_heard_all()
+    ensures { WhoIsLeftHasHeardAll }
+{}
+
+/// A mirror of a name that is left after the lines of a script reports the entries that the priority queue of this name then holds.
+pub fn mirrors_report_the_present()
+    ensures { MirrorsReportThePresent }
+{
+    changes_alone_hold_the_present();
 }
 
 /// The text that is saved of a timeline reads back: its lines are those of a block, none of them is long, and the block

@@ -15,14 +15,16 @@
 //! is said by `evidence_check`, which shares no code with them: this crate holds nothing but the loops between them.
 //!
 //! `run_followed` is the top call with followers (`specs/FollowedProgram.antt`): with the word `follow` it answers a script by the same
-//! loop, hands the followers the events among the answers, and writes their reports at the end; with other words it is `run`.
+//! loop, hands the followers the events among the answers, and writes their reports at the end; with other words it is `run`. A line
+//! `mute I` outside a block is answered by that follower, which then hears and reports nothing more; the others keep their numbers.
 //!
 //! - `program`: the top calls `run` and `run_followed`. `form`, `words`, `status`, `stop`: the words of the command line, and how a run ends.
-//! - `script`: a script is answered, line by line. `follow`: what followers are handed, and their reports. `followed`: a followed script.
+//! - `script`: a script is answered, line by line. `follow`: what followers are handed, and their reports. `mute`: who is left, and the line
+//!   that lets one go. `followed`: a followed script.
 //! - `check`, `judging`: evidence is judged, up to the first line that is refused.
 //! - `generated`: a generated script is answered and summed up.
 //! - `deliver`: how a text is written, what waits is sent, and all arrives.
-//! - `laws`: what a script answers is accepted by the judge, and its events leave the present.
+//! - `laws`: what a script answers is accepted by the judge, its events leave the present, and who is left has heard them all.
 #![tactic(auto)]
 
 mod check;

@@ -34,7 +34,7 @@ abbrev pub IsPassedOver : Outcome → Type 0
 IsPassedOver outcome = (judge : Judge) → Reads judge (reply_text outcome) judge
 
 -- refusals
-begins_other : (refusal : Refusal) → is_evidence_line (refusal_text refusal) ≡ false
+pub begins_other : (refusal : Refusal) → is_evidence_line (refusal_text refusal) ≡ false
 begins_other refusals.Long = refl
 begins_other refusals.Syntax = refl
 begins_other (refusals.NoTimeline name) = refl

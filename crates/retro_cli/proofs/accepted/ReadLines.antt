@@ -66,6 +66,10 @@ no_return (byte ∷ next ∷ text) is =
 pub line_first : (text rest : List ℕ) → is_printable text ≡ true → lines (as_line text ++ rest) ≡ text ∷ lines rest
 line_first text rest is = ap lines (append_assoc text (10 ∷ []) rest) ∙ lines-cut text rest (no_feed text is) ∙ ap (λ line. line ∷ lines rest) (no_return text is)
 
+-- a line alone
+pub line_alone : (text : List ℕ) → is_printable text ≡ true → lines (as_line text) ≡ text ∷ []
+line_alone text is = ap lines (sym (append-nil (as_line text))) ∙ line_first text [] is
+
 pub reads_line : (judge after : Judge) (text : List ℕ) → is_printable text ≡ true → Takes judge text after → Reads judge (as_line text) after
 reads_line judge after text is takes = record {
   read = text ∷ [];

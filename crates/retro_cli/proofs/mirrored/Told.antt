@@ -40,7 +40,7 @@ no_words (word ∷ next ∷ rest) other =
       | false ↦ λ apart. refl
     ] refl
 
-no_event : (line : List ℕ) → is_evidence_line line ≡ false → evidence_of line ≡ None
+pub no_event : (line : List ℕ) → is_evidence_line line ≡ false → evidence_of line ≡ None
 unfolding evidence_of
 no_event line other =
     no_words (words line) (subst (λ l. is_evidence_line l ≡ false) (sym (join_with_byte-slice_split 32 line)) other)

@@ -1,4 +1,4 @@
-use Rattle.std.proofs.Common.{◌≡◌, map, take, drop}
+use Rattle.std.proofs.Common.{◌≡◌, take, drop}
 use Rattle.std.specs.Prelude.{option_map}
 use Rattle.retro_cli.proofs.Handed.{HaveTaken}
 use Rattle.retro_cli.proofs.follow.hand_out.Given as goal

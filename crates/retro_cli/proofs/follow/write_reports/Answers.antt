@@ -27,5 +27,5 @@ returns-in_err-write_report_left-clause-stands g c =
     let failed = c.in_err-write_report_left.ensures in
     rw (p.1, p.2)
     (reports_stand (λ f. option_map (λ b. (goal.Follower-dyn g (b.vtable, b.value)).report_after b.value) f) c.args.followers.now c.loop-number.number c.index-followers-number.result
-    (search rules) c.index-followers-number.is g.K.Sink _ _ _ c.in_err-write_report_left.field-0.0 c.loop-number.invariant.appended c.loop-number.invariant.unflushed
+    (search rules) c.index-followers-number.is g.K.Sink _ _ _ c.in_err-write_report_left.field-0.0 failed.asked c.loop-number.invariant.appended c.loop-number.invariant.unflushed
     failed.untouched failed.reads_nothing failed.part failed.last)

@@ -1,4 +1,4 @@
-use Rattle.std.proofs.Common.{◌≡◌, [], map, take}
+use Rattle.std.proofs.Common.{◌≡◌, map, take}
 use Rattle.std.specs.Prelude.{option_map}
 use Rattle.retro_io.specs.Flushes.{StaysUnflushed}
 use Rattle.retro_io.specs.Sink.{Appends}

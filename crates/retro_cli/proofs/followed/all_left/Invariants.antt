@@ -1,5 +1,5 @@
 -- Those that are numbered so far, and those to come, are all.
-use Rattle.std.proofs.Common.{◌≡◌, ◌++◌, map, Some}
+use Rattle.std.proofs.Common.{◌≡◌, ◌++◌, map}
 use Rattle.std.specs.Prelude.{option_map}
 use Rattle.std.specs.Vec.Iter.{into_iter_items}
 use Rattle.retro_cli.specs.Audience.{audience_of}

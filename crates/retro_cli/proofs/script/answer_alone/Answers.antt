@@ -1,5 +1,5 @@
 -- Where nobody follows, the bench alone answers.
-use Rattle.std.proofs.Common.{◌≡◌, subst}
+use Rattle.std.proofs.Common.{subst}
 use Rattle.std.specs.Prelude.{IfErr, IfOk, IsErrOf, OnOk}
 use Rattle.retro_base.specs.Limits.{most_bytes}
 use Rattle.retro_cli.specs.declared.stop.Stop.TheVariants as stops
