@@ -17,6 +17,8 @@
 //! | `Greatest`, `Least` | the first of the greatest or the least elements that are there, and its offset |
 //! | `Both` | two values side by side |
 //!
+//! A `Counted` makes an item of any value that is to be found by its place alone: ranges of them measure a `Count`.
+//!
 //! Contracts say what a value means by the list that it was made of: `measure_of` of
 //! specs/Measure.antt joins the values of a list's items, and each reader says what it answers of it.
 //! specs/MeasureLaws.antt has what the laws give of it, for the proofs of the layer above.
@@ -24,6 +26,7 @@
 
 mod both;
 mod count;
+mod counted;
 mod extreme;
 mod monoid;
 mod prefix;
@@ -31,6 +34,7 @@ mod sum;
 
 pub use both::Both;
 pub use count::Count;
+pub use counted::Counted;
 pub use extreme::{Greatest, Least};
 pub use monoid::{Measured, Monoid};
 pub use prefix::{GreatestPrefix, LeastPrefix};
