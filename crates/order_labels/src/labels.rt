@@ -4,8 +4,7 @@ ghost use Rattle.order_labels.specs.Labels.{AreApart, AreLabels, has_room, inser
 ghost use Rattle.retro_base.specs.Limits.{most_rows};
 ghost use Rattle.retro_base.specs.Visits.{OpensCounter};
 
-use crate::label::Label;
-use crate::spread::{LIMIT, spread};
+use crate::spread::{LIMIT, Label, spread};
 use retro_base::{NoMemory, Steps};
 use std::alloc::Global;
 use std::marker::{Brand, Model};
@@ -135,7 +134,7 @@ fn put_in<L: Ledger>(rows: &mut Tree<Label>, place: u32, blank: Blank) -> Result
     rows.insert(place, Label::new(after), &mut steps)?;
     spread(rows, &mut steps);
     Ok(Fresh {
-        label: rows.get(place, &mut steps).number(),
+        label: rows.get(place, &mut steps).value(),
         relabelled: true,
     })
 }
@@ -164,7 +163,7 @@ fn label_before<L: Ledger>(rows: &Tree<Label>, place: u32, steps: &mut Steps<L>)
     if place == 0 {
         return 0;
     }
-    rows.get(place - 1, steps).number()
+    rows.get(place - 1, steps).value()
 }
 
 /// The label after a place, or the limit.
@@ -175,7 +174,7 @@ fn label_after<L: Ledger>(rows: &Tree<Label>, place: u32, steps: &mut Steps<L>) 
     if place == rows.len() {
         return LIMIT;
     }
-    rows.get(place, steps).number()
+    rows.get(place, steps).value()
 }
 
 fn take_out<L: Ledger>(rows: &mut Tree<Label>, place: u32, blank: Blank)
@@ -193,7 +192,7 @@ fn read<L: Ledger>(rows: &Tree<Label>, place: u32, blank: Blank) -> u64
     ensures { slice_get rows.now place ≡ Some result }
 {
     let mut steps = Steps::<L>::new(blank);
-    rows.get(place, &mut steps).number()
+    rows.get(place, &mut steps).value()
 }
 
 fn find<L: Ledger>(rows: &Tree<Label>, label: u64, blank: Blank) -> Option<u32>
@@ -203,12 +202,12 @@ fn find<L: Ledger>(rows: &Tree<Label>, label: u64, blank: Blank) -> Option<u32>
     ensures within { IfSome result (λ place. place < length rows.now) }
 {
     let mut steps = Steps::<L>::new(blank);
-    let count = rows.partition_point(|row: &Label| row.number() <= label, &mut steps);
+    let count = rows.partition_point(|row: &Label| row.value() <= label, &mut steps);
     if count == 0 {
         return None;
     }
     let place = count - 1;
-    if rows.get(place, &mut steps).number() == label {
+    if rows.get(place, &mut steps).value() == label {
         Some(place)
     } else {
         None

@@ -25,7 +25,6 @@
 //! - `labels`: the type and its calls. `spread`: how all rows are relabelled. `laws`: how far, and how often.
 #![tactic(auto)]
 
-mod label;
 mod labels;
 pub mod laws;
 mod spread;

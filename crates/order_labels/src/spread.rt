@@ -2,10 +2,13 @@ ghost use Rattle.std.specs.Prelude.{◌≡◌, ◌+◌, ◌*◌, ◌^◌, ◌<�
 ghost use Rattle.order_labels.specs.Labels.{exponent, gap_of, least_gap, spread, label_limit};
 ghost use Rattle.retro_base.specs.Limits.{most_rows};
 
-use crate::label::Label;
+use monoid_laws::Counted;
 use retro_base::Steps;
 use std::sync::ledger::Ledger;
 use weighted_tree::Tree;
+
+/// The label of a row, as it stands in the tree.
+pub(crate) type Label = Counted<u64>;
 
 /// The number of the binary digits of a label.
 const WIDTH: u32 = 40;

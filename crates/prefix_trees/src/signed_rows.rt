@@ -9,62 +9,18 @@ ghost use Rattle.prefix_trees.specs.WriterLaws.{IsWrittenAt};
 
 use crate::growth::{adds, sign_of, value_of};
 use crate::sign_tree::SignTree;
-use monoid_laws::{Count, Measured};
+use monoid_laws::Counted;
 use retro_base::{NoMemory, Op, Row, Steps};
 use std::alloc::Global;
 use std::marker::Model;
 use std::sync::ledger::Ledger;
 use weighted_tree::Tree;
 
-/// A row, as the tree keeps it.
-#[derive(Clone, Copy)]
-struct KeptRow {
-    row: Row,
-}
-
-impl Model for KeptRow {
-    ghost use Rattle.retro_base.specs.declared.row.Row.{Row};
-
-    ghost Value = { Row };
-
-    ghost view = { λ kept. kept.row };
-
-    ghost inverse = { λ row. record { row = row } };
-}
-
-impl Measured for KeptRow {
-    ghost use Rattle.std.specs.Prelude.{refl};
-
-    type Measure = Count;
-
-    ghost measured = { λ row. 1 };
-
-    ghost single = { λ row. refl };
-
-    fn measure(&self) -> Count {
-        Count::single()
-    }
-}
-
-impl KeptRow {
-    fn new(row: Row) -> KeptRow
-        ensures { result ≡ row }
-    {
-        KeptRow { row }
-    }
-
-    fn row(self) -> Row
-        ensures { result ≡ self }
-    {
-        self.row
-    }
-}
-
 /// A list of rows beside the signs of its rows: by how much each lets a line of items grow, with a mark
 /// where it adds an item.
 #[derive(Drop)]
 pub struct SignedRows {
-    rows: Tree<KeptRow>,
+    rows: Tree<Counted<Row>>,
     signs: SignTree,
 }
 
@@ -116,7 +72,7 @@ impl SignedRows {
         ensures row { slice_get self.now place ≡ Some result }
         ensures visits { VisitsWithin 12 (length self.now) steps.old steps.new }
     {
-        self.rows.get(place, steps).row()
+        self.rows.get(place, steps).value()
     }
 
     /// The item that the row at a place wrote.
@@ -187,7 +143,7 @@ impl SignedRows {
         ensures ok_visits { OnOk result (VisitsWithin 24 (length self.new) steps.old steps.new) }
         ensures visits { VisitsWithin 48 (length self.new) steps.old steps.new }
     {
-        self.rows.insert(place, KeptRow::new(row), steps)?;
+        self.rows.insert(place, Counted::new(row), steps)?;
         let op = row.op;
         match self.signs.insert(place, sign_of(op), adds(op), steps) {
             Ok(()) => Ok(()),
@@ -206,7 +162,7 @@ impl SignedRows {
         ensures visits { VisitsWithin 24 (length self.old) steps.old steps.new }
     {
         self.signs.remove(place, steps);
-        self.rows.remove(place, steps).row()
+        self.rows.remove(place, steps).value()
     }
 
     /// The same rows once more.

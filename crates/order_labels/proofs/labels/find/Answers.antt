@@ -13,15 +13,15 @@ returns-then-count-eq0-clause-place g c =
     (never_fall 0 label_limit c.args.rows.now c.requires.labels.rising) c.partition_point-count.ensures.within in
     sym (no_label c.args.label c.args.rows.now (sym counted ∙ c.if-count-eq0.true))
 
-pub returns-then-number-label-clause-place : goal.returns-then-number-label-clause-place
-returns-then-number-label-clause-place g c =
+pub returns-then-value-label-clause-place : goal.returns-then-value-label-clause-place
+returns-then-value-label-clause-place g c =
     let counted : c.partition_point-count.result ≡ count_up_to itself c.args.rows.now c.args.label =
     count_found itself c.args.label _ _ c.args.rows.now _ c.partition_point-count.ensures.partition (λ row answer call. search rules)
     (never_fall 0 label_limit c.args.rows.now c.requires.labels.rising) c.partition_point-count.ensures.within in
     let last = c.partition_point-count.result - 1 in
     sym (label_found c.args.label 0 label_limit last c.get.result c.args.rows.now (omega arith) c.requires.labels.rising
     (let last_is : count_up_to itself c.args.rows.now c.args.label ≡ suc last = omega (arith, counted) in last_is)
-    c.get.ensures.item (eq-eqb c.get.result c.args.label (sym c.number.ensures ∙ c.if-number-label.true)))
+    c.get.ensures.item (eq-eqb c.get.result c.args.label (sym c.value.ensures ∙ c.if-value-label.true)))
 
 pub returns-clause-place : goal.returns-clause-place
 returns-clause-place g c =
@@ -31,4 +31,4 @@ returns-clause-place g c =
     let last = c.partition_point-count.result - 1 in
     sym (label_missing c.args.label 0 label_limit last c.get.result c.args.rows.now c.requires.labels.rising
     (let last_is : count_up_to itself c.args.rows.now c.args.label ≡ suc last = omega (arith, counted) in last_is)
-    c.get.ensures.item (ne_eqb c.get.result c.args.label (λ same. c.if-number-label.false (c.number.ensures ∙ same))))
+    c.get.ensures.item (ne_eqb c.get.result c.args.label (λ same. c.if-value-label.false (c.value.ensures ∙ same))))
