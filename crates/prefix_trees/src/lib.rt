@@ -9,9 +9,11 @@
 //! `SignedRows` keeps the rows of a queue, a stack or a deque beside their signs: a row adds an item to a line,
 //! or takes one. A row finds nothing to take exactly where the sum of the signs falls below 0, which decides on
 //! every edit by one search. An item keeps its position in the line while it is there; the row that wrote it is
-//! the last one before which the position was not yet reached (specs/PositionLaws.antt). A structure only says
-//! how it finds that row, by the trait `Sequence`; its answers, its content and its failing rows follow here, once
-//! for all three kinds.
+//! the last one before which the position was not yet reached (specs/PositionLaws.antt).
+//!
+//! A `RetroLine` is a queue, a stack or a deque whose past can be edited. What differs between the three is a `Sequence`:
+//! what is kept of the rows, and how that row is found by it. The answers, the content, the failing rows and the edits are
+//! here, once for all three kinds: `Partial` and `Retro` of `retro_base`, and `ask_past`.
 //!
 //! | Call | Nodes visited, d being the digits of one more than the length |
 //! |---|---|
@@ -20,25 +22,25 @@
 //! | `row_at`, `size_at`, `value_at` of `SignedRows` | at most 12 d |
 //! | `remove`, `failure_after_insert`, `failure_after_remove` of `SignedRows` | at most 36 d |
 //! | `insert` of `SignedRows` | at most 24 d, and 48 d where memory runs out |
-//! | `ask_sequence` | at most 120 d, of which the search of the structure is 96 d |
+//! | `ask_past` and the calls of `Partial` of `RetroLine` that take a counter | at most 144 d |
 //!
 //! What the layer above may rely on: the clauses of these types, in the words of lists; specs/Prefixes.antt for
 //! the searches; specs/Growth.antt and the laws beside it on the rows of a line.
 //!
 //! - Trees: `SignTree`, `SignedRows`. Rows as signs: `sign_of`, `left_growth`, `right_growth`, `adds`, `value_of`.
-//! - Lines: `Sequence`, `size_at`, `ask_sequence`, `ask_uncounted`, `list_sequence`, `failure_with`, `failure_without`.
+//! - Lines: `Sequence`, `RetroLine`.
 #![tactic(auto)]
 
 mod asked;
 mod growth;
+mod line;
 mod sequence;
 mod sign_tree;
 mod signed;
 mod signed_rows;
 
 pub use growth::{adds, left_growth, right_growth, sign_of, value_of};
-pub use sequence::{
-    Sequence, ask_sequence, ask_uncounted, failure_with, failure_without, list_sequence, size_at,
-};
+pub use line::RetroLine;
+pub use sequence::Sequence;
 pub use sign_tree::SignTree;
 pub use signed_rows::SignedRows;

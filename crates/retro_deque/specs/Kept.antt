@@ -1,19 +1,16 @@
 -- What a deque keeps beside its rows: by how much each of them lets either end grow.
 use Rattle.std.specs.Prelude.{◌≡◌, ℕ, ℤ, Bool, false, List, map, max}
 use Rattle.std.specs.Prelude.{Option, Some, None}
-use Rattle.retro_base.specs.declared.kind.Kind.TheVariants.{Deque}
 use Rattle.retro_base.specs.declared.op.Op.{Op}
 use Rattle.retro_base.specs.declared.row.Row.{Row}
-use Rattle.retro_base.specs.Timeline.{IsReplayable}
 use Rattle.prefix_trees.specs.Growth.{left_growth, right_growth}
 
 -- by how much each row lets an end grow
 abbrev pub growths : (Op → ℤ) → List Row → List (ℤ × Bool)
 growths growth rows = map (λ row. (growth row.op, false)) rows
 
--- rows that replay, and the growth of both ends
-pub record RepresentsRows (rows : List Row) (lefts rights : List (ℤ × Bool)) : Type 0 where
-  pub replayable : IsReplayable Deque rows
+-- the growth of both ends is that of the rows
+pub record KeepsGrowths (rows : List Row) (lefts rights : List (ℤ × Bool)) : Type 0 where
   pub lefts_are : lefts ≡ growths left_growth rows
   pub rights_are : rights ≡ growths right_growth rows
 

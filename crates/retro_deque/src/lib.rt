@@ -6,9 +6,9 @@
 //! the history is (Demaine, Iacono and Langerman, "Retroactive Data Structures", section 5).
 //! specs/EndLaws.antt says why, over lists of rows alone.
 //!
-//! `RetroDeque` is seen as its rows. It implements `Partial` and `Retro` of `retro_base`; each call of `Partial`
-//! that takes a counter, and `ask_past`, visits at most 144 nodes for each binary digit of one more than the
-//! number of rows, and only `insert`, `copy` and the listings take memory.
+//! `RetroDeque` is seen as its rows. It is a `RetroLine` of `prefix_trees` over the rows of a deque: so it implements `Partial`
+//! and `Retro` of `retro_base`; each call of `Partial` that takes a counter, and `ask_past`, visits at most 144 nodes for
+//! each binary digit of one more than the number of rows, and only `insert`, `copy` and the listings take memory.
 //!
 //! - `RetroDeque`. What each row does to the two ends: `ends.rt`.
 #![tactic(auto)]

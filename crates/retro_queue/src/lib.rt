@@ -5,9 +5,9 @@
 //! searches in a tree of marked signs, however long the history is (Demaine, Iacono and Langerman,
 //! "Retroactive Data Structures", section 5). specs/FrontLaws.antt says why, over lists of rows alone.
 //!
-//! `RetroQueue` is seen as its rows. It implements `Partial` and `Retro` of `retro_base`; each call of `Partial`
-//! that takes a counter, and `ask_past`, visits at most 144 nodes for each binary digit of one more than the
-//! number of rows, and only `insert`, `copy` and the listings take memory.
+//! `RetroQueue` is seen as its rows. It is a `RetroLine` of `prefix_trees` over the rows of a queue: so it implements `Partial`
+//! and `Retro` of `retro_base`; each call of `Partial` that takes a counter, and `ask_past`, visits at most 144 nodes for
+//! each binary digit of one more than the number of rows, and only `insert`, `copy` and the listings take memory.
 //!
 //! - `RetroQueue`.
 #![tactic(auto)]

@@ -5,9 +5,9 @@
 //! depth is at most h - 1 - i: one search among prefix sums, however long the history is (Demaine, Iacono and
 //! Langerman, "Retroactive Data Structures", section 5). specs/TopLaws.antt says why, over lists of rows alone.
 //!
-//! `RetroStack` is seen as its rows. It implements `Partial` and `Retro` of `retro_base`; each call of `Partial`
-//! that takes a counter, and `ask_past`, visits at most 144 nodes for each binary digit of one more than the
-//! number of rows, and only `insert`, `copy` and the listings take memory.
+//! `RetroStack` is seen as its rows. It is a `RetroLine` of `prefix_trees` over the rows of a stack: so it implements `Partial`
+//! and `Retro` of `retro_base`; each call of `Partial` that takes a counter, and `ask_past`, visits at most 144 nodes for
+//! each binary digit of one more than the number of rows, and only `insert`, `copy` and the listings take memory.
 //!
 //! - `RetroStack`.
 #![tactic(auto)]

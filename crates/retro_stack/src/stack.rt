@@ -1,83 +1,35 @@
-ghost use Rattle.std.specs.Prelude.{◌≡◌, ◌≤◌, List, [], length, true, IfOk};
-ghost use Rattle.retro_base.specs.declared.kind.Kind.TheVariants.{Stack};
-ghost use Rattle.retro_base.specs.Answers.{answer_of};
-ghost use Rattle.retro_base.specs.Replay.{state_at};
-ghost use Rattle.retro_base.specs.Questions.{suits};
-ghost use Rattle.retro_base.specs.Visits.{OpensCounter, VisitsWithin};
-
-use prefix_trees::{
-    Sequence, SignedRows, ask_sequence, ask_uncounted, failure_with, failure_without, list_sequence,
-};
-use retro_base::{
-    Answer, Change, Kind, Listing, NoMemory, Op, Partial, Question, Retro, Row, Steps, uncounted,
-};
+use prefix_trees::{RetroLine, Sequence, SignedRows};
+use retro_base::{Kind, NoMemory, Row, Steps};
 use std::alloc::Global;
-use std::marker::{Brand, Model};
-use std::sync::ledger::{Blank, Ledger};
+use std::sync::ledger::Ledger;
 
 /// A stack whose past can be edited, which contracts see as its rows.
+pub type RetroStack = RetroLine<StackRows>;
+
+/// The rows of a stack.
 #[derive(Drop)]
-pub struct RetroStack {
+pub struct StackRows {
     rows: SignedRows,
 }
 
-impl Model for RetroStack {
-    ghost use Rattle.std.specs.Prelude.{List};
-    ghost use Rattle.retro_base.specs.declared.kind.Kind.TheVariants.{Stack};
-    ghost use Rattle.retro_base.specs.declared.row.Row.{Row};
-    ghost use Rattle.retro_base.specs.Timeline.{IsReplayable};
-
-    ghost Value = { List Row };
-
-    ghost view = { λ stack. stack.rows };
-
-    ghost invariant = { λ stack. IsReplayable Stack stack.rows };
-}
-
-impl RetroStack {
-    /// A stack with no rows; their memory will be that of `alloc`.
-    pub fn new(alloc: Global) -> RetroStack
-        ensures { result ≡ [] }
-    {
-        RetroStack {
-            rows: SignedRows::new(alloc),
-        }
-    }
-
-    /// The answer to a question about the state at a place, after so many rows.
-    pub fn ask_past<L: Ledger>(
-        &self,
-        place: u32,
-        question: Question,
-        steps: &mut Steps<L>,
-    ) -> Answer
-        requires within { place ≤ length self.now }
-        requires suited { suits question Stack ≡ true }
-        ensures answer { result ≡ answer_of (state_at Stack self.now place) question }
-        ensures visits { VisitsWithin 144 (length self.now) steps.old steps.new }
-    {
-        ask_sequence(self, place, question, steps)
-    }
-
-    /// The same stack once more, with a counter of its own.
-    fn copied<L: Ledger>(&self, blank: Blank) -> Result<RetroStack, NoMemory>
-        requires counter { OpensCounter blank.name L.name blank.parts L.parts }
-        ensures { IfOk result (λ copy. copy ≡ self.now) }
-    {
-        let mut steps = Steps::<L>::new(blank);
-        let rows = self.rows.copy(&mut steps)?;
-        Ok(RetroStack { rows })
-    }
-}
-
-impl Sequence for RetroStack {
+impl Sequence for StackRows {
     ghost use Rattle.retro_base.specs.declared.kind.Kind.TheVariants.{Stack};
 
     ghost kind = { Stack };
 
-    ghost rows = { λ stack. stack };
+    ghost rows = { λ stack. stack.rows };
 
     ghost is_line = { tt };
+
+    fn new(alloc: Global) -> StackRows {
+        StackRows {
+            rows: SignedRows::new(alloc),
+        }
+    }
+
+    fn kind(&self) -> Kind {
+        Kind::Stack
+    }
 
     fn rows(&self) -> &SignedRows {
         &self.rows
@@ -88,108 +40,22 @@ impl Sequence for RetroStack {
         let depth = self.rows.size_at(place, steps) - 1 - i64::from(index);
         signs.last_at_most(0, place, depth, steps)
     }
-}
-
-impl Partial for RetroStack {
-    ghost use Rattle.retro_base.specs.declared.kind.Kind.TheVariants.{Stack};
-
-    ghost kind = { λ stack. Stack };
-
-    ghost rows = { λ stack. stack };
-
-    fn kind(&self) -> Kind {
-        let _ = &self.rows;
-        Kind::Stack
-    }
-
-    fn len(&self) -> u32 {
-        self.rows.len()
-    }
-
-    fn row_at<L: Ledger>(&self, place: u32, steps: &mut Steps<L>) -> Row {
-        self.rows.row_at(place, steps)
-    }
-
-    fn failure_after_insert<L: Ledger>(
-        &self,
-        place: u32,
-        op: Op,
-        steps: &mut Steps<L>,
-    ) -> Option<u32> {
-        failure_with(self, place, op, steps)
-    }
-
-    fn failure_after_remove<L: Ledger>(&self, place: u32, steps: &mut Steps<L>) -> Option<u32> {
-        failure_without(self, place, steps)
-    }
 
     fn insert<L: Ledger>(
         &mut self,
         place: u32,
         row: Row,
         steps: &mut Steps<L>,
-    ) -> Result<Change, NoMemory> {
-        self.rows.insert(place, row, steps)?;
-        Ok(Change::Plain)
+    ) -> Result<(), NoMemory> {
+        self.rows.insert(place, row, steps)
     }
 
-    fn remove<L: Ledger>(&mut self, place: u32, steps: &mut Steps<L>) -> (Row, Change) {
-        (self.rows.remove(place, steps), Change::Plain)
+    fn remove<L: Ledger>(&mut self, place: u32, steps: &mut Steps<L>) -> Row {
+        self.rows.remove(place, steps)
     }
 
-    fn ask_now<L: Ledger>(&self, question: Question, steps: &mut Steps<L>) -> Answer {
-        ask_sequence(self, self.rows.len(), question, steps)
-    }
-
-    fn all_now(&self) -> Result<Listing, NoMemory> {
-        list_sequence(self, self.rows.len())
-    }
-
-    fn copy(&self) -> Result<RetroStack, NoMemory> {
-        self.copied::<Brand>(Blank::new(1))
-    }
-}
-
-impl Retro for RetroStack {
-    ghost use Rattle.retro_base.specs.declared.kind.Kind.TheVariants.{Stack};
-
-    ghost kind = { λ stack. Stack };
-
-    ghost rows = { λ stack. stack };
-
-    fn kind(&self) -> Kind {
-        Partial::kind(self)
-    }
-
-    fn len(&self) -> u32 {
-        Partial::len(self)
-    }
-
-    fn failure_after_insert(&self, place: u32, op: Op) -> Option<u32> {
-        uncounted::failure_after_insert(self, place, op)
-    }
-
-    fn failure_after_remove(&self, place: u32) -> Option<u32> {
-        uncounted::failure_after_remove(self, place)
-    }
-
-    fn insert(&mut self, place: u32, row: Row) -> Result<Change, NoMemory> {
-        uncounted::insert(self, place, row)
-    }
-
-    fn remove(&mut self, place: u32) -> Result<(Row, Change), NoMemory> {
-        Ok(uncounted::remove(self, place))
-    }
-
-    fn ask_now(&self, question: Question) -> Answer {
-        uncounted::ask_now(self, question)
-    }
-
-    fn ask(&mut self, place: u32, question: Question) -> Result<Answer, NoMemory> {
-        Ok(ask_uncounted(self, place, question))
-    }
-
-    fn all(&mut self, place: u32) -> Result<Listing, NoMemory> {
-        list_sequence(self, place)
+    fn copy<L: Ledger>(&self, steps: &mut Steps<L>) -> Result<StackRows, NoMemory> {
+        let rows = self.rows.copy(steps)?;
+        Ok(StackRows { rows })
     }
 }

@@ -1,0 +1,170 @@
+ghost use Rattle.std.specs.Prelude.{◌≡◌, ◌≤◌, [], length, true, IfOk};
+ghost use Rattle.retro_base.specs.Answers.{answer_of};
+ghost use Rattle.retro_base.specs.Replay.{state_at};
+ghost use Rattle.retro_base.specs.Questions.{suits};
+ghost use Rattle.retro_base.specs.Visits.{OpensCounter, VisitsWithin};
+
+use crate::sequence::{Sequence, ask_sequence, ask_uncounted, list_sequence};
+use retro_base::{
+    Answer, Change, Kind, Listing, NoMemory, Op, Partial, Question, Retro, Row, Steps, uncounted,
+};
+use std::alloc::Global;
+use std::marker::{Brand, Model};
+use std::sync::ledger::{Blank, Ledger};
+
+/// A queue, a stack or a deque whose past can be edited, which contracts see as its rows.
+#[derive(Drop)]
+pub struct RetroLine<S: Sequence> {
+    sequence: S,
+}
+
+impl<S: Sequence> Model for RetroLine<S> {
+    ghost use Rattle.std.specs.Prelude.{List};
+    ghost use Rattle.retro_base.specs.declared.row.Row.{Row};
+    ghost use Rattle.retro_base.specs.Timeline.{IsReplayable};
+
+    ghost Value = { List Row };
+
+    ghost view = { λ line. S.rows line.sequence };
+
+    ghost invariant = { λ line. IsReplayable S.kind (S.rows line.sequence) };
+}
+
+impl<S: Sequence> RetroLine<S> {
+    /// A structure with no rows; their memory will be that of `alloc`.
+    pub fn new(alloc: Global) -> RetroLine<S>
+        ensures { result ≡ [] }
+    {
+        RetroLine {
+            sequence: S::new(alloc),
+        }
+    }
+
+    /// The answer to a question about the state at a place, after so many rows.
+    pub fn ask_past<L: Ledger>(
+        &self,
+        place: u32,
+        question: Question,
+        steps: &mut Steps<L>,
+    ) -> Answer
+        requires within { place ≤ length self.now }
+        requires suited { suits question S.kind ≡ true }
+        ensures answer { result ≡ answer_of (state_at S.kind self.now place) question }
+        ensures visits { VisitsWithin 144 (length self.now) steps.old steps.new }
+    {
+        ask_sequence(&self.sequence, place, question, steps)
+    }
+
+    /// The same structure once more, with a counter of its own.
+    fn copied<L: Ledger>(&self, blank: Blank) -> Result<RetroLine<S>, NoMemory>
+        requires counter { OpensCounter blank.name L.name blank.parts L.parts }
+        ensures { IfOk result (λ copy. copy ≡ self.now) }
+    {
+        let mut steps = Steps::<L>::new(blank);
+        let sequence = self.sequence.copy(&mut steps)?;
+        Ok(RetroLine { sequence })
+    }
+}
+
+impl<S: Sequence> Partial for RetroLine<S> {
+    ghost kind = { λ line. S.kind };
+
+    ghost rows = { λ line. line };
+
+    fn kind(&self) -> Kind {
+        self.sequence.kind()
+    }
+
+    fn len(&self) -> u32 {
+        self.sequence.rows().len()
+    }
+
+    fn row_at<L: Ledger>(&self, place: u32, steps: &mut Steps<L>) -> Row {
+        self.sequence.rows().row_at(place, steps)
+    }
+
+    fn failure_after_insert<L: Ledger>(
+        &self,
+        place: u32,
+        op: Op,
+        steps: &mut Steps<L>,
+    ) -> Option<u32> {
+        let rows = self.sequence.rows();
+        rows.failure_after_insert(place, op, steps)
+    }
+
+    fn failure_after_remove<L: Ledger>(&self, place: u32, steps: &mut Steps<L>) -> Option<u32> {
+        let rows = self.sequence.rows();
+        rows.failure_after_remove(place, steps)
+    }
+
+    fn insert<L: Ledger>(
+        &mut self,
+        place: u32,
+        row: Row,
+        steps: &mut Steps<L>,
+    ) -> Result<Change, NoMemory> {
+        self.sequence.insert(place, row, steps)?;
+        Ok(Change::Plain)
+    }
+
+    fn remove<L: Ledger>(&mut self, place: u32, steps: &mut Steps<L>) -> (Row, Change) {
+        (self.sequence.remove(place, steps), Change::Plain)
+    }
+
+    fn ask_now<L: Ledger>(&self, question: Question, steps: &mut Steps<L>) -> Answer {
+        let end = self.sequence.rows().len();
+        ask_sequence(&self.sequence, end, question, steps)
+    }
+
+    fn all_now(&self) -> Result<Listing, NoMemory> {
+        let end = self.sequence.rows().len();
+        list_sequence(&self.sequence, end)
+    }
+
+    fn copy(&self) -> Result<RetroLine<S>, NoMemory> {
+        self.copied::<Brand>(Blank::new(1))
+    }
+}
+
+impl<S: Sequence> Retro for RetroLine<S> {
+    ghost kind = { λ line. S.kind };
+
+    ghost rows = { λ line. line };
+
+    fn kind(&self) -> Kind {
+        Partial::kind(self)
+    }
+
+    fn len(&self) -> u32 {
+        Partial::len(self)
+    }
+
+    fn failure_after_insert(&self, place: u32, op: Op) -> Option<u32> {
+        uncounted::failure_after_insert(self, place, op)
+    }
+
+    fn failure_after_remove(&self, place: u32) -> Option<u32> {
+        uncounted::failure_after_remove(self, place)
+    }
+
+    fn insert(&mut self, place: u32, row: Row) -> Result<Change, NoMemory> {
+        uncounted::insert(self, place, row)
+    }
+
+    fn remove(&mut self, place: u32) -> Result<(Row, Change), NoMemory> {
+        Ok(uncounted::remove(self, place))
+    }
+
+    fn ask_now(&self, question: Question) -> Answer {
+        uncounted::ask_now(self, question)
+    }
+
+    fn ask(&mut self, place: u32, question: Question) -> Result<Answer, NoMemory> {
+        Ok(ask_uncounted(&self.sequence, place, question))
+    }
+
+    fn all(&mut self, place: u32) -> Result<Listing, NoMemory> {
+        list_sequence(&self.sequence, place)
+    }
+}

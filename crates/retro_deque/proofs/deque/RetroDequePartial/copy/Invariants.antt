@@ -1,4 +1,0 @@
-use Rattle.retro_deque.proofs.deque.RetroDequePartial.copy.Given as goal
-
-abbrev pub ghosts-copied : goal.ghosts-copied
-ghosts-copied a = record { name = a.blank.name; parts = a.blank.parts }
