@@ -69,6 +69,12 @@ fn take(segments: &mut Segments, placed: Placed, to: u64) {
     }
 }
 
+fn move_end(segments: &mut Segments, placed: Placed, to: u64, next: u64) {
+    if let Some((from, pair)) = placed {
+        segments.move_end(Lifetime { from, to, pair }, next);
+    }
+}
+
 pub struct Dictionary {
     rows: Tree<Row>,
     labels: Labels,
@@ -104,8 +110,7 @@ impl Dictionary {
         let (left, next) = self.beside(row.op.key(), label);
         self.index.insert(label, row.op);
         add(&mut self.segments, placed(label, row.op), next);
-        add(&mut self.segments, left, label);
-        take(&mut self.segments, left, next);
+        move_end(&mut self.segments, left, next, label);
     }
 
     /// Puts a row in where no label is left: all rows are relabelled, and the lifetimes are made anew.
@@ -169,8 +174,7 @@ impl Past for Dictionary {
         let row = self.rows.get(place);
         let label = self.labels.at(place);
         let (left, next) = self.beside(row.op.key(), label);
-        add(&mut self.segments, left, next);
-        take(&mut self.segments, left, label);
+        move_end(&mut self.segments, left, label, next);
         take(&mut self.segments, placed(label, row.op), next);
         self.index.remove(label);
         self.labels.remove(place);

@@ -162,6 +162,10 @@ impl Lifetime {
             ..self
         }
     }
+
+    fn ending(self, to: u64) -> Lifetime {
+        Lifetime { to, ..self }
+    }
 }
 
 /// The pairs in a span of labels and in the spans below it; a span with nothing is left out.
@@ -192,14 +196,19 @@ fn add(spans: &mut Spans, level: u32, life: Lifetime) {
     if life.is_whole(level) {
         span.pairs.put(life.pair);
     } else {
-        if life.from < 1 << (level - 1) {
-            add(&mut span.left, level - 1, life);
-        }
-        if 1 << (level - 1) < life.to {
-            add(&mut span.right, level - 1, life.in_second(level - 1));
-        }
+        add_below(&mut span, level - 1, life);
     }
     *spans = closed(span);
+}
+
+/// Into the halves of a span, which have this level.
+fn add_below(span: &mut Span, level: u32, life: Lifetime) {
+    if life.from < 1 << level {
+        add(&mut span.left, level, life);
+    }
+    if 1 << level < life.to {
+        add(&mut span.right, level, life.in_second(level));
+    }
 }
 
 fn take(spans: &mut Spans, level: u32, life: Lifetime) {
@@ -207,14 +216,61 @@ fn take(spans: &mut Spans, level: u32, life: Lifetime) {
     if life.is_whole(level) {
         span.pairs.take_out(life.pair);
     } else {
-        if life.from < 1 << (level - 1) {
-            take(&mut span.left, level - 1, life);
-        }
-        if 1 << (level - 1) < life.to {
-            take(&mut span.right, level - 1, life.in_second(level - 1));
-        }
+        take_below(&mut span, level - 1, life);
     }
     *spans = closed(span);
+}
+
+/// Out of the halves of a span, which have this level.
+fn take_below(span: &mut Span, level: u32, life: Lifetime) {
+    if life.from < 1 << level {
+        take(&mut span.left, level, life);
+    }
+    if 1 << level < life.to {
+        take(&mut span.right, level, life.in_second(level));
+    }
+}
+
+/// Moves where a lifetime ends. Spans that the lifetime has with either end are left as they are.
+fn move_end(spans: &mut Spans, level: u32, life: Lifetime, next: u64) {
+    let Some(mut span) = spans.take() else { return };
+    let moved = life.ending(next);
+    match (life.is_whole(level), moved.is_whole(level)) {
+        (true, true) => {}
+        (true, false) => {
+            add_below(&mut span, level - 1, moved);
+            span.pairs.take_out(life.pair);
+        }
+        (false, true) => {
+            span.pairs.put(life.pair);
+            take_below(&mut span, level - 1, life);
+        }
+        (false, false) => move_below(&mut span, level - 1, life, next),
+    }
+    *spans = closed(span);
+}
+
+fn move_below(span: &mut Span, level: u32, life: Lifetime, next: u64) {
+    let half = 1 << level;
+    let (later, later_next) = (life.in_second(level), next.saturating_sub(half));
+    match (half < life.to, half < next) {
+        (true, true) => move_end(&mut span.right, level, later, later_next),
+        (true, false) => {
+            move_first(&mut span.left, level, life, next);
+            take(&mut span.right, level, later);
+        }
+        (false, true) => {
+            add(&mut span.right, level, later.ending(later_next));
+            move_first(&mut span.left, level, life, next);
+        }
+        (false, false) => move_first(&mut span.left, level, life, next),
+    }
+}
+
+fn move_first(left: &mut Spans, level: u32, life: Lifetime, next: u64) {
+    if life.from < 1 << level && life.to.min(next) < 1 << level {
+        move_end(left, level, life, next);
+    }
 }
 
 fn ask(spans: &Spans, level: u32, label: u64, low: i64, high: i64) -> Found {
@@ -256,6 +312,15 @@ impl Segments {
         if self.held.holds(life) {
             self.held.take_out(life);
             take(&mut self.root, LEVELS, life);
+        }
+    }
+
+    /// Moves where a lifetime that is there ends.
+    pub fn move_end(&mut self, life: Lifetime, next: u64) {
+        if self.held.holds(life) {
+            self.held.put(life.ending(next));
+            self.held.take_out(life);
+            move_end(&mut self.root, LEVELS, life, next);
         }
     }
 
