@@ -1,13 +1,13 @@
 -- The lifetimes that are held, and the trie of their items, through an edit.
-use Rattle.std.proofs.Common.{◌≡◌, ℕ, zero, suc, ◌<◌, Bool, true, List, [], length, sym, subst, ap, arith}
+use Rattle.std.proofs.Common.{◌≡◌, ℕ, zero, suc, ◌<◌, Bool, true, List, [], length, sym, subst, ap, ◌∙◌, arith}
 use Rattle.lifetime_segments.specs.declared.lifetime.Lifetime.{Lifetime}
 use Rattle.lifetime_segments.specs.declared.trie.Trie.{Trie, Empty}
 use Rattle.lifetime_segments.specs.Lawful.{most_items}
-use Rattle.lifetime_segments.specs.Ordered.{IsOrder, put_in, is_in, without}
-use Rattle.lifetime_segments.specs.OrderedLaws.{length-put_in, length-without, all-put_in, all-without, put_in-ordered, without-ordered, is_in-all}
+use Rattle.lifetime_segments.specs.Ordered.{IsOrder, AreInOrder, put_in, is_in, without}
+use Rattle.lifetime_segments.specs.OrderedLaws.{length-put_in, length-without, all-put_in, all-without, put_in-ordered, without-ordered, is_in-all, put_in-without, put_in-swap, is_in-put_in, without-put_in}
 use Rattle.lifetime_segments.specs.Lifetimes.{IsInRange, stands_earlier}
 use Rattle.lifetime_segments.specs.LifetimeLaws.{earlier_order}
-use Rattle.lifetime_segments.specs.Tries.{items_of, left_of, right_of, IsOf, HasOne, Keeps, Adds, Takes, AreHeld}
+use Rattle.lifetime_segments.specs.Tries.{items_of, left_of, right_of, IsOf, HasOne, Keeps, Adds, Takes, Moves, ending, AreHeld}
 use Rattle.lifetime_segments.proofs.Moved.{of_put_in, of_without}
 
 of_none : {A M : Type 0} (before : A → A → Bool) (level : ℕ) (trie : Trie A M) → trie ≡ Empty → IsOf before level [] trie
@@ -30,6 +30,17 @@ held_kept before held root after are keeps = record {
   few = are.few;
   is_of = keeps held are.is_of;
 }
+
+-- an element that is there, and another that is put in
+module _ {A : Type 0} {before : A → A → Bool} (order : IsOrder before) (x y : A) (xs : List A) (ordered : AreInOrder before xs) (there : is_in before x xs ≡ true) where
+  put_in-beside : put_in before y xs ≡ put_in before x (put_in before y (without before x xs))
+  put_in-beside = ap (put_in before y) (sym (put_in-without order x xs ordered there)) ∙ put_in-swap order y x (without before x xs)
+
+  pub still_in : is_in before x (put_in before y xs) ≡ true
+  still_in = ap (is_in before x) put_in-beside ∙ is_in-put_in order x (put_in before y (without before x xs))
+
+  without-beside : without before x (put_in before y xs) ≡ put_in before y (without before x xs)
+  without-beside = ap (without before x) put_in-beside ∙ without-put_in order x (put_in before y (without before x xs))
 
 module _ {A : Type 0} {before : A → A → Bool} (order : IsOrder before) {M : Type 0} where
   pub held_with : (life : Lifetime A) (held : List (Lifetime A)) (root after : Trie A M) → IsInRange life → length held < most_items → AreHeld before held root → Adds before 40 life root after
@@ -55,6 +66,20 @@ module _ {A : Type 0} {before : A → A → Bool} (order : IsOrder before) {M : 
     few = (let fewer = length-without (stands_earlier before) life held in let all = are.few in omega arith);
     is_of = takes (without (stands_earlier before) life held) (of_without order 40 life held root are.ordered there are.is_of);
   }
+
+  pub held_moved : (life : Lifetime A) (next : ℕ) (held : List (Lifetime A)) (root after : Trie A M) → IsInRange (ending next life) → length held < most_items → is_in (stands_earlier before) life held ≡ true → AreHeld before held root
+      → Moves before 40 life next root after → AreHeld before (without (stands_earlier before) life (put_in (stands_earlier before) (ending next life) held)) after
+  held_moved life next held root after range room there are moves =
+      let earlier = stands_earlier before in
+      let others = without earlier life held in
+      let all = put_in earlier (ending next life) held in
+      let same : put_in earlier (ending next life) others ≡ without earlier life all = sym (without-beside (earlier_order order) life (ending next life) held are.ordered there) in
+      record {
+        ordered = without-ordered (earlier_order order) life all (put_in-ordered (earlier_order order) (ending next life) held are.ordered);
+        in_range = all-without IsInRange earlier life all (all-put_in IsInRange earlier (ending next life) held range are.in_range);
+        few = omega (arith, length-without earlier life all, length-put_in earlier (ending next life) held);
+        is_of = subst (λ ls. IsOf before 40 ls after) same (of_put_in order 40 (ending next life) others after (moves others (of_without order 40 life held root are.ordered there are.is_of)));
+      }
 
   pub held_range : (life : Lifetime A) (held : List (Lifetime A)) (root : Trie A M) → AreHeld before held root → is_in (stands_earlier before) life held ≡ true → IsInRange life
   held_range life held root are there = is_in-all (earlier_order order) IsInRange life held are.in_range there

@@ -2,5 +2,6 @@ mod Places
 mod Spans
 mod Nodes
 mod Moved
+mod MovedEnds
 mod Results
 mod Held

@@ -1,16 +1,17 @@
 -- A trie has its lifetimes in any order.
-use Rattle.std.proofs.Common.{◌≡◌, ℕ, zero, suc, Bool, true, false, cond, not, List, ◌∷◌, ◌++◌, take, drop, refl, sym, subst, ap, ◌∙◌}
+use Rattle.std.proofs.Common.{◌≡◌, ℕ, zero, suc, Bool, true, false, cond, not, List, [], ◌∷◌, ◌++◌, take, drop, refl, sym, subst, ap, ◌∙◌}
 use Rattle.std.specs.Prelude.{◌^◌, ◌&&◌, nat_lt, map}
 use Rattle.std.specs.List.{filter}
 use Rattle.std.proofs.lemmas.List.{map-append, take-append-drop}
 use Rattle.std.proofs.lemmas.List.Elements.{filter-append}
 use Rattle.lifetime_segments.specs.declared.lifetime.Lifetime.{Lifetime}
 use Rattle.lifetime_segments.specs.declared.trie.Trie.{Trie}
+use Rattle.lifetime_segments.specs.declared.trie.Node.{Node}
 use Rattle.lifetime_segments.specs.Ordered.{IsOrder, AreInOrder, put_in, in_order, is_in, without, place_in}
 use Rattle.lifetime_segments.specs.OrderedLaws.{in_order-middle, put_in-without}
 use Rattle.lifetime_segments.specs.Lifetimes.{stands_earlier}
 use Rattle.lifetime_segments.specs.LifetimeLaws.{earlier_order}
-use Rattle.lifetime_segments.specs.Tries.{IsOf, is_whole, wholes, in_first, in_second, seen_from, left_of, right_of}
+use Rattle.lifetime_segments.specs.Tries.{IsOf, IsOfNode, is_whole, wholes, in_first, in_second, seen_from, left_of, right_of}
 use Rattle.lifetime_segments.proofs.Places.{insert-place}
 use Rattle.lifetime_segments.proofs.Spans.{map-same}
 
@@ -87,6 +88,17 @@ module _ {A : Type 0} {before : A → A → Bool} (order : IsOrder before) where
             (subst (λ ls. AreAlike before level (map (λ life. life) (in_first level (xs ++ x ∷ ys))) ls) (map-same (in_first level (x ∷ xs ++ ys)))
             (parts-moved level first (λ life. life) x xs ys (moved level))),
         parts-moved level second (seen_from (2 ^ level)) x xs ys (moved level),
+      )
+
+  -- the first two lifetimes of a node
+  pub node_swapped : {M : Type 0} (level : ℕ) (x y : Lifetime A) (lives : List (Lifetime A)) (node : Node A M) → IsOfNode before level (x ∷ y ∷ lives) node → IsOfNode before level (y ∷ x ∷ lives) node
+  unfolding AreAlike IsOfNode
+  node_swapped zero x y lives node is_of = is_of ∙ moved zero y (x ∷ []) lives
+  node_swapped (suc level) x y lives node is_of =
+      let alike = moved (suc level) y (x ∷ []) lives in (
+        is_of.0 ∙ alike.0,
+        of_alike before level (in_first level (x ∷ y ∷ lives)) (in_first level (y ∷ x ∷ lives)) node.left alike.1 is_of.1,
+        of_alike before level (in_second level (x ∷ y ∷ lives)) (in_second level (y ∷ x ∷ lives)) node.right alike.2 is_of.2,
       )
 
   -- a lifetime at the front, and at its place

@@ -101,19 +101,19 @@ below_level zero life broken begins ends = absurd (grind (arith, nat_tests))
 below_level (suc level) life broken begins ends = omega arith
 
 -- a lifetime of the whole span lies in it, and in no half
-wholes-whole : {A : Type 0} (level : ℕ) (life : Lifetime A) (lives : List (Lifetime A)) → is_whole level life ≡ true → wholes level (life ∷ lives) ≡ life.item ∷ wholes level lives
+pub wholes-whole : {A : Type 0} (level : ℕ) (life : Lifetime A) (lives : List (Lifetime A)) → is_whole level life ≡ true → wholes level (life ∷ lives) ≡ life.item ∷ wholes level lives
 wholes-whole {A = A} level life lives whole = ap (λ b. map (λ (l : Lifetime A). l.item) (cond b (life ∷ filter (is_whole level) lives) (filter (is_whole level) lives))) whole
 
-first-whole : {A : Type 0} (level : ℕ) (life : Lifetime A) (lives : List (Lifetime A)) → is_whole (suc level) life ≡ true → in_first level (life ∷ lives) ≡ in_first level lives
+pub first-whole : {A : Type 0} (level : ℕ) (life : Lifetime A) (lives : List (Lifetime A)) → is_whole (suc level) life ≡ true → in_first level (life ∷ lives) ≡ in_first level lives
 first-whole {A = A} level life lives whole = ap (λ b. cond (not b && nat_lt life.from (2 ^ level)) (life ∷ in_first level lives) (in_first level lives)) whole
 
-second-whole : {A : Type 0} (level : ℕ) (life : Lifetime A) (lives : List (Lifetime A)) → is_whole (suc level) life ≡ true → in_second level (life ∷ lives) ≡ in_second level lives
+pub second-whole : {A : Type 0} (level : ℕ) (life : Lifetime A) (lives : List (Lifetime A)) → is_whole (suc level) life ≡ true → in_second level (life ∷ lives) ≡ in_second level lives
 second-whole {A = A} level life lives whole =
     let rest = filter (λ (l : Lifetime A). not (is_whole (suc level) l) && nat_lt (2 ^ level) l.to) lives in
     ap (λ b. map (seen_from (2 ^ level)) (cond (not b && nat_lt (2 ^ level) life.to) (life ∷ rest) rest)) whole
 
 -- another does not lie in the span itself
-wholes-broken : {A : Type 0} (level : ℕ) (life : Lifetime A) (lives : List (Lifetime A)) → is_whole level life ≡ false → wholes level (life ∷ lives) ≡ wholes level lives
+pub wholes-broken : {A : Type 0} (level : ℕ) (life : Lifetime A) (lives : List (Lifetime A)) → is_whole level life ≡ false → wholes level (life ∷ lives) ≡ wholes level lives
 wholes-broken {A = A} level life lives broken = ap (λ b. map (λ (l : Lifetime A). l.item) (cond b (life ∷ filter (is_whole level) lives) (filter (is_whole level) lives))) broken
 
 -- a lifetime of the whole span is put in
@@ -175,9 +175,9 @@ node_with_parts before level life node after broken items left right lives is_of
 
 pub node_kept : {A M : Type 0} (before : A → A → Bool) (level : ℕ) (node after : Node A M) → after.items ≡ node.items
     → ((lives : List (Lifetime A)) → IsOf before level (in_first level lives) node.left → IsOf before level (in_first level lives) after.left)
-    → Keeps before level node.right after.right → NodeKeeps before (suc level) node after
+    → ((lives : List (Lifetime A)) → IsOf before level (in_second level lives) node.right → IsOf before level (in_second level lives) after.right) → NodeKeeps before (suc level) node after
 unfolding IsOfNode
-node_kept before level node after items left right lives is_of = (items ∙ is_of.0, left lives is_of.1, right (in_second level lives) is_of.2)
+node_kept before level node after items left right lives is_of = (items ∙ is_of.0, left lives is_of.1, right lives is_of.2)
 
 -- parts of a lifetime are taken out of the halves
 without_parts : {A M : Type 0} (before : A → A → Bool) (level : ℕ) (life : Lifetime A) (node after : Node A M) → is_whole (suc level) life ≡ false → after.items ≡ node.items

@@ -13,6 +13,14 @@ pub err_always : {T E : Type 0} {P : Type 0} (result : Result T E) → P → OnE
 err_always (Ok x) held = tt
 err_always (Err e) held = held
 
+pub ok_always : {T E : Type 0} {P : Type 0} (result : Result T E) → P → OnOk result P
+ok_always (Ok x) held = held
+ok_always (Err e) held = tt
+
+pub ok_never : {T E : Type 0} (P : Type 0) (result : Result T E) → is_err result ≡ true → OnOk result P
+ok_never P (Ok x) failed = absurd (cc)
+ok_never P (Err e) failed = tt
+
 pub ok_of : {T E : Type 0} {P : Type 0} (result : Result T E) → is_err result ≡ false → OnOk result P → P
 ok_of (Ok x) went held = held
 ok_of (Err e) went held = absurd (cc)

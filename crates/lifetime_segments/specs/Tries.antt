@@ -24,6 +24,10 @@ in_first level lives = filter (λ life. not (is_whole (suc level) life) && nat_l
 abbrev pub seen_from : {A : Type 0} → ℕ → Lifetime A → Lifetime A
 seen_from label life = record life { from = life.from - label; to = life.to - label }
 
+-- a lifetime that ends at another label
+abbrev pub ending : {A : Type 0} → ℕ → Lifetime A → Lifetime A
+ending to life = record life { to = to }
+
 -- the lifetimes that lie below, in a second half of this level, seen from where that half begins
 abbrev pub in_second : {A : Type 0} → ℕ → List (Lifetime A) → List (Lifetime A)
 in_second level lives = map (seen_from (2 ^ level)) (filter (λ life. not (is_whole (suc level) life) && nat_lt (2 ^ level) life.to) lives)
@@ -99,7 +103,7 @@ pub record SecondHasOne {A M : Type 0} (before : A → A → Bool) (level : ℕ)
   pub others : List (Lifetime A)
   pub is_of : IsOf before level (in_second level (life ∷ others)) trie
 
--- whatever lifetimes it had, it has them still, or with one more, or without one of them
+-- whatever lifetimes it had, it has them still, or with one more, or without one of them, or with one that ends elsewhere
 abbrev pub Keeps : {A M : Type 0} → (A → A → Bool) → ℕ → Trie A M → Trie A M → Type 0
 Keeps {A} before level old new = (lives : List (Lifetime A)) → IsOf before level lives old → IsOf before level lives new
 
@@ -108,6 +112,9 @@ Adds {A} before level life old new = (lives : List (Lifetime A)) → IsOf before
 
 abbrev pub Takes : {A M : Type 0} → (A → A → Bool) → ℕ → Lifetime A → Trie A M → Trie A M → Type 0
 Takes {A} before level life old new = (lives : List (Lifetime A)) → IsOf before level (life ∷ lives) old → IsOf before level lives new
+
+abbrev pub Moves : {A M : Type 0} → (A → A → Bool) → ℕ → Lifetime A → ℕ → Trie A M → Trie A M → Type 0
+Moves {A} before level life next old new = (lives : List (Lifetime A)) → IsOf before level (life ∷ lives) old → IsOf before level (ending next life ∷ lives) new
 
 -- the same of a node
 abbrev pub NodeKeeps : {A M : Type 0} → (A → A → Bool) → ℕ → Node A M → Node A M → Type 0
@@ -118,6 +125,9 @@ NodeAdds {A} before level life old new = (lives : List (Lifetime A)) → IsOfNod
 
 abbrev pub NodeTakes : {A M : Type 0} → (A → A → Bool) → ℕ → Lifetime A → Node A M → Node A M → Type 0
 NodeTakes {A} before level life old new = (lives : List (Lifetime A)) → IsOfNode before level (life ∷ lives) old → IsOfNode before level lives new
+
+abbrev pub NodeMoves : {A M : Type 0} → (A → A → Bool) → ℕ → Lifetime A → ℕ → Node A M → Node A M → Type 0
+NodeMoves {A} before level life next old new = (lives : List (Lifetime A)) → IsOfNode before level (life ∷ lives) old → IsOfNode before level (ending next life ∷ lives) new
 
 -- the same of the parts in a half of this level
 abbrev pub AddsFirst : {A M : Type 0} → (A → A → Bool) → ℕ → Lifetime A → Trie A M → Trie A M → Type 0
@@ -131,6 +141,9 @@ TakesFirst {A} before level life old new = (lives : List (Lifetime A)) → IsOf 
 
 abbrev pub TakesSecond : {A M : Type 0} → (A → A → Bool) → ℕ → Lifetime A → Trie A M → Trie A M → Type 0
 TakesSecond {A} before level life old new = (lives : List (Lifetime A)) → IsOf before level (in_second level (life ∷ lives)) old → IsOf before level (in_second level lives) new
+
+abbrev pub MovesFirst : {A M : Type 0} → (A → A → Bool) → ℕ → Lifetime A → ℕ → Trie A M → Trie A M → Type 0
+MovesFirst {A} before level life next old new = (lives : List (Lifetime A)) → IsOf before level (in_first level (life ∷ lives)) old → IsOf before level (in_first level (ending next life ∷ lives)) new
 
 -- whatever lifetimes it has, this is the answer over the items that are there at a label
 abbrev pub AnswersAt : {A M Q P : Type 0} → (A → A → Bool) → (List A → Q → P) → ℕ → ℕ → Q → Trie A M → P → Type 0

@@ -15,17 +15,18 @@
 //! |---|---|
 //! | `new` | constant |
 //! | `add`, `take` | a search of log n in each of at most 80 nodes |
+//! | `move_end` | that of an `add` and a `take`, but for the nodes of spans that the lifetime has with either end |
 //! | `ask` | one `ask` in each of at most 41 nodes, and as many of `combine` |
 //!
-//! `add` takes memory for a node of each span and for one of each tree, and leaves all as it was where there is none; no
-//! other call takes any.
+//! `add` and `move_end` take memory for a node of each new span and for one of each tree, and leave all as it was where
+//! there is none; no other call takes any.
 //!
 //! What the layer above may rely on, beside the clauses: the definitions of specs/Ordered.antt, specs/Lifetimes.antt and
 //! specs/Lawful.antt, and the laws of lists in their order in specs/OrderedLaws.antt and specs/LifetimeLaws.antt. So a
 //! caller with a list of its own says that what is held is that list `in_order`.
 //!
 //! - `decomposable`: the trait. `segments`: the type and its calls. `lifetime`: what lies in a span, and what in its halves.
-//! - `trie`: the nodes of the spans. `edit`: putting an item in and taking it out. `search`: the way to a label.
+//! - `trie`: the nodes of the spans. `edit`: putting an item in, moving its end and taking it out. `search`: the way to a label.
 //! - `sorted`: trees that keep their items in an order.
 #![tactic(auto)]
 

@@ -1,5 +1,5 @@
 ghost use Rattle.std.specs.Prelude.{◌≡◌, ◌≤◌, ◌^◌, nat_lt};
-ghost use Rattle.lifetime_segments.specs.Tries.{is_whole, seen_from};
+ghost use Rattle.lifetime_segments.specs.Tries.{ending, is_whole, seen_from};
 
 use monoid_laws::{Count, Measured};
 
@@ -56,6 +56,13 @@ impl<T: Copy> Lifetime<T> {
         ensures { result ≡ nat_lt (2 ^ level) self.now.to }
     {
         labels(level) < self.to
+    }
+
+    /// The lifetime that ends at another label.
+    pub(crate) fn ending(&self, to: u64) -> Lifetime<T>
+        ensures { result ≡ ending to self.now }
+    {
+        Lifetime { to, ..*self }
     }
 
     /// What of it is in a second half of this level, seen from where that half begins.

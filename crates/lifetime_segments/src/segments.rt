@@ -1,10 +1,10 @@
-ghost use Rattle.std.specs.Prelude.{◌≡◌, ◌<◌, ◌≤◌, [], length, OnOk, OnErr};
+ghost use Rattle.std.specs.Prelude.{◌≡◌, ◌<◌, ◌≤◌, true, [], length, OnOk, OnErr};
 ghost use Rattle.std.specs.List.{AllByRecursion};
 ghost use Rattle.retro_base.specs.Visits.{OpensCounter};
 ghost use Rattle.lifetime_segments.specs.Lawful.{most_items};
 ghost use Rattle.lifetime_segments.specs.Lifetimes.{label_end, lifetime, IsInRange, items_at, stands_earlier};
 ghost use Rattle.lifetime_segments.specs.Ordered.{AreInOrder, put_in, in_order, is_in, without};
-ghost use Rattle.lifetime_segments.specs.Tries.{AreHeld};
+ghost use Rattle.lifetime_segments.specs.Tries.{AreHeld, ending};
 
 use crate::decomposable::Decomposable;
 use crate::lifetime::Lifetime;
@@ -62,6 +62,24 @@ impl<D: Decomposable> Segments<D> {
     {
         let life = Lifetime { from, to, item };
         add_held::<D, Brand>(&mut self.held, &mut self.root, life, Blank::new(1))
+    }
+
+    /// Moves where a lifetime ends: the one that ends at `next` is put in, and the one that ends at `to` taken out. After
+    /// `NoMemory` all is as before.
+    pub fn move_end(&mut self, from: u64, to: u64, next: u64, item: D::Item) -> Result<(), NoMemory>
+        requires rises { from < next }
+        requires within { next ≤ label_end }
+        requires room { length self.old < most_items }
+        ensures ok { OnOk result (self.new ≡ without (stands_earlier D.stands_before) (lifetime from to item) (put_in (stands_earlier D.stands_before) (lifetime from next item) self.old)) }
+        ensures err { OnErr result (self.new ≡ self.old) }
+    {
+        let life = Lifetime { from, to, item };
+        if is_held::<D, Brand>(&self.held, life, Blank::new(1)) {
+            return move_held::<D, Brand>(&mut self.held, &mut self.root, life, next, Blank::new(1));
+        }
+        self.add(from, next, item)?;
+        self.take(from, to, item);
+        Ok(())
     }
 
     /// Takes a lifetime out, and tells whether it was there. It takes no memory.
@@ -126,4 +144,42 @@ fn take_held<D: Decomposable, L: Ledger>(
     take_out::<ByStart<D>, L>(held, life, &mut steps);
     edit::take::<D, L>(root, LEVELS, life, &mut steps);
     true
+}
+
+fn is_held<D: Decomposable, L: Ledger>(
+    held: &Tree<Lifetime<D::Item>>,
+    life: Lifetime<D::Item>,
+    blank: Blank,
+) -> bool
+    requires counter { OpensCounter blank.name L.name blank.parts L.parts }
+    requires ordered { AreInOrder (stands_earlier D.stands_before) held.now }
+    ensures { result ≡ is_in (stands_earlier D.stands_before) life held.now }
+{
+    let mut steps = Steps::<L>::new(blank);
+    holds::<ByStart<D>, L>(held, life, &mut steps)
+}
+
+fn move_held<D: Decomposable, L: Ledger>(
+    held: &mut Tree<Lifetime<D::Item>>,
+    root: &mut Trie<D::Item>,
+    life: Lifetime<D::Item>,
+    next: u64,
+    blank: Blank,
+) -> Result<(), NoMemory>
+    requires counter { OpensCounter blank.name L.name blank.parts L.parts }
+    requires range { IsInRange (ending next life) }
+    requires room { length held.old < most_items }
+    requires there { is_in (stands_earlier D.stands_before) life held.old ≡ true }
+    requires held { AreHeld D.stands_before held.old root.old }
+    ensures held { AreHeld D.stands_before held.new root.new }
+    ensures ok { OnOk result (held.new ≡ without (stands_earlier D.stands_before) life (put_in (stands_earlier D.stands_before) (ending next life) held.old)) }
+    ensures err { OnErr result (held.new ≡ held.old) }
+{
+    let mut steps = Steps::<L>::new(blank);
+    let moved = life.ending(next);
+    put::<ByStart<D>, L>(held, moved, &mut steps)?;
+    let done = edit::move_end::<D, L>(root, LEVELS, life, next, held.alloc(), &mut steps);
+    let gone = if done.is_err() { moved } else { life };
+    take_out::<ByStart<D>, L>(held, gone, &mut steps);
+    done
 }

@@ -1,5 +1,5 @@
 use Rattle.std.proofs.Common.{◌≡◌, ◌<◌, ◌-◌, ◌^◌, suc, false, ◌∷◌, refl, sym, subst, ap, ◌∙◌, arith, rules}
-use Rattle.lifetime_segments.specs.Tries.{is_empty, IsOfNode, IsOpened, NodeAdds, NodeKeeps, Has, NodeHas, is_whole, in_first}
+use Rattle.lifetime_segments.specs.Tries.{is_empty, IsOfNode, IsOpened, NodeAdds, NodeKeeps, Has, NodeHas, is_whole, in_first, in_second}
 use Rattle.lifetime_segments.proofs.Results.{ok_weaker, err_weaker, err_always}
 use Rattle.lifetime_segments.proofs.Nodes.{node_of, trie_of, node_has, left_has, right_has, node_left, node_ordered, node_few, node_with_whole, node_with_parts, node_kept, empty_keeps, below_level}
 use Rattle.lifetime_segments.proofs.edit.+add.Goals as goal
@@ -59,7 +59,7 @@ add_to_halves-take_first-requires-clause-has g t c = record {
 pub add_to_halves-returns-then-is_err-clause-err : goal.add_to_halves-returns-then-is_err-clause-err
 add_to_halves-returns-then-is_err-clause-err g t c =
     err_weaker c.add_second-added.result
-    (λ keeps. node_kept g.D.Decomposable.stands_before c.args.level c.args.node.now _ refl (λ lives is_of. c.take_first.ensures lives (c.in_ok-add_first.ensures.ok lives is_of)) keeps)
+    (λ keeps. node_kept g.D.Decomposable.stands_before c.args.level c.args.node.now _ refl (λ lives is_of. c.take_first.ensures lives (c.in_ok-add_first.ensures.ok lives is_of)) (λ lives. keeps (in_second c.args.level lives)))
     c.add_second-added.ensures.err
 
 pub add_to_halves-returns-else-is_err-clause-ok : goal.add_to_halves-returns-else-is_err-clause-ok

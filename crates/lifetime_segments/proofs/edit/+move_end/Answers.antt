@@ -1,0 +1,206 @@
+use Rattle.std.proofs.Common.{◌≡◌, ◌<◌, ◌-◌, ◌^◌, suc, true, false, ◌∷◌, refl, sym, subst, ap, ◌∙◌, arith, rules}
+use Rattle.lifetime_segments.specs.Tries.{is_empty, IsOfNode, IsOpened, NodeMoves, NodeKeeps, Moves, AddsSecond, Has, NodeHas, HasOne, NodeHasOne, FirstHasOne, is_whole, ending, in_first, in_second, seen_from}
+use Rattle.lifetime_segments.proofs.Results.{ok_weaker, err_weaker, err_always}
+use Rattle.lifetime_segments.proofs.Nodes.{node_of, trie_of, node_has, node_has_one, left_has, right_has, left_has_one, right_has_one, node_right, node_kept, empty_keeps, below_level}
+use Rattle.lifetime_segments.proofs.MovedEnds.{first_none, first_past, second_there, node_second_moved, node_shortened, node_lengthened, node_still_whole}
+use Rattle.lifetime_segments.proofs.Spans.{double}
+use Rattle.lifetime_segments.proofs.edit.+move_end.Goals as goal
+
+pub move_end-returns-in_err-node-clause-err : goal.move_end-returns-in_err-node-clause-err
+move_end-returns-in_err-node-clause-err g t c =
+    err_always c.from_residual.result
+    (empty_keeps g.D.Decomposable.stands_before c.args.level c.args.trie.now c.replace.new.dest (ap is_empty (sym c.replace.ensures.value) ∙ c.in_err-node.ensures.err) c.replace.ensures.after)
+
+pub move_end-move_in_node-moved-requires : goal.move_end-move_in_node-moved-requires
+move_end-move_in_node-moved-requires g t c κs within =
+    let before = g.D.Decomposable.stands_before in
+    let opened : IsOpened c.args.trie.now c.in_ok-node.node.value = subst (λ trie. IsOpened trie c.in_ok-node.node.value) c.replace.ensures.value c.in_ok-node.ensures.ok in
+    let has : NodeHas before c.args.level c.deref_mut.result.now = subst (NodeHas before c.args.level) (sym c.deref_mut.ensures.value) (node_has opened c.requires.has) in
+    let there : NodeHasOne before c.args.level c.args.life c.deref_mut.result.now = subst (NodeHasOne before c.args.level c.args.life) (sym c.deref_mut.ensures.value) (node_has_one opened c.requires.there) in
+    search rules
+
+pub move_end-returns-clause-ok : goal.move_end-returns-clause-ok
+move_end-returns-clause-ok g t c =
+    let before = g.D.Decomposable.stands_before in
+    let opened : IsOpened c.args.trie.now c.in_ok-node.node.value = subst (λ trie. IsOpened trie c.in_ok-node.node.value) c.replace.ensures.value c.in_ok-node.ensures.ok in
+    ok_weaker c.move_in_node-moved.result
+    (λ moves lives is_of.
+    trie_of before c.args.level (ending c.args.next c.args.life ∷ lives) c.closed.result c.move_in_node-moved.new.node c.closed.ensures
+    (moves lives (subst (IsOfNode before c.args.level (c.args.life ∷ lives)) (sym c.deref_mut.ensures.value) (node_of before c.args.level (c.args.life ∷ lives) c.args.trie.now c.in_ok-node.node.value opened is_of))))
+    c.move_in_node-moved.ensures.ok
+
+pub move_end-returns-clause-err : goal.move_end-returns-clause-err
+move_end-returns-clause-err g t c =
+    let before = g.D.Decomposable.stands_before in
+    let opened : IsOpened c.args.trie.now c.in_ok-node.node.value = subst (λ trie. IsOpened trie c.in_ok-node.node.value) c.replace.ensures.value c.in_ok-node.ensures.ok in
+    err_weaker c.move_in_node-moved.result
+    (λ keeps lives is_of.
+    trie_of before c.args.level lives c.closed.result c.move_in_node-moved.new.node c.closed.ensures
+    (keeps lives (subst (IsOfNode before c.args.level lives) (sym c.deref_mut.ensures.value) (node_of before c.args.level lives c.args.trie.now c.in_ok-node.node.value opened is_of))))
+    c.move_in_node-moved.ensures.err
+
+pub move_in_node-returns-then-is_whole-2-clause-ok : goal.move_in_node-returns-then-is_whole-2-clause-ok
+move_in_node-returns-then-is_whole-2-clause-ok g t c =
+    node_still_whole g.D.Decomposable.stands_before c.args.level c.args.next c.args.life c.args.node.now (sym c.is_whole.ensures ∙ c.if-is_whole.true) (sym (c.is_whole-then-is_whole.ensures ∙ ap (is_whole c.args.level) c.ending.ensures) ∙ c.if-is_whole-2.true)
+
+pub move_in_node-break_up-requires-clause-whole : goal.move_in_node-break_up-requires-clause-whole
+move_in_node-break_up-requires-clause-whole g t c =
+    let below : c.args.level ≡ suc (c.args.level - 1) = below_level c.args.level (ending c.args.next c.args.life) (sym (c.is_whole-then-is_whole.ensures ∙ ap (is_whole c.args.level) c.ending.ensures) ∙ c.if-is_whole-2.false) c.requires.begins c.requires.next in
+    subst (λ n. is_whole n c.args.life ≡ true) below (sym c.is_whole.ensures ∙ c.if-is_whole.true)
+
+pub move_in_node-break_up-requires-clause-has : goal.move_in_node-break_up-requires-clause-has
+move_in_node-break_up-requires-clause-has g t c =
+    let below : c.args.level ≡ suc (c.args.level - 1) = below_level c.args.level (ending c.args.next c.args.life) (sym (c.is_whole-then-is_whole.ensures ∙ ap (is_whole c.args.level) c.ending.ensures) ∙ c.if-is_whole-2.false) c.requires.begins c.requires.next in
+    subst (λ n. NodeHas g.D.Decomposable.stands_before n c.args.node.now) below c.requires.has
+
+pub move_in_node-break_up-requires-clause-there : goal.move_in_node-break_up-requires-clause-there
+move_in_node-break_up-requires-clause-there g t c =
+    let below : c.args.level ≡ suc (c.args.level - 1) = below_level c.args.level (ending c.args.next c.args.life) (sym (c.is_whole-then-is_whole.ensures ∙ ap (is_whole c.args.level) c.ending.ensures) ∙ c.if-is_whole-2.false) c.requires.begins c.requires.next in
+    subst (λ n. NodeHasOne g.D.Decomposable.stands_before n c.args.life c.args.node.now) below c.requires.there
+
+pub move_in_node-returns-then-is_whole-clause-ok : goal.move_in_node-returns-then-is_whole-clause-ok
+move_in_node-returns-then-is_whole-clause-ok g t c =
+    let below : c.args.level ≡ suc (c.args.level - 1) = below_level c.args.level (ending c.args.next c.args.life) (sym (c.is_whole-then-is_whole.ensures ∙ ap (is_whole c.args.level) c.ending.ensures) ∙ c.if-is_whole-2.false) c.requires.begins c.requires.next in
+    ok_weaker c.break_up.result (λ moves. subst (λ n. NodeMoves g.D.Decomposable.stands_before n c.args.life c.args.next c.args.node.now c.break_up.new.node) (sym below) moves) c.break_up.ensures.ok
+
+pub move_in_node-returns-then-is_whole-clause-err : goal.move_in_node-returns-then-is_whole-clause-err
+move_in_node-returns-then-is_whole-clause-err g t c =
+    let below : c.args.level ≡ suc (c.args.level - 1) = below_level c.args.level (ending c.args.next c.args.life) (sym (c.is_whole-then-is_whole.ensures ∙ ap (is_whole c.args.level) c.ending.ensures) ∙ c.if-is_whole-2.false) c.requires.begins c.requires.next in
+    err_weaker c.break_up.result (λ keeps. subst (λ n. NodeKeeps g.D.Decomposable.stands_before n c.args.node.now c.break_up.new.node) (sym below) keeps) c.break_up.ensures.err
+
+pub move_in_node-make_whole-requires-clause-whole : goal.move_in_node-make_whole-requires-clause-whole
+move_in_node-make_whole-requires-clause-whole g t c =
+    let below : c.args.level ≡ suc (c.args.level - 1) = below_level c.args.level c.args.life (sym c.is_whole.ensures ∙ c.if-is_whole.false) c.requires.begins c.requires.ends in
+    subst (λ n. is_whole n (ending c.args.next c.args.life) ≡ true) below (sym (c.is_whole-2.ensures ∙ ap (is_whole c.args.level) c.ending-2.ensures) ∙ c.if-is_whole-3.true)
+
+pub move_in_node-make_whole-requires-clause-has : goal.move_in_node-make_whole-requires-clause-has
+move_in_node-make_whole-requires-clause-has g t c =
+    let below : c.args.level ≡ suc (c.args.level - 1) = below_level c.args.level c.args.life (sym c.is_whole.ensures ∙ c.if-is_whole.false) c.requires.begins c.requires.ends in
+    subst (λ n. NodeHas g.D.Decomposable.stands_before n c.args.node.now) below c.requires.has
+
+pub move_in_node-make_whole-requires-clause-there : goal.move_in_node-make_whole-requires-clause-there
+move_in_node-make_whole-requires-clause-there g t c =
+    let below : c.args.level ≡ suc (c.args.level - 1) = below_level c.args.level c.args.life (sym c.is_whole.ensures ∙ c.if-is_whole.false) c.requires.begins c.requires.ends in
+    subst (λ n. NodeHasOne g.D.Decomposable.stands_before n c.args.life c.args.node.now) below c.requires.there
+
+pub move_in_node-returns-then-is_whole-3-clause-ok : goal.move_in_node-returns-then-is_whole-3-clause-ok
+move_in_node-returns-then-is_whole-3-clause-ok g t c =
+    let below : c.args.level ≡ suc (c.args.level - 1) = below_level c.args.level c.args.life (sym c.is_whole.ensures ∙ c.if-is_whole.false) c.requires.begins c.requires.ends in
+    ok_weaker c.make_whole.result (λ moves. subst (λ n. NodeMoves g.D.Decomposable.stands_before n c.args.life c.args.next c.args.node.now c.make_whole.new.node) (sym below) moves) c.make_whole.ensures.ok
+
+pub move_in_node-returns-then-is_whole-3-clause-err : goal.move_in_node-returns-then-is_whole-3-clause-err
+move_in_node-returns-then-is_whole-3-clause-err g t c =
+    let below : c.args.level ≡ suc (c.args.level - 1) = below_level c.args.level c.args.life (sym c.is_whole.ensures ∙ c.if-is_whole.false) c.requires.begins c.requires.ends in
+    err_weaker c.make_whole.result (λ keeps. subst (λ n. NodeKeeps g.D.Decomposable.stands_before n c.args.node.now c.make_whole.new.node) (sym below) keeps) c.make_whole.ensures.err
+
+pub move_in_node-move_in_halves-requires : goal.move_in_node-move_in_halves-requires
+move_in_node-move_in_halves-requires g t c κs within =
+    let below : c.args.level ≡ suc (c.args.level - 1) = below_level c.args.level c.args.life (sym c.is_whole.ensures ∙ c.if-is_whole.false) c.requires.begins c.requires.ends in
+    let broken : is_whole (suc (c.args.level - 1)) c.args.life ≡ false = subst (λ n. is_whole n c.args.life ≡ false) below (sym c.is_whole.ensures ∙ c.if-is_whole.false) in
+    let broken_next : is_whole (suc (c.args.level - 1)) (ending c.args.next c.args.life) ≡ false = subst (λ n. is_whole n (ending c.args.next c.args.life) ≡ false) below (sym (c.is_whole-2.ensures ∙ ap (is_whole c.args.level) c.ending-2.ensures) ∙ c.if-is_whole-3.false) in
+    let begins : c.args.life.from < 2 ^ suc (c.args.level - 1) = subst (λ n. c.args.life.from < 2 ^ n) below c.requires.begins in
+    let has : NodeHas g.D.Decomposable.stands_before (suc (c.args.level - 1)) c.args.node.now = subst (λ n. NodeHas g.D.Decomposable.stands_before n c.args.node.now) below c.requires.has in
+    let there : NodeHasOne g.D.Decomposable.stands_before (suc (c.args.level - 1)) c.args.life c.args.node.now = subst (λ n. NodeHasOne g.D.Decomposable.stands_before n c.args.life c.args.node.now) below c.requires.there in
+    search rules
+
+pub move_in_node-returns-clause-ok : goal.move_in_node-returns-clause-ok
+move_in_node-returns-clause-ok g t c =
+    let below : c.args.level ≡ suc (c.args.level - 1) = below_level c.args.level c.args.life (sym c.is_whole.ensures ∙ c.if-is_whole.false) c.requires.begins c.requires.ends in
+    ok_weaker c.move_in_halves.result (λ moves. subst (λ n. NodeMoves g.D.Decomposable.stands_before n c.args.life c.args.next c.args.node.now c.move_in_halves.new.node) (sym below) moves) c.move_in_halves.ensures.ok
+
+pub move_in_node-returns-clause-err : goal.move_in_node-returns-clause-err
+move_in_node-returns-clause-err g t c =
+    let below : c.args.level ≡ suc (c.args.level - 1) = below_level c.args.level c.args.life (sym c.is_whole.ensures ∙ c.if-is_whole.false) c.requires.begins c.requires.ends in
+    err_weaker c.move_in_halves.result (λ keeps. subst (λ n. NodeKeeps g.D.Decomposable.stands_before n c.args.node.now c.move_in_halves.new.node) (sym below) keeps) c.move_in_halves.ensures.err
+
+pub move_in_halves-move_first-requires : goal.move_in_halves-move_first-requires
+move_in_halves-move_first-requires g t c κs within =
+    let has : Has g.D.Decomposable.stands_before c.args.level c.args.node.now.left = left_has c.requires.has in
+    let there : FirstHasOne g.D.Decomposable.stands_before c.args.level c.args.life c.args.node.now.left = left_has_one c.requires.there in
+    search rules
+
+pub move_in_halves-returns-in_err-move_first-clause-err : goal.move_in_halves-returns-in_err-move_first-clause-err
+move_in_halves-returns-in_err-move_first-clause-err g t c =
+    err_always c.from_residual.result
+    (node_kept g.D.Decomposable.stands_before c.args.level c.args.node.now _ refl (λ lives. c.in_err-move_first.ensures.err (in_first c.args.level lives)) (λ lives kept. kept))
+
+pub move_in_halves-take_second-requires-clause-has : goal.move_in_halves-take_second-requires-clause-has
+move_in_halves-take_second-requires-clause-has g t c = right_has_one c.requires.there
+
+pub move_in_halves-returns-then-next-half-clause-ok : goal.move_in_halves-returns-then-next-half-clause-ok
+move_in_halves-returns-then-next-half-clause-ok g t c =
+    node_shortened g.D.Decomposable.stands_before c.args.level c.args.next c.args.life c.args.node.now _ c.requires.broken c.requires.broken_next refl (omega arith) c.in_ok-move_first.ensures.ok c.take_second.ensures
+
+pub move_in_halves-move_end-requires : goal.move_in_halves-move_end-requires
+move_in_halves-move_end-requires g t c κs within =
+    let before = g.D.Decomposable.stands_before in
+    let ends : 2 ^ c.args.level < c.args.life.to = omega arith in
+    let has : Has before c.args.level c.args.node.now.right = right_has c.requires.has in
+    let there : HasOne before c.args.level c.in_second-later.result c.args.node.now.right =
+    subst (λ life. HasOne before c.args.level life c.args.node.now.right) (sym c.in_second-later.ensures) (second_there c.requires.broken ends (right_has_one c.requires.there)) in
+    let later_begins : c.in_second-later.result.from < 2 ^ c.args.level = subst (λ life. life.from < 2 ^ c.args.level) (sym c.in_second-later.ensures) (omega (arith, double c.args.level)) in
+    let later_ends : 0 < c.in_second-later.result.to = subst (λ life. 0 < life.to) (sym c.in_second-later.ensures) (omega arith) in
+    let later_next : 0 < c.args.next - c.labels-half.result = omega arith in
+    search rules
+
+pub move_in_halves-returns-then-half-life-clause-ok : goal.move_in_halves-returns-then-half-life-clause-ok
+move_in_halves-returns-then-half-life-clause-ok g t c =
+    let before = g.D.Decomposable.stands_before in
+    let right = c.args.node.now.right in
+    let half = 2 ^ c.args.level in
+    ok_weaker c.move_end.result
+    (λ moves. node_second_moved before c.args.level c.args.next c.args.life c.args.node.now _ c.requires.broken c.requires.broken_next refl refl (omega arith) (omega arith)
+    (subst (λ n. Moves before c.args.level (seen_from half c.args.life) (c.args.next - n) right c.move_end.new.trie) c.labels-half.ensures
+    (subst (λ life. Moves before c.args.level life (c.args.next - c.labels-half.result) right c.move_end.new.trie) c.in_second-later.ensures moves)))
+    c.move_end.ensures.ok
+
+pub move_in_halves-returns-then-half-life-clause-err : goal.move_in_halves-returns-then-half-life-clause-err
+move_in_halves-returns-then-half-life-clause-err g t c =
+    err_weaker c.move_end.result
+    (λ keeps. node_kept g.D.Decomposable.stands_before c.args.level c.args.node.now _ refl (λ lives kept. kept) (λ lives. keeps (in_second c.args.level lives)))
+    c.move_end.ensures.err
+
+pub lengthen-add_second-requires-clause-has : goal.lengthen-add_second-requires-clause-has
+lengthen-add_second-requires-clause-has g t c = right_has c.requires.has
+
+pub lengthen-returns-in_err-add_second-clause-err : goal.lengthen-returns-in_err-add_second-clause-err
+lengthen-returns-in_err-add_second-clause-err g t c =
+    err_always c.from_residual.result
+    (node_kept g.D.Decomposable.stands_before c.args.level c.args.node.now _ refl (λ lives kept. kept) (λ lives. c.in_err-add_second.ensures.err (in_second c.args.level lives)))
+
+pub lengthen-move_first-moved-requires : goal.lengthen-move_first-moved-requires
+lengthen-move_first-moved-requires g t c κs within =
+    let has : Has g.D.Decomposable.stands_before c.args.level c.args.node.now.left = left_has c.requires.has in
+    let there : FirstHasOne g.D.Decomposable.stands_before c.args.level c.args.life c.args.node.now.left = left_has_one c.requires.there in
+    let later : 0 < c.args.next = omega arith in
+    search rules
+
+pub lengthen-take_second-requires-clause-has : goal.lengthen-take_second-requires-clause-has
+lengthen-take_second-requires-clause-has g t c =
+    let all = c.args.life ∷ c.requires.there.others in
+    record {
+      others = all;
+      is_of = c.in_ok-add_second.ensures.ok all (node_right g.D.Decomposable.stands_before c.args.level all c.args.node.now c.requires.there.is_of);
+    }
+
+pub lengthen-returns-then-is_err-clause-err : goal.lengthen-returns-then-is_err-clause-err
+lengthen-returns-then-is_err-clause-err g t c =
+    err_weaker c.move_first-moved.result
+    (λ keeps. node_kept g.D.Decomposable.stands_before c.args.level c.args.node.now _ refl (λ lives. keeps (in_first c.args.level lives)) (λ lives is_of. c.take_second.ensures lives (c.in_ok-add_second.ensures.ok lives is_of)))
+    c.move_first-moved.ensures.err
+
+pub lengthen-returns-else-is_err-clause-ok : goal.lengthen-returns-else-is_err-clause-ok
+lengthen-returns-else-is_err-clause-ok g t c =
+    let before = g.D.Decomposable.stands_before in
+    ok_weaker c.move_first-moved.result
+    (λ moves. node_lengthened before c.args.level c.args.next c.args.life c.args.node.now _ c.requires.broken c.requires.broken_next refl c.requires.in_first moves
+    (subst (λ life. AddsSecond before c.args.level life c.args.node.now.right c.add_second.new.right) c.ending-longer.ensures c.in_ok-add_second.ensures.ok))
+    c.move_first-moved.ensures.ok
+
+pub move_first-returns-then-half-life-clause-ok : goal.move_first-returns-then-half-life-clause-ok
+move_first-returns-then-half-life-clause-ok g t c =
+    first_none g.D.Decomposable.stands_before c.args.level c.args.next c.args.life c.args.left.now c.requires.broken c.requires.broken_next (omega arith)
+
+pub move_first-returns-then-half-next-clause-ok : goal.move_first-returns-then-half-next-clause-ok
+move_first-returns-then-half-next-clause-ok g t c =
+    first_past g.D.Decomposable.stands_before c.args.level c.args.next c.args.life c.args.left.now c.requires.broken c.requires.broken_next (omega arith) (omega arith)
