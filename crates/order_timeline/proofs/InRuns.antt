@@ -2,12 +2,11 @@
 use Rattle.std.proofs.Common.{◌≡◌, ℕ, zero, suc, ◌+◌, ◌-◌, ◌<◌, ◌≤◌, Some, None, Bool, true, false, is_err, Ok, Err, Result, OnOk, OnErr}
 use Rattle.std.proofs.Common.{List, [], ◌∷◌, length, slice_get, slice_set, slice_index, refl, sym, ap, ◌∙◌, subst, arith, add-one}
 use Rattle.std.specs.List.{insert, remove}
-use Rattle.std.specs.BTreeMap.{BTreeMap}
 use Rattle.std.proofs.lemmas.List.{length-set}
 use Rattle.std.proofs.lemmas.List.Edits.{length-insert, length-remove}
 use Rattle.retro_base.specs.declared.row.Row.{Row}
 use Rattle.retro_base.specs.Timeline.{IsFresh, HaveOwnNumbers}
-use Rattle.order_timeline.specs.Numbers.{IsNamed, Changes, Writes, WritesRun, written}
+use Rattle.order_timeline.specs.Numbers.{IsNamed, Pages, Changes, Writes, WritesRun, written}
 use Rattle.order_timeline.specs.Runs.{rows_in, start_of, beside, IsInRun, TakesRow, IsInRuns, RepresentsRows}
 use Rattle.order_timeline.specs.Rows.{MayCome}
 use Rattle.retro_base.specs.EditedLists.{remove-insert}
@@ -16,7 +15,7 @@ use Rattle.order_timeline.proofs.Maps.{named_with, named_without, named_again}
 use Rattle.order_timeline.proofs.Beside.{length-beside, beside_with, beside_without, beside_gone, beside_divided}
 
 -- as many rows as the runs have
-pub all_rows : (rows : List Row) (runs names : List ℕ) (numbers : BTreeMap ℕ ℕ) → IsInRuns rows runs names numbers → rows_in runs ≡ length rows
+pub all_rows : (rows : List Row) (runs names : List ℕ) (numbers : Pages) → IsInRuns rows runs names numbers → rows_in runs ≡ length rows
 all_rows rows runs names numbers is = sym (length-beside runs names is.each) ∙ is.named.beside
 
 pub read_index : (xs : List ℕ) (index x : ℕ) → slice_get xs index ≡ Some x → slice_index xs index ≡ x
@@ -31,12 +30,12 @@ read_back (y ∷ xs) zero x within = refl
 read_back (y ∷ xs) (suc place) x within = read_back xs place x (omega arith)
 
 -- other lists of the same names beside the rows
-pub in_runs_same : (rows : List Row) (runs names others more : List ℕ) (numbers : BTreeMap ℕ ℕ) → IsInRuns rows runs names numbers → length more ≡ length others
+pub in_runs_same : (rows : List Row) (runs names others more : List ℕ) (numbers : Pages) → IsInRuns rows runs names numbers → length more ≡ length others
     → beside others more ≡ beside runs names → IsInRuns rows others more numbers
 in_runs_same rows runs names others more numbers is each same = record { each = each; named = subst (λ xs. IsNamed rows xs numbers) (sym same) is.named }
 
--- the map says the same
-pub in_runs_with : (rows : List Row) (runs names : List ℕ) (before after : BTreeMap ℕ ℕ) (index place : ℕ) (row : Row) (count name : ℕ) → IsInRuns rows runs names before → place ≤ length rows → IsFresh row.number rows
+-- the table says the same
+pub in_runs_with : (rows : List Row) (runs names : List ℕ) (before after : Pages) (index place : ℕ) (row : Row) (count name : ℕ) → IsInRuns rows runs names before → place ≤ length rows → IsFresh row.number rows
     → TakesRow runs index place → slice_get runs index ≡ Some count → slice_get names index ≡ Some name → Writes before after row.number name
     → IsInRuns (insert rows place row) (slice_set runs index (count + 1)) names after
 in_runs_with rows runs names before after index place row count name is within fresh takes long there writes =
@@ -51,7 +50,7 @@ in_runs_with rows runs names before after index place row count name is within f
     }
 
 -- a row less, in a run that stays
-pub in_runs_without : (rows : List Row) (runs names : List ℕ) (before after : BTreeMap ℕ ℕ) (index place : ℕ) (row : Row) (count : ℕ) → IsInRuns rows runs names before → place < length rows → HaveOwnNumbers rows
+pub in_runs_without : (rows : List Row) (runs names : List ℕ) (before after : Pages) (index place : ℕ) (row : Row) (count : ℕ) → IsInRuns rows runs names before → place < length rows → HaveOwnNumbers rows
     → slice_get rows place ≡ Some row → IsInRun runs index place → slice_get runs index ≡ Some count → Changes before after row.number None → IsInRuns (remove rows place) (slice_set runs index (count - 1)) names after
 in_runs_without rows runs names before after index place row count is within own read lies long changes =
     let shorter : beside (slice_set runs index (count - 1)) names ≡ remove (beside runs names) place =
@@ -62,7 +61,7 @@ in_runs_without rows runs names before after index place row count is within own
     }
 
 -- and in one that goes with it
-pub in_runs_gone : (rows : List Row) (runs names : List ℕ) (before after : BTreeMap ℕ ℕ) (index place : ℕ) (row : Row) (count : ℕ) → IsInRuns rows runs names before → place < length rows → HaveOwnNumbers rows
+pub in_runs_gone : (rows : List Row) (runs names : List ℕ) (before after : Pages) (index place : ℕ) (row : Row) (count : ℕ) → IsInRuns rows runs names before → place < length rows → HaveOwnNumbers rows
     → slice_get rows place ≡ Some row → IsInRun runs index place → slice_get runs index ≡ Some count → count ≡ 1 → Changes before after row.number None
     → IsInRuns (remove rows place) (remove runs index) (remove names index) after
 in_runs_gone rows runs names before after index place row count is within own read lies long one changes =
@@ -74,7 +73,7 @@ in_runs_gone rows runs names before after index place row count is within own re
     }
 
 -- a run is divided, and the second half has another name
-pub in_runs_divided : (rows : List Row) (runs names : List ℕ) (before after : BTreeMap ℕ ℕ) (index count half name from : ℕ) → IsInRuns rows runs names before
+pub in_runs_divided : (rows : List Row) (runs names : List ℕ) (before after : Pages) (index count half name from : ℕ) → IsInRuns rows runs names before
     → index < length runs → slice_get runs index ≡ Some count → half ≤ count
     → from ≡ start_of runs index + half
     → WritesRun rows from (count - half) name before after
@@ -117,7 +116,7 @@ pub start_of_divided : (runs more : List ℕ) (index count half : ℕ) → slice
 start_of_divided runs more index count half long is =
     ap (λ xs. start_of xs (index + 1)) (is ∙ divided_next runs index count half) ∙ ap (start_of (slice_set (insert runs (suc index) (count - half)) index half)) (add-one index) ∙ start_divided runs index count half long
 
-pub in_runs_after : (rows : List Row) (runs more names others : List ℕ) (before after : BTreeMap ℕ ℕ) (index count half name from : ℕ)
+pub in_runs_after : (rows : List Row) (runs more names others : List ℕ) (before after : Pages) (index count half name from : ℕ)
     → IsInRuns rows runs names before → index < length runs → slice_get runs index ≡ Some count → half ≤ count
     → more ≡ divided runs index count half → others ≡ insert names (index + 1) name → from ≡ start_of runs index + half
     → WritesRun rows from (count - half) name before after → IsInRuns rows more others after
@@ -136,12 +135,12 @@ err_from (Ok x) answer P is some err = cc
 err_from (Err e) answer P is some err = err
 
 -- a number that was noted and forgotten
-pub in_runs_again : (rows : List Row) (runs names : List ℕ) (before after : BTreeMap ℕ ℕ) (number : ℕ) → IsFresh number rows → IsInRuns rows runs names before
+pub in_runs_again : (rows : List Row) (runs names : List ℕ) (before after : Pages) (number : ℕ) → IsFresh number rows → IsInRuns rows runs names before
     → Changes before after number None → IsInRuns rows runs names after
 in_runs_again rows runs names before after number fresh is changes = record { each = is.each; named = named_again rows (beside runs names) before after number fresh is.named changes }
 
 -- a row more, of the lists that the code has
-pub in_runs_put : (rows more : List Row) (runs longer names : List ℕ) (before after : BTreeMap ℕ ℕ) (index place : ℕ) (row item : Row) (count name run : ℕ)
+pub in_runs_put : (rows more : List Row) (runs longer names : List ℕ) (before after : Pages) (index place : ℕ) (row item : Row) (count name run : ℕ)
     → IsInRuns rows runs names before → place ≤ length rows → IsFresh row.number rows
     → TakesRow runs index place → slice_get runs index ≡ Some count → slice_get names index ≡ Some name → Writes before after row.number name
     → item ≡ row → more ≡ insert rows place item → run ≡ count + 1 → longer ≡ slice_set runs index run → IsInRuns more longer names after
@@ -151,7 +150,7 @@ in_runs_put rows more runs longer names before after index place row item count 
     (in_runs_with rows runs names before after index place row count name is within fresh takes long there writes))
 
 -- a timeline with a row more
-pub kept_put : (rows more : List Row) (first firsts runs longer names : List ℕ) (before after : BTreeMap ℕ ℕ) (index place : ℕ) (row item : Row)
+pub kept_put : (rows more : List Row) (first firsts runs longer names : List ℕ) (before after : Pages) (index place : ℕ) (row item : Row)
     (count name run : ℕ) → RepresentsRows rows first firsts before → MayCome rows place row
     → length names ≡ length runs → beside runs names ≡ beside first firsts → TakesRow runs index place → slice_get runs index ≡ Some count → slice_get names index ≡ Some name → Writes before after row.number name
     → item ≡ row → more ≡ insert rows place item → run ≡ count + 1 → longer ≡ slice_set runs index run → RepresentsRows more longer names after
@@ -162,7 +161,7 @@ kept_put rows more first firsts runs longer names before after index place row i
 }
 
 -- a timeline as before, once a number was noted and forgotten
-pub kept_again : (rows more : List Row) (first firsts runs names : List ℕ) (before after : BTreeMap ℕ ℕ) (number : ℕ) → RepresentsRows rows first firsts before → IsFresh number rows
+pub kept_again : (rows more : List Row) (first firsts runs names : List ℕ) (before after : Pages) (number : ℕ) → RepresentsRows rows first firsts before → IsFresh number rows
     → length names ≡ length runs → beside runs names ≡ beside first firsts → more ≡ rows → Changes before after number None → RepresentsRows more runs names after
 kept_again rows more first firsts runs names before after number kept fresh each same same_rows changes =
     subst (λ xs. RepresentsRows xs runs names after) (sym same_rows)

@@ -1,8 +1,8 @@
 -- Rows are found by the names beside them.
-use Rattle.std.proofs.Common.{◌≡◌, ℕ, zero, suc, ◌+◌, ◌<◌, ◌≤◌, Bool, true, false, not, cond, Some, None, List, [], ◌∷◌, ◌++◌, length}
+use Rattle.std.proofs.Common.{◌≡◌, ℕ, zero, suc, ◌+◌, ◌<◌, ◌≤◌, Bool, true, false, not, cond, Some, None, List, [], ◌∷◌, ◌++◌, length, map, take, drop}
 use Rattle.std.proofs.Common.{replicate, slice_get, ◌==◌, nat_lt, refl, sym, ap, ◌∙◌, arith, inl, inr, eq-eqb, position}
-use Rattle.std.proofs.lemmas.Bool.{cases_Bool, lt-ltb, le-ltb, ltb-false}
-use Rattle.std.proofs.lemmas.List.{take_all}
+use Rattle.std.proofs.lemmas.Bool.{cases_Bool, lt-ltb, le-ltb, ltb-false, ltb-true}
+use Rattle.std.proofs.lemmas.List.{take_all, length-map, length-take-le, length-drop}
 use Rattle.std.specs.List.{position_or_len}
 use Rattle.retro_base.specs.declared.row.Row.{Row}
 use Rattle.retro_base.specs.Places.{place_of_row}
@@ -74,6 +74,71 @@ module _ {A : Type 0} (passes : A → Bool) where
     | inl within ↦ absurd (none_not (sym none ∙ ap (λ b. cond b (Some (position_or_len passes xs)) None) within))
     | inr beyond ↦ ltb-false (position_or_len passes xs) (length xs) beyond
   ]
+
+  pub position_within : (xs : List A) (place : ℕ) → position passes xs ≡ Some place → place < length xs
+  position_within xs place is = elim (cases_Bool (nat_lt (position_or_len passes xs) (length xs))) [
+    | inl within ↦ omega (arith, ltb-true (position_or_len passes xs) (length xs) within, position_is xs place is)
+    | inr none ↦ absurd (none_not (sym (ap (λ b. cond b (Some (position_or_len passes xs)) None) none) ∙ is))
+  ]
+
+  -- where none before a place passes, the first one is the first of those from there on
+  from_place : (xs : List A) (place : ℕ) → place ≤ position_or_len passes xs → position_or_len passes xs ≡ place + position_or_len passes (drop place xs)
+  from_place xs zero before = omega arith
+  from_place [] (suc place) before = absurd (omega arith)
+  from_place (x ∷ xs) (suc place) before = elim (cases_Bool (passes x)) [
+    | inl is ↦ absurd (omega (arith, first_here x xs is))
+    | inr fails ↦ omega (arith, first_later x xs fails, from_place xs place (omega (arith, first_later x xs fails)))
+  ]
+
+  -- the first of some is the first of all, where one of them passes
+  among : (xs : List A) (count : ℕ) → position_or_len passes (take count xs) < length (take count xs) → position_or_len passes xs ≡ position_or_len passes (take count xs)
+  among xs zero some = absurd (omega arith)
+  among [] (suc count) some = absurd (omega arith)
+  among (x ∷ xs) (suc count) some = elim (cases_Bool (passes x)) [
+    | inl is ↦ first_here x xs is ∙ sym (first_here x (take count xs) is)
+    | inr fails ↦ omega (arith, first_later x xs fails, first_later x (take count xs) fails, among xs count (omega (arith, first_later x (take count xs) fails)))
+  ]
+
+  past_all : (xs : List A) (count : ℕ) → length (take count xs) ≤ position_or_len passes (take count xs) → length (take count xs) ≤ position_or_len passes xs
+  past_all xs zero none = omega arith
+  past_all [] (suc count) none = omega arith
+  past_all (x ∷ xs) (suc count) none = elim (cases_Bool (passes x)) [
+    | inl is ↦ absurd (omega (arith, first_here x (take count xs) is))
+    | inr fails ↦ omega (arith, first_later x xs fails, first_later x (take count xs) fails, past_all xs count (omega (arith, first_later x (take count xs) fails)))
+  ]
+
+shown : (number : ℕ) (rows : List Row) → position_or_len (is_name number) (map (λ (row : Row). row.number) rows) ≡ position_or_len (has_number number) rows
+shown number [] = refl
+shown number (row ∷ rows) = elim (cases_Bool (row.number == number)) [
+  | inl is ↦ first_here (is_name number) row.number (map (λ (r : Row). r.number) rows) is ∙ sym (first_here (has_number number) row rows is)
+  | inr fails ↦ omega (arith, first_later (is_name number) row.number (map (λ (r : Row). r.number) rows) fails, first_later (has_number number) row rows fails, shown number rows)
+]
+
+-- the numbers of some rows from a place on
+abbrev pub numbers_from : List Row → ℕ → ℕ → List ℕ
+numbers_from rows place count = map (λ (row : Row). row.number) (take count (drop place rows))
+
+-- a row whose number is among them is found there
+pub found_among : (number : ℕ) (rows : List Row) (place count index : ℕ) → IsNotBefore rows place number → count ≤ length (drop place rows)
+    → position (is_name number) (numbers_from rows place count) ≡ Some index → place_of_row number rows ≡ Some (place + index)
+found_among number rows place count index before few found =
+    let some = take count (drop place rows) in
+    let here : position_or_len (has_number number) some ≡ index = sym (shown number some) ∙ position_is (is_name number) (numbers_from rows place count) index found in
+    let within : index < length some = omega (arith, position_within (is_name number) (numbers_from rows place count) index found, length-map some (λ (row : Row). row.number)) in
+    let all = from_place (has_number number) rows place before in
+    let first = among (has_number number) (drop place rows) count (omega (arith, here, within)) in
+    let end : place + index < length rows = omega (arith, within, length-take-le count (drop place rows) few, few, length-drop place rows) in
+    ap (λ n. cond (nat_lt n (length rows)) (Some n) None) (let is : position_or_len (has_number number) rows ≡ place + index = omega (arith, all, first, here) in is)
+    ∙ ap (λ b. cond b (Some (place + index)) None) (lt-ltb (place + index) (length rows) end)
+
+-- and where it is not it stands after them
+pub none_among : (number : ℕ) (rows : List Row) (place count : ℕ) → IsNotBefore rows place number → count ≤ length (drop place rows)
+    → position (is_name number) (numbers_from rows place count) ≡ None → IsNotBefore rows (place + count) number
+none_among number rows place count before few none =
+    let some = take count (drop place rows) in
+    let beyond : length some ≤ position_or_len (has_number number) some =
+    omega (arith, position_none (is_name number) (numbers_from rows place count) none, length-map some (λ (row : Row). row.number), shown number some) in
+    omega (arith, from_place (has_number number) rows place before, past_all (has_number number) (drop place rows) count beyond, length-take-le count (drop place rows) few)
 
 -- a number without a name is that of no row
 pub nowhere : (number : ℕ) (rows : List Row) (names : List ℕ) → length names ≡ length rows → name_of number rows names ≡ None → position_or_len (has_number number) rows ≡ length rows

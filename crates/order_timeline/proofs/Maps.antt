@@ -1,22 +1,20 @@
--- What the map of names keeps.
+-- What the table of names keeps.
 use Rattle.std.proofs.Common.{◌≡◌, ℕ, zero, suc, ◌+◌, ◌-◌, ◌<◌, ◌≤◌, cond, Option, Some, None, IsSome, List, [], ◌∷◌, ◌++◌, length}
 use Rattle.std.proofs.Common.{slice_get, get_or, set, take, drop, replicate, ◌==◌, refl, sym, ap, ◌∙◌, subst, arith, inl, inr, eqb-true}
 use Rattle.std.proofs.lemmas.Bool.{cases_Bool}
 use Rattle.std.proofs.lemmas.List.{drop_more, set_at, length-append, length-take-le, length-replicate, append_assoc, append-nil, replicate_more, take-append-drop, length-set}
 use Rattle.std.proofs.lemmas.List.Edits.{length-insert, length-remove}
 use Rattle.std.specs.List.{insert, remove}
-use Rattle.std.specs.BTreeMap.{BTreeMap, get}
-use Rattle.std.specs.Ordering.{nat_cmp}
 use Rattle.retro_base.specs.declared.row.Row.{Row}
 use Rattle.retro_base.specs.Timeline.{IsFresh, HaveOwnNumbers}
-use Rattle.order_timeline.specs.Numbers.{IsNamed, written, Changes, Writes, IsSame}
+use Rattle.order_timeline.specs.Numbers.{IsNamed, Pages, name_in, written, Changes, Writes, IsSame}
 use Rattle.order_timeline.proofs.Named.{none_of, name_with, name_without, name_set, name_at}
 
 -- the last change of a number counts
-pub twice : (first second third : BTreeMap ℕ ℕ) (number : ℕ) (one other : Option ℕ) → Changes first second number one → Changes second third number other → Changes first third number other
+pub twice : (first second third : Pages) (number : ℕ) (one other : Option ℕ) → Changes first second number one → Changes second third number other → Changes first third number other
 twice first second third number one other before after = λ n. after n ∙ elim (cases_Bool (number == n)) [
   | inl is ↦ simp is
-  | inr unequal ↦ rw unequal (before n ∙ ap (λ b. cond b one (get nat_cmp first n)) unequal)
+  | inr unequal ↦ rw unequal (before n ∙ ap (λ b. cond b one (name_in first n)) unequal)
 ]
 
 read_within : {A : Type 0} (xs : List A) (place : ℕ) (x : A) → slice_get xs place ≡ Some x → place < length xs
@@ -25,7 +23,7 @@ read_within (y ∷ xs) zero x read = omega arith
 read_within (y ∷ xs) (suc place) x read = omega (arith, read_within xs place x read)
 
 -- a row that was put in has its name
-pub named_with : (rows : List Row) (names : List ℕ) (before after : BTreeMap ℕ ℕ) (place : ℕ) (row : Row) (name : ℕ) → slice_get rows place ≡ Some row
+pub named_with : (rows : List Row) (names : List ℕ) (before after : Pages) (place : ℕ) (row : Row) (name : ℕ) → slice_get rows place ≡ Some row
     → IsFresh row.number (remove rows place) → IsNamed (remove rows place) names before → Writes before after row.number name → IsNamed rows (insert names place name) after
 named_with rows names before after place row name read fresh others writes =
     let within = read_within rows place row read in
@@ -36,7 +34,7 @@ named_with rows names before after place row name read fresh others writes =
     }
 
 -- the others keep theirs where it was taken out again
-pub named_again : (rows : List Row) (names : List ℕ) (before after : BTreeMap ℕ ℕ) (number : ℕ) → IsFresh number rows → IsNamed rows names before → Changes before after number None → IsNamed rows names after
+pub named_again : (rows : List Row) (names : List ℕ) (before after : Pages) (number : ℕ) → IsFresh number rows → IsNamed rows names before → Changes before after number None → IsNamed rows names after
 named_again rows names before after number fresh others changes = record {
   beside = others.beside;
   filed = λ other. changes other ∙ elim (cases_Bool (number == other)) [
@@ -45,11 +43,11 @@ named_again rows names before after number fresh others changes = record {
   ];
 }
 
-pub named_same : (rows : List Row) (names : List ℕ) (before after : BTreeMap ℕ ℕ) → IsNamed rows names before → IsSame before after → IsNamed rows names after
+pub named_same : (rows : List Row) (names : List ℕ) (before after : Pages) → IsNamed rows names before → IsSame before after → IsNamed rows names after
 named_same rows names before after named same = record { beside = named.beside; filed = λ number. same number ∙ named.filed number }
 
 -- a row less
-pub named_without : (rows : List Row) (names : List ℕ) (before after : BTreeMap ℕ ℕ) (place : ℕ) (row : Row) → slice_get rows place ≡ Some row → place < length rows → HaveOwnNumbers rows
+pub named_without : (rows : List Row) (names : List ℕ) (before after : Pages) (place : ℕ) (row : Row) → slice_get rows place ≡ Some row → place < length rows → HaveOwnNumbers rows
     → IsNamed rows names before → Changes before after row.number None → IsNamed (remove rows place) (remove names place) after
 named_without rows names before after place row read within own named changes = record {
   beside = omega (arith, length-remove names place (omega (arith, named.beside)), length-remove rows place within, named.beside);
@@ -62,8 +60,8 @@ read_there (x ∷ xs) zero within = (x, refl)
 read_there (x ∷ xs) (suc place) within = read_there xs place (omega arith)
 
 -- a row's number is there
-pub number_there : (place : ℕ) (rows : List Row) (names : List ℕ) (numbers : BTreeMap ℕ ℕ) (row : Row) → HaveOwnNumbers rows → IsNamed rows names numbers
-    → slice_get rows place ≡ Some row → IsSome (get nat_cmp numbers row.number)
+pub number_there : (place : ℕ) (rows : List Row) (names : List ℕ) (numbers : Pages) (row : Row) → HaveOwnNumbers rows → IsNamed rows names numbers
+    → slice_get rows place ≡ Some row → IsSome (name_in numbers row.number)
 number_there place rows names numbers row own named read =
     let there = read_there names place (omega (arith, read_within rows place row read, named.beside)) in
     subst IsSome (sym (named.filed row.number ∙ name_at rows names place row there.0 read there.1 own)) refl
@@ -79,7 +77,7 @@ set_written names from count name within =
     ∙ ap (λ xs. xs ++ rest) (append_assoc (take from names) (replicate count name) (name ∷ []) ∙ ap (λ xs. take from names ++ xs) (replicate_more count name))
 
 -- one row more has the name
-pub written_more : (rows : List Row) (names : List ℕ) (before after : BTreeMap ℕ ℕ) (from place name : ℕ) (row : Row) → HaveOwnNumbers rows → from ≤ place → slice_get rows place ≡ Some row
+pub written_more : (rows : List Row) (names : List ℕ) (before after : Pages) (from place name : ℕ) (row : Row) → HaveOwnNumbers rows → from ≤ place → slice_get rows place ≡ Some row
     → IsNamed rows (written names from (place - from) name) before → length names ≡ length rows → Writes before after row.number name → IsNamed rows (written names from (place + 1 - from) name) after
 written_more rows names before after from place name row own order read named long writes =
     let count = place - from in

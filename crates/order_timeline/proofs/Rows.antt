@@ -1,7 +1,8 @@
 -- Rows stay in order where one comes whose time fits, and where one goes.
 use Rattle.std.proofs.Common.{◌≡◌, ℕ, ◌+◌, ◌<◌, ◌≤◌, List, ◌++◌, map, take, drop, length, sym, ap, ◌∙◌, subst, arith}
 use Rattle.std.specs.List.{insert, remove}
-use Rattle.std.proofs.lemmas.List.{map-id, length-take-le}
+use Rattle.std.proofs.lemmas.List.{map-id, length-take-le, length-map, length-drop, length-append}
+use Rattle.std.proofs.Math.Seq.{take-append_seam}
 use Rattle.std.proofs.lemmas.List.Edits.{length-insert, length-remove}
 use Rattle.weighted_tree.specs.Reads.{overwritten}
 use Rattle.retro_base.specs.declared.row.Row.{Row}
@@ -37,3 +38,25 @@ pub read_is : (rows former new : List Row) (count : ℕ) → count ≤ length ro
 read_is rows former new count within is =
     is ∙ ap (λ rs. rs ++ drop (0 + length rs) former) (map-id (take count rows))
     ∙ ap (λ n. take count rows ++ drop n former) (let all : 0 + length (take count rows) ≡ count = omega (arith, length-take-le count rows within) in all)
+
+-- the numbers of rows that were written into a window
+pub numbers_read : (rows : List Row) (place count : ℕ) (former new : List ℕ) → count ≤ length (drop place rows) → new ≡ overwritten former 0 (map (λ (row : Row). row.number) (take count (drop place rows)))
+    → take count new ≡ map (λ (row : Row). row.number) (take count (drop place rows))
+numbers_read rows place count former new few is =
+    let fresh = map (λ (row : Row). row.number) (take count (drop place rows)) in
+    let long : length fresh ≡ count = length-map (take count (drop place rows)) (λ (row : Row). row.number) ∙ length-take-le count (drop place rows) few in
+    ap (take count) is ∙ ap (λ n. take n (fresh ++ drop (0 + length fresh) former)) (sym long) ∙ take-append_seam fresh (drop (0 + length fresh) former)
+
+-- the window is as long as before
+pub window_stays : (rows : List Row) (place count : ℕ) (former new : List ℕ) → count ≤ length (drop place rows) → count ≤ length former
+    → new ≡ overwritten former 0 (map (λ (row : Row). row.number) (take count (drop place rows))) → length new ≡ length former
+window_stays rows place count former new few room is =
+    let fresh = map (λ (row : Row). row.number) (take count (drop place rows)) in
+    omega (
+      arith,
+      ap length is,
+      length-append fresh (drop (0 + length fresh) former),
+      length-drop (0 + length fresh) former,
+      length-map (take count (drop place rows)) (λ (row : Row). row.number),
+      length-take-le count (drop place rows) few,
+    )

@@ -1,9 +1,8 @@
 -- Rows in runs of neighbours, each with a name.
 use Rattle.std.specs.Prelude.{◌≡◌, ℕ, ◌+◌, ◌<◌, ◌≤◌, List, [], ◌∷◌, ◌++◌, length, take, replicate, slice_index, ◌==◌}
 use Rattle.std.specs.List.{position_or_len}
-use Rattle.std.specs.BTreeMap.{BTreeMap}
 use Rattle.retro_base.specs.declared.row.Row.{Row}
-use Rattle.order_timeline.specs.Numbers.{IsNamed}
+use Rattle.order_timeline.specs.Numbers.{IsNamed, Pages}
 use Rattle.order_timeline.specs.Rows.{IsOrdered}
 
 -- how many rows runs of these lengths have
@@ -33,13 +32,13 @@ beside [] names = []
 beside (run ∷ runs) [] = []
 beside (run ∷ runs) (name ∷ names) = replicate run name ++ beside runs names
 
--- each run has a name, and the map has the name of each row's run at the row's number
-pub record IsInRuns (rows : List Row) (runs names : List ℕ) (numbers : BTreeMap ℕ ℕ) : Type 0 where
+-- each run has a name, and the table has the name of each row's run at the row's number
+pub record IsInRuns (rows : List Row) (runs names : List ℕ) (numbers : Pages) : Type 0 where
   pub each : length names ≡ length runs
   pub named : IsNamed rows (beside runs names) numbers
 
 -- what a timeline keeps: rows in order, in runs
-pub record RepresentsRows (rows : List Row) (runs names : List ℕ) (numbers : BTreeMap ℕ ℕ) : Type 0 where
+pub record RepresentsRows (rows : List Row) (runs names : List ℕ) (numbers : Pages) : Type 0 where
   pub ordered : IsOrdered rows
   pub in_runs : IsInRuns rows runs names numbers
 

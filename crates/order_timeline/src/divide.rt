@@ -15,7 +15,19 @@ use weighted_tree::Tree;
 /// A run that is longer is divided.
 pub(crate) const LONGEST_RUN: u32 = 32;
 
-/// Divides a run in its middle. Where there is no memory for another run, all stays.
+/// How many rows stay where a run is divided: half of them, but of the last run, where most rows come in one after the other,
+/// all but the last one.
+fn first_part(count: u32, is_last: bool) -> u32
+    ensures { result ≤ count }
+{
+    if is_last {
+        count.saturating_sub(1)
+    } else {
+        count / 2
+    }
+}
+
+/// Divides a run. Where there is no memory for another run, all stays.
 pub(crate) fn divide<L: Ledger>(
     rows: &Tree<TimedRow>,
     runs: &mut Tree<Run>,
@@ -34,7 +46,7 @@ pub(crate) fn divide<L: Ledger>(
         return;
     }
     let count = runs.get(run, steps).rows();
-    let half = count / 2;
+    let half = first_part(count, run + 1 == runs.len());
     if runs.insert(run + 1, Run::new(count - half), steps).is_err() {
         return;
     }

@@ -1,10 +1,11 @@
-ghost use Rattle.std.specs.Prelude.{◌≡◌, ◌-◌, ◌<◌, ◌≤◌, ◌++◌, min, take, drop, length, slice_get, Some};
+ghost use Rattle.std.specs.Prelude.{◌≡◌, ◌-◌, ◌<◌, ◌≤◌, ◌==◌, ◌++◌, min, take, drop, length, slice_get, position, Some};
 ghost use Rattle.retro_base.specs.Limits.{most_rows};
 ghost use Rattle.order_timeline.specs.Runs.{RepresentsRows, IsNotBefore};
 ghost use Rattle.retro_base.specs.Places.{place_of_row, place_of_time};
 ghost use Rattle.retro_base.specs.Timeline.{TimesNeverFall};
 ghost use Rattle.retro_base.specs.Visits.{OpensCounter};
 
+use crate::divide::LONGEST_RUN;
 use crate::names::Names;
 use crate::numbers::Numbers;
 use crate::run::Run;
@@ -66,7 +67,7 @@ pub(crate) fn place_of<L: Ledger>(
     ensures { result ≡ place_of_row number rows.now }
 {
     let mut steps = Steps::<L>::new(blank);
-    let name = *numbers.get(&number)?;
+    let name = numbers.get(number)?;
     let run = names.place_of(name, &mut steps)?;
     let start = start_of(runs, run, &mut steps);
     place_from(rows, start, number, &mut steps)
@@ -82,10 +83,29 @@ fn place_from<L: Ledger>(
     requires { IsNotBefore rows.now from number }
     ensures { result ≡ place_of_row number rows.now }
 {
-    for place in from..rows.len() {
-        if rows.get(place, steps).row().number == number {
-            return Some(place);
+    let mut window = [0; WINDOW];
+    let mut place = from;
+    while place < rows.len() {
+        let read = rows.read(
+            place,
+            |timed: &TimedRow| timed.row().number,
+            &mut window,
+            steps,
+        );
+        match index_of(&window[..read], number) {
+            Some(index) => return Some(place + index as u32),
+            None => place += read as u32,
         }
     }
     None
+}
+
+/// How many numbers are read at a time: those of a run.
+const WINDOW: usize = LONGEST_RUN as usize;
+
+/// The index of a number, where it is there.
+fn index_of(numbers: &[u32], number: u32) -> Option<usize>
+    ensures { result ≡ position (λ other. other == number) numbers.now }
+{
+    numbers.iter().position(|other| *other == number)
 }

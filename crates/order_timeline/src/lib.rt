@@ -6,8 +6,8 @@
 //! rows do is no matter here: they are performed by a structure of the kind.
 //!
 //! The rows stand in a balanced tree, where a place is found by counting and a time by one way down. To
-//! find a number they are divided into runs of at most 32 neighbours. A map has the name of each number's run, which the run
-//! keeps; a table has the label of each name, which may change; the label gives the place of the run, and the row is looked
+//! find a number they are divided into runs of at most 32 neighbours. A table has the name of each number's run, which the run
+//! keeps; another one has the label of each name, which may change; the label gives the place of the run, and the row is looked
 //! for among those of the run. So a label is wanted only where a run is divided, and a relabelling, which a list of labels
 //! asks for now and then, writes one label for each run: at least 22 runs are divided between two, and each has had 16
 //! insertions since it began.
@@ -21,7 +21,7 @@
 //!
 //! - `timeline`: the type and its calls. `edit`: a row comes or goes. `find`: rows, times and numbers.
 //! - `runs`: which run has a place, and where a run begins. `divide`: a run that has grown too long.
-//! - `names`: the names of the runs, found by labels. `table`: the label of each name. `numbers`: the name of each number's run.
+//! - `names`: the names of the runs, found by labels. `table`: the label of each name. `numbers`, `page`: the name of each number's run.
 //! - `timed_row`, `run`, `name`, `total`: what the trees hold, and what runs add up to.
 #![tactic(auto)]
 
@@ -31,6 +31,7 @@ mod find;
 mod name;
 mod names;
 mod numbers;
+mod page;
 mod run;
 mod runs;
 mod table;

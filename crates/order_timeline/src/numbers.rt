@@ -1,41 +1,116 @@
-ghost use Rattle.std.specs.Prelude.{◌+◌, None, OnOk, OnErr, IsSome, length, ◌≤◌};
-ghost use Rattle.std.specs.BTreeMap.{get};
-ghost use Rattle.std.specs.Ordering.{nat_cmp};
-ghost use Rattle.order_timeline.specs.Numbers.{Changes, Writes, IsSame, HasSomeNames, WritesRun};
+ghost use Rattle.std.specs.Prelude.{◌≡◌, ◌+◌, ◌<◌, ◌≤◌, ◌/◌, [], None, OnOk, OnErr, IsSome, length};
+ghost use Rattle.order_timeline.specs.Numbers.{Changes, Writes, IsSame, HasSomeNames, HasPlace, WritesRun, name_in, span};
 ghost use Rattle.retro_base.specs.Limits.{most_rows};
 ghost use Rattle.retro_base.specs.Timeline.{HaveOwnNumbers};
 
+use crate::page::{Page, SPAN};
 use crate::timed_row::TimedRow;
 use retro_base::{NoMemory, Steps};
-use std::collections::BTreeMap;
+use std::alloc::Global;
+use std::marker::Model;
 use std::sync::ledger::Ledger;
 use weighted_tree::Tree;
 
-/// The name of each row's run, by the row's number.
-pub(crate) type Numbers = BTreeMap<u32, u32>;
+/// The name of each row's run, by the row's number: a table in pages.
+///
+/// Numbers are given one after the other, so a page is full where most of its rows are there, and a number that stands
+/// alone costs one page.
+#[derive(Drop)]
+pub(crate) struct Numbers {
+    pages: Vec<Page>,
+    alloc: Global,
+}
+
+impl Model for Numbers {
+    ghost use Rattle.order_timeline.specs.Numbers.{Pages};
+
+    ghost Value = { Pages };
+
+    ghost view = { λ numbers. numbers.pages.items };
+}
+
+impl Numbers {
+    pub(crate) fn new(alloc: Global) -> Numbers
+        ensures { result ≡ [] }
+    {
+        Numbers {
+            pages: Vec::new(alloc),
+            alloc,
+        }
+    }
+
+    /// The name of a number, where it has one.
+    pub(crate) fn get(&self, number: u32) -> Option<u32>
+        ensures { result ≡ name_in self.now number }
+    {
+        let index = (number / SPAN) as usize;
+        if index < self.pages.len() {
+            self.pages[index].get(number % SPAN)
+        } else {
+            None
+        }
+    }
+
+    /// Makes room for the name of a number. What there is stays.
+    fn open(&mut self, number: u32) -> Result<(), NoMemory>
+        ensures same { IsSame self.old self.new }
+        ensures ok { OnOk result (HasPlace self.new number) }
+    {
+        let index = (number / SPAN) as usize;
+        while self.pages.len() <= index {
+            self.pages.push(Page::new(self.alloc))?;
+        }
+        self.pages[index].open()
+    }
+
+    /// Gives the memory back of the page of a number, where it has no name any more.
+    fn close(&mut self, number: u32)
+        requires { number / span < length self.old }
+        ensures { IsSame self.old self.new }
+    {
+        let index = (number / SPAN) as usize;
+        if !self.pages[index].is_blank() {
+            return;
+        }
+        self.pages[index] = Page::new(self.alloc);
+    }
+
+    /// Writes what stands at a number for which there is room.
+    fn set(&mut self, number: u32, name: Option<u32>)
+        requires { HasPlace self.old number }
+        ensures names { Changes self.old self.new number name }
+        ensures pages { length self.new ≡ length self.old }
+    {
+        self.pages[(number / SPAN) as usize].set(number % SPAN, name);
+    }
+}
 
 /// Notes the name of a number that has none.
 pub(crate) fn add(numbers: &mut Numbers, number: u32, name: u32) -> Result<(), NoMemory>
     ensures ok { OnOk result (Writes numbers.old numbers.new number name) }
     ensures err { OnErr result (IsSame numbers.old numbers.new) }
 {
-    numbers.insert(number, name)?;
+    numbers.open(number)?;
+    numbers.set(number, Some(name));
     Ok(())
 }
 
 /// Writes the name of a number that has one already, which takes no memory.
 pub(crate) fn write(numbers: &mut Numbers, number: u32, name: u32)
-    requires { IsSome (get nat_cmp numbers.old number) }
+    requires { IsSome (name_in numbers.old number) }
     ensures { Writes numbers.old numbers.new number name }
 {
-    let _ = numbers.insert(number, name);
+    numbers.set(number, Some(name));
 }
 
 /// Takes the name of a number out.
 pub(crate) fn forget(numbers: &mut Numbers, number: u32)
     ensures { Changes numbers.old numbers.new number None }
 {
-    let _ = numbers.remove(&number);
+    if numbers.get(number).is_some() {
+        numbers.set(number, None);
+        numbers.close(number);
+    }
 }
 
 /// Writes one name for each of `count` rows from a place on.

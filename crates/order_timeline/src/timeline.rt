@@ -14,7 +14,6 @@ use crate::run::Run;
 use crate::timed_row::TimedRow;
 use retro_base::{NoMemory, Row};
 use std::alloc::Global;
-use std::collections::BTreeMap;
 use std::marker::{Brand, Model};
 use std::sync::ledger::Blank;
 use weighted_tree::Tree;
@@ -49,7 +48,7 @@ impl Timeline {
             rows: Tree::new(alloc),
             runs: Tree::new(alloc),
             names: Names::new(alloc),
-            numbers: BTreeMap::new(alloc),
+            numbers: Numbers::new(alloc),
         }
     }
 

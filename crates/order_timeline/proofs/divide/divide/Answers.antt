@@ -1,4 +1,4 @@
-use Rattle.std.proofs.Common.{◌≡◌, ◌+◌, ◌/◌, Some, slice_set, sym, ap, ◌∙◌, subst, arith}
+use Rattle.std.proofs.Common.{◌≡◌, ◌+◌, Some, slice_set, sym, ap, ◌∙◌, subst, arith}
 use Rattle.std.specs.List.{insert, remove}
 use Rattle.order_timeline.specs.Runs.{IsInRuns}
 use Rattle.order_timeline.proofs.InRuns.{all_rows, ok_from, divided, rows_of_divided, start_of_divided, in_runs_after}
@@ -17,24 +17,24 @@ returns-in-Err g c =
 pub start_of-from-requires-clause-few : goal.start_of-from-requires-clause-few
 start_of-from-requires-clause-few g c =
     let put = ok_from c.insert.result c.is_err.result _ c.is_err.ensures.value c.if-is_err.false c.insert.ensures.ok in
-    let more : c.replace.new.self ≡ divided c.args.runs.now c.args.run c.rows-count.result (c.rows-count.result / 2) =
+    let more : c.replace.new.self ≡ divided c.args.runs.now c.args.run c.rows-count.result (c.first_part-half.result) =
     c.replace.ensures.items ∙ ap (λ item. slice_set c.insert.new.self c.args.run item) c.new-in-Ok.ensures
-    ∙ ap (λ runs. slice_set runs c.args.run (c.rows-count.result / 2)) (put ∙ ap (insert c.args.runs.now (c.args.run + 1)) c.new.ensures) in
-    let all = rows_of_divided c.args.runs.now c.replace.new.self c.args.run c.rows-count.result (c.rows-count.result / 2) (c.get.ensures.item ∙ ap Some (sym c.rows-count.ensures)) (omega arith) more
+    ∙ ap (λ runs. slice_set runs c.args.run (c.first_part-half.result)) (put ∙ ap (insert c.args.runs.now (c.args.run + 1)) c.new.ensures) in
+    let all = rows_of_divided c.args.runs.now c.replace.new.self c.args.run c.rows-count.result (c.first_part-half.result) (c.get.ensures.item ∙ ap Some (sym c.rows-count.ensures)) (omega arith) more
     ∙ all_rows c.args.rows.now c.args.runs.now c.args.names.now c.args.numbers.now c.requires.in_runs in
     omega (arith, all, c.requires.few)
 
 pub write_run-requires-clause-within : goal.write_run-requires-clause-within
 write_run-requires-clause-within g c =
     let put = ok_from c.insert.result c.is_err.result _ c.is_err.ensures.value c.if-is_err.false c.insert.ensures.ok in
-    let more : c.replace.new.self ≡ divided c.args.runs.now c.args.run c.rows-count.result (c.rows-count.result / 2) =
+    let more : c.replace.new.self ≡ divided c.args.runs.now c.args.run c.rows-count.result (c.first_part-half.result) =
     c.replace.ensures.items ∙ ap (λ item. slice_set c.insert.new.self c.args.run item) c.new-in-Ok.ensures
-    ∙ ap (λ runs. slice_set runs c.args.run (c.rows-count.result / 2)) (put ∙ ap (insert c.args.runs.now (c.args.run + 1)) c.new.ensures) in
+    ∙ ap (λ runs. slice_set runs c.args.run (c.first_part-half.result)) (put ∙ ap (insert c.args.runs.now (c.args.run + 1)) c.new.ensures) in
     let long = c.get.ensures.item ∙ ap Some (sym c.rows-count.ensures) in
     omega (
       arith,
       c.start_of-from.ensures,
-      start_of_divided c.args.runs.now c.replace.new.self c.args.run c.rows-count.result (c.rows-count.result / 2) long more,
+      start_of_divided c.args.runs.now c.replace.new.self c.args.run c.rows-count.result (c.first_part-half.result) long more,
       run_within c.args.runs.now c.args.run c.rows-count.result long,
       all_rows c.args.rows.now c.args.runs.now c.args.names.now c.args.numbers.now c.requires.in_runs,
     )
@@ -42,11 +42,11 @@ write_run-requires-clause-within g c =
 pub returns-in-Ok : goal.returns-in-Ok
 returns-in-Ok g c =
     let put = ok_from c.insert.result c.is_err.result _ c.is_err.ensures.value c.if-is_err.false c.insert.ensures.ok in
-    let more : c.replace.new.self ≡ divided c.args.runs.now c.args.run c.rows-count.result (c.rows-count.result / 2) =
+    let more : c.replace.new.self ≡ divided c.args.runs.now c.args.run c.rows-count.result (c.first_part-half.result) =
     c.replace.ensures.items ∙ ap (λ item. slice_set c.insert.new.self c.args.run item) c.new-in-Ok.ensures
-    ∙ ap (λ runs. slice_set runs c.args.run (c.rows-count.result / 2)) (put ∙ ap (insert c.args.runs.now (c.args.run + 1)) c.new.ensures) in
+    ∙ ap (λ runs. slice_set runs c.args.run (c.first_part-half.result)) (put ∙ ap (insert c.args.runs.now (c.args.run + 1)) c.new.ensures) in
     let long = c.get.ensures.item ∙ ap Some (sym c.rows-count.ensures) in
     in_runs_after c.args.rows.now c.args.runs.now c.replace.new.self c.args.names.now c.insert-2.new.self c.args.numbers.now c.write_run.new.numbers c.args.run
-    c.rows-count.result (c.rows-count.result / 2) c.in-Ok.name c.start_of-from.result
+    c.rows-count.result (c.first_part-half.result) c.in-Ok.name c.start_of-from.result
     c.requires.in_runs c.requires.there long (omega arith) more c.in-Ok.ensures.ok
-    (c.start_of-from.ensures ∙ start_of_divided c.args.runs.now c.replace.new.self c.args.run c.rows-count.result (c.rows-count.result / 2) long more) c.write_run.ensures
+    (c.start_of-from.ensures ∙ start_of_divided c.args.runs.now c.replace.new.self c.args.run c.rows-count.result (c.first_part-half.result) long more) c.write_run.ensures

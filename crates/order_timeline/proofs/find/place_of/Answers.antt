@@ -8,7 +8,7 @@ use Rattle.order_timeline.proofs.find.place_of.Goals as goal
 pub returns-in_err-name : goal.returns-in_err-name
 returns-in_err-name g c =
     let named = c.requires.kept.in_runs.named in
-    let none : name_of c.args.number c.args.rows.now (beside c.args.runs.now c.args.names.now) ≡ None = sym (named.filed c.args.number) ∙ sym c.in_err-name.ensures.value in
+    let none : name_of c.args.number c.args.rows.now (beside c.args.runs.now c.args.names.now) ≡ None = sym (named.filed c.args.number) ∙ sym c.get.ensures ∙ c.in_err-name.was in
     c.from_residual.ensures ∙ sym (no_place c.args.number c.args.rows.now (beside c.args.runs.now c.args.names.now) named.beside none)
 
 pub start_of-start-requires-clause-few : goal.start_of-start-requires-clause-few
@@ -19,8 +19,8 @@ returns-in_err-run g c =
     let rows = c.args.rows.now in
     let runs = c.args.runs.now in
     let names = c.args.names.now in
-    let name = c.in_ok-name.field-0.now in
-    let some : name_of c.args.number rows (beside runs names) ≡ Some name = sym (c.requires.kept.in_runs.named.filed c.args.number) ∙ sym c.in_ok-name.ensures.value in
+    let name = c.in_ok-name.name in
+    let some : name_of c.args.number rows (beside runs names) ≡ Some name = sym (c.requires.kept.in_runs.named.filed c.args.number) ∙ sym c.get.ensures ∙ c.in_ok-name.was in
     c.from_residual-in_err-run.ensures ∙ sym (no_run c.args.number name rows runs names c.requires.kept.in_runs.each
     (all_rows rows runs names c.args.numbers.now c.requires.kept.in_runs) some (sym c.place_of.ensures.place ∙ c.in_err-run.was))
 
@@ -29,6 +29,6 @@ place_from-requires g c =
     let rows = c.args.rows.now in
     let runs = c.args.runs.now in
     let names = c.args.names.now in
-    let name = c.in_ok-name.field-0.now in
-    let some : name_of c.args.number rows (beside runs names) ≡ Some name = sym (c.requires.kept.in_runs.named.filed c.args.number) ∙ sym c.in_ok-name.ensures.value in
+    let name = c.in_ok-name.name in
+    let some : name_of c.args.number rows (beside runs names) ≡ Some name = sym (c.requires.kept.in_runs.named.filed c.args.number) ∙ sym c.get.ensures ∙ c.in_ok-name.was in
     subst (λ start. IsNotBefore rows start c.args.number) (sym c.start_of-start.ensures) (not_before_run c.args.number name c.in_ok-run.run' rows runs names some (sym c.place_of.ensures.place ∙ c.in_ok-run.was))
