@@ -9,68 +9,19 @@ pub struct KeyPair {
     pub value: i64,
 }
 
-/// An extreme pair with its offset in a range.
-#[derive(Clone, Copy)]
-pub struct Extreme {
-    items: u32,
-    first: Option<(KeyPair, u32)>,
-}
-
-impl Extreme {
-    const NONE: Extreme = Extreme {
-        items: 0,
-        first: None,
-    };
-
-    fn single(pair: KeyPair) -> Extreme {
-        Extreme {
-            items: 1,
-            first: Some((pair, 0)),
-        }
-    }
-
-    #[inline(always)]
-    fn join(self, other: Extreme, is_better: impl Fn(KeyPair, KeyPair) -> bool) -> Extreme {
-        let later = other.first.map(|(pair, at)| (pair, self.items + at));
-        let first = match (self.first, later) {
-            (Some(a), Some(b)) => Some(if is_better(b.0, a.0) { b } else { a }),
-            (None, found) | (found, None) => found,
-        };
-        Extreme {
-            items: self.items + other.items,
-            first,
-        }
-    }
-
-    fn pair(&self) -> Option<KeyPair> {
-        self.first.map(|(pair, _)| pair)
-    }
-}
 
 #[derive(Clone, Copy)]
 pub struct Pairs {
     items: u32,
     sum: i128,
-    least: Extreme,
-    greatest: Extreme,
 }
 
 impl Monoid for Pairs {
-    const UNIT: Pairs = Pairs {
-        items: 0,
-        sum: 0,
-        least: Extreme::NONE,
-        greatest: Extreme::NONE,
-    };
+    const UNIT: Pairs = Pairs { items: 0, sum: 0 };
 
     #[inline(always)]
     fn join(self, other: Pairs) -> Pairs {
-        Pairs {
-            items: self.items + other.items,
-            sum: self.sum + other.sum,
-            least: self.least.join(other.least, |a, b| a < b),
-            greatest: self.greatest.join(other.greatest, |a, b| a > b),
-        }
+        Pairs { items: self.items + other.items, sum: self.sum + other.sum }
     }
 }
 
@@ -78,12 +29,7 @@ impl Item for KeyPair {
     type Measure = Pairs;
 
     fn measure(&self) -> Pairs {
-        Pairs {
-            items: 1,
-            sum: i128::from(self.value),
-            least: Extreme::single(*self),
-            greatest: Extreme::single(*self),
-        }
+        Pairs { items: 1, sum: i128::from(self.value) }
     }
 }
 
@@ -114,8 +60,8 @@ impl Found {
         Found {
             count: to - from,
             sum: measure.sum,
-            least: measure.least.pair(),
-            greatest: measure.greatest.pair(),
+            least: Some(pairs.get(from)),
+            greatest: Some(pairs.get(to - 1)),
         }
     }
 

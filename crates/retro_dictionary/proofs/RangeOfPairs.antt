@@ -56,18 +56,6 @@ filter_both test other (x ∷ xs) = elim (other x) as (λ b. cond (test x && b) 
   ]
 ]
 
--- pairs in their order stay so where some are left out
-all_left : (P : ℤ × ℤ → Type 0) (test : ℤ × ℤ → Bool) (ps : List (ℤ × ℤ)) → AllByRecursion P ps → AllByRecursion P (filter test ps)
-all_left P test [] all = tt
-all_left P test (p ∷ ps) all = elim (test p) as (λ b. AllByRecursion P (cond b (p ∷ filter test ps) (filter test ps))) [ true ↦ (all.0, all_left P test ps all.1) | false ↦ all_left P test ps all.1 ]
-
-pub filter-ordered : (test : ℤ × ℤ → Bool) (ps : List (ℤ × ℤ)) → AreInOrder pair_before ps → AreInOrder pair_before (filter test ps)
-filter-ordered test [] ordered = tt
-filter-ordered test (p ∷ ps) ordered = elim (test p) as (λ b. AreInOrder pair_before (cond b (p ∷ filter test ps) (filter test ps))) [
-  | true ↦ (all_left (λ (q : ℤ × ℤ). pair_before q p ≡ false) test ps ordered.0, filter-ordered test ps ordered.1)
-  | false ↦ filter-ordered test ps ordered.1
-]
-
 module _ (items : List (ℤ × ℤ)) (low high : ℤ) (from to : ℕ) (front : take from items ≡ filter (reaches (Below low)) items)
     (back : drop from items ≡ filter (λ (pair : ℤ × ℤ). not (reaches (Below low) pair)) items)
     (front_to : take to items ≡ filter (reaches (UpTo high)) items) where
@@ -108,9 +96,6 @@ module _ (items : List (ℤ × ℤ)) (low high : ℤ) (from to : ℕ) (front : t
       sym (inside-is ∙ ap (filter from_low) (parts order) ∙ filter-append from_low (take from items) (take (to - from) (drop from items))
       ∙ ap (λ xs. xs ++ filter from_low (take (to - from) (drop from items))) (none_pass from_low (take from items) all_below)
       ∙ all_pass from_low (take (to - from) (drop from items)) (all_taken (λ (pair : ℤ × ℤ). from_low pair ≡ true) (drop from items) (to - from) all_from))
-
-  pub length-slice : from ≤ to → to ≤ length items → length (slice_range items from to) ≡ to - from
-  length-slice order within = omega (arith, length-take (to - from) (drop from items), length-drop from items)
 
 -- no more pairs lie in a range than there are
 filter-le : (test : ℤ × ℤ → Bool) (ps : List (ℤ × ℤ)) → length (filter test ps) ≤ length ps

@@ -1,4 +1,4 @@
-use monoid_laws::{Both, Greatest, Least, Measured, Sum};
+use monoid_laws::{Measured, Sum};
 use std::marker::Model;
 
 /// A key of a dictionary with its value.
@@ -34,23 +34,19 @@ pub struct Found {
     pub greatest: Option<KeyPair>,
 }
 
-/// What a tree of pairs measures.
-pub(crate) type PairsMeasure = Both<Sum, Both<Least<KeyPair>, Greatest<KeyPair>>>;
-
+/// Pairs stand in their order, so the least and the greatest of some that are neighbours are found by their places, and only
+/// their sum is measured.
 impl Measured for KeyPair {
     ghost use Rattle.std.specs.Prelude.{refl};
     ghost use Rattle.retro_dictionary.specs.PairMeasure.{one_pair};
 
-    type Measure = Both<Sum, Both<Least<KeyPair>, Greatest<KeyPair>>>;
+    type Measure = Sum;
 
     ghost measured = { one_pair };
 
     ghost single = { λ pair. refl };
 
-    fn measure(&self) -> PairsMeasure {
-        Both::single(
-            Sum::single(self.value),
-            Both::single(Least::single(Some(*self)), Greatest::single(Some(*self))),
-        )
+    fn measure(&self) -> Sum {
+        Sum::single(self.value)
     }
 }

@@ -1,12 +1,11 @@
 ghost use Rattle.std.specs.Prelude.{◌≡◌, ◌<◌, ◌≤◌, length, take, drop, not};
-ghost use Rattle.std.specs.List.{filter};
+ghost use Rattle.std.specs.List.{filter, slice_range};
 ghost use Rattle.retro_base.specs.Visits.{OpensCounter};
 ghost use Rattle.lifetime_segments.specs.Lawful.{IsLawful};
-ghost use Rattle.retro_dictionary.specs.PairSearch.{pair_before, found_in, none_found, found_together, lesser, greater};
-ghost use Rattle.retro_dictionary.specs.PairMeasure.{PairsMeasured};
+ghost use Rattle.retro_dictionary.specs.PairSearch.{pair_before, found_in, found_of, none_found, found_together, lesser, greater};
 ghost use Rattle.retro_dictionary.specs.Bounds.{reaches};
 
-use crate::pairs::{Found, KeyPair, KeyRange, PairsMeasure};
+use crate::pairs::{Found, KeyPair, KeyRange};
 use lifetime_segments::Decomposable;
 use retro_base::Steps;
 use std::marker::Brand;
@@ -100,19 +99,25 @@ fn found_in<L: Ledger>(items: &Tree<KeyPair>, range: KeyRange, blank: Blank) -> 
     if to <= from {
         return PairSearch::empty();
     }
-    found_of(to - from, &items.measure(from, to, &mut steps))
+    found_between(items, from, to, &mut steps)
 }
 
-/// What is found of so many pairs, by what they measure.
-fn found_of(count: u32, measure: &PairsMeasure) -> Found
-    ensures { PairsMeasured count measure.now result }
+/// What is found of the pairs from one place to before another.
+fn found_between<L: Ledger>(
+    items: &Tree<KeyPair>,
+    from: u32,
+    to: u32,
+    steps: &mut Steps<L>,
+) -> Found
+    requires some { from < to }
+    requires within { to ≤ length items.now }
+    ensures { result ≡ found_of (slice_range items.now from to) }
 {
-    let extremes = measure.second();
     Found {
-        count,
-        sum: measure.first().sum(),
-        least: extremes.first().element(),
-        greatest: extremes.second().element(),
+        count: to - from,
+        sum: items.measure(from, to, steps).sum(),
+        least: Some(items.get(from, steps)),
+        greatest: Some(items.get(to - 1, steps)),
     }
 }
 
