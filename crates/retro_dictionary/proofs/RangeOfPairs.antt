@@ -3,7 +3,7 @@ use Rattle.std.proofs.Common.{◌≡◌, ℕ, suc, ◌+◌, ◌-◌, ◌≤◌, 
 use Rattle.std.specs.Prelude.{int_le}
 use Rattle.std.specs.List.{AllByRecursion, filter, slice_range}
 use Rattle.std.proofs.lemmas.Int.{ints}
-use Rattle.std.proofs.lemmas.List.{length-take, length-drop, take-take, take-append-drop, drop-take}
+use Rattle.std.proofs.lemmas.List.{take-take, take-append-drop, drop-take}
 use Rattle.std.proofs.lemmas.List.Elements.{filter-append}
 use Rattle.lifetime_segments.specs.Lawful.{AnswerTogether, most_items}
 use Rattle.lifetime_segments.specs.Ordered.{AreInOrder}

@@ -1,4 +1,4 @@
-use Rattle.std.proofs.Common.{◌≡◌, ◌-◌, Some, SFits, ap, ◌∙◌, rules}
+use Rattle.std.proofs.Common.{◌-◌, Some, SFits, ap, ◌∙◌, rules}
 use Rattle.std.specs.Int.{w128}
 use Rattle.std.proofs.lemmas.Int.{to_z-of_z}
 use Rattle.retro_dictionary.proofs.MeasuredPairs.{found, found_by_places}

@@ -1,7 +1,5 @@
-use Rattle.std.proofs.Common.{◌≡◌, SFits, w64, length, sym, ap, ◌∙◌, arith, rules}
-use Rattle.std.specs.List.{slice_range}
+use Rattle.std.proofs.Common.{SFits, w64, sym, ap, ◌∙◌, arith, rules}
 use Rattle.std.proofs.lemmas.Int.{to_z-of_z}
-use Rattle.retro_base.specs.Answers.{pairs_between}
 use Rattle.retro_dictionary.specs.PairSearch.{found_of}
 use Rattle.retro_dictionary.proofs.RangeOfPairs.{none-inside, slice-inside}
 use Rattle.retro_dictionary.proofs.search.found_in.Goals as goal
