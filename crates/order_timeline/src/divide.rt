@@ -7,8 +7,8 @@ use crate::names::Names;
 use crate::numbers::{Numbers, write_run};
 use crate::run::Run;
 use crate::runs::start_of;
-use crate::timed_row::TimedRow;
-use retro_base::{MAX_ROWS, NoMemory, Steps};
+use monoid_laws::Counted;
+use retro_base::{MAX_ROWS, NoMemory, Row, Steps};
 use std::sync::ledger::Ledger;
 use weighted_tree::Tree;
 
@@ -29,7 +29,7 @@ fn first_part(count: u32, is_last: bool) -> u32
 
 /// Divides a run. Where there is no memory for another run, all stays.
 pub(crate) fn divide<L: Ledger>(
-    rows: &Tree<TimedRow>,
+    rows: &Tree<Counted<Row>>,
     runs: &mut Tree<Run>,
     names: &mut Names,
     numbers: &mut Numbers,

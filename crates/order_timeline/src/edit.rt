@@ -9,14 +9,14 @@ use crate::names::Names;
 use crate::numbers::{Numbers, add, forget};
 use crate::run::Run;
 use crate::runs::{run_for, run_of};
-use crate::timed_row::TimedRow;
+use monoid_laws::Counted;
 use retro_base::{NoMemory, Row, Steps};
 use std::sync::ledger::{Blank, Ledger};
 use weighted_tree::Tree;
 
 /// Puts a row in at a place. After `NoMemory` the rows are as before.
 pub(crate) fn put_in<L: Ledger>(
-    rows: &mut Tree<TimedRow>,
+    rows: &mut Tree<Counted<Row>>,
     runs: &mut Tree<Run>,
     names: &mut Names,
     numbers: &mut Numbers,
@@ -36,7 +36,7 @@ pub(crate) fn put_in<L: Ledger>(
     let run = run_for(runs, place, &mut steps);
     let name = names.name_at(run, &mut steps);
     add(numbers, row.number, name)?;
-    if rows.insert(place, TimedRow::new(row), &mut steps).is_err() {
+    if rows.insert(place, Counted::new(row), &mut steps).is_err() {
         forget(numbers, row.number);
         return Err(NoMemory);
     }
@@ -72,7 +72,7 @@ fn first_run<L: Ledger>(
 
 /// Takes the row at a place out, and gives it back.
 pub(crate) fn take_out<L: Ledger>(
-    rows: &mut Tree<TimedRow>,
+    rows: &mut Tree<Counted<Row>>,
     runs: &mut Tree<Run>,
     names: &mut Names,
     numbers: &mut Numbers,
@@ -88,7 +88,7 @@ pub(crate) fn take_out<L: Ledger>(
 {
     let mut steps = Steps::<L>::new(blank);
     let run = run_of(runs, place, &mut steps);
-    let row = rows.remove(place, &mut steps).row();
+    let row = rows.remove(place, &mut steps).value();
     forget(numbers, row.number);
     let count = runs.get(run, &mut steps).rows();
     if count == 1 {

@@ -10,35 +10,38 @@ use crate::names::Names;
 use crate::numbers::Numbers;
 use crate::run::Run;
 use crate::runs::start_of;
-use crate::timed_row::TimedRow;
+use monoid_laws::Counted;
 use retro_base::{Row, Steps};
 use std::sync::ledger::{Blank, Ledger};
 use weighted_tree::Tree;
 
 /// The row at a place.
-pub(crate) fn read<L: Ledger>(rows: &Tree<TimedRow>, place: u32, blank: Blank) -> Row
+pub(crate) fn read<L: Ledger>(rows: &Tree<Counted<Row>>, place: u32, blank: Blank) -> Row
     requires counter { OpensCounter blank.name L.name blank.parts L.parts }
     requires within { place < length rows.now }
     ensures { slice_get rows.now place ≡ Some result }
 {
     let mut steps = Steps::<L>::new(blank);
-    rows.get(place, &mut steps).row()
+    rows.get(place, &mut steps).value()
 }
 
 /// How many rows stand up to this time.
-pub(crate) fn rows_up_to<L: Ledger>(rows: &Tree<TimedRow>, time: u64, blank: Blank) -> u32
+pub(crate) fn rows_up_to<L: Ledger>(rows: &Tree<Counted<Row>>, time: u64, blank: Blank) -> u32
     requires counter { OpensCounter blank.name L.name blank.parts L.parts }
     requires order { TimesNeverFall rows.now }
     ensures place { result ≡ place_of_time time rows.now }
     ensures within { result ≤ length rows.now }
 {
     let mut steps = Steps::<L>::new(blank);
-    rows.partition_point(|timed: &TimedRow| timed.row().time <= time, &mut steps)
+    rows.partition_point(
+        |counted: &Counted<Row>| counted.value().time <= time,
+        &mut steps,
+    )
 }
 
 /// Copies the rows from a place on into a slice, as many as fit or are there, and gives their number.
 pub(crate) fn read_from<L: Ledger>(
-    rows: &Tree<TimedRow>,
+    rows: &Tree<Counted<Row>>,
     from: u32,
     copies: &mut [Row],
     blank: Blank,
@@ -50,12 +53,17 @@ pub(crate) fn read_from<L: Ledger>(
     ensures rows { copies.new ≡ take result (drop from rows.now) ++ drop result copies.old }
 {
     let mut steps = Steps::<L>::new(blank);
-    rows.read(from, |timed: &TimedRow| timed.row(), copies, &mut steps) as u32
+    rows.read(
+        from,
+        |counted: &Counted<Row>| counted.value(),
+        copies,
+        &mut steps,
+    ) as u32
 }
 
 /// The place of the row with this number, where there is one.
 pub(crate) fn place_of<L: Ledger>(
-    rows: &Tree<TimedRow>,
+    rows: &Tree<Counted<Row>>,
     runs: &Tree<Run>,
     names: &Names,
     numbers: &Numbers,
@@ -75,7 +83,7 @@ pub(crate) fn place_of<L: Ledger>(
 
 /// The same from a place on.
 fn place_from<L: Ledger>(
-    rows: &Tree<TimedRow>,
+    rows: &Tree<Counted<Row>>,
     from: u32,
     number: u32,
     steps: &mut Steps<L>,
@@ -88,7 +96,7 @@ fn place_from<L: Ledger>(
     while place < rows.len() {
         let read = rows.read(
             place,
-            |timed: &TimedRow| timed.row().number,
+            |counted: &Counted<Row>| counted.value().number,
             &mut window,
             steps,
         );

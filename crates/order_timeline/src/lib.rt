@@ -22,20 +22,18 @@
 //! - `timeline`: the type and its calls. `edit`: a row comes or goes. `find`: rows, times and numbers.
 //! - `runs`: which run has a place, and where a run begins. `divide`: a run that has grown too long.
 //! - `names`: the names of the runs, found by labels. `table`: the label of each name. `numbers`, `page`: the name of each number's run.
-//! - `timed_row`, `run`, `name`, `total`: what the trees hold, and what runs add up to.
+//! - `run`, `total`: a run of rows, and what runs add up to.
 #![tactic(auto)]
 
 mod divide;
 mod edit;
 mod find;
-mod name;
 mod names;
 mod numbers;
 mod page;
 mod run;
 mod runs;
 mod table;
-mod timed_row;
 mod timeline;
 mod total;
 

@@ -3,8 +3,8 @@ ghost use Rattle.std.specs.List.{insert, remove, AllByRecursion};
 ghost use Rattle.order_timeline.specs.Names.{AreDistinct, AreFiled};
 ghost use Rattle.retro_base.specs.Limits.{most_rows};
 
-use crate::name::Name;
 use crate::table::Table;
+use monoid_laws::Counted;
 use order_labels::Labels;
 use retro_base::{NoMemory, Steps};
 use std::alloc::Global;
@@ -15,7 +15,7 @@ use weighted_tree::Tree;
 /// A list of names that are distinct, each found by the label that stands at its place.
 #[derive(Drop)]
 pub(crate) struct Names {
-    names: Tree<Name>,
+    names: Tree<Counted<u32>>,
     labels: Labels,
     table: Table,
 }
@@ -53,7 +53,7 @@ impl Names {
         requires { place < length self.now }
         ensures { slice_get self.now place ≡ Some result }
     {
-        self.names.get(place, steps).number()
+        self.names.get(place, steps).value()
     }
 
     /// The place of a name, where there is one.
@@ -95,7 +95,7 @@ impl Names {
 }
 
 fn find<L: Ledger>(
-    names: &Tree<Name>,
+    names: &Tree<Counted<u32>>,
     labels: &Labels,
     table: &Table,
     name: u32,
@@ -107,7 +107,7 @@ fn find<L: Ledger>(
 {
     let label = table.get(name)?;
     let place = labels.place_of_label(label)?;
-    if names.get(place, steps).number() == name {
+    if names.get(place, steps).value() == name {
         Some(place)
     } else {
         None
@@ -115,7 +115,7 @@ fn find<L: Ledger>(
 }
 
 fn put_in<L: Ledger>(
-    names: &mut Tree<Name>,
+    names: &mut Tree<Counted<u32>>,
     labels: &mut Labels,
     table: &mut Table,
     place: u32,
@@ -129,7 +129,7 @@ fn put_in<L: Ledger>(
     ensures err { OnErr result (names.new ≡ names.old) }
 {
     let name = table.add(0)?;
-    names.insert(place, Name::new(name), steps)?;
+    names.insert(place, Counted::new(name), steps)?;
     match labels.insert(place) {
         Ok(fresh) => {
             if fresh.relabelled {
@@ -147,14 +147,19 @@ fn put_in<L: Ledger>(
 }
 
 /// Gives each name the label at its place.
-fn file_all<L: Ledger>(names: &Tree<Name>, labels: &Labels, table: &mut Table, steps: &mut Steps<L>)
+fn file_all<L: Ledger>(
+    names: &Tree<Counted<u32>>,
+    labels: &Labels,
+    table: &mut Table,
+    steps: &mut Steps<L>,
+)
     requires each { length labels.now ≡ length names.now }
     requires distinct { AreDistinct names.now }
     requires known { AllByRecursion (λ name. name < length table.old) names.now }
     ensures { AreFiled names.now labels.now table.new }
 {
     for place in 0..names.len() {
-        let name = names.get(place, steps).number();
+        let name = names.get(place, steps).value();
         table.set(name, labels.label_at(place));
     }
 }

@@ -4,8 +4,8 @@ ghost use Rattle.retro_base.specs.Limits.{most_rows};
 ghost use Rattle.retro_base.specs.Timeline.{HaveOwnNumbers};
 
 use crate::page::{Page, SPAN};
-use crate::timed_row::TimedRow;
-use retro_base::{NoMemory, Steps};
+use monoid_laws::Counted;
+use retro_base::{NoMemory, Row, Steps};
 use std::alloc::Global;
 use std::marker::Model;
 use std::sync::ledger::Ledger;
@@ -116,7 +116,7 @@ pub(crate) fn forget(numbers: &mut Numbers, number: u32)
 /// Writes one name for each of `count` rows from a place on.
 pub(crate) fn write_run<L: Ledger>(
     numbers: &mut Numbers,
-    rows: &Tree<TimedRow>,
+    rows: &Tree<Counted<Row>>,
     from: u32,
     count: u32,
     name: u32,
@@ -129,7 +129,7 @@ pub(crate) fn write_run<L: Ledger>(
     ensures { WritesRun rows.now from count name numbers.old numbers.new }
 {
     for place in from..from + count {
-        let number = rows.get(place, steps).row().number;
+        let number = rows.get(place, steps).value().number;
         write(numbers, number, name);
     }
 }

@@ -11,7 +11,7 @@ use crate::find::{place_of, read, read_from, rows_up_to};
 use crate::names::Names;
 use crate::numbers::Numbers;
 use crate::run::Run;
-use crate::timed_row::TimedRow;
+use monoid_laws::Counted;
 use retro_base::{NoMemory, Row};
 use std::alloc::Global;
 use std::marker::{Brand, Model};
@@ -21,7 +21,7 @@ use weighted_tree::Tree;
 /// Rows in order of time, each with a number of its own.
 #[derive(Drop)]
 pub struct Timeline {
-    rows: Tree<TimedRow>,
+    rows: Tree<Counted<Row>>,
     runs: Tree<Run>,
     names: Names,
     numbers: Numbers,

@@ -4,8 +4,8 @@ use Rattle.order_timeline.proofs.names.file_all.Goals as goal
 
 pub loop-place-preserved : goal.loop-place-preserved
 loop-place-preserved g c =
-    file_more c.loop-place.place c.args.names.now c.args.labels.now c.loop-place.table c.set.new.self c.number-name.result c.label_at.result c.requires.distinct
-    (c.get.ensures.item ∙ ap Some (sym c.number-name.ensures)) c.label_at.ensures c.loop-place.invariant c.set.ensures
+    file_more c.loop-place.place c.args.names.now c.args.labels.now c.loop-place.table c.set.new.self c.value-name.result c.label_at.result c.requires.distinct
+    (c.get.ensures.item ∙ ap Some (sym c.value-name.ensures)) c.label_at.ensures c.loop-place.invariant c.set.ensures
 
 pub returns : goal.returns
 returns g c = record {
