@@ -5,6 +5,7 @@ use Rattle.retro_base.specs.declared.row.Row.{Row}
 use Rattle.key_index.specs.KeyRows.{KeyRow, with_row, without}
 use Rattle.lifetime_segments.specs.declared.lifetime.Lifetime.{Lifetime}
 use Rattle.order_labels.specs.Labels.{label_limit}
+use Rattle.retro_dictionary.specs.declared.kept.Kept.{Kept}
 use Rattle.retro_dictionary.specs.Edited.{IsBetween}
 use Rattle.retro_dictionary.specs.Kept.{AreKept}
 use Rattle.retro_dictionary.specs.Labelled.{labelled}
@@ -34,3 +35,12 @@ pub kept-as : (rows more : List Row) (labels marks : List ℕ) (index listed : L
     → AreKept rows labels index lifetimes → more ≡ rows → marks ≡ labels → listed ≡ index → lives ≡ lifetimes → AreKept more marks listed lives
 kept-as rows more labels marks index listed lifetimes lives kept p q r s =
     subst (AreKept more marks listed) (sym s) (subst (λ i. AreKept more marks i lifetimes) (sym r) (subst (λ ls. AreKept more ls index lifetimes) (sym q) (subst (λ rs. AreKept rs labels index lifetimes) (sym p) kept)))
+
+-- a dictionary with the same in each of its parts is the same
+pub all-same : (kept : Kept) (rows : List Row) (labels : List ℕ) (index : List KeyRow) (lifetimes : List (Lifetime (ℤ × ℤ))) → rows ≡ kept.rows → labels ≡ kept.labels → index ≡ kept.index → lifetimes ≡ kept.segments
+    → record { rows = rows; labels = labels; since = kept.since; index = index; segments = lifetimes } ≡ kept
+all-same kept rows labels index lifetimes p q r s =
+    ap (λ rs. record kept { rows = rs; labels = labels; index = index; segments = lifetimes }) p
+    ∙ ap (λ ls. record kept { labels = ls; index = index; segments = lifetimes }) q
+    ∙ ap (λ i. record kept { index = i; segments = lifetimes }) r
+    ∙ ap (λ ls. record kept { segments = ls }) s

@@ -1,34 +1,87 @@
--- The labels of a dictionary can be halved often.
-use Rattle.std.proofs.Common.{◌≡◌, ℕ, zero, suc, ◌+◌, ◌-◌, ◌*◌, ◌/◌, ◌%◌, ◌^◌, ◌<◌, ◌≤◌, max, true, false, Some, List, [], ◌∷◌, length, refl, ap, subst, arith, inl, inr, eq-eqb}
-use Rattle.std.specs.List.{insert}
+-- By the rule of a dictionary rows get labels often before all are relabelled.
+use Rattle.std.proofs.Common.{◌≡◌, ℕ, zero, suc, ◌+◌, ◌-◌, ◌*◌, ◌/◌, ◌%◌, ◌^◌, ◌<◌, ◌≤◌, max, min, true, false, Option, Some, None, List, [], ◌∷◌, length, refl, ap, subst, ◌∙◌, arith, inl, inr, eq-eqb, cond, nat_le}
+use Rattle.std.specs.List.{insert, remove}
+use Rattle.std.specs.Option.{option_map_or}
+use Rattle.std.proofs.Math.Nat.{pow-le-pow_right}
 use Rattle.std.proofs.lemmas.Bool.{cases_lt, le-leb, lt-ltb, ne_eqb}
 use Rattle.std.proofs.lemmas.Nat.{pow_pos, mod_below}
 use Rattle.retro_base.specs.Limits.{most_rows}
-use Rattle.order_labels.specs.Labels.{AreApart, label_before, label_after as label_later, label_limit, has_room, middle, exponent, gap_of, spread}
-use Rattle.order_labels.specs.LabelLaws.{RelabellingIsRare, least_insertions}
-use Rattle.order_labels.specs.ApartLaws.{gap_at, apart_with, apart_without, less_apart, below_more, halves_apart, next_inside, next_at_end, next_before, middle_apart}
+use Rattle.order_labels.specs.Labels.{AreApart, label_before, label_after as label_later, label_limit, has_room, exponent, gap_of, spread}
+use Rattle.order_labels.specs.LabelLaws.{LabelEdit, insertions, least_insertions}
+use Rattle.order_labels.specs.LabelLaws.LabelEdit.{Insert, Remove}
+use Rattle.order_labels.specs.ApartLaws.{gap_at, apart_with, apart_without, less_apart, below_more, halves_apart, next_inside, next_at_end, next_before}
 use Rattle.order_labels.specs.SpreadLaws.{exponent-falls, multiples-apart, spread-apart}
 use Rattle.order_labels.specs.PowerLaws.{power-within, power-least, power-next, twice}
-use Rattle.order_labels.specs.RareLaws.{Lasting, rare_by, least-number}
+use Rattle.order_labels.specs.RareLaws.{least-number}
 use Rattle.retro_dictionary.specs.Edited.{IsBetween}
-use Rattle.retro_dictionary.specs.RowLabels.{distance_after, is_after_all, unit_after, unit_further, label_after, row_rule}
+use Rattle.retro_dictionary.specs.RelabellingLaw.{EndInRelabelling, RelabellingIsRare, one_more}
+use Rattle.retro_dictionary.specs.RowLabels.{distance_after, distance_beside, gap_after, gap_before, is_after_all, label_after, label_beside, owed, rounded, row_label, row_rule, unit_after, unit_beside, unit_further}
+
+-- a distance that is rounded
+pub rounded-some : (distance : ℕ) → 0 < rounded distance
+rounded-some distance = pow_pos (exponent (max distance 1))
+
+rounded-within : (distance : ℕ) → rounded distance ≤ max distance 1
+rounded-within distance = power-within (max distance 1) (omega arith)
+
+rounded-least : (k distance : ℕ) → 2 ^ k ≤ max distance 1 → 2 ^ k ≤ rounded distance
+rounded-least k distance far = power-least (max distance 1) k far
 
 -- how far the label of a row after all others lies from the last one
-pub further : (unit label : ℕ) → 0 < unit → (label + unit ≤ unit_further unit label) × (unit_further unit label < label + 2 * unit)
+further : (unit label : ℕ) → 0 < unit → (label + unit ≤ unit_further unit label) × (unit_further unit label < label + 2 * unit)
 further unit label some =
     let below : (unit - label % unit) % unit < unit = mod_below (unit - label % unit) unit some in
     (omega arith, omega arith)
 
 pub unit-some : (gap room : ℕ) → 0 < unit_after gap room
-unit-some gap room = pow_pos (exponent (max (distance_after gap room) 1))
+unit-some gap room = rounded-some (distance_after gap room)
 
 pub unit-within : (gap room : ℕ) → 2 ≤ room → 2 * unit_after gap room ≤ max 2 (room / 2)
-unit-within gap room some = omega (arith, power-within (max (distance_after gap room) 1) (omega arith))
+unit-within gap room some = omega (arith, rounded-within (distance_after gap room))
 
-pub unit-least : (k gap room : ℕ) → 2 * 2 ^ k ≤ gap → 4 * 2 ^ k ≤ room → 2 ^ k ≤ unit_after gap room
-unit-least k gap room far some = power-least (max (distance_after gap room) 1) k (omega arith)
+unit-least : (k gap room : ℕ) → 2 * 2 ^ k ≤ gap → 4 * 2 ^ k ≤ room → 2 ^ k ≤ unit_after gap room
+unit-least k gap room far some = rounded-least k (distance_after gap room) (omega arith)
 
--- the labels lie 2 ^ k apart, with twice as much left at the end
+-- how far that of a row before others lies from those beside it
+pub beside-some : (since left gap right : ℕ) → 0 < unit_beside since left gap right
+beside-some since left gap right = rounded-some (min (gap / 2) (max (owed since) (distance_beside left gap right)))
+
+within-half : (gap owed distance unit : ℕ) → 2 ≤ gap → unit ≤ max (min (gap / 2) (max owed distance)) 1 → 2 * unit ≤ gap
+within-half gap owed distance unit some within = omega arith
+
+pub beside-within : (since left gap right : ℕ) → 2 ≤ gap → 2 * unit_beside since left gap right ≤ gap
+beside-within since left gap right some =
+    within-half gap (owed since) (distance_beside left gap right) (unit_beside since left gap right) some
+    (rounded-within (min (gap / 2) (max (owed since) (distance_beside left gap right))))
+
+at-least : (gap owed distance least : ℕ) → 2 * least ≤ gap → least ≤ owed → least ≤ max (min (gap / 2) (max owed distance)) 1
+at-least gap owed distance least far some = omega arith
+
+beside-least : (k since left gap right : ℕ) → 2 * 2 ^ k ≤ gap → 2 ^ k ≤ owed since → 2 ^ k ≤ unit_beside since left gap right
+beside-least k since left gap right far some =
+    rounded-least k (min (gap / 2) (max (owed since) (distance_beside left gap right))) (at-least gap (owed since) (distance_beside left gap right) (2 ^ k) far some)
+
+-- a power of two by digits that are moved
+pub shifted : (k : ℕ) → k ≤ 21 → 1 * 2 ^ k % 2 ^ 64 ≡ 2 ^ k
+shifted k few =
+    let small : 2 ^ k ≤ 2 ^ 21 = pow-le-pow_right (omega arith) few in
+    omega (arith, small)
+
+owed-least : (k since : ℕ) → suc k + since ≤ least_insertions → 2 ^ k ≤ owed since
+owed-least k since fits = pow-le-pow_right (omega arith) (omega arith)
+
+-- it lies as far from both as that far, where the unit is no less
+pub beside-apart : (since left before after right distance : ℕ) → before + 2 ≤ after → before + 2 * distance ≤ after → distance ≤ unit_beside since left (after - before) right
+    → (before + distance ≤ label_beside since left before after right) × (label_beside since left before after right + distance ≤ after)
+beside-apart since left before after right distance some far least =
+    let unit = unit_beside since left (after - before) right in
+    let within : 2 * unit ≤ after - before = beside-within since left (after - before) right (omega arith) in
+    elim (nat_le left right) as (λ b. (before + distance ≤ cond b (before + unit) (after - unit)) × (cond b (before + unit) (after - unit) + distance ≤ after)) [
+      | true ↦ (omega (arith, within, least), omega (arith, within, least, far))
+      | false ↦ (omega (arith, within, least, far), omega (arith, within, least))
+    ]
+
+-- the labels lie 2 ^ k apart, with twice as much left at the end, and so many insertions were counted that k more are enough
 abbrev pub LieApart : ℕ → List ℕ → Type 0
 LieApart k labels = AreApart (2 ^ k) 0 (label_limit - 2 ^ k) labels
 
@@ -45,36 +98,57 @@ with_label distance labels place label within apart before after =
 has : (labels : List ℕ) (place : ℕ) → label_before 0 labels place + 2 ≤ label_later label_limit labels place → has_room labels place ≡ true
 has labels place room = le-leb 2 (label_later label_limit labels place - label_before 0 labels place) (omega arith)
 
-by_middle : (labels : List ℕ) (place : ℕ) → label_before 0 labels place + 2 ≤ label_later label_limit labels place → is_after_all labels place ≡ false → row_rule labels place ≡ Some (middle labels place)
-by_middle labels place room is = simp (has labels place room, is)
+by_rule : (since : ℕ) (labels : List ℕ) (place : ℕ) → label_before 0 labels place + 2 ≤ label_later label_limit labels place → row_rule since labels place ≡ Some (row_label since labels place)
+by_rule since labels place room = ap (λ b. cond b (Some (row_label since labels place)) None) (has labels place room)
 
-after_all : (labels : List ℕ) (place : ℕ) → label_before 0 labels place + 2 ≤ label_later label_limit labels place → is_after_all labels place ≡ true
-    → row_rule labels place ≡ Some (label_after (label_before 0 labels (place - 1)) (label_before 0 labels place))
-after_all labels place room is = simp (has labels place room, is)
+pub before-others : (since : ℕ) (labels : List ℕ) (place : ℕ) → is_after_all labels place ≡ false
+    → row_label since labels place ≡ label_beside since (gap_before labels place) (label_before 0 labels place) (label_later label_limit labels place) (gap_after labels place)
+before-others since labels place is =
+    ap (λ b. cond b (label_after (label_before 0 labels (place - 1)) (label_before 0 labels place))
+    (label_beside since (gap_before labels place) (label_before 0 labels place) (label_later label_limit labels place) (gap_after labels place))) is
+
+pub after-all : (since : ℕ) (labels : List ℕ) (place : ℕ) → is_after_all labels place ≡ true → row_label since labels place ≡ label_after (label_before 0 labels (place - 1)) (label_before 0 labels place)
+after-all since labels place is =
+    ap (λ b. cond b (label_after (label_before 0 labels (place - 1)) (label_before 0 labels place))
+    (label_beside since (gap_before labels place) (label_before 0 labels place) (label_later label_limit labels place) (gap_after labels place))) is
+
+pub not-last : (labels : List ℕ) (place : ℕ) → place < length labels → is_after_all labels place ≡ false
+not-last labels place within = simp (ne_eqb place (length labels) (λ same. omega (arith, same)))
+
+pub last-place : (labels : List ℕ) (place : ℕ) → 0 < place → place ≡ length labels → is_after_all labels place ≡ true
+last-place labels place some same = simp (lt-ltb 0 place some, eq-eqb place (length labels) same)
 
 -- a row gets a label that lies half as far from those beside it
-module _ (k : ℕ) where
+module _ (k since : ℕ) (fits : suc k + since ≤ least_insertions) where
   Halves : List ℕ → ℕ → Type 0
-  Halves labels place = (label : ℕ) × (row_rule labels place ≡ Some label) × LieApart k (insert labels place label)
+  Halves labels place = (label : ℕ) × (row_rule since labels place ≡ Some label) × LieApart k (insert labels place label)
 
   inside : (labels : List ℕ) (place : ℕ) → place < length labels → LieApart (suc k) labels → Halves labels place
   unfolding Halves
   inside labels place within apart =
       let distance = 2 ^ k in
-      let far : label_before 0 labels place + 2 * distance ≤ label_later label_limit labels place =
+      let before = label_before 0 labels place in
+      let after = label_later label_limit labels place in
+      let far : before + 2 * distance ≤ after =
       omega (arith, gap_at (2 * distance) 0 (label_limit - 2 * distance) labels place (omega arith) (wide k labels apart), next_inside (label_limit - 2 * distance) label_limit labels place within) in
-      let beside = middle_apart distance (label_before 0 labels place) (label_later label_limit labels place) far in
-      let other : is_after_all labels place ≡ false = simp (ne_eqb place (length labels) (λ same. omega (arith, same))) in (
-        middle labels place,
-        by_middle labels place (omega (arith, pow_pos k)) other,
-        with_label distance labels place (middle labels place) (omega arith) (wide k labels apart) beside.0 (omega (arith, beside.1, next_inside (label_limit - distance) label_limit labels place within)),
+      let left = gap_before labels place in
+      let right = gap_after labels place in
+      let beside =
+      beside-apart since left before after right distance (omega (arith, far, pow_pos k)) far (beside-least k since left (after - before) right (omega (arith, far)) (owed-least k since fits)) in
+      let label = label_beside since left before after right in (
+        label,
+        by_rule since labels place (omega (arith, far, pow_pos k)) ∙ ap Some (before-others since labels place (not-last labels place within)),
+        with_label distance labels place label (omega arith) (wide k labels apart) beside.0 (omega (arith, beside.1, next_inside (label_limit - distance) label_limit labels place within)),
       )
 
   first : LieApart (suc k) [] → Halves [] 0
   unfolding Halves
   first apart =
-      let room = wide k [] apart in
-      (middle [] 0, by_middle [] 0 (omega arith) refl, with_label (2 ^ k) [] 0 (middle [] 0) (omega arith) room (omega (arith, room)) (omega (arith, room)))
+      let distance = 2 ^ k in
+      let room : 4 * distance ≤ label_limit = omega (arith, wide k [] apart) in
+      let beside = beside-apart since label_limit 0 label_limit label_limit distance (omega arith) (omega (arith, room)) (beside-least k since label_limit label_limit label_limit (omega (arith, room)) (owed-least k since fits)) in
+      let within : 2 * unit_beside since label_limit label_limit label_limit ≤ label_limit = beside-within since label_limit label_limit label_limit (omega arith) in
+      (label_beside since label_limit 0 label_limit label_limit, refl, (beside.0, omega (arith, within, room)))
 
   at_end : (labels : List ℕ) (place : ℕ) → 0 < place → place ≡ length labels → LieApart (suc k) labels → Halves labels place
   unfolding Halves
@@ -95,10 +169,9 @@ module _ (k : ℕ) where
       let unit = unit_after (last - former) (label_limit - last) in
       let least : distance ≤ unit = unit-least k (last - former) (label_limit - last) (omega arith) (omega (arith, pow_pos k)) in
       let most : 2 * unit ≤ max 2 ((label_limit - last) / 2) = unit-within (last - former) (label_limit - last) (omega (arith, pow_pos k)) in
-      let beside = further unit last (unit-some (last - former) (label_limit - last)) in
-      let test : is_after_all labels place ≡ true = simp (lt-ltb 0 place some, eq-eqb place (length labels) same) in (
+      let beside = further unit last (unit-some (last - former) (label_limit - last)) in (
         label_after former last,
-        after_all labels place (omega (arith, pow_pos k, next_at_end label_limit labels place same)) test,
+        by_rule since labels place (omega (arith, pow_pos k, next_at_end label_limit labels place same)) ∙ ap Some (after-all since labels place (last-place labels place some same)),
         with_label distance labels place (label_after former last) (omega arith) (wide k labels apart) (omega (arith, beside.0))
             (omega (arith, beside.1, pow_pos k, next_at_end (label_limit - distance) labels place same)),
       )
@@ -111,21 +184,38 @@ module _ (k : ℕ) where
     | inr last ↦ at_end (label ∷ labels) place (omega arith) (omega arith) apart
   ]
 
-lasting : Lasting row_rule LieApart
-unfolding Halves
-lasting = record {
-  with_row = λ k labels place within apart. halves k labels place within apart;
-  without_row = λ k labels place within apart. apart_without (2 ^ k) 0 (label_limit - 2 ^ k) labels place within apart;
-}
+not_both : {label : ℕ} {found : Option ℕ} → found ≡ Some label → found ≡ None → ⊥
+not_both some none = cc
 
--- labels that are spread wider than those of as many rows as there may be
-wider : (count : ℕ) → least_insertions < exponent (label_limit / (count + 1)) → count + 1 ≤ label_limit → LieApart (exponent (label_limit / (count + 1)) - 1) (spread count)
+-- so as many insertions as labels last for come before one that relabels
+lasts : (k since : ℕ) (labels : List ℕ) (edits : List LabelEdit) (last : LabelEdit) → k + since ≤ least_insertions → LieApart k labels → EndInRelabelling row_rule since labels edits last → k ≤ insertions edits
+unfolding Halves
+lasts k since labels [] (Remove place) fits apart ends = absurd ends.1
+lasts zero since labels [] (Insert place) fits apart ends = omega arith
+lasts (suc k) since labels [] (Insert place) fits apart ends = absurd (not_both (halves k since fits labels place ends.0.0 apart).1 ends.1)
+lasts k since labels (Remove place ∷ edits) last fits apart ends =
+    lasts k since (remove labels place) edits last fits (apart_without (2 ^ k) 0 (label_limit - 2 ^ k) labels place ends.0.0 apart) ends.1
+lasts zero since labels (Insert place ∷ edits) last fits apart ends = omega arith
+lasts (suc k) since labels (Insert place ∷ edits) last fits apart ends =
+    let with = halves k since fits labels place ends.0.0.0 apart in
+    let after = subst (λ found. EndInRelabelling row_rule (option_map_or (λ (label : ℕ). one_more since) found 0)
+    (option_map_or (λ label. insert labels place label) found (spread (length labels + 1))) edits last) with.1 ends.1 in
+    omega (arith, lasts k (one_more since) (insert labels place with.0) edits last (omega arith) with.2 after)
+
+-- labels that are spread last for as many as have to be
+nearer : (j k : ℕ) (labels : List ℕ) → j ≤ k → LieApart k labels → LieApart j labels
+nearer j k labels order apart =
+    let less : 2 ^ j ≤ 2 ^ k = pow-le-pow_right (omega arith) order in
+    below_more (2 ^ j) 0 (label_limit - 2 ^ k) (label_limit - 2 ^ j) labels (omega (arith, less)) (less_apart (2 ^ k) (2 ^ j) 0 (label_limit - 2 ^ k) labels less apart)
+
+wider : (count : ℕ) → least_insertions < exponent (label_limit / (count + 1)) → count + 1 ≤ label_limit → LieApart least_insertions (spread count)
 unfolding gap_of
 wider count more few =
     let k = exponent (label_limit / (count + 1)) in
-    halves_apart (2 ^ (k - 1)) 0 label_limit (spread count) (subst (λ gap. AreApart gap 0 label_limit (spread count)) (twice k (omega arith)) (spread-apart count few))
+    nearer least_insertions (k - 1) (spread count) (omega arith)
+    (halves_apart (2 ^ (k - 1)) 0 label_limit (spread count) (subst (λ gap. AreApart gap 0 label_limit (spread count)) (twice k (omega arith)) (spread-apart count few)))
 
--- others leave half of all numbers at the end
+-- those of a full dictionary leave half of all numbers at the end
 widest : (count : ℕ) → count ≤ most_rows → exponent (label_limit / (count + 1)) ≡ least_insertions → LieApart least_insertions (spread count)
 unfolding gap_of
 widest count few same =
@@ -133,13 +223,14 @@ widest count few same =
     let apart : AreApart (gap_of count) 0 (label_limit - gap_of count) (spread count) = multiples-apart (gap_of count) count (label_limit - gap_of count) (rw (gap, least-number) (omega arith)) in
     subst (λ k. AreApart (2 ^ k) 0 (label_limit - 2 ^ k) (spread count)) same apart
 
+spread-lasts : (count : ℕ) → count ≤ most_rows → LieApart least_insertions (spread count)
+spread-lasts count few = elim (cases_lt least_insertions (exponent (label_limit / (count + 1)))) [
+  | inl more ↦ wider count more (omega arith)
+  | inr same ↦ widest count few (omega (arith, exponent-falls count most_rows few))
+]
+
 pub rare : RelabellingIsRare row_rule
-rare count edits last few ends =
-    let k = exponent (label_limit / (count + 1)) in
-    elim (cases_lt least_insertions k) [
-      | inl more ↦ omega (arith, rare_by row_rule LieApart lasting (k - 1) (spread count) edits last (wider count more (omega arith)) ends)
-      | inr same ↦ rare_by row_rule LieApart lasting least_insertions (spread count) edits last (widest count few (omega (arith, exponent-falls count most_rows few))) ends
-    ]
+rare count edits last few ends = lasts least_insertions 0 (spread count) edits last (omega arith) (spread-lasts count few) ends
 
 -- labels rise
 pub former-below : (labels : List ℕ) (place : ℕ) → place ≤ length labels → 0 < place → AreApart 1 0 label_limit labels → label_before 0 labels (place - 1) ≤ label_before 0 labels place
@@ -147,10 +238,12 @@ former-below labels place within some apart =
     let next : suc (place - 1) ≡ place = omega arith in
     omega (arith, gap_at 1 0 label_limit labels (place - 1) (omega arith) apart, next_before 0 label_limit labels (place - 1) (omega arith), ap (label_before 0 labels) next)
 
--- the label of a row lies between those beside its place
-pub middle-between : (labels : List ℕ) (place : ℕ) → label_before 0 labels place + 2 ≤ label_later label_limit labels place → IsBetween labels place (middle labels place)
-middle-between labels place room = record { before = omega arith; after_it = omega arith }
+pub later-above : (labels : List ℕ) (place : ℕ) → place < length labels → AreApart 1 0 label_limit labels → label_later label_limit labels place ≤ label_later label_limit labels (place + 1)
+later-above labels place within apart =
+    let next : suc place ≡ place + 1 = omega arith in
+    omega (arith, gap_at 1 0 label_limit labels (suc place) (omega arith) apart, next_before 0 label_limit labels place within, ap (label_later label_limit labels) next)
 
+-- the label of a row lies between those beside its place
 pub after-between : (labels : List ℕ) (place : ℕ) → place ≡ length labels → label_before 0 labels place + 2 ≤ label_limit
     → IsBetween labels place (label_after (label_before 0 labels (place - 1)) (label_before 0 labels place))
 after-between labels place same room =
@@ -159,3 +252,9 @@ after-between labels place same room =
     let beside = further (unit_after gap (label_limit - last)) last (unit-some gap (label_limit - last)) in
     let most = unit-within gap (label_limit - last) (omega arith) in
     record { before = omega (arith, beside.0, unit-some gap (label_limit - last)); after_it = omega (arith, beside.1, most, next_at_end label_limit labels place same) }
+
+pub beside-between : (since left before after right label : ℕ) (labels : List ℕ) (place : ℕ) → before ≡ label_before 0 labels place → after ≡ label_later label_limit labels place → before + 2 ≤ after
+    → label ≡ label_beside since left before after right → IsBetween labels place label
+beside-between since left before after right label labels place first last room is =
+    let beside = beside-apart since left before after right 1 room (omega arith) (beside-some since left (after - before) right) in
+    record { before = omega (arith, beside.0, first, is); after_it = omega (arith, beside.1, last, is) }

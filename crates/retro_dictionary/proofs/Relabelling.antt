@@ -198,19 +198,19 @@ module _ (rows : List Row) (labels : List ℕ) (index : List KeyRow) (lifetimes 
   }
 
   -- where they were counted and listed
-  module _ (former fresh : List ℕ) (label count counted : ℕ) (former_is : former ≡ labels) (fresh_is : fresh ≡ other_labels count place)
-      (count_is : count ≡ length rows) (label_is : label ≡ new_label counted place) (counted_is : counted ≡ length rows) where
+  module _ (former fresh : List ℕ) (label count : ℕ) (former_is : former ≡ labels) (fresh_is : fresh ≡ other_labels count place)
+      (count_is : count ≡ length rows) (label_is : label ≡ new_label count place) where
     pub can-relabel-listed : CanRelabel former fresh label index
     can-relabel-listed =
         subst (λ ls. CanRelabel ls fresh label index) (sym former_is)
         (subst (λ ls. CanRelabel labels ls label index) (sym (fresh_is ∙ ap (λ n. other_labels n place) count_is))
-        (subst (λ l. CanRelabel labels others l index) (sym (label_is ∙ ap (λ n. new_label n place) counted_is)) can-relabel))
+        (subst (λ l. CanRelabel labels others l index) (sym (label_is ∙ ap (λ n. new_label n place) count_is)) can-relabel))
 
     pub all-listed : (row : Row) → relabelled_with former fresh label row.op index ≡ all row
     all-listed row =
         ap (λ ls. relabelled_with ls fresh label row.op index) former_is
         ∙ ap (λ ls. relabelled_with labels ls label row.op index) (fresh_is ∙ ap (λ n. other_labels n place) count_is)
-        ∙ ap (λ l. relabelled_with labels others l row.op index) (label_is ∙ ap (λ n. new_label n place) counted_is)
+        ∙ ap (λ l. relabelled_with labels others l row.op index) (label_is ∙ ap (λ n. new_label n place) count_is)
         ∙ all-are row
 
 -- the new row is taken out again

@@ -8,6 +8,7 @@ pub mod PairSearchLaws
 pub mod Asked
 pub mod Listed
 pub mod Labelled
+pub mod RelabellingLaw
 pub mod RowLabels
 pub mod Kept
 pub mod Bounds
@@ -16,3 +17,4 @@ pub mod Edited
 pub mod Numbers
 pub mod Failures
 pub mod Relabelling
+pub mod Ready

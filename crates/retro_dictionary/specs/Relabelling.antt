@@ -1,14 +1,17 @@
 -- What becomes of a dictionary where one row more is put in at a place at which no label is left.
 use Rattle.std.specs.Prelude.{◌≡◌, ℕ, ◌+◌, ◌*◌, ℤ, None, List, length}
-use Rattle.std.specs.List.{remove}
+use Rattle.std.specs.List.{insert, remove}
 use Rattle.retro_base.specs.declared.op.Op.{Op}
+use Rattle.retro_base.specs.declared.row.Row.{Row}
 use Rattle.key_index.specs.KeyRows.{KeyRow, op_at, with_row, without}
 use Rattle.key_index.specs.Relabelled.{Rise, HoldsLabels, relabelled}
 use Rattle.lifetime_segments.specs.declared.lifetime.Lifetime.{Lifetime}
-use Rattle.order_labels.specs.Labels.{gap_of, spread}
+use Rattle.order_labels.specs.Labels.{gap_of, inserted, spread}
+use Rattle.retro_dictionary.specs.declared.kept.Kept.{Kept}
 use Rattle.retro_dictionary.specs.Changes.{up_to_label}
 use Rattle.retro_dictionary.specs.Edited.{all_put, next_of, placed_at}
-use Rattle.retro_dictionary.specs.Lifetimes.{put_by}
+use Rattle.retro_dictionary.specs.Kept.{ordered}
+use Rattle.retro_dictionary.specs.Lifetimes.{lifetimes_of, put_by}
 
 -- the label of the row that is put in
 abbrev pub new_label : ℕ → ℕ → ℕ
@@ -36,3 +39,11 @@ pub record CanRelabel (former fresh : List ℕ) (label : ℕ) (index : List KeyR
 -- the lifetimes with that of the pair that a row at a label puts
 abbrev pub begun_by : ℕ → Op → List KeyRow → List (Lifetime (ℤ × ℤ)) → List (Lifetime (ℤ × ℤ))
 begun_by label op index lifetimes = all_put (up_to_label (placed_at label (put_by op)) (next_of index label op)) lifetimes
+
+-- a dictionary with a row more among its rows alone
+abbrev pub with_row_at : ℕ → Row → Kept → Kept
+with_row_at place row kept = record kept { rows = insert kept.rows place row }
+
+-- one with a label more, and with its lifetimes made from its index
+abbrev pub labelled_anew : ℕ → Kept → Kept
+labelled_anew place kept = record kept { labels = inserted kept.labels place; since = 0; segments = ordered (lifetimes_of kept.index) }

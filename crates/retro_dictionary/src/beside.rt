@@ -1,11 +1,19 @@
-ghost use Rattle.std.specs.Prelude.{◌≡◌, ◌+◌, ◌<◌, ◌≤◌, false, length, IfSome, IfNone};
+ghost use Rattle.std.specs.Prelude.{◌≡◌, ◌+◌, ◌-◌, ◌<◌, ◌≤◌, max, false, length, IfSome, IfNone};
 ghost use Rattle.order_labels.specs.Labels.{AreLabels, label_before, label_after as label_later, label_limit, has_room};
 ghost use Rattle.retro_dictionary.specs.Edited.{IsBetween};
-ghost use Rattle.retro_dictionary.specs.RowLabels.{label_after, row_rule, unit_after};
+ghost use Rattle.retro_dictionary.specs.RelabellingLaw.{one_more};
+ghost use Rattle.retro_dictionary.specs.RowLabels.{distance_beside, gap_after, gap_before, label_after, label_beside, owed, rounded, row_rule, unit_after, unit_beside};
 
 use crate::lifetimes::END;
 use order_labels::{Labels, greatest_power};
 use retro_base::MAX_ROWS;
+
+/// So many insertions lie between two relabellings at the least.
+const LEAST_INSERTIONS: u32 = 22;
+
+/// A row takes one part in so many of a gap at the least. With more of them a gap has room for more rows that come in one after
+/// another, and the sooner it is used up where they come on the other side than the row was put for.
+const PARTS: u64 = 4096;
 
 /// The label of the row before a place, or 0.
 pub(crate) fn label_before(labels: &Labels, place: u32) -> u64
@@ -29,14 +37,40 @@ fn label_later(labels: &Labels, place: u32) -> u64
     labels.label_at(place)
 }
 
-/// The label that a row gets at a place, where one is left: that of the rule in specs/RowLabels.antt.
-///
-/// It is the middle of those beside it. But most rows come in at the end: there a row leaves so much that a full dictionary
-/// can be put in row by row, and none is relabelled.
-pub(crate) fn free_label(labels: &Labels, place: u32) -> Option<u64>
+/// The gap before the label before a place, or the end of all labels where there is none.
+fn gap_before(labels: &Labels, place: u32) -> u64
     requires within { place ≤ length labels.now }
     requires labels { AreLabels labels.now }
-    ensures rule { result ≡ row_rule labels.now place }
+    ensures { result ≡ gap_before labels.now place }
+{
+    if place == 0 {
+        return END;
+    }
+    label_before(labels, place) - label_before(labels, place - 1)
+}
+
+/// The gap after the label at a place, or the end of all labels where there is none.
+fn gap_after(labels: &Labels, place: u32) -> u64
+    requires within { place ≤ length labels.now }
+    requires labels { AreLabels labels.now }
+    ensures { result ≡ gap_after labels.now place }
+{
+    if place == labels.len() {
+        return END;
+    }
+    label_later(labels, place + 1) - label_later(labels, place)
+}
+
+/// The label that a row gets at a place, where one is left and so many rows were put in since all were relabelled: that of the
+/// rule in specs/RowLabels.antt.
+///
+/// Rows come in one after another, most likely, at the end or at some other place. So a row leaves most of the gap on the side
+/// away from the one that came last, which lies where the gaps are narrow: a full dictionary can be put in row by row, and
+/// thousands of rows at one place, and none is relabelled.
+pub(crate) fn free_label(labels: &Labels, since: u32, place: u32) -> Option<u64>
+    requires within { place ≤ length labels.now }
+    requires labels { AreLabels labels.now }
+    ensures rule { result ≡ row_rule since labels.now place }
     ensures between { IfSome result (λ label. IsBetween labels.now place label) }
     ensures full { IfNone result (has_room labels.now place ≡ false) }
 {
@@ -46,9 +80,58 @@ pub(crate) fn free_label(labels: &Labels, place: u32) -> Option<u64>
         return None;
     }
     if place != labels.len() || place == 0 {
-        return Some((before + after) / 2);
+        let left = gap_before(labels, place);
+        let right = gap_after(labels, place);
+        return Some(label_beside(since, left, before, after, right));
     }
     Some(label_after(label_before(labels, place - 1), before))
+}
+
+/// One insertion more since all rows were relabelled, counted up to 22.
+pub(crate) fn one_more(since: u32) -> u32
+    ensures { result ≡ one_more since }
+{
+    since.min(LEAST_INSERTIONS - 1) + 1
+}
+
+/// The label of a row before others, by the labels beside it and the gaps beyond them.
+fn label_beside(since: u32, left: u64, before: u64, after: u64, right: u64) -> u64
+    requires room { before + 2 ≤ after }
+    requires within { after ≤ label_limit }
+    ensures { result ≡ label_beside since left before after right }
+{
+    let unit = unit_beside(since, left, after - before, right);
+    if left <= right {
+        before + unit
+    } else {
+        after - unit
+    }
+}
+
+/// How far it comes from one of these labels, with this gap between them.
+fn unit_beside(since: u32, left: u64, gap: u64, right: u64) -> u64
+    ensures { result ≡ unit_beside since left gap right }
+{
+    let distance = owed(since).max(distance_beside(left, gap, right));
+    rounded((gap / 2).min(distance))
+}
+
+/// So far as leaves room for as many insertions as have to come before all rows are relabelled.
+fn owed(since: u32) -> u64
+    ensures { result ≡ owed since }
+{
+    1 << (LEAST_INSERTIONS - 1).saturating_sub(since)
+}
+
+/// And so far as leaves room for rows that come on its other side.
+fn distance_beside(left: u64, gap: u64, right: u64) -> u64
+    ensures { result ≡ distance_beside left gap right }
+{
+    if left == right {
+        return gap / 2;
+    }
+    let near = left.min(right);
+    (gap / PARTS).max((near / 2).min(gap / 4))
 }
 
 /// The label of a row after all others, by the last two labels.
@@ -65,6 +148,12 @@ fn label_after(former: u64, last: u64) -> u64
 fn unit_after(gap: u64, room: u64) -> u64
     ensures { result ≡ unit_after gap room }
 {
-    let distance = (room / u64::from(MAX_ROWS)).max((gap / 2).min(room / 4));
+    rounded((room / u64::from(MAX_ROWS)).max((gap / 2).min(room / 4)))
+}
+
+/// The greatest power of two up to a distance.
+fn rounded(distance: u64) -> u64
+    ensures { result ≡ rounded distance }
+{
     greatest_power(distance.max(1))
 }

@@ -7,37 +7,29 @@ use crate::asked::{answer_from, found_at, range_of};
 use crate::beside::label_before;
 use crate::edit::{put, take_out};
 use crate::failing::{place_of_bad, place_of_bad_label};
-use crate::kept_row::KeptRow;
+use crate::kept::Kept;
 use crate::listed::list_at;
-use crate::search::PairSearch;
-use key_index::KeyIndex;
-use lifetime_segments::Segments;
-use order_labels::Labels;
 use retro_base::{Answer, Change, Kind, Listing, NoMemory, Op, Question, Retro, Row};
 use std::alloc::Global;
 use std::marker::{Brand, Model};
 use std::sync::ledger::Blank;
-use weighted_tree::Tree;
 
 /// A dictionary whose past can be edited, which contracts see as its rows.
 #[derive(Drop)]
 pub struct RetroDictionary {
-    rows: Tree<KeptRow>,
-    labels: Labels,
-    index: KeyIndex,
-    segments: Segments<PairSearch>,
+    kept: Kept,
 }
 
 impl Model for RetroDictionary {
     ghost use Rattle.std.specs.Prelude.{List};
     ghost use Rattle.retro_base.specs.declared.row.Row.{Row};
-    ghost use Rattle.retro_dictionary.specs.Kept.{AreKept};
+    ghost use Rattle.retro_dictionary.specs.Ready.{IsKept};
 
     ghost Value = { List Row };
 
-    ghost view = { λ dictionary. dictionary.rows };
+    ghost view = { λ dictionary. dictionary.kept.rows };
 
-    ghost invariant = { λ dictionary. AreKept dictionary.rows dictionary.labels dictionary.index dictionary.segments };
+    ghost invariant = { λ dictionary. IsKept dictionary.kept };
 }
 
 impl RetroDictionary {
@@ -46,10 +38,7 @@ impl RetroDictionary {
         ensures { result ≡ [] }
     {
         RetroDictionary {
-            rows: Tree::new(alloc),
-            labels: Labels::new(alloc),
-            index: KeyIndex::new(alloc),
-            segments: Segments::new(alloc),
+            kept: Kept::new(alloc),
         }
     }
 
@@ -58,7 +47,12 @@ impl RetroDictionary {
         requires within { place ≤ length self.now }
         ensures { result ≡ answer_of (state_at Dict self.now place) question }
     {
-        let found = found_at(&self.labels, &self.segments, place, range_of(question));
+        let found = found_at(
+            &self.kept.labels,
+            &self.kept.segments,
+            place,
+            range_of(question),
+        );
         answer_from(question, &found)
     }
 
@@ -67,7 +61,12 @@ impl RetroDictionary {
         requires within { place ≤ length self.now }
         ensures { IfOk result (λ listing. listing ≡ content (state_at Dict self.now place)) }
     {
-        list_at(&self.labels, &self.segments, place, self.rows.alloc())
+        list_at(
+            &self.kept.labels,
+            &self.kept.segments,
+            place,
+            self.kept.rows.alloc(),
+        )
     }
 }
 
@@ -79,51 +78,44 @@ impl Retro for RetroDictionary {
     ghost rows = { λ dictionary. dictionary };
 
     fn kind(&self) -> Kind {
-        let _ = &self.rows;
+        let _ = &self.kept.rows;
         Kind::Dict
     }
 
     fn len(&self) -> u32 {
-        self.rows.len()
+        self.kept.rows.len()
     }
 
     fn failure_after_insert(&self, place: u32, op: Op) -> Option<u32> {
-        let after = label_before(&self.labels, place);
-        place_of_bad(&self.labels, place, self.index.bad_after_insert(after, op))
+        let after = label_before(&self.kept.labels, place);
+        place_of_bad(
+            &self.kept.labels,
+            place,
+            self.kept.index.bad_after_insert(after, op),
+        )
     }
 
     fn failure_after_remove(&self, place: u32) -> Option<u32> {
-        let label = self.labels.label_at(place);
-        place_of_bad_label(&self.labels, place, self.index.bad_after_remove(label))
+        let label = self.kept.labels.label_at(place);
+        place_of_bad_label(
+            &self.kept.labels,
+            place,
+            self.kept.index.bad_after_remove(label),
+        )
     }
 
     fn insert(&mut self, place: u32, row: Row) -> Result<Change, NoMemory> {
-        put::<Brand>(
-            &mut self.rows,
-            &mut self.labels,
-            &mut self.index,
-            &mut self.segments,
-            place,
-            row,
-            Blank::new(1),
-        )?;
+        put::<Brand>(&mut self.kept, place, row, Blank::new(1))?;
         Ok(Change::Plain)
     }
 
     fn remove(&mut self, place: u32) -> Result<(Row, Change), NoMemory> {
-        let row = take_out::<Brand>(
-            &mut self.rows,
-            &mut self.labels,
-            &mut self.index,
-            &mut self.segments,
-            place,
-            Blank::new(1),
-        )?;
+        let row = take_out::<Brand>(&mut self.kept, place, Blank::new(1))?;
         Ok((row, Change::Plain))
     }
 
     fn ask_now(&self, question: Question) -> Answer {
-        self.answer_at(self.rows.len(), question)
+        self.answer_at(self.kept.rows.len(), question)
     }
 
     fn ask(&mut self, place: u32, question: Question) -> Result<Answer, NoMemory> {

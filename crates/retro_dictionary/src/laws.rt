@@ -1,8 +1,9 @@
 //! Laws over the lifetimes of a dictionary and the labels of its rows.
 
 ghost use Rattle.std.specs.Prelude.{◌≡◌};
-ghost use Rattle.order_labels.specs.LabelLaws.{RelabellingIsRare, least_insertions};
+ghost use Rattle.order_labels.specs.LabelLaws.{least_insertions};
 ghost use Rattle.retro_dictionary.specs.DictionaryLaws.{LifetimesHoldContent, SearchAnswers, EditsEndOne, InsertionsAreKept, RemovalsAreKept};
+ghost use Rattle.retro_dictionary.specs.RelabellingLaw.{RelabellingIsRare};
 ghost use Rattle.retro_dictionary.specs.RowLabels.{row_rule};
 
 /// A law: at each place the pairs whose lifetimes hold the label of the row before it are the content there.
@@ -33,8 +34,8 @@ pub fn removals_are_kept()
 {}
 
 /// A law: where rows get their labels by the rule of a dictionary, from the empty one on or from the labels that a relabelling
-/// has left, at least 22 insertions come before the next relabelling, whatever is put in and taken out. The number is that of
-/// the width of a label and of the bound on rows.
+/// has left, with the number of those that came since, at least 22 insertions come before the next relabelling, whatever is put in
+/// and taken out. The least number is that of the width of a label and of the bound on rows.
 pub fn relabelling_is_rare()
     ensures rare { RelabellingIsRare row_rule }
     ensures number { least_insertions ≡ 22 }

@@ -23,12 +23,15 @@
 //!
 //! What the layer above may rely on is `Retro`. Why it holds is reported by specs/Lifetimes.antt, which lifetimes rows have;
 //! specs/Asked.antt, which range of keys answers a question; specs/Kept.antt, what is kept of rows; the laws over them
-//! in specs/DictionaryLaws.antt; and specs/RowLabels.antt, which label a row gets.
+//! in specs/DictionaryLaws.antt; specs/RowLabels.antt, which label a row gets; and specs/RelabellingLaw.antt, how rarely all rows
+//! get new ones. Rows that come in one after another, at the end or at one place, mostly find a label: each leaves most of the
+//! gap there for those that follow.
 //!
 //! - `dictionary`: the type and its calls. `edit`: rows put in and taken out; `beside`, the label of a new row, and `relabel`,
 //!   where none is left; `lifetimes`, what becomes of two lifetimes. `failing`: the place of the row that fails first.
 //! - `asked`: questions, by what is found of a range of keys. `listed`: the whole content.
-//! - `pairs`: `KeyPair`, `KeyRange`, `Found`. `search`: `PairSearch`. `kept_row`: a row as its tree keeps it.
+//! - `pairs`: `KeyPair`, `KeyRange`, `Found`. `search`: `PairSearch`. `kept`: what is kept of the rows. `kept_row`: a row as its
+//!   tree keeps it.
 //! - `laws`: what lifetimes tell of a dictionary, how an edit changes them, and how rarely rows are relabelled.
 #![tactic(auto)]
 
@@ -37,6 +40,7 @@ mod beside;
 mod dictionary;
 mod edit;
 mod failing;
+mod kept;
 mod kept_row;
 pub mod laws;
 mod lifetimes;

@@ -1,16 +1,18 @@
 ghost use Rattle.std.specs.Prelude.{◌≡◌, ◌+◌, ◌*◌, ◌^◌, ◌<◌, ◌≤◌, ◌++◌, length, drop, false, OnOk, OnErr, IfOk};
 ghost use Rattle.std.specs.List.{insert};
-ghost use Rattle.order_labels.specs.Labels.{has_room, inserted, label_limit, multiples, spread};
+ghost use Rattle.order_labels.specs.Labels.{has_room, label_limit, multiples, spread};
 ghost use Rattle.retro_base.specs.declared.kind.Kind.TheVariants.{Dict};
 ghost use Rattle.retro_base.specs.Kind.{kind_of};
 ghost use Rattle.retro_base.specs.Limits.{most_rows};
 ghost use Rattle.retro_base.specs.Visits.{OpensCounter};
-ghost use Rattle.retro_dictionary.specs.Edited.{CanInsert, CanPut, next_of, placed_at};
-ghost use Rattle.retro_dictionary.specs.Kept.{AreKept, ordered};
+ghost use Rattle.retro_dictionary.specs.Edited.{CanPut, next_of, placed_at};
+ghost use Rattle.retro_dictionary.specs.Kept.{ordered};
 ghost use Rattle.retro_dictionary.specs.Labelled.{labelled};
 ghost use Rattle.retro_dictionary.specs.Lifetimes.{lifetimes_of, put_by};
-ghost use Rattle.retro_dictionary.specs.Relabelling.{CanRelabel, begun_by, new_label, other_labels, relabelled_with};
+ghost use Rattle.retro_dictionary.specs.Ready.{IsKept, IsReadyFor};
+ghost use Rattle.retro_dictionary.specs.Relabelling.{CanRelabel, begun_by, labelled_anew, new_label, other_labels, relabelled_with, with_row_at};
 
+use crate::kept::Kept;
 use crate::kept_row::KeptRow;
 use crate::lifetimes::{key_of, next_label, put_by};
 use crate::search::PairSearch;
@@ -135,53 +137,38 @@ fn segments_of<L: Ledger>(
 }
 
 /// Makes the lifetimes anew, and then labels the rows. After `NoMemory` all is as before.
-fn label_anew<L: Ledger>(
-    rows: &Tree<KeptRow>,
-    labels: &mut Labels,
-    index: &KeyIndex,
-    segments: &mut Segments<PairSearch>,
-    place: u32,
-    steps: &mut Steps<L>,
-) -> Result<(), NoMemory>
-    requires within { place ≤ length labels.old }
-    requires room { length labels.old < most_rows }
-    requires few { length rows.now ≤ most_rows }
-    requires indexed { index.now ≡ labelled (spread (length rows.now)) rows.now }
-    ensures labels_ok { OnOk result (labels.new ≡ inserted labels.old place) }
-    ensures segments_ok { OnOk result (segments.new ≡ ordered (lifetimes_of index.now)) }
-    ensures labels_err { OnErr result (labels.new ≡ labels.old) }
-    ensures segments_err { OnErr result (segments.new ≡ segments.old) }
+fn label_anew<L: Ledger>(kept: &mut Kept, place: u32, steps: &mut Steps<L>) -> Result<(), NoMemory>
+    requires within { place ≤ length kept.old.labels }
+    requires room { length kept.old.labels < most_rows }
+    requires few { length kept.old.rows ≤ most_rows }
+    requires indexed { kept.old.index ≡ labelled (spread (length kept.old.rows)) kept.old.rows }
+    ensures ok { OnOk result (kept.new ≡ labelled_anew place kept.old) }
+    ensures err { OnErr result (kept.new ≡ kept.old) }
 {
-    let next = segments_of(rows, index, steps)?;
-    labels.insert(place)?;
-    *segments = next;
+    let segments = segments_of(&kept.rows, &kept.index, steps)?;
+    kept.labels.insert(place)?;
+    kept.since = 0;
+    kept.segments = segments;
     Ok(())
 }
 
 /// Puts a row in that the index has already. After `NoMemory` all is as before.
 fn put_indexed<L: Ledger>(
-    rows: &mut Tree<KeptRow>,
-    labels: &mut Labels,
-    index: &KeyIndex,
-    segments: &mut Segments<PairSearch>,
+    kept: &mut Kept,
     place: u32,
     row: Row,
     steps: &mut Steps<L>,
 ) -> Result<(), NoMemory>
-    requires within { place ≤ length rows.old }
-    requires room { length rows.old < most_rows }
-    requires as_many { length labels.old ≡ length rows.old }
-    requires indexed { index.now ≡ labelled (spread (length rows.old + 1)) (insert rows.old place row) }
-    ensures rows_ok { OnOk result (rows.new ≡ insert rows.old place row) }
-    ensures labels_ok { OnOk result (labels.new ≡ inserted labels.old place) }
-    ensures segments_ok { OnOk result (segments.new ≡ ordered (lifetimes_of index.now)) }
-    ensures rows_err { OnErr result (rows.new ≡ rows.old) }
-    ensures labels_err { OnErr result (labels.new ≡ labels.old) }
-    ensures segments_err { OnErr result (segments.new ≡ segments.old) }
+    requires within { place ≤ length kept.old.rows }
+    requires room { length kept.old.rows < most_rows }
+    requires as_many { length kept.old.labels ≡ length kept.old.rows }
+    requires indexed { kept.old.index ≡ labelled (spread (length kept.old.rows + 1)) (insert kept.old.rows place row) }
+    ensures ok { OnOk result (kept.new ≡ labelled_anew place (with_row_at place row kept.old)) }
+    ensures err { OnErr result (kept.new ≡ kept.old) }
 {
-    rows.insert(place, KeptRow::new(row), steps)?;
-    if label_anew(rows, labels, index, segments, place, steps).is_err() {
-        rows.remove(place, steps);
+    kept.rows.insert(place, KeptRow::new(row), steps)?;
+    if label_anew(kept, place, steps).is_err() {
+        kept.rows.remove(place, steps);
         return Err(NoMemory);
     }
     Ok(())
@@ -191,34 +178,30 @@ fn put_indexed<L: Ledger>(
 ///
 /// All that takes memory is made beside what is there, and the labels are written last, since they cannot be taken back.
 pub(crate) fn put_relabelled<L: Ledger>(
-    rows: &mut Tree<KeptRow>,
-    labels: &mut Labels,
-    index: &mut KeyIndex,
-    segments: &mut Segments<PairSearch>,
+    kept: &mut Kept,
     place: u32,
     row: Row,
     blank: Blank,
 ) -> Result<(), NoMemory>
     requires counter { OpensCounter blank.name L.name blank.parts L.parts }
-    requires kept { AreKept rows.old labels.old index.old segments.old }
-    requires can { CanInsert rows.old place row }
-    requires dict { kind_of row.op ≡ Dict }
-    requires few { length rows.old < most_rows }
-    requires full { has_room labels.old place ≡ false }
-    ensures ok { OnOk result (rows.new ≡ insert rows.old place row) }
-    ensures err { OnErr result (rows.new ≡ rows.old) }
-    ensures labels_ok { OnOk result (labels.new ≡ spread (length labels.old + 1)) }
-    ensures labels_err { OnErr result (labels.new ≡ labels.old) }
-    ensures kept { AreKept rows.new labels.new index.new segments.new }
+    requires ready { IsReadyFor kept.old place row }
+    requires full { has_room kept.old.labels place ≡ false }
+    ensures rows { OnOk result (kept.new.rows ≡ insert kept.old.rows place row) }
+    ensures labels { OnOk result (kept.new.labels ≡ spread (length kept.old.labels + 1)) }
+    ensures since { OnOk result (kept.new.since ≡ 0) }
+    ensures kept { OnOk result (IsKept kept.new) }
+    ensures err { OnErr result (kept.new ≡ kept.old) }
 {
     let mut steps = Steps::<L>::new(blank);
-    let former = labels_before(labels, rows.alloc())?;
-    let fresh = labels_after(rows.len(), place, rows.alloc())?;
-    let label = new_label(rows.len(), place);
-    relabel_with(index, &former, &fresh, label, row.op)?;
-    if put_indexed(rows, labels, index, segments, place, row, &mut steps).is_err() {
-        index.remove(label);
-        index.relabel(&fresh, &former);
+    let alloc = kept.rows.alloc();
+    let count = kept.rows.len();
+    let former = labels_before(&kept.labels, alloc)?;
+    let fresh = labels_after(count, place, alloc)?;
+    let label = new_label(count, place);
+    relabel_with(&mut kept.index, &former, &fresh, label, row.op)?;
+    if put_indexed(kept, place, row, &mut steps).is_err() {
+        kept.index.remove(label);
+        kept.index.relabel(&fresh, &former);
         return Err(NoMemory);
     }
     Ok(())

@@ -3,22 +3,21 @@ use Rattle.order_labels.specs.ApartLaws.{gap_at, next_at_end, after_within}
 use Rattle.order_labels.specs.Labels.{label_limit, label_before}
 use Rattle.retro_dictionary.specs.Edited.{IsBetween}
 use Rattle.retro_dictionary.specs.RowLabels.{label_after}
-use Rattle.retro_dictionary.proofs.RareRows.{after-between, former-below}
+use Rattle.retro_dictionary.proofs.RareRows.{after-between, beside-between, former-below}
 use Rattle.retro_dictionary.proofs.beside.free_label.Goals as goal
 
 pub overflow_sub-after : goal.overflow_sub-after
 overflow_sub-after c =
     omega (arith, gap_at 1 0 label_limit c.args.labels.now c.args.place c.requires.within c.requires.labels.rising, c.label_before-before.ensures, c.label_later-after.ensures)
 
-pub overflow_add-result : goal.overflow_add-result
-overflow_add-result c =
-    omega (
-      arith,
-      gap_at 1 0 label_limit c.args.labels.now c.args.place c.requires.within c.requires.labels.rising,
-      after_within 1 0 label_limit c.args.labels.now c.args.place c.requires.labels.rising,
-      c.label_before-before.ensures,
-      c.label_later-after.ensures,
-    )
+pub label_beside-requires-clause-within : goal.label_beside-requires-clause-within
+label_beside-requires-clause-within c =
+    omega (arith, c.label_later-after.ensures, after_within 1 0 label_limit c.args.labels.now c.args.place c.requires.labels.rising)
+
+pub returns-then-place-len-clause-between : goal.returns-then-place-len-clause-between
+returns-then-place-len-clause-between c =
+    beside-between c.args.since c.gap_before-left.result c.label_before-before.result c.label_later-after.result c.gap_after-right.result c.label_beside.result
+    c.args.labels.now c.args.place c.label_before-before.ensures c.label_later-after.ensures (omega arith) c.label_beside.ensures
 
 pub label_after-requires-clause-order : goal.label_after-requires-clause-order
 label_after-requires-clause-order c =

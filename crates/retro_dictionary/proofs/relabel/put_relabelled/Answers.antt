@@ -1,29 +1,38 @@
-use Rattle.std.proofs.Common.{◌≡◌, ◌+◌, length, sym, ap, ◌∙◌, subst, rules}
+use Rattle.std.proofs.Common.{◌≡◌, ◌+◌, List, length, sym, ap, ◌∙◌, subst, refl, rules}
 use Rattle.std.specs.List.{insert}
+use Rattle.key_index.specs.KeyRows.{KeyRow, without}
 use Rattle.key_index.specs.Relabelled.{HoldsLabels, relabelled}
-use Rattle.order_labels.specs.Labels.{inserted, spread}
+use Rattle.order_labels.specs.Labels.{spread}
+use Rattle.retro_dictionary.specs.declared.kept.Kept.{Kept}
 use Rattle.retro_dictionary.specs.Kept.{ordered}
 use Rattle.retro_dictionary.specs.Labelled.{labelled}
 use Rattle.retro_dictionary.specs.Lifetimes.{lifetimes_of}
-use Rattle.retro_dictionary.specs.Relabelling.{CanRelabel}
+use Rattle.retro_dictionary.specs.Ready.{IsKept}
+use Rattle.retro_dictionary.specs.Relabelling.{CanRelabel, labelled_anew, with_row_at}
 use Rattle.retro_dictionary.proofs.EditSteps.{kept-as}
 use Rattle.retro_dictionary.proofs.Relabelling.{can-relabel-listed, all-listed, kept-all, taken-out, inserted-full}
 use Rattle.retro_dictionary.proofs.relabel.put_relabelled.Given.{Over}
 use Rattle.retro_dictionary.proofs.relabel.put_relabelled.Goals as goal
-use Rattle.retro_dictionary.proofs.relabel.put_relabelled.Goals.{After-new_label-label, In_ok-relabel_with}
+use Rattle.retro_dictionary.proofs.relabel.put_relabelled.Goals.{After-new_label-label, In_ok-relabel_with, After-remove}
 
 -- all rows can be relabelled
-can : (g : Over) (c : After-new_label-label g) → CanRelabel c.in_ok-former.former c.in_ok-fresh.fresh c.new_label-label.result c.args.index.now
+can : (g : Over) (c : After-new_label-label g) → CanRelabel c.in_ok-former.former c.in_ok-fresh.fresh c.new_label-label.result c.args.kept.now.index
 can g c =
-    can-relabel-listed _ _ _ _ c.requires.kept c.args.place c.requires.can.within c.requires.few _ _ _ c.len.result c.len-2.result c.in_ok-former.ensures
-    c.in_ok-fresh.ensures c.len.ensures c.new_label-label.ensures c.len-2.ensures
+    can-relabel-listed _ _ _ _ c.requires.ready.all c.args.place c.requires.ready.can.within c.requires.ready.few _ _ _ c.len-count.result c.in_ok-former.ensures
+    c.in_ok-fresh.ensures c.len-count.ensures c.new_label-label.ensures
 
 -- and are, with the new one
-indexed : (g : Over) (c : In_ok-relabel_with g) → c.relabel_with.new.index ≡ labelled (spread (length c.args.rows.now + 1)) (insert c.args.rows.now c.args.place c.args.row)
+indexed : (g : Over) (c : In_ok-relabel_with g) → c.relabel_with.new.index ≡ labelled (spread (length c.args.kept.now.rows + 1)) (insert c.args.kept.now.rows c.args.place c.args.row)
 indexed g c =
     c.in_ok-relabel_with.ensures.ok
-    ∙ all-listed _ _ _ _ c.requires.kept c.args.place c.requires.can.within c.requires.few _ _ _ c.len.result c.len-2.result c.in_ok-former.ensures
-    c.in_ok-fresh.ensures c.len.ensures c.new_label-label.ensures c.len-2.ensures c.args.row
+    ∙ all-listed _ _ _ _ c.requires.ready.all c.args.place c.requires.ready.can.within c.requires.ready.few _ _ _ c.len-count.result c.in_ok-former.ensures
+    c.in_ok-fresh.ensures c.len-count.ensures c.new_label-label.ensures c.args.row
+
+-- or the new one is taken out again
+without-new : (g : Over) (c : After-remove g) → CanRelabel c.in_ok-former.former c.in_ok-fresh.fresh c.new_label-label.result c.args.kept.now.index → c.remove.new.self ≡ relabelled c.in_ok-former.former c.in_ok-fresh.fresh c.args.kept.now.index
+without-new g c can =
+    let same : c.put_indexed.new.kept ≡ record c.args.kept.now { index = c.relabel_with.new.index } = search rules in
+    taken-out _ _ _ _ _ _ _ can c.in_ok-relabel_with.ensures.ok (c.remove.ensures.rows ∙ ap (λ kept. without c.new_label-label.result kept.index) same)
 
 pub relabel_with-requires-clause-can : goal.relabel_with-requires-clause-can
 relabel_with-requires-clause-can g c = can g (goal.at.relabel_with-requires-clause-can g c).After-new_label-label
@@ -38,22 +47,24 @@ relabel-requires g c =
       former = can.fresh_rise;
       fresh = can.former_rise;
       as_many = sym can.as_many;
-      all = subst (HoldsLabels c.in_ok-fresh.fresh) (sym (taken-out _ _ _ _ _ _ _ can c.in_ok-relabel_with.ensures.ok c.remove.ensures.rows)) can.held_fresh;
+      all = subst (HoldsLabels c.in_ok-fresh.fresh) (sym (without-new g (goal.at.relabel-requires g c).After-remove can)) can.held_fresh;
     }
 
-pub returns-then-is_err-clause-kept : goal.returns-then-is_err-clause-kept
-returns-then-is_err-clause-kept g c =
-    let can = can g (goal.at.returns-then-is_err-clause-kept g c).After-new_label-label in
-    kept-as _ _ _ _ _ _ _ _ c.requires.kept (search rules) (search rules)
-    (c.relabel.ensures ∙ ap (relabelled c.in_ok-fresh.fresh c.in_ok-former.former) (taken-out _ _ _ _ _ _ _ can c.in_ok-relabel_with.ensures.ok c.remove.ensures.rows) ∙ can.back)
-    (search rules)
+pub returns-then-is_err-clause-err : goal.returns-then-is_err-clause-err
+returns-then-is_err-clause-err g c =
+    let can = can g (goal.at.returns-then-is_err-clause-err g c).After-new_label-label in
+    let holding : List KeyRow → Kept = λ index. record c.args.kept.now { index = index } in
+    let same : c.put_indexed.new.kept ≡ holding c.relabel_with.new.index = search rules in
+    let renewed : Kept → Kept = λ kept. record kept { index = c.relabel.new.self } in
+    ap renewed same
+    ∙ ap holding
+    (c.relabel.ensures ∙ ap (relabelled c.in_ok-fresh.fresh c.in_ok-former.former) (without-new g (goal.at.returns-then-is_err-clause-err g c).After-remove can) ∙ can.back)
 
 pub returns-clause-kept : goal.returns-clause-kept
 returns-clause-kept g c =
     let all = indexed g (goal.at.returns-clause-kept g c).In_ok-relabel_with in
-    let put : c.put_indexed.new.rows ≡ insert c.args.rows.now c.args.place c.args.row = search rules in
-    let labels : c.put_indexed.new.labels ≡ inserted c.args.labels.now c.args.place = search rules in
-    let made : c.put_indexed.new.segments ≡ ordered (lifetimes_of c.relabel_with.new.index) = search rules in
-    kept-as _ _ _ _ _ _ _ _
-    (kept-all _ _ _ _ c.requires.kept c.args.place c.requires.can.within c.requires.few c.args.row c.requires.can)
-    put (labels ∙ inserted-full c.args.labels.now c.args.rows.now c.args.place c.requires.kept.as_many c.requires.full) all (made ∙ ap (λ i. ordered (lifetimes_of i)) all)
+    let made : c.put_indexed.new.kept ≡ labelled_anew c.args.place (with_row_at c.args.place c.args.row (record c.args.kept.now { index = c.relabel_with.new.index })) = search rules in
+    subst IsKept (sym made)
+    (kept-as _ _ _ _ _ _ _ _
+    (kept-all _ _ _ _ c.requires.ready.all c.args.place c.requires.ready.can.within c.requires.ready.few c.args.row c.requires.ready.can)
+    refl (inserted-full c.args.kept.now.labels c.args.kept.now.rows c.args.place c.requires.ready.all.as_many c.requires.full) all (ap (λ i. ordered (lifetimes_of i)) all))

@@ -8,8 +8,8 @@ use Rattle.retro_dictionary.proofs.dictionary.RetroDictionary.answer_at.Goals as
 
 pub returns : goal.returns
 returns c =
-    let within : c.args.place ≤ length c.self.inside.rows = search rules in
-    let found : c.found_at-found.result ≡ found_at c.self.inside.labels c.self.inside.segments c.args.place (range_of c.args.question) = search rules in
+    let within : c.args.place ≤ length c.self.inside.kept.rows = search rules in
+    let found : c.found_at-found.result ≡ found_at c.self.inside.kept.labels c.self.inside.kept.segments c.args.place (range_of c.args.question) = search rules in
     c.answer_from.ensures ∙ ap (answer_from c.args.question) found
-    ∙ sym (answers-found c.self.inside.rows c.self.inside.labels c.self.inside.index c.self.inside.segments c.args.place c.args.question c.self.invariant within)
+    ∙ sym (answers-found c.self.inside.kept.rows c.self.inside.kept.labels c.self.inside.kept.index c.self.inside.kept.segments c.args.place c.args.question c.self.invariant within)
     ∙ ap (λ rows. answer_of (state_at Dict rows c.args.place) c.args.question) c.self.view_is

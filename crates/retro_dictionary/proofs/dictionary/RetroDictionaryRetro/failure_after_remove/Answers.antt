@@ -6,16 +6,16 @@ use Rattle.retro_dictionary.proofs.FailingRow.{fails-without, index-replays, lab
 use Rattle.retro_dictionary.proofs.dictionary.RetroDictionaryRetro.failure_after_remove.Goals as goal
 
 pub bad_after_remove-requires-clause-replays : goal.bad_after_remove-requires-clause-replays
-bad_after_remove-requires-clause-replays c = index-replays c.self.inside.rows c.self.inside.labels c.self.inside.index c.self.inside.segments c.self.invariant
+bad_after_remove-requires-clause-replays c = index-replays c.self.inside.kept.rows c.self.inside.kept.labels c.self.inside.kept.index c.self.inside.kept.segments c.self.invariant
 
 pub bad_after_remove-requires-clause-there : goal.bad_after_remove-requires-clause-there
 bad_after_remove-requires-clause-there c =
-    label-there c.self.inside.rows c.self.inside.labels c.self.inside.index c.self.inside.segments c.self.invariant c.args.place c.label_at-label.result c.label_at-label.ensures
+    label-there c.self.inside.kept.rows c.self.inside.kept.labels c.self.inside.kept.index c.self.inside.kept.segments c.self.invariant c.args.place c.label_at-label.result c.label_at-label.ensures
 
 first : (c : goal.After-place_of_bad_label) → c.place_of_bad_label.result ≡ failure Dict (remove c.args.self.now c.args.place)
 first c =
     c.place_of_bad_label.ensures
-    ∙ fails-without c.self.inside.rows c.self.inside.labels c.self.inside.index c.self.inside.segments c.self.invariant c.args.place
+    ∙ fails-without c.self.inside.kept.rows c.self.inside.kept.labels c.self.inside.kept.index c.self.inside.kept.segments c.self.invariant c.args.place
     c.label_at-label.result c.label_at-label.ensures c.bad_after_remove.result c.bad_after_remove.ensures.bad c.bad_after_remove.ensures.good
     ∙ ap (λ rows. failure Dict (remove rows c.args.place)) c.self.view_is
 

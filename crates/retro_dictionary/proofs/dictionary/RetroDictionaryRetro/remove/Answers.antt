@@ -7,8 +7,8 @@ use Rattle.retro_dictionary.proofs.dictionary.RetroDictionaryRetro.remove.Goals 
 
 pub take_out-requires-clause-can : goal.take_out-requires-clause-can
 take_out-requires-clause-can c =
-    let valid : IsValid Dict (remove c.self.inside.rows c.args.place) = subst (λ rows. IsValid Dict (remove rows c.args.place)) (sym c.self.view_is) c.requires.replays in
+    let valid : IsValid Dict (remove c.self.inside.kept.rows c.args.place) = subst (λ rows. IsValid Dict (remove rows c.args.place)) (sym c.self.view_is) c.requires.replays in
     record {
       within = search rules;
-      after = replayable_without Dict c.self.inside.rows c.args.place c.self.invariant.replayable valid;
+      after = replayable_without Dict c.self.inside.kept.rows c.args.place c.self.invariant.replayable valid;
     }

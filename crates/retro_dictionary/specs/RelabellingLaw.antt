@@ -1,0 +1,33 @@
+-- How many insertions lie between two relabellings, where a rule of labels knows how many came since the last one.
+use Rattle.std.specs.Prelude.{ℕ, ◌+◌, ◌≤◌, min, List, [], ◌∷◌}
+use Rattle.std.specs.Option.{option_map_or}
+use Rattle.order_labels.specs.LabelLaws.{LabelEdit, IsAccepted, KeepsLabels, Relabels, edited, insertions, least_insertions}
+use Rattle.order_labels.specs.LabelLaws.LabelEdit.{Insert, Remove}
+use Rattle.order_labels.specs.Labels.{LabelRule, spread}
+use Rattle.retro_base.specs.Limits.{most_rows}
+
+-- for each number of insertions a rule
+abbrev pub CountingRule : Type 0
+CountingRule = ℕ → LabelRule
+
+-- one insertion more, counted up to as many as there have to be
+abbrev pub one_more : ℕ → ℕ
+one_more since = min (since + 1) least_insertions
+
+-- the number once a place has got a label by a rule: none where all are relabelled
+abbrev pub counted_by : CountingRule → ℕ → List ℕ → ℕ → ℕ
+counted_by rule since labels place = option_map_or (λ label. one_more since) (rule since labels place) 0
+
+-- and after an edit
+abbrev pub counted : CountingRule → ℕ → List ℕ → LabelEdit → ℕ
+counted rule since labels (Insert place) = counted_by rule since labels place
+counted rule since labels (Remove place) = since
+
+-- these edits are made one after another and relabel nothing, and then comes one that relabels
+abbrev pub EndInRelabelling : CountingRule → ℕ → List ℕ → List LabelEdit → LabelEdit → Type 0
+EndInRelabelling rule since labels [] last = IsAccepted labels last × Relabels (rule since) labels last
+EndInRelabelling rule since labels (edit ∷ edits) last = KeepsLabels (rule since) labels edit × EndInRelabelling rule (counted rule since labels edit) (edited (rule since) labels edit) edits last
+
+-- at least so many insertions come between labels that are spread and the next relabelling
+abbrev pub RelabellingIsRare : CountingRule → Type 0
+RelabellingIsRare rule = (count : ℕ) (edits : List LabelEdit) (last : LabelEdit) → count ≤ most_rows → EndInRelabelling rule 0 (spread count) edits last → least_insertions ≤ insertions edits
