@@ -83,6 +83,23 @@ fn take(segments: &mut Segments<PairSearch>, placed: &Option<(u64, KeyPair)>, to
     }
 }
 
+/// Moves where the lifetime of a pair ends. After `NoMemory` all is as before.
+fn move_end(
+    segments: &mut Segments<PairSearch>,
+    placed: &Option<(u64, KeyPair)>,
+    to: u64,
+    next: u64,
+) -> Result<(), NoMemory>
+    requires can { CanPut placed.now next segments.old }
+    ensures ok { OnOk result (segments.new ≡ all_taken (up_to_label placed.now to) (all_put (up_to_label placed.now next) segments.old)) }
+    ensures err { OnErr result (segments.new ≡ segments.old) }
+{
+    match placed {
+        Some((from, pair)) => segments.move_end(*from, to, next, *pair),
+        None => Ok(()),
+    }
+}
+
 /// A pair with the label at which it is put.
 fn placed_at(label: u64, put: &Option<KeyPair>) -> Option<(u64, KeyPair)>
     ensures { result ≡ placed_at label put.now }
@@ -107,11 +124,10 @@ pub(crate) fn cut(
 {
     let own = placed_at(label, put);
     add(segments, &own, next)?;
-    if add(segments, left, label).is_err() {
+    if move_end(segments, left, next, label).is_err() {
         take(segments, &own, next);
         return Err(NoMemory);
     }
-    take(segments, left, next);
     Ok(())
 }
 
@@ -128,8 +144,7 @@ pub(crate) fn join(
     ensures ok { OnOk result (segments.new ≡ joined_at left.now label put.now next segments.old) }
     ensures err { OnErr result (segments.new ≡ segments.old) }
 {
-    add(segments, left, next)?;
-    take(segments, left, label);
+    move_end(segments, left, label, next)?;
     let own = placed_at(label, put);
     take(segments, &own, next);
     Ok(())

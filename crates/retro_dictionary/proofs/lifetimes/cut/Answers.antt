@@ -4,8 +4,8 @@ use Rattle.retro_dictionary.specs.Edited.{placed_at, all_put, all_taken}
 use Rattle.retro_dictionary.proofs.KeptLifetimes.{length-all_put, taken-put}
 use Rattle.retro_dictionary.proofs.lifetimes.cut.Goals as goal
 
-pub add-requires-2 : goal.add-requires-2
-add-requires-2 c =
+pub move_end-requires : goal.move_end-requires
+move_end-requires c =
     let put : c.add.new.segments ≡ all_put (up_to_label (placed_at c.args.label c.args.put.now) c.args.next) c.args.segments.now = search rules in
     record {
       can = record {
@@ -18,6 +18,6 @@ add-requires-2 c =
 pub returns-then-is_err-clause-err : goal.returns-then-is_err-clause-err
 returns-then-is_err-clause-err c =
     let put : c.add.new.segments ≡ all_put (up_to_label (placed_at c.args.label c.args.put.now) c.args.next) c.args.segments.now = search rules in
-    let kept : c.add-2.new.segments ≡ c.add.new.segments = search rules in
-    let taken : c.take.new.segments ≡ all_taken (up_to_label (placed_at c.args.label c.args.put.now) c.args.next) c.add-2.new.segments = search rules in
+    let kept : c.move_end.new.segments ≡ c.add.new.segments = search rules in
+    let taken : c.take.new.segments ≡ all_taken (up_to_label (placed_at c.args.label c.args.put.now) c.args.next) c.move_end.new.segments = search rules in
     taken ∙ ap (all_taken (up_to_label (placed_at c.args.label c.args.put.now) c.args.next)) (kept ∙ put) ∙ taken-put (placed_at c.args.label c.args.put.now) c.args.next c.args.segments.now
