@@ -35,8 +35,8 @@ REASONS = {
     "trees": "A timeline keeps its rows in their order and their numbers in another, and the structure keeps the rows again, with their signs: an edit goes down "
              "each of these trees, once to be tested and once to be made, and looks through a leaf of up to 32 items where it ends. The program of the last "
              "column keeps one tree, with 64 rows to a leaf. One tree with all measures, and one way down it, would change it.",
-    "trie": "A dictionary keeps each lifetime in up to some dozens of spans of a trie over labels, each a tree of its own: an edit changes two or three "
-            "lifetimes, and each of their spans. The program of the last column keeps a list of rows for each key, which has no bound for `succ`, "
+    "trie": "A dictionary keeps each lifetime in up to some dozens of spans of a trie over labels, each a tree of its own: an edit puts one lifetime "
+            "in or takes one out, and moves the end of another, in each span that changes. The program of the last column keeps a list of rows for each key, which has no bound for `succ`, "
             "`count` and `sum` where few of many keys are there. Spans that share their trees, or a wider trie, would change it.",
     "checkpoints": "A question about the past of a priority queue rolls the nearest checkpoint to its place and back, row by row, up to a width of rows, "
                    "and each of these rows is an edit of two trees. An edit goes to every checkpoint after its place. One product of pieces would "
