@@ -42,7 +42,7 @@ check:
 	@cd crates/$(CRATE) && rt check
 
 unit:
-	@for crate in retro_base retro_io script_gen tree_tests structure_tests script_tests; do \
+	@for crate in script_gen base_tests tree_tests structure_tests script_tests; do \
 	    echo "== $$crate"; (cd crates/$$crate && rt try --test --seconds 900) || exit 1; done
 
 fmt:

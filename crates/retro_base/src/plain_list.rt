@@ -271,8 +271,3 @@ impl Retro for PlainList {
         state.listing(self.alloc)
     }
 }
-
-#[cfg(test)]
-mod priority_tests;
-#[cfg(test)]
-mod tests;

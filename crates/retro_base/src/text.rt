@@ -61,6 +61,3 @@ impl Text {
         self.bytes.as_slice()
     }
 }
-
-#[cfg(test)]
-mod tests;

@@ -33,11 +33,7 @@ mod sink;
 mod source;
 mod std_sink;
 mod std_source;
-#[cfg(test)]
-mod std_tests;
 mod stock;
-#[cfg(test)]
-mod tests;
 mod whole_source;
 
 pub use line_buffer::LineBuffer;

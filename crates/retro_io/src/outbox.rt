@@ -144,6 +144,3 @@ impl<K: Sink + Drop> Sink for Outbox<K> {
         Ok(())
     }
 }
-
-#[cfg(test)]
-mod tests;

@@ -3,7 +3,7 @@ use Rattle.std.specs.List.{list_all}
 use Rattle.std.proofs.lemmas.Bool.{eq-eqb}
 use Rattle.retro_base.specs.declared.row.Row.{Row}
 use Rattle.retro_base.specs.Timeline.{IsFresh}
-use Rattle.retro_base.proofs.plain_list.tests.is_fresh.Goals as goal
+use Rattle.base_tests.proofs.history.is_fresh.Goals as goal
 
 fresh : (number : ℕ) (rows : List Row) → list_all (λ row. not (row.number == number)) rows ≡ true → IsFresh number rows
 fresh number [] h = tt
@@ -14,4 +14,4 @@ fresh number (row ∷ rows) h =
     ] refl h
 
 pub returns : goal.returns
-returns c = λ holds. rw (← c.list.view_is) (fresh _ _ (rw c.as_slice.ensures.value at (sym c.have_other_numbers.ensures ∙ holds)))
+returns c = λ holds. fresh _ _ (sym c.have_other_numbers.ensures ∙ holds)

@@ -1,9 +1,7 @@
-use super::PlainList;
-use super::tests::is_fresh;
-use crate::{Answer, Change, Entry, Item, Kind, MAX_ROWS, Op, Question, Retro, Row};
+use super::history::History;
+use retro_base::{Answer, Change, Entry, Item, Kind, Op, Question, Row};
 use std::alloc::Global;
 use std::process::Abort;
-use std::test::Fail;
 
 /// One edit of a priority queue, with what must come of it.
 #[derive(Clone, Copy)]
@@ -78,108 +76,83 @@ fn cut(place: u32, row: Row, change: Change) -> Edit {
     Edit::Cut { place, row, change }
 }
 
+fn least(place: u32, answer: Answer) -> Edit {
+    Edit::Least { place, answer }
+}
+
 fn key_is(value: i64) -> Answer {
     Answer::Number {
         value: i128::from(value),
     }
 }
 
-fn put_in(rt: &impl Abort, list: &mut PlainList, place: u32, row: Row) -> Result<Change, Fail> {
-    assert!(rt; row.op.kind() == list.kind());
-    assert!(rt; list.len() < MAX_ROWS);
-    assert!(rt; place <= list.len());
-    assert!(rt; is_fresh(list, row.number));
-    assert_eq!(rt; list.failure_after_insert(place, row.op), None);
-    Ok(list.insert(place, row)?)
-}
-
-fn follow(rt: &impl Abort, list: &mut PlainList, edit: Edit) -> Result<(), Fail> {
+fn follow(rt: &impl Abort, history: &mut History, edit: Edit) {
     match edit {
         Edit::Add { place, row, change } => {
-            assert_eq!(rt; put_in(rt, list, place, row)?, change);
+            assert_eq!(rt; history.put(rt, place, row), change);
         }
         Edit::Cut { place, row, change } => {
-            assert!(rt; place < list.len());
-            assert_eq!(rt; list.failure_after_remove(place), None);
-            let (taken, changed) = list.remove(place)?;
+            let (taken, changed) = history.cut(rt, place);
             assert_eq!(rt; taken, row);
             assert_eq!(rt; changed, change);
         }
         Edit::AddFails { place, op, index } => {
-            assert!(rt; op.kind() == list.kind());
-            assert!(rt; place <= list.len());
-            assert_eq!(rt; list.failure_after_insert(place, op), Some(index));
+            assert_eq!(rt; history.failure_with(rt, place, op), Some(index));
         }
         Edit::CutFails { place, index } => {
-            assert!(rt; place < list.len());
-            assert_eq!(rt; list.failure_after_remove(place), Some(index));
+            assert_eq!(rt; history.failure_without(rt, place), Some(index));
         }
         Edit::Least { place, answer } => {
-            assert!(rt; place <= list.len());
-            assert!(rt; Question::Min.suits(list.kind()));
-            assert_eq!(rt; list.ask(place, Question::Min)?, answer);
+            assert_eq!(rt; history.ask(rt, place, Question::Min), answer);
         }
     }
-    Ok(())
 }
 
-fn follow_all(rt: &impl Abort, alloc: Global, edits: &[Edit]) -> Result<PlainList, Fail> {
-    let mut list = PlainList::new(alloc, Kind::Pq);
+fn follow_all(rt: &impl Abort, alloc: Global, edits: &[Edit]) -> History {
+    let mut history = History::new(alloc, Kind::Pq);
     for edit in edits {
-        follow(rt, &mut list, *edit)?;
+        follow(rt, &mut history, *edit);
     }
-    Ok(list)
+    history
 }
 
 #[test]
-fn an_edit_changes_the_present_by_one_entry(rt: HostRuntime) -> Result<(), Fail> {
+fn an_edit_changes_the_present_by_one_entry(rt: HostRuntime) {
     let edits = [
         add(0, ins(1, 4), gain(0, 1, 4)),
         add(1, delmin(2), lose(1, 1, 4)),
         add(0, ins(3, 2), gain(0, 1, 4)),
-        Edit::Least {
-            place: 3,
-            answer: key_is(4),
-        },
-        Edit::Least {
-            place: 1,
-            answer: key_is(2),
-        },
+        least(3, key_is(4)),
+        least(1, key_is(2)),
         cut(0, ins(3, 2), lose(3, 1, 4)),
-        Edit::Least {
-            place: 2,
-            answer: Answer::Nothing,
-        },
+        least(2, Answer::Nothing),
         add(0, ins(3, 2), gain(0, 1, 4)),
         cut(2, delmin(2), gain(0, 3, 2)),
     ];
-    follow_all(&rt, rt.alloc(), &edits)?;
-    Ok(())
+    follow_all(&rt, rt.alloc(), &edits);
 }
 
 #[test]
-fn of_equal_keys_the_earlier_number_is_the_lesser(rt: HostRuntime) -> Result<(), Fail> {
+fn of_equal_keys_the_earlier_number_is_the_lesser(rt: HostRuntime) {
     let edits = [
         add(0, ins(1, 5), gain(0, 1, 5)),
         add(1, ins(2, 5), gain(1, 2, 5)),
         add(2, delmin(3), lose(2, 1, 5)),
     ];
-    let mut list = follow_all(&rt, rt.alloc(), &edits)?;
-    assert!(&rt; 3 <= list.len());
-    let listing = list.all(3)?;
+    let mut history = follow_all(&rt, rt.alloc(), &edits);
+    let listing = history.all(&rt, 3);
     assert_eq!(&rt; listing.len(), 1);
     assert_eq!(&rt; listing.item(0), Item::Single { value: 5 });
-    Ok(())
 }
 
 #[test]
-fn bridges_part_the_dead(rt: HostRuntime) -> Result<(), Fail> {
+fn bridges_part_the_dead(rt: HostRuntime) {
     let after_a_bridge = [
         add(0, ins(1, 9), gain(0, 1, 9)),
         add(1, delmin(2), lose(1, 1, 9)),
         add(2, ins(3, 3), gain(2, 3, 3)),
     ];
-    follow_all(&rt, rt.alloc(), &after_a_bridge)?;
+    follow_all(&rt, rt.alloc(), &after_a_bridge);
     let survivor_goes = [
         add(0, ins(1, 4), gain(0, 1, 4)),
         add(1, ins(2, 6), gain(1, 2, 6)),
@@ -187,7 +160,7 @@ fn bridges_part_the_dead(rt: HostRuntime) -> Result<(), Fail> {
         add(0, ins(1, 4), gain(0, 1, 4)),
         add(2, delmin(3), lose(2, 1, 4)),
     ];
-    follow_all(&rt, rt.alloc(), &survivor_goes)?;
+    follow_all(&rt, rt.alloc(), &survivor_goes);
     let refused = [
         add(0, ins(1, 4), gain(0, 1, 4)),
         add(1, delmin(2), lose(1, 1, 4)),
@@ -198,29 +171,27 @@ fn bridges_part_the_dead(rt: HostRuntime) -> Result<(), Fail> {
         },
         Edit::CutFails { place: 0, index: 0 },
     ];
-    follow_all(&rt, rt.alloc(), &refused)?;
-    Ok(())
+    follow_all(&rt, rt.alloc(), &refused);
 }
 
 /// Twenty jobs that are taken at once, each of a lesser key than the one before, and twenty that wait.
-fn forty_jobs(rt: &impl Abort, alloc: Global) -> Result<PlainList, Fail> {
-    let mut list = PlainList::new(alloc, Kind::Pq);
+fn forty_jobs(rt: &impl Abort, alloc: Global) -> History {
+    let mut history = History::new(alloc, Kind::Pq);
     for job in 1..=40u32 {
         let key = 41 - i64::from(job);
         let taken = if job <= 21 { job - 1 } else { 20 };
-        let place = list.len();
-        put_in(rt, &mut list, place, ins(job + taken, key))?;
+        let place = history.len();
+        history.put(rt, place, ins(job + taken, key));
         if job <= 20 {
-            let place = list.len();
-            put_in(rt, &mut list, place, delmin(2 * job))?;
+            let place = history.len();
+            history.put(rt, place, delmin(2 * job));
         }
     }
-    Ok(list)
+    history
 }
 
 #[test]
-fn a_list_of_forty_jobs(rt: HostRuntime) -> Result<(), Fail> {
-    let least = |place, answer| Edit::Least { place, answer };
+fn a_list_of_forty_jobs(rt: HostRuntime) {
     let edits = [
         least(60, key_is(1)),
         least(20, Answer::Nothing),
@@ -234,11 +205,9 @@ fn a_list_of_forty_jobs(rt: HostRuntime) -> Result<(), Fail> {
         cut(61, ins(60, 1), lose_itself(60, 1)),
         least(61, key_is(2)),
     ];
-    let mut list = forty_jobs(&rt, rt.alloc())?;
+    let mut history = forty_jobs(&rt, rt.alloc());
     for edit in edits {
-        follow(&rt, &mut list, edit)?;
+        follow(&rt, &mut history, edit);
     }
-    let size = list.ask_now(Question::Size);
-    assert_eq!(&rt; size, key_is(21));
-    Ok(())
+    assert_eq!(&rt; history.ask_now(&rt, Question::Size), key_is(21));
 }

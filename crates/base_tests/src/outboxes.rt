@@ -1,48 +1,45 @@
 ghost use Rattle.std.specs.Prelude.{◌≤◌, None};
 ghost use Rattle.retro_io.specs.Faults.{last_count};
 
-use crate::{Failed, MemorySink, Outbox, Sink, put_all};
-use std::test::Fail;
+use retro_io::{Failed, MemorySink, Outbox, Sink, put_all};
 
 #[test]
-fn answers_go_out_in_one_write(rt: HostRuntime) -> Result<(), Fail> {
+fn answers_go_out_in_one_write(rt: HostRuntime) {
     // Of the other sink, the second write fails: so there is one.
-    let sink = MemorySink::new(rt.alloc(), 64, 64, &[1])?;
-    let mut outbox = Outbox::new(rt.alloc(), sink)?;
+    let sink = MemorySink::new(rt.alloc(), 64, 64, &[1]).expect(&rt, "memory");
+    let mut outbox = Outbox::new(rt.alloc(), sink).expect(&rt, "memory");
     for answer in [b"ok\n".as_slice(), b"ok #1\n", b"= 5\n"] {
         assert_eq!(rt; put_all(&mut outbox, answer), Ok(()));
     }
     assert_eq!(rt; outbox.sink().written(), b"".as_slice());
     assert_eq!(rt; outbox.flush(), Ok(()));
     assert_eq!(rt; outbox.sink().written(), b"ok\nok #1\n= 5\n".as_slice());
-    Ok(())
 }
 
 #[test]
-fn all_goes_out_whatever_the_sink_takes(rt: HostRuntime) -> Result<(), Fail> {
+fn all_goes_out_whatever_the_sink_takes(rt: HostRuntime) {
     let mut bytes = Vec::new(rt.alloc());
     for number in 0..200_000_u32 {
-        bytes.push((number % 251) as u8)?;
+        bytes.push((number % 251) as u8).expect(&rt, "memory");
     }
     for piece in [1, 7, 4096, 1 << 20] {
-        let sink = MemorySink::new(rt.alloc(), 1 << 20, piece, &[])?;
-        let mut outbox = Outbox::new(rt.alloc(), sink)?;
+        let sink = MemorySink::new(rt.alloc(), 1 << 20, piece, &[]).expect(&rt, "memory");
+        let mut outbox = Outbox::new(rt.alloc(), sink).expect(&rt, "memory");
         assert_eq!(rt; put_all(&mut outbox, &bytes), Ok(()));
         assert_eq!(rt; outbox.send(), Ok(()));
         assert_eq!(rt; outbox.sink().written(), bytes.as_slice());
         assert_eq!(rt; outbox.flush(), Ok(()));
         assert_eq!(rt; outbox.sink().written(), bytes.as_slice());
     }
-    Ok(())
 }
 
 /// Each write of the other sink fails in turn: what it took before is all that it ever gets, and each further call fails.
 #[test]
-fn a_write_that_fails_is_the_last(rt: HostRuntime) -> Result<(), Fail> {
-    let bytes = vec![in rt.alloc(); b'x'; 200_000]?;
+fn a_write_that_fails_is_the_last(rt: HostRuntime) {
+    let bytes = vec![in rt.alloc(); b'x'; 200_000].expect(&rt, "memory");
     for failing in 0..49 {
-        let sink = MemorySink::new(rt.alloc(), 1 << 20, 4096, &[failing])?;
-        let mut outbox = Outbox::new(rt.alloc(), sink)?;
+        let sink = MemorySink::new(rt.alloc(), 1 << 20, 4096, &[failing]).expect(&rt, "memory");
+        let mut outbox = Outbox::new(rt.alloc(), sink).expect(&rt, "memory");
         let ended = put_all(&mut outbox, &bytes).is_ok() && outbox.send().is_ok();
         assert!(rt; !ended);
         for _ in 0..2 {
@@ -52,14 +49,13 @@ fn a_write_that_fails_is_the_last(rt: HostRuntime) -> Result<(), Fail> {
         }
         assert_eq!(rt; outbox.sink().written(), &bytes[..failing as usize * 4096]);
     }
-    Ok(())
 }
 
 #[test]
-fn a_send_passes_on_what_waits(rt: HostRuntime) -> Result<(), Fail> {
+fn a_send_passes_on_what_waits(rt: HostRuntime) {
     // Of the other sink, the second write fails: a send makes none where nothing waits.
-    let sink = MemorySink::new(rt.alloc(), 64, 64, &[1])?;
-    let mut outbox = Outbox::new(rt.alloc(), sink)?;
+    let sink = MemorySink::new(rt.alloc(), 64, 64, &[1]).expect(&rt, "memory");
+    let mut outbox = Outbox::new(rt.alloc(), sink).expect(&rt, "memory");
     assert_eq!(rt; outbox.send(), Ok(()));
     assert_eq!(rt; outbox.write(b"ok\n"), Ok(3));
     for _ in 0..3 {
@@ -69,7 +65,6 @@ fn a_send_passes_on_what_waits(rt: HostRuntime) -> Result<(), Fail> {
     assert_eq!(rt; outbox.write(b"ok\n"), Ok(3));
     assert_eq!(rt; outbox.send(), Err(Failed));
     assert_eq!(rt; outbox.sink().written(), b"ok\n".as_slice());
-    Ok(())
 }
 
 /// A sink that takes all, and of which the first flush fails and no later one.
@@ -119,17 +114,16 @@ impl Sink for FirstFlushFails {
 }
 
 #[test]
-fn a_flush_that_fails_is_the_last(rt: HostRuntime) -> Result<(), Fail> {
+fn a_flush_that_fails_is_the_last(rt: HostRuntime) {
     let sink = FirstFlushFails {
         flushes: 0,
         flushed: false,
         faults: 0,
     };
-    let mut outbox = Outbox::new(rt.alloc(), sink)?;
+    let mut outbox = Outbox::new(rt.alloc(), sink).expect(&rt, "memory");
     assert_eq!(rt; outbox.write(b"ok\n"), Ok(3));
     for _ in 0..3 {
         assert_eq!(rt; outbox.flush(), Err(Failed));
     }
     assert_eq!(rt; outbox.sink().flushes, 1);
-    Ok(())
 }

@@ -1,6 +1,5 @@
-use crate::{Failed, Sink, Source, StdSink, StdSource};
+use retro_io::{Failed, Sink, Source, StdSink, StdSource};
 use std::io::{self, ErrorKind, Read, Write};
-use std::test::Fail;
 
 /// A stream whose first call of each kind fails, and which then gives what is asked for and takes what it is handed.
 #[derive(Drop)]
@@ -48,7 +47,7 @@ impl Write for FailsOnce {
 }
 
 #[test]
-fn a_call_that_fails_is_not_tried_again(rt: HostRuntime) -> Result<(), Fail> {
+fn a_call_that_fails_is_not_tried_again(rt: HostRuntime) {
     let mut source = StdSource::new(FailsOnce::new());
     assert_eq!(rt; source.read(&mut [0; 16]), Err(Failed));
     assert_eq!(rt; source.read(&mut [0; 16]), Ok(16));
@@ -58,7 +57,6 @@ fn a_call_that_fails_is_not_tried_again(rt: HostRuntime) -> Result<(), Fail> {
     // A write flushes nothing, so the first flush is still to come.
     assert_eq!(rt; sink.flush(), Err(Failed));
     assert_eq!(rt; sink.flush(), Ok(()));
-    Ok(())
 }
 
 /// A stream that answers the end at every second read, and else gives all that it is asked for.
@@ -75,15 +73,14 @@ impl Read for EndsInTurn {
 }
 
 #[test]
-fn a_read_is_one_read_of_all_that_is_asked_for(rt: HostRuntime) -> Result<(), Fail> {
+fn a_read_is_one_read_of_all_that_is_asked_for(rt: HostRuntime) {
     let mut source = StdSource::new(EndsInTurn { ends: false });
-    let mut buffer = vec![in rt.alloc(); 0; 65_536]?;
+    let mut buffer = vec![in rt.alloc(); 0; 65_536].expect(&rt, "memory");
     // In all 1.3 gigabytes, which are more than a script may have.
     for _ in 0..20_000 {
         assert_eq!(rt; source.read(&mut buffer), Ok(0));
         assert_eq!(rt; source.read(&mut buffer), Ok(65_536));
     }
-    Ok(())
 }
 
 /// A stream that gives all that it is asked for, and takes all that it is handed.
@@ -107,15 +104,14 @@ impl Write for Willing {
 }
 
 #[test]
-fn streams_are_handed_all_of_every_size(rt: HostRuntime) -> Result<(), Fail> {
+fn streams_are_handed_all_of_every_size(rt: HostRuntime) {
     let mut source = StdSource::new(Willing);
     let mut sink = StdSink::new(Willing);
     for length in [0, 1, 2, 7, 15, 16, 17, 4096, 4097, 65_535, 65_536] {
-        let mut bytes = vec![in rt.alloc(); 0; length]?;
+        let mut bytes = vec![in rt.alloc(); 0; length].expect(&rt, "memory");
         assert_eq!(rt; source.read(&mut bytes), Ok(length));
         assert_eq!(rt; sink.write(&bytes), Ok(length));
     }
-    Ok(())
 }
 
 /// A stream whose every second call fails, and which else gives half of what is asked for and takes half of what it is handed.
@@ -155,7 +151,7 @@ impl Write for FailsInTurn {
 }
 
 #[test]
-fn a_call_is_one_call_of_the_stream(rt: HostRuntime) -> Result<(), Fail> {
+fn a_call_is_one_call_of_the_stream(rt: HostRuntime) {
     let mut source = StdSource::new(FailsInTurn { fails: true });
     let mut writer = StdSink::new(FailsInTurn { fails: true });
     let mut flusher = StdSink::new(FailsInTurn { fails: true });
@@ -167,5 +163,4 @@ fn a_call_is_one_call_of_the_stream(rt: HostRuntime) -> Result<(), Fail> {
         assert_eq!(rt; flusher.flush(), Ok(()));
         assert_eq!(rt; flusher.flush(), Err(Failed));
     }
-    Ok(())
 }

@@ -1,12 +1,7 @@
-ghost use Rattle.std.specs.Prelude.{◌≡◌, ◌==◌, not, IsTrue};
-ghost use Rattle.std.specs.List.{list_all};
-ghost use Rattle.retro_base.specs.Timeline.{IsFresh};
-
-use super::PlainList;
-use crate::{Answer, Item, Kind, Listing, MAX_ROWS, Op, Question, Retro, Row};
+use super::history::History;
+use retro_base::{Answer, Item, Kind, Listing, Op, Question, Row};
 use std::alloc::Global;
 use std::process::Abort;
-use std::test::Fail;
 
 /// One step of a history, with what must come of it.
 #[derive(Clone, Copy)]
@@ -43,69 +38,33 @@ enum Step<'a> {
     },
 }
 
-fn have_other_numbers(rows: &[Row], number: u32) -> bool
-    ensures { result ≡ list_all (λ row. not (row.number == number)) rows.now }
-{
-    rows.iter().all(|row| row.number != number)
-}
-
-/// Whether no row of the list has the number.
-pub(super) fn is_fresh(list: &PlainList, number: u32) -> bool
-    ensures { IsTrue result → IsFresh number list.now.rows }
-{
-    have_other_numbers(list.rows.as_slice(), number)
-}
-
-fn put(rt: &impl Abort, list: &mut PlainList, place: u32, row: Row) -> Result<(), Fail> {
-    assert!(rt; row.op.kind() == list.kind());
-    assert!(rt; list.len() < MAX_ROWS);
-    assert!(rt; place <= list.len());
-    assert!(rt; is_fresh(list, row.number));
-    assert_eq!(rt; list.failure_after_insert(place, row.op), None);
-    list.insert(place, row)?;
-    Ok(())
-}
-
-fn cut(rt: &impl Abort, list: &mut PlainList, place: u32, row: Row) -> Result<(), Fail> {
-    assert!(rt; place < list.len());
-    assert_eq!(rt; list.failure_after_remove(place), None);
-    let (taken, _) = list.remove(place)?;
-    assert_eq!(rt; taken, row);
-    Ok(())
-}
-
-fn follow(rt: &impl Abort, list: &mut PlainList, step: Step<'_>) -> Result<(), Fail> {
+fn follow(rt: &impl Abort, history: &mut History, step: Step<'_>) {
     match step {
-        Step::Put { place, row } => put(rt, list, place, row)?,
-        Step::PutFails { place, op, index } => {
-            assert!(rt; op.kind() == list.kind());
-            assert!(rt; place <= list.len());
-            assert_eq!(rt; list.failure_after_insert(place, op), Some(index));
+        Step::Put { place, row } => {
+            history.put(rt, place, row);
         }
-        Step::Cut { place, row } => cut(rt, list, place, row)?,
+        Step::PutFails { place, op, index } => {
+            assert_eq!(rt; history.failure_with(rt, place, op), Some(index));
+        }
+        Step::Cut { place, row } => {
+            let (taken, _) = history.cut(rt, place);
+            assert_eq!(rt; taken, row);
+        }
         Step::CutFails { place, index } => {
-            assert!(rt; place < list.len());
-            assert_eq!(rt; list.failure_after_remove(place), Some(index));
+            assert_eq!(rt; history.failure_without(rt, place), Some(index));
         }
         Step::Now { question, answer } => {
-            assert!(rt; question.suits(list.kind()));
-            assert_eq!(rt; list.ask_now(question), answer);
+            assert_eq!(rt; history.ask_now(rt, question), answer);
         }
         Step::Then {
             place,
             question,
             answer,
         } => {
-            assert!(rt; question.suits(list.kind()));
-            assert!(rt; place <= list.len());
-            assert_eq!(rt; list.ask(place, question)?, answer);
+            assert_eq!(rt; history.ask(rt, place, question), answer);
         }
-        Step::All { place, items } => {
-            assert!(rt; place <= list.len());
-            expect_items(rt, &list.all(place)?, items);
-        }
+        Step::All { place, items } => expect_items(rt, &history.all(rt, place), items),
     }
-    Ok(())
 }
 
 fn expect_items(rt: &impl Abort, listing: &Listing, items: &[Item]) {
@@ -134,16 +93,15 @@ fn pair(key: i64, value: i64) -> Item {
     Item::Pair { key, value }
 }
 
-fn play(rt: &impl Abort, alloc: Global, kind: Kind, steps: &[Step<'_>]) -> Result<(), Fail> {
-    let mut list = PlainList::new(alloc, kind);
+fn play(rt: &impl Abort, alloc: Global, kind: Kind, steps: &[Step<'_>]) {
+    let mut history = History::new(alloc, kind);
     for step in steps {
-        follow(rt, &mut list, *step)?;
+        follow(rt, &mut history, *step);
     }
-    Ok(())
 }
 
 #[test]
-fn a_queue_is_edited_before_a_row(rt: HostRuntime) -> Result<(), Fail> {
+fn a_queue_is_edited_before_a_row(rt: HostRuntime) {
     let (front, back) = (Question::Front, Question::Back);
     let steps = [
         Step::Put {
@@ -185,11 +143,11 @@ fn a_queue_is_edited_before_a_row(rt: HostRuntime) -> Result<(), Fail> {
             answer: number(1),
         },
     ];
-    play(&rt, rt.alloc(), Kind::Queue, &steps)
+    play(&rt, rt.alloc(), Kind::Queue, &steps);
 }
 
 #[test]
-fn a_stack_fails_at_a_later_row(rt: HostRuntime) -> Result<(), Fail> {
+fn a_stack_fails_at_a_later_row(rt: HostRuntime) {
     let steps = [
         Step::Put {
             place: 0,
@@ -219,11 +177,11 @@ fn a_stack_fails_at_a_later_row(rt: HostRuntime) -> Result<(), Fail> {
             items: &[single(3)],
         },
     ];
-    play(&rt, rt.alloc(), Kind::Stack, &steps)
+    play(&rt, rt.alloc(), Kind::Stack, &steps);
 }
 
 #[test]
-fn a_stack_counts_from_its_top(rt: HostRuntime) -> Result<(), Fail> {
+fn a_stack_counts_from_its_top(rt: HostRuntime) {
     let nth = |index| Question::Nth { index };
     let steps = [
         Step::Put {
@@ -260,11 +218,11 @@ fn a_stack_counts_from_its_top(rt: HostRuntime) -> Result<(), Fail> {
             answer: number(2),
         },
     ];
-    play(&rt, rt.alloc(), Kind::Stack, &steps)
+    play(&rt, rt.alloc(), Kind::Stack, &steps);
 }
 
 #[test]
-fn a_deque_is_open_at_both_ends(rt: HostRuntime) -> Result<(), Fail> {
+fn a_deque_is_open_at_both_ends(rt: HostRuntime) {
     let (left, right) = (Question::Left, Question::Right);
     let steps = [
         Step::Put {
@@ -302,11 +260,11 @@ fn a_deque_is_open_at_both_ends(rt: HostRuntime) -> Result<(), Fail> {
             answer: number(1),
         },
     ];
-    play(&rt, rt.alloc(), Kind::Deque, &steps)
+    play(&rt, rt.alloc(), Kind::Deque, &steps);
 }
 
 #[test]
-fn a_key_is_put_and_deleted(rt: HostRuntime) -> Result<(), Fail> {
+fn a_key_is_put_and_deleted(rt: HostRuntime) {
     let get = Question::Get { key: 1 };
     let deleted = row(2, 2, Op::Del { key: 1 });
     let steps = [
@@ -337,11 +295,11 @@ fn a_key_is_put_and_deleted(rt: HostRuntime) -> Result<(), Fail> {
             answer: number(10),
         },
     ];
-    play(&rt, rt.alloc(), Kind::Dict, &steps)
+    play(&rt, rt.alloc(), Kind::Dict, &steps);
 }
 
 #[test]
-fn a_dictionary_holds_the_least_and_the_greatest_key(rt: HostRuntime) -> Result<(), Fail> {
+fn a_dictionary_holds_the_least_and_the_greatest_key(rt: HostRuntime) {
     let (low, high) = (i64::MIN, i64::MAX);
     let least = Op::Put {
         key: low,
@@ -403,5 +361,5 @@ fn a_dictionary_holds_the_least_and_the_greatest_key(rt: HostRuntime) -> Result<
             items: &[pair(low, high), pair(high, high)],
         },
     ];
-    play(&rt, rt.alloc(), Kind::Dict, &steps)
+    play(&rt, rt.alloc(), Kind::Dict, &steps);
 }
