@@ -69,11 +69,9 @@ fn follow(rt: &impl Abort, history: &mut History, step: Step<'_>) {
 
 fn expect_items(rt: &impl Abort, listing: &Listing, items: &[Item]) {
     assert_eq!(rt; listing.len() as usize, items.len());
-    let mut index = 0;
-    for item in items {
-        assert!(rt; index < listing.len());
-        assert_eq!(rt; listing.item(index), *item);
-        index += 1;
+    for (index, item) in items.iter().enumerate() {
+        assert!(rt; index < listing.len() as usize);
+        assert_eq!(rt; listing.item(index as u32), *item);
     }
 }
 

@@ -1,12 +1,12 @@
-ghost use Rattle.std.specs.Prelude.{◌≡◌, None, OnOk};
+ghost use Rattle.std.specs.Prelude.{◌≡◌, None, [], ◌∷◌};
 ghost use Rattle.retro_base.specs.declared.kind.Kind.TheVariants.{Dict};
 ghost use Rattle.retro_base.specs.Kind.{kind_of};
 ghost use Rattle.key_index.specs.KeyRows.{Replays, op_at, with_row};
 
 use key_index::{Bad, KeyIndex, Labels2};
 use retro_base::{Kind, Op};
+use std::alloc::Global;
 use std::process::Abort;
-use std::test::Fail;
 
 const PUT: Op = Op::Put { key: 1, value: 10 };
 
@@ -16,30 +16,43 @@ const DEL: Op = Op::Del { key: 1 };
 const OTHER: Op = Op::Put { key: 2, value: 20 };
 
 /// Puts a row in at a label that no row has, where the rows can then all be performed.
-fn put(rt: &impl Abort, index: &mut KeyIndex, label: u64, op: Op) -> Result<(), Fail>
+fn put(rt: &impl Abort, index: &mut KeyIndex, label: u64, op: Op)
     requires fresh { op_at label index.old ≡ None }
     requires dict { kind_of op ≡ Dict }
     requires replays { Replays index.old }
-    ensures rows { OnOk result (index.new ≡ with_row label op index.old) }
-    ensures replays { OnOk result (Replays index.new) }
+    ensures rows { index.new ≡ with_row label op index.old }
+    ensures replays { Replays index.new }
 {
     if index.bad_after_insert(label, op).is_some() {
         panic!(rt; "the row fails");
     }
-    index.insert(label, op)?;
-    Ok(())
+    index.insert(label, op).expect(rt, "memory");
 }
 
-#[test]
-fn rows_beside_an_edit_decide(rt: HostRuntime) -> Result<(), Fail> {
-    let mut index = KeyIndex::new(rt.alloc());
-    assert_eq!(rt; index.bad_after_insert(50, DEL), Some(Bad::Inserted));
-    put(&rt, &mut index, 100, PUT)?;
-    put(&rt, &mut index, 101, OTHER)?;
-    put(&rt, &mut index, 200, DEL)?;
+/// The rows at 100, 101 and 200.
+fn three_rows(rt: &impl Abort, alloc: Global) -> KeyIndex
+    ensures rows { result ≡ with_row 200 DEL (with_row 101 OTHER (with_row 100 PUT [])) }
+    ensures replays { Replays result }
+{
+    let mut index = KeyIndex::new(alloc);
+    put(rt, &mut index, 100, PUT);
+    put(rt, &mut index, 101, OTHER);
+    put(rt, &mut index, 200, DEL);
+    index
+}
+
+fn expect_removals(rt: &impl Abort, index: &KeyIndex)
+    requires rows { index.now ≡ with_row 200 DEL (with_row 101 OTHER (with_row 100 PUT [])) }
+    requires replays { Replays index.now }
+{
     assert_eq!(rt; index.bad_after_remove(100), Some(200));
     assert_eq!(rt; index.bad_after_remove(101), None);
     assert_eq!(rt; index.bad_after_remove(200), None);
+}
+
+fn expect_insertions(rt: &impl Abort, index: &KeyIndex)
+    requires { Replays index.now }
+{
     for (later, op, bad) in [
         (150, DEL, Some(Bad::Present { label: 200 })),
         (50, DEL, Some(Bad::Inserted)),
@@ -53,15 +66,18 @@ fn rows_beside_an_edit_decide(rt: HostRuntime) -> Result<(), Fail> {
         assert!(rt; op.kind() == Kind::Dict);
         assert_eq!(rt; index.bad_after_insert(later, op), bad);
     }
-    Ok(())
 }
 
 #[test]
-fn neighbours_are_those_on_the_key(rt: HostRuntime) -> Result<(), Fail> {
-    let mut index = KeyIndex::new(rt.alloc());
-    index.insert(100, PUT)?;
-    index.insert(101, OTHER)?;
-    index.insert(200, DEL)?;
+fn rows_beside_an_edit_decide(rt: HostRuntime) {
+    let empty = KeyIndex::new(rt.alloc());
+    assert_eq!(rt; empty.bad_after_insert(50, DEL), Some(Bad::Inserted));
+    let index = three_rows(&rt, rt.alloc());
+    expect_removals(&rt, &index);
+    expect_insertions(&rt, &index);
+}
+
+fn expect_before(rt: &impl Abort, index: &KeyIndex) {
     for (key, label, row) in [
         (1, 200, Some((100, PUT))),
         (1, u64::MAX, Some((200, DEL))),
@@ -74,6 +90,9 @@ fn neighbours_are_those_on_the_key(rt: HostRuntime) -> Result<(), Fail> {
     ] {
         assert_eq!(rt; index.before(key, label), row);
     }
+}
+
+fn expect_after(rt: &impl Abort, index: &KeyIndex) {
     for (key, label, row) in [
         (1, 0, Some((100, PUT))),
         (1, 100, Some((200, DEL))),
@@ -85,28 +104,37 @@ fn neighbours_are_those_on_the_key(rt: HostRuntime) -> Result<(), Fail> {
     ] {
         assert_eq!(rt; index.after(key, label), row);
     }
-    assert_eq!(rt; index.remove(150), None);
-    assert_eq!(rt; index.remove(100), Some(PUT));
-    assert_eq!(rt; index.before(1, 200), None);
-    Ok(())
 }
 
 #[test]
-fn relabelled_rows_keep_their_order(rt: HostRuntime) -> Result<(), Fail> {
+fn neighbours_are_those_on_the_key(rt: HostRuntime) {
+    let mut index = three_rows(&rt, rt.alloc());
+    expect_before(&rt, &index);
+    expect_after(&rt, &index);
+    assert_eq!(rt; index.remove(150), None);
+    assert_eq!(rt; index.remove(100), Some(PUT));
+    assert_eq!(rt; index.before(1, 200), None);
+}
+
+fn labels(rt: &impl Abort, alloc: Global, first: u64, second: u64, third: u64) -> Labels2
+    ensures { result ≡ first ∷ second ∷ third ∷ [] }
+{
+    let mut labels = Labels2::new(alloc);
+    labels.push(first).expect(rt, "memory");
+    labels.push(second).expect(rt, "memory");
+    labels.push(third).expect(rt, "memory");
+    labels
+}
+
+#[test]
+fn relabelled_rows_keep_their_order(rt: HostRuntime) {
     let mut index = KeyIndex::new(rt.alloc());
-    index.insert(100, PUT)?;
-    index.insert(200, DEL)?;
-    let mut former = Labels2::new(rt.alloc());
-    former.push(100)?;
-    former.push(150)?;
-    former.push(200)?;
+    put(&rt, &mut index, 100, PUT);
+    put(&rt, &mut index, 200, DEL);
+    let former = labels(&rt, rt.alloc(), 100, 150, 200);
+    let fresh = labels(&rt, rt.alloc(), 1_000, 2_000, 3_000);
     assert_eq!(rt; former.len(), 3);
-    let mut fresh = Labels2::new(rt.alloc());
-    fresh.push(1_000)?;
-    fresh.push(2_000)?;
-    fresh.push(3_000)?;
     index.relabel(&former, &fresh);
     assert_eq!(rt; index.before(1, 3_000), Some((1_000, PUT)));
     assert_eq!(rt; index.after(1, 1_000), Some((3_000, DEL)));
-    Ok(())
 }

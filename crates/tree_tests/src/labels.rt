@@ -1,24 +1,27 @@
+ghost use Rattle.std.specs.Prelude.{◌≡◌, ◌+◌, ◌<◌, ◌≤◌, length};
+ghost use Rattle.std.specs.List.{insert};
+ghost use Rattle.order_labels.specs.Labels.{label_after, label_before, label_limit};
+ghost use Rattle.retro_base.specs.Limits.{most_rows};
+
 use order_labels::{Fresh, Labels, gap_of};
-use std::test::Fail;
+use std::process::Abort;
+
+/// Labels a new row at a place, and sees that it gets this label.
+fn put(rt: &impl Abort, labels: &mut Labels, place: u32, label: u64, relabelled: bool)
+    requires within { place ≤ length labels.old }
+    requires room { length labels.old < most_rows }
+    ensures { length labels.new ≡ length labels.old + 1 }
+{
+    let fresh = labels.insert(place).expect(rt, "memory");
+    assert_eq!(rt; fresh, Fresh { label, relabelled });
+}
 
 #[test]
-fn labels_halve_what_is_left(rt: HostRuntime) -> Result<(), Fail> {
+fn labels_halve_what_is_left(rt: HostRuntime) {
     let mut labels = Labels::new(rt.alloc());
-    assert_eq!(rt;
-        labels.insert(0)?,
-        Fresh {
-            label: 549_755_813_888,
-            relabelled: false
-        }
-    );
+    put(&rt, &mut labels, 0, 549_755_813_888, false);
     assert_eq!(rt; labels.len(), 1);
-    assert_eq!(rt;
-        labels.insert(1)?,
-        Fresh {
-            label: 824_633_720_832,
-            relabelled: false
-        }
-    );
+    put(&rt, &mut labels, 1, 824_633_720_832, false);
     assert_eq!(rt; labels.len(), 2);
     for (label, place) in [
         (549_755_813_888, Some(0)),
@@ -33,32 +36,18 @@ fn labels_halve_what_is_left(rt: HostRuntime) -> Result<(), Fail> {
     labels.remove(0);
     assert_eq!(rt; labels.len(), 1);
     assert_eq!(rt; labels.place_of_label(824_633_720_832), Some(0));
-    Ok(())
 }
 
 #[test]
-fn forty_insertions_at_the_front_use_the_labels_up(rt: HostRuntime) -> Result<(), Fail> {
+fn forty_insertions_at_the_front_use_the_labels_up(rt: HostRuntime) {
     let mut labels = Labels::new(rt.alloc());
     for digit in 0..40u32 {
         assert!(rt; labels.len() < 40);
-        let label = 1u64 << (39 - digit);
-        assert_eq!(rt;
-            labels.insert(0)?,
-            Fresh {
-                label,
-                relabelled: false
-            }
-        );
+        put(&rt, &mut labels, 0, 1u64 << (39 - digit), false);
     }
     assert_eq!(rt; labels.len(), 40);
     assert_eq!(rt; gap_of(41), 17_179_869_184);
-    assert_eq!(rt;
-        labels.insert(0)?,
-        Fresh {
-            label: 17_179_869_184,
-            relabelled: true
-        }
-    );
+    put(&rt, &mut labels, 0, 17_179_869_184, true);
     assert_eq!(rt; labels.len(), 41);
     for place in 0..41u32 {
         assert_eq!(rt; labels.len(), 41);
@@ -67,19 +56,28 @@ fn forty_insertions_at_the_front_use_the_labels_up(rt: HostRuntime) -> Result<()
             (u64::from(place) + 1) * 17_179_869_184
         );
     }
-    Ok(())
+}
+
+/// Gives a new row at a place this label.
+fn insert_labelled(rt: &impl Abort, labels: &mut Labels, place: u32, label: u64)
+    requires within { place ≤ length labels.old }
+    requires room { length labels.old < most_rows }
+    requires above { label_before 0 labels.old place < label }
+    requires below { label < label_after label_limit labels.old place }
+    ensures { labels.new ≡ insert labels.old place label }
+{
+    labels.insert_labelled(place, label).expect(rt, "memory");
 }
 
 #[test]
-fn a_label_is_chosen_by_the_caller(rt: HostRuntime) -> Result<(), Fail> {
+fn a_label_is_chosen_by_the_caller(rt: HostRuntime) {
     let mut labels = Labels::new(rt.alloc());
-    labels.insert_labelled(0, 7)?;
-    labels.insert_labelled(1, (1 << 40) - 1)?;
-    labels.insert_labelled(1, 8)?;
+    insert_labelled(&rt, &mut labels, 0, 7);
+    insert_labelled(&rt, &mut labels, 1, (1 << 40) - 1);
+    insert_labelled(&rt, &mut labels, 1, 8);
     for (place, label) in [(0, 7), (1, 8), (2, (1 << 40) - 1)] {
         assert!(rt; place < labels.len());
         assert_eq!(rt; labels.label_at(place), label);
     }
     assert_eq!(rt; labels.place_of_label(8), Some(1));
-    Ok(())
 }

@@ -1,4 +1,4 @@
-ghost use Rattle.std.specs.Prelude.{◌≡◌, ◌<◌, ◌≤◌, length, nat_lt, OnOk};
+ghost use Rattle.std.specs.Prelude.{◌≡◌, ◌<◌, ◌≤◌, length, nat_lt};
 ghost use Rattle.retro_base.specs.Visits.{OpensCounter};
 ghost use Rattle.lifetime_segments.specs.Lawful.{most_items};
 ghost use Rattle.lifetime_segments.specs.Lifetimes.{label_end, lifetime, stands_earlier};
@@ -11,7 +11,6 @@ use retro_base::Steps;
 use std::marker::{Brand, Model};
 use std::process::Abort;
 use std::sync::ledger::{Blank, Ledger};
-use std::test::Fail;
 use weighted_tree::Tree;
 
 /// The label after all labels.
@@ -124,21 +123,22 @@ fn counted<L: Ledger>(items: &Tree<Amount>, blank: Blank) -> Total
 }
 
 /// Adds a lifetime, where there is room for another.
-fn add(segments: &mut Segments<Totals>, from: u64, to: u64, value: u32) -> Result<(), Fail>
+fn add(rt: &impl Abort, segments: &mut Segments<Totals>, from: u64, to: u64, value: u32)
     requires rises { from < to }
     requires within { to ≤ label_end }
     requires room { length segments.old < most_items }
-    ensures { OnOk result (segments.new ≡ put_in (stands_earlier nat_lt) (lifetime from to value) segments.old) }
+    ensures { segments.new ≡ put_in (stands_earlier nat_lt) (lifetime from to value) segments.old }
 {
-    segments.add(from, to, Amount { value })?;
-    Ok(())
+    segments
+        .add(from, to, Amount { value })
+        .expect(rt, "memory");
 }
 
 #[test]
-fn answers_at_labels(rt: HostRuntime) -> Result<(), Fail> {
+fn answers_at_labels(rt: HostRuntime) {
     let mut segments = Segments::<Totals>::new(rt.alloc());
-    add(&mut segments, 2, 8, 10)?;
-    add(&mut segments, 4, END, 20)?;
+    add(&rt, &mut segments, 2, 8, 10);
+    add(&rt, &mut segments, 4, END, 20);
     for (label, count, sum) in [
         (0, 0, 0),
         (1, 0, 0),
@@ -152,14 +152,13 @@ fn answers_at_labels(rt: HostRuntime) -> Result<(), Fail> {
         assert!(rt; label < END);
         assert_eq!(rt; segments.ask(label, ()), Total { count, sum });
     }
-    Ok(())
 }
 
 #[test]
-fn takes_what_is_held(rt: HostRuntime) -> Result<(), Fail> {
+fn takes_what_is_held(rt: HostRuntime) {
     let mut segments = Segments::<Totals>::new(rt.alloc());
-    add(&mut segments, 2, 8, 10)?;
-    add(&mut segments, 4, END, 20)?;
+    add(&rt, &mut segments, 2, 8, 10);
+    add(&rt, &mut segments, 4, END, 20);
     for (from, to, value, held) in [
         (2, 8, 20, false),
         (2, 7, 10, false),
@@ -173,5 +172,4 @@ fn takes_what_is_held(rt: HostRuntime) -> Result<(), Fail> {
         assert_eq!(rt; segments.ask(label, ()), Total { count, sum });
     }
     assert!(rt; segments.take(4, END, Amount { value: 20 }));
-    Ok(())
 }

@@ -1,4 +1,5 @@
 ghost use Rattle.std.specs.Prelude.{◌<◌};
+ghost use Rattle.monoid_laws.specs.Walk.{IsSign};
 ghost use Rattle.retro_base.specs.Visits.{OpensCounter};
 
 use prefix_trees::SignTree;
@@ -8,15 +9,23 @@ use std::marker::Brand;
 use std::process::Abort;
 use std::sync::ledger::{Blank, Ledger};
 
+/// Appends a sign, which is marked where it is 1.
+fn append<L: Ledger>(rt: &impl Abort, tree: &mut SignTree, sign: i8, steps: &mut Steps<L>)
+    requires { IsSign sign }
+{
+    assert!(rt; tree.len() < 4);
+    let end = tree.len();
+    tree.insert(end, sign, sign == 1, steps)
+        .expect(rt, "memory");
+}
+
 /// The signs 1, 1, -1, 1, those of sign 1 marked.
 fn four_signs<L: Ledger>(rt: &impl Abort, alloc: Global, steps: &mut Steps<L>) -> SignTree {
     let mut tree = SignTree::new(alloc);
-    for sign in [1i8, 1, -1, 1] {
-        assert!(rt; tree.len() < 4 && -1 <= sign && sign <= 1);
-        let end = tree.len();
-        tree.insert(end, sign, sign == 1, steps)
-            .expect(rt, "memory");
-    }
+    append(rt, &mut tree, 1, steps);
+    append(rt, &mut tree, 1, steps);
+    append(rt, &mut tree, -1, steps);
+    append(rt, &mut tree, 1, steps);
     tree
 }
 

@@ -1,12 +1,11 @@
-ghost use Rattle.std.specs.Prelude.{◌≡◌, [], ◌∷◌, IfOk};
+ghost use Rattle.std.specs.Prelude.{◌≡◌, [], ◌∷◌};
 
 use order_labels::Labels;
 use order_timeline::Timeline;
-use retro_base::{MAX_NEXT, MAX_ROWS, NoMemory, Op, Row};
+use retro_base::{MAX_NEXT, MAX_ROWS, Op, Row};
 use std::alloc::Global;
 use std::marker::Model;
 use std::process::Abort;
-use std::test::Fail;
 
 const FIRST: Row = Row {
     number: 1,
@@ -21,18 +20,18 @@ const SECOND: Row = Row {
 };
 
 /// The rows #1 and #2, both at time 10.
-fn two_rows(alloc: Global) -> Result<Timeline, NoMemory>
-    ensures { IfOk result (λ timeline. timeline ≡ FIRST ∷ SECOND ∷ []) }
+fn two_rows(rt: &impl Abort, alloc: Global) -> Timeline
+    ensures { result ≡ FIRST ∷ SECOND ∷ [] }
 {
     let mut timeline = Timeline::new(alloc);
-    timeline.insert(0, FIRST)?;
-    timeline.insert(1, SECOND)?;
-    Ok(timeline)
+    timeline.insert(0, FIRST).expect(rt, "memory");
+    timeline.insert(1, SECOND).expect(rt, "memory");
+    timeline
 }
 
 #[test]
-fn rows_are_found_by_place_time_and_number(rt: HostRuntime) -> Result<(), Fail> {
-    let mut timeline = two_rows(rt.alloc())?;
+fn rows_are_found_by_place_time_and_number(rt: HostRuntime) {
+    let mut timeline = two_rows(&rt, rt.alloc());
     assert_eq!(rt; timeline.len(), 2);
     assert_eq!(rt; [timeline.row_at(0), timeline.row_at(1)], [FIRST, SECOND]);
     for (time, place) in [(0, 0), (9, 0), (10, 2), (u64::MAX, 2)] {
@@ -54,7 +53,6 @@ fn rows_are_found_by_place_time_and_number(rt: HostRuntime) -> Result<(), Fail> 
     assert_eq!(rt; timeline.remove(0), FIRST);
     assert_eq!(rt; timeline.len(), 1);
     assert_eq!(rt; timeline.place_of(2), Some(0));
-    Ok(())
 }
 
 /// Rows that came one after another, each before all others, with the number of the next one.
@@ -102,14 +100,14 @@ impl AtTheFront {
 }
 
 #[test]
-fn rows_at_one_place_use_the_labels_up(rt: HostRuntime) -> Result<(), Fail> {
+fn rows_at_one_place_use_the_labels_up(rt: HostRuntime) {
     // A run of rows is divided at the 33rd row and at each 17th after that, each time in the gap after the first label. Forty
     // divisions use up its 40 bits, as the same labels show by themselves: so all runs are given new labels at row 696.
     let mut labels = Labels::new(rt.alloc());
-    labels.insert(0)?;
+    labels.insert(0).expect(&rt, "memory");
     for division in 1..=40 {
         assert!(rt; 1 <= labels.len() && labels.len() <= 40);
-        let fresh = labels.insert(1)?;
+        let fresh = labels.insert(1).expect(&rt, "memory");
         assert_eq!(rt; fresh.relabelled, division == 40);
     }
     let mut front = AtTheFront::new(rt.alloc());
@@ -119,5 +117,4 @@ fn rows_at_one_place_use_the_labels_up(rt: HostRuntime) -> Result<(), Fail> {
     for number in 1..=1000 {
         assert_eq!(rt; front.place_of(number), Some(1000 - number));
     }
-    Ok(())
 }

@@ -226,6 +226,17 @@ fn fill<L: Ledger>(rt: &impl Abort, tree: &mut Tree<Amount>, steps: &mut Steps<L
     }
 }
 
+/// How many amounts, from the first on, are 1,500 or more.
+fn count_large<L: Ledger>(tree: &Tree<Amount>, steps: &mut Steps<L>) -> u32 {
+    tree.partition_point(|amount: &Amount| amount.value >= 1500, steps)
+}
+
+/// The sum of the first three amounts.
+fn first_three<L: Ledger>(rt: &impl Abort, tree: &Tree<Amount>, steps: &mut Steps<L>) -> i128 {
+    assert!(rt; 3 <= tree.len());
+    tree.measure(0, 3, steps).sum()
+}
+
 fn two_thousand<L: Ledger>(rt: &impl Abort, alloc: Global, blank: Blank)
     requires counter { OpensCounter blank.name L.name blank.parts L.parts }
 {
@@ -233,12 +244,11 @@ fn two_thousand<L: Ledger>(rt: &impl Abort, alloc: Global, blank: Blank)
     let mut tree = Tree::new(alloc);
     fill(rt, &mut tree, &mut steps);
     let copy = tree.copy(&mut steps).expect(rt, "memory");
-    let many = |amount: &Amount| amount.value >= 1500;
-    assert_eq!(rt; copy.partition_point(many, &mut steps), 500);
+    assert_eq!(rt; count_large(&copy, &mut steps), 500);
     insert_first(rt, &mut tree, 7, &mut steps);
     assert_eq!(rt; (copy.len(), tree.len()), (2000, 2001));
-    assert_eq!(rt; tree.measure(0, 3, &mut steps).sum(), 4004);
-    assert_eq!(rt; copy.measure(0, 3, &mut steps).sum(), 5994);
+    assert_eq!(rt; first_three(rt, &tree, &mut steps), 4004);
+    assert_eq!(rt; first_three(rt, &copy, &mut steps), 5994);
 }
 
 #[test]

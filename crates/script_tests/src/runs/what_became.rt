@@ -1,9 +1,8 @@
-use super::{NONE_FAILS, run_over};
-use retro_base::NoMemory;
+use super::expect_answers;
 use retro_cli::Status;
 
 #[test]
-fn fates_of_rows(rt: HostRuntime) -> Result<(), NoMemory> {
+fn fates_of_rows(rt: HostRuntime) {
     let scripts: [(&[u8], &[u8], Status); 7] = [
         // A queue: what is taken at once, in turn, by the last row, and what stays. Rows that are no answer.
         (
@@ -58,10 +57,5 @@ fn fates_of_rows(rt: HostRuntime) -> Result<(), NoMemory> {
             Status::Done,
         ),
     ];
-    for (number, (script, answers, status)) in scripts.into_iter().enumerate() {
-        let (ended, sink) = run_over(rt.alloc(), &[b"run"], script, 512, &NONE_FAILS)?;
-        assert_eq!(rt; sink.written(), answers, "row {number}");
-        assert_eq!(rt; ended, status, "row {number}");
-    }
-    Ok(())
+    expect_answers(&rt, rt.alloc(), &scripts, 512);
 }
