@@ -3,7 +3,8 @@ ghost use Rattle.retro_base.specs.Visits.{OpensCounter};
 
 mod compared;
 
-use compared::{Compared, expect_same};
+use super::listings::expect_same;
+use compared::Compared;
 use retro_base::{Change, Entry, Item, Kind, Op, Partial, Steps};
 use std::alloc::Global;
 use std::marker::Brand;

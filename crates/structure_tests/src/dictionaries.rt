@@ -6,7 +6,6 @@ use retro_dictionary::{Found, KeyPair, KeyRange, PairSearch, RetroDictionary};
 use std::alloc::Global;
 use std::marker::Model;
 use std::process::Abort;
-use std::test::Fail;
 
 /// A dictionary, with the number of the next row.
 #[derive(Drop)]
@@ -38,7 +37,7 @@ impl History {
     }
 
     /// Puts a row in that can be performed.
-    fn put(&mut self, rt: &impl Abort, place: u32, op: Op) -> Result<(), Fail> {
+    fn put(&mut self, rt: &impl Abort, place: u32, op: Op) {
         let number = self.next;
         assert!(rt; self.dictionary.len() < MAX_ROWS && number < MAX_NEXT);
         assert!(rt; place <= self.dictionary.len() && op.kind() == Kind::Dict);
@@ -48,9 +47,8 @@ impl History {
             time: 0,
             op,
         };
-        self.dictionary.insert(place, row)?;
+        self.dictionary.insert(place, row).expect(rt, "memory");
         self.next = number + 1;
-        Ok(())
     }
 
     /// The row that fails once a row is put in.
@@ -66,33 +64,24 @@ impl History {
     }
 
     /// Takes a row out without which the others can be performed.
-    fn cut(&mut self, rt: &impl Abort, place: u32) -> Result<Row, Fail> {
+    fn cut(&mut self, rt: &impl Abort, place: u32) -> Row {
         assert!(rt; place < self.dictionary.len());
         assert_eq!(rt; self.dictionary.failure_after_remove(place), None);
-        let (row, _) = self.dictionary.remove(place)?;
-        Ok(row)
+        let (row, _) = self.dictionary.remove(place).expect(rt, "memory");
+        row
     }
 
-    fn expect_answers(
-        &mut self,
-        rt: &impl Abort,
-        answers: &[(u32, Question, Answer)],
-    ) -> Result<(), Fail> {
+    fn expect_answers(&mut self, rt: &impl Abort, answers: &[(u32, Question, Answer)]) {
         for (place, question, answer) in answers {
             assert!(rt; *place <= self.dictionary.len() && question.suits(Kind::Dict));
-            assert_eq!(rt; self.dictionary.ask(*place, *question)?, *answer);
+            let found = self.dictionary.ask(*place, *question).expect(rt, "memory");
+            assert_eq!(rt; found, *answer);
         }
-        Ok(())
     }
 
-    fn expect_pairs(
-        &mut self,
-        rt: &impl Abort,
-        place: u32,
-        pairs: &[(i64, i64)],
-    ) -> Result<(), Fail> {
+    fn expect_pairs(&mut self, rt: &impl Abort, place: u32, pairs: &[(i64, i64)]) {
         assert!(rt; place <= self.dictionary.len());
-        let listing = self.dictionary.all(place)?;
+        let listing = self.dictionary.all(place).expect(rt, "memory");
         assert_eq!(rt; listing.len() as usize, pairs.len());
         for (index, (key, value)) in pairs.iter().enumerate() {
             assert!(rt; index < listing.len() as usize);
@@ -102,7 +91,6 @@ impl History {
             };
             assert_eq!(rt; listing.item(index as u32), item);
         }
-        Ok(())
     }
 }
 
@@ -115,20 +103,20 @@ const GET: Question = Question::Get { key: 1 };
 const DEL: Op = Op::Del { key: 1 };
 
 /// `put 1 10`, `put 1 20`.
-fn two_rows(rt: &impl Abort, alloc: Global) -> Result<History, Fail> {
+fn two_rows(rt: &impl Abort, alloc: Global) -> History {
     let mut history = History::new(alloc);
     assert_eq!(rt; history.failing_with(rt, 0, DEL), Some(0));
-    history.put(rt, 0, Op::Put { key: 1, value: 10 })?;
-    history.put(rt, 1, Op::Put { key: 1, value: 20 })?;
-    Ok(history)
+    history.put(rt, 0, Op::Put { key: 1, value: 10 });
+    history.put(rt, 1, Op::Put { key: 1, value: 20 });
+    history
 }
 
-fn expect_two_rows(rt: &impl Abort, history: &mut History) -> Result<(), Fail> {
-    history.expect_answers(rt, &[(1, GET, number(10)), (2, GET, number(20))])
+fn expect_two_rows(rt: &impl Abort, history: &mut History) {
+    history.expect_answers(rt, &[(1, GET, number(10)), (2, GET, number(20))]);
 }
 
 /// `del 1` comes in between.
-fn expect_three_rows(rt: &impl Abort, history: &mut History) -> Result<(), Fail> {
+fn expect_three_rows(rt: &impl Abort, history: &mut History) {
     let count = Question::Count { low: 0, high: 9 };
     let sum = Question::Sum { low: 0, high: 9 };
     history.expect_answers(
@@ -140,7 +128,7 @@ fn expect_three_rows(rt: &impl Abort, history: &mut History) -> Result<(), Fail>
             (2, count, number(0)),
             (3, sum, number(20)),
         ],
-    )
+    );
 }
 
 fn expect_failures(rt: &impl Abort, history: &History) {
@@ -152,30 +140,28 @@ fn expect_failures(rt: &impl Abort, history: &History) {
     }
 }
 
-fn take_back(rt: &impl Abort, history: &mut History) -> Result<(), Fail> {
-    let row = history.cut(rt, 1)?;
+fn take_back(rt: &impl Abort, history: &mut History) {
+    let row = history.cut(rt, 1);
     assert_eq!(rt; (row.number, row.op), (3, DEL));
-    Ok(())
 }
 
-fn expect_present(rt: &impl Abort, history: &mut History) -> Result<(), Fail> {
-    history.cut(rt, 1)?;
+fn expect_present(rt: &impl Abort, history: &mut History) {
+    history.cut(rt, 1);
     let sum = Question::Sum { low: 0, high: 9 };
     assert!(rt; sum.suits(Kind::Dict));
     assert_eq!(rt; history.dictionary.ask_now(sum), number(10));
-    Ok(())
 }
 
 #[test]
-fn a_row_comes_in_between(rt: HostRuntime) -> Result<(), Fail> {
-    let mut history = two_rows(&rt, rt.alloc())?;
-    expect_two_rows(&rt, &mut history)?;
-    history.put(&rt, 1, DEL)?;
-    expect_three_rows(&rt, &mut history)?;
+fn a_row_comes_in_between(rt: HostRuntime) {
+    let mut history = two_rows(&rt, rt.alloc());
+    expect_two_rows(&rt, &mut history);
+    history.put(&rt, 1, DEL);
+    expect_three_rows(&rt, &mut history);
     expect_failures(&rt, &history);
-    take_back(&rt, &mut history)?;
-    expect_two_rows(&rt, &mut history)?;
-    expect_present(&rt, &mut history)
+    take_back(&rt, &mut history);
+    expect_two_rows(&rt, &mut history);
+    expect_present(&rt, &mut history);
 }
 
 const LOW: i64 = i64::MIN;
@@ -183,7 +169,7 @@ const LOW: i64 = i64::MIN;
 const HIGH: i64 = i64::MAX;
 
 /// The least key and the greatest one.
-fn both_ends(rt: &impl Abort, alloc: Global) -> Result<History, Fail> {
+fn both_ends(rt: &impl Abort, alloc: Global) -> History {
     let mut history = History::new(alloc);
     history.put(
         rt,
@@ -192,7 +178,7 @@ fn both_ends(rt: &impl Abort, alloc: Global) -> Result<History, Fail> {
             key: LOW,
             value: HIGH,
         },
-    )?;
+    );
     history.put(
         rt,
         1,
@@ -200,15 +186,15 @@ fn both_ends(rt: &impl Abort, alloc: Global) -> Result<History, Fail> {
             key: HIGH,
             value: HIGH,
         },
-    )?;
-    Ok(history)
+    );
+    history
 }
 
 fn pair(key: i64, value: i64) -> Answer {
     Answer::Pair { key, value }
 }
 
-fn expect_neighbours(rt: &impl Abort, history: &mut History) -> Result<(), Fail> {
+fn expect_neighbours(rt: &impl Abort, history: &mut History) {
     history.expect_answers(
         rt,
         &[
@@ -217,10 +203,10 @@ fn expect_neighbours(rt: &impl Abort, history: &mut History) -> Result<(), Fail>
             (2, Question::Succ { key: HIGH }, pair(HIGH, HIGH)),
             (2, Question::Pred { key: LOW }, pair(LOW, HIGH)),
         ],
-    )
+    );
 }
 
-fn expect_sums(rt: &impl Abort, history: &mut History) -> Result<(), Fail> {
+fn expect_sums(rt: &impl Abort, history: &mut History) {
     let sum = Question::Sum {
         low: LOW,
         high: HIGH,
@@ -232,38 +218,38 @@ fn expect_sums(rt: &impl Abort, history: &mut History) -> Result<(), Fail> {
             (2, Question::Count { low: 1, high: 0 }, number(0)),
             (1, Question::Size, number(1)),
         ],
-    )
+    );
 }
 
-fn expect_contents(rt: &impl Abort, history: &mut History) -> Result<(), Fail> {
-    history.expect_pairs(rt, 2, &[(LOW, HIGH), (HIGH, HIGH)])?;
-    history.expect_pairs(rt, 1, &[(LOW, HIGH)])?;
-    history.expect_pairs(rt, 0, &[])
+fn expect_contents(rt: &impl Abort, history: &mut History) {
+    history.expect_pairs(rt, 2, &[(LOW, HIGH), (HIGH, HIGH)]);
+    history.expect_pairs(rt, 1, &[(LOW, HIGH)]);
+    history.expect_pairs(rt, 0, &[]);
 }
 
 #[test]
-fn the_least_and_the_greatest_numbers_are_there(rt: HostRuntime) -> Result<(), Fail> {
-    let mut history = both_ends(&rt, rt.alloc())?;
-    expect_neighbours(&rt, &mut history)?;
-    expect_sums(&rt, &mut history)?;
-    expect_contents(&rt, &mut history)
+fn the_least_and_the_greatest_numbers_are_there(rt: HostRuntime) {
+    let mut history = both_ends(&rt, rt.alloc());
+    expect_neighbours(&rt, &mut history);
+    expect_sums(&rt, &mut history);
+    expect_contents(&rt, &mut history);
 }
 
 /// Forty-one rows that come in at the front, of two keys in turn: the last of them uses the labels up, and all get new
 /// ones. The row at each index puts 140 less the index.
-fn relabelled(rt: &impl Abort, alloc: Global) -> Result<History, Fail> {
+fn relabelled(rt: &impl Abort, alloc: Global) -> History {
     let mut history = History::new(alloc);
     for step in 0..41i64 {
         let op = Op::Put {
             key: step % 2,
             value: 100 + step,
         };
-        history.put(rt, 0, op)?;
+        history.put(rt, 0, op);
     }
-    Ok(history)
+    history
 }
 
-fn expect_place(rt: &impl Abort, history: &mut History, place: u32) -> Result<(), Fail> {
+fn expect_place(rt: &impl Abort, history: &mut History, place: u32) {
     let (size, sum) = match place {
         0 => (0, 0),
         1 => (1, 140),
@@ -276,21 +262,21 @@ fn expect_place(rt: &impl Abort, history: &mut History, place: u32) -> Result<()
             (place, Question::Size, number(size)),
             (place, question, number(sum)),
         ],
-    )
+    );
 }
 
 #[test]
-fn relabelled_rows_answer_as_before(rt: HostRuntime) -> Result<(), Fail> {
-    let mut history = relabelled(&rt, rt.alloc())?;
+fn relabelled_rows_answer_as_before(rt: HostRuntime) {
+    let mut history = relabelled(&rt, rt.alloc());
     for place in 0..42u32 {
-        expect_place(&rt, &mut history, place)?;
+        expect_place(&rt, &mut history, place);
     }
-    history.expect_pairs(&rt, 40, &[(0, 102), (1, 101)])?;
-    history.expect_pairs(&rt, 41, &[(0, 100), (1, 101)])
+    history.expect_pairs(&rt, 40, &[(0, 102), (1, 101)]);
+    history.expect_pairs(&rt, 41, &[(0, 100), (1, 101)]);
 }
 
-fn expect_del(rt: &impl Abort, history: &mut History) -> Result<(), Fail> {
-    history.put(rt, 5, DEL)?;
+fn expect_del(rt: &impl Abort, history: &mut History) {
+    history.put(rt, 5, DEL);
     assert_eq!(rt; history.failing_with(rt, 5, DEL), Some(6));
     assert_eq!(rt; history.failing_without(rt, 3), None);
     history.expect_answers(
@@ -301,21 +287,21 @@ fn expect_del(rt: &impl Abort, history: &mut History) -> Result<(), Fail> {
             (6, Question::Size, number(1)),
             (7, GET, number(135)),
         ],
-    )
+    );
 }
 
-fn expect_cuts(rt: &impl Abort, history: &mut History) -> Result<(), Fail> {
-    history.cut(rt, 5)?;
-    history.expect_answers(rt, &[(5, GET, number(137)), (6, GET, number(135))])?;
-    history.cut(rt, 3)?;
-    history.expect_answers(rt, &[(4, GET, number(139)), (5, GET, number(135))])
+fn expect_cuts(rt: &impl Abort, history: &mut History) {
+    history.cut(rt, 5);
+    history.expect_answers(rt, &[(5, GET, number(137)), (6, GET, number(135))]);
+    history.cut(rt, 3);
+    history.expect_answers(rt, &[(4, GET, number(139)), (5, GET, number(135))]);
 }
 
 #[test]
-fn relabelled_rows_are_edited(rt: HostRuntime) -> Result<(), Fail> {
-    let mut history = relabelled(&rt, rt.alloc())?;
-    expect_del(&rt, &mut history)?;
-    expect_cuts(&rt, &mut history)
+fn relabelled_rows_are_edited(rt: HostRuntime) {
+    let mut history = relabelled(&rt, rt.alloc());
+    expect_del(&rt, &mut history);
+    expect_cuts(&rt, &mut history);
 }
 
 const FIRST: KeyPair = KeyPair { key: 1, value: 10 };
@@ -363,13 +349,12 @@ fn expect_both(rt: &impl Abort, segments: &Segments<PairSearch>) {
 }
 
 #[test]
-fn pairs_are_found_by_their_lifetimes(rt: HostRuntime) -> Result<(), Fail> {
+fn pairs_are_found_by_their_lifetimes(rt: HostRuntime) {
     let mut segments = Segments::<PairSearch>::new(rt.alloc());
-    segments.add(2, 8, FIRST)?;
-    segments.add(4, 1 << 40, SECOND)?;
+    segments.add(2, 8, FIRST).expect(&rt, "memory");
+    segments.add(4, 1 << 40, SECOND).expect(&rt, "memory");
     expect_both(&rt, &segments);
     assert!(rt; segments.take(2, 8, FIRST));
     assert!(rt; !segments.take(2, 8, FIRST));
     assert_eq!(rt; found_at(&rt, &segments, 5), wanted(false, true));
-    Ok(())
 }

@@ -1,8 +1,9 @@
 ghost use Rattle.std.specs.Prelude.{◌≡◌, []};
 ghost use Rattle.engine.specs.Engine.{rows_inside};
 
+use super::history::History;
 use engine::Engine;
-use retro_base::{Answer, Item, Kind, Op, Question, Retro, Row};
+use retro_base::{Answer, Item, Kind, Op, Question, Retro};
 use std::process::Abort;
 
 /// A first row of a kind, a question that it answers, and the item that it leaves.
@@ -14,56 +15,21 @@ struct First {
     item: Item,
 }
 
-fn row_of(first: First) -> Row
-    ensures { result.op ≡ first.op }
-{
-    Row {
-        number: 1,
-        time: 5,
-        op: first.op,
-    }
-}
-
-fn insert_first(rt: &impl Abort, engine: &mut Engine, first: First)
-    requires { rows_inside engine.old ≡ [] }
-{
-    let row = row_of(first);
-    assert_eq!(rt; row.op.kind(), engine.kind());
-    assert_eq!(rt; engine.failure_after_insert(0, row.op), None);
-    engine.insert(0, row).expect(rt, "memory");
-}
-
-fn ask_first(rt: &impl Abort, engine: &mut Engine, first: First) {
-    assert_eq!(rt; engine.len(), 1);
-    assert!(rt; first.question.suits(engine.kind()));
-    let seven = Answer::Number { value: 7 };
-    assert_eq!(rt; engine.ask_now(first.question), seven);
-    let before = engine.ask(0, first.question).expect(rt, "memory");
-    assert_eq!(rt; before, Answer::Nothing);
-}
-
-fn list_first(rt: &impl Abort, engine: &mut Engine, first: First) {
-    assert_eq!(rt; engine.len(), 1);
-    let listing = engine.all(1).expect(rt, "memory");
-    assert_eq!(rt; listing.len(), 1);
-    assert_eq!(rt; listing.item(0), first.item);
-}
-
-fn remove_first(rt: &impl Abort, engine: &mut Engine, first: First) {
-    assert_eq!(rt; engine.len(), 1);
-    assert_eq!(rt; engine.failure_after_remove(0), None);
-    let (taken, _) = engine.remove(0).expect(rt, "memory");
-    assert_eq!(rt; taken, row_of(first));
-}
-
-fn perform_first(rt: &impl Abort, mut engine: Engine, first: First)
+fn perform_first(rt: &impl Abort, engine: Engine, first: First)
     requires { rows_inside engine ≡ [] }
 {
     assert_eq!(rt; engine.kind(), first.kind);
-    insert_first(rt, &mut engine, first);
-    ask_first(rt, &mut engine, first);
-    list_first(rt, &mut engine, first);
-    remove_first(rt, &mut engine, first);
+    let mut history = History::new(engine);
+    history.put(rt, 0, 5, first.op);
+    assert_eq!(rt; history.len(), 1);
+    let seven = Answer::Number { value: 7 };
+    assert_eq!(rt; history.ask_now(rt, first.question), seven);
+    assert_eq!(rt; history.ask(rt, 0, first.question), Answer::Nothing);
+    let listing = history.all(rt, 1);
+    assert_eq!(rt; listing.len(), 1);
+    assert_eq!(rt; listing.item(0), first.item);
+    let (taken, _) = history.cut(rt, 0);
+    assert_eq!(rt; (taken.number, taken.time, taken.op), (1, 5, first.op));
 }
 
 #[test]

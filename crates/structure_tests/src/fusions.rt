@@ -1,8 +1,8 @@
-mod compared;
-
-use compared::Compared;
+use super::compared::Compared;
+use super::history::History;
+use super::listings::expect_values;
 use pq_fusion::{FusedQueue, Piece};
-use retro_base::{Answer, Change, Entry, Item, Kind, Op, Question, Retro, Row};
+use retro_base::{Answer, Change, Entry, Op, Question, Retro, Row};
 use std::process::Abort;
 
 const TWO: Op = Op::Ins { key: 2 };
@@ -10,11 +10,9 @@ const TWO: Op = Op::Ins { key: 2 };
 const FOUR: Op = Op::Ins { key: 4 };
 
 /// The history `ins 4`, `delmin`, into which `ins 2` comes first.
-fn three_rows(rt: &impl Abort, both: &mut Compared) {
+fn three_rows(rt: &impl Abort, both: &mut Compared<FusedQueue>) {
     for (place, op) in [(0, FOUR), (1, Op::DelMin), (0, TWO)] {
-        assert!(rt; place <= both.len());
-        assert_eq!(rt; op.kind(), Kind::Pq);
-        both.add(rt, place, op);
+        both.put(rt, place, op);
     }
 }
 
@@ -67,20 +65,16 @@ fn expect_pieces(rt: &impl Abort, queue: &FusedQueue) {
     }
 }
 
-fn expect_past(rt: &impl Abort, queue: &mut FusedQueue) {
+fn expect_past(rt: &impl Abort, queue: &mut History<FusedQueue>) {
     assert_eq!(rt; queue.len(), 3);
-    let listing = queue.all(2).expect(rt, "memory");
-    assert_eq!(rt; listing.len(), 2);
-    assert_eq!(rt; listing.item(0), Item::Single { value: 2 });
-    assert_eq!(rt; listing.item(1), Item::Single { value: 4 });
-    let least = queue.ask(1, Question::Min).expect(rt, "memory");
+    expect_values(rt, &queue.all(rt, 2), &[2, 4]);
+    let least = queue.ask(rt, 1, Question::Min);
     assert_eq!(rt; least, Answer::Number { value: 2 });
 }
 
-fn cut_first(rt: &impl Abort, queue: &mut FusedQueue) {
+fn cut_first(rt: &impl Abort, queue: &mut History<FusedQueue>) {
     assert_eq!(rt; queue.len(), 3);
-    assert_eq!(rt; queue.failure_after_remove(0), None);
-    let (row, change) = queue.remove(0).expect(rt, "memory");
+    let (row, change) = queue.cut(rt, 0);
     assert_eq!(rt; (row.number, row.op), (3, TWO));
     let lost = Change::Lose {
         bridge: Some(3),
@@ -91,13 +85,13 @@ fn cut_first(rt: &impl Abort, queue: &mut FusedQueue) {
 
 #[test]
 fn three_rows_are_one_product(rt: HostRuntime) {
-    let mut both = Compared::new(rt.alloc());
+    let mut both = Compared::new(rt.alloc(), FusedQueue::new(rt.alloc()));
     three_rows(&rt, &mut both);
-    let mut queue = both.into_queue();
-    assert!(&rt; queue.stored() <= 27);
-    expect_pieces(&rt, &queue);
-    expect_past(&rt, &mut queue);
-    cut_first(&rt, &mut queue);
+    let queue = both.queue();
+    assert!(&rt; queue.structure().stored() <= 27);
+    expect_pieces(&rt, queue.structure());
+    expect_past(&rt, queue);
+    cut_first(&rt, queue);
 }
 
 /// Two pieces of a few entries, fused.
@@ -136,7 +130,7 @@ fn a_taking_removes_what_was_put_in(rt: HostRuntime) {
 }
 
 /// One edit of a drawn history: most often a row that adds, and where one cannot be, none.
-fn drawn_edit(rt: &impl Abort, both: &mut Compared, draw: u32) {
+fn drawn_edit(rt: &impl Abort, both: &mut Compared<FusedQueue>, draw: u32) {
     let len = both.len();
     let place = draw / 8 % (len + 1);
     let op = if draw % 8 < 4 {
@@ -146,12 +140,11 @@ fn drawn_edit(rt: &impl Abort, both: &mut Compared, draw: u32) {
     } else {
         Op::DelMin
     };
-    assert_eq!(rt; op.kind(), Kind::Pq);
     if draw % 8 < 7 {
-        if both.failure_with(rt, place, op).is_none() {
-            both.add(rt, place, op);
+        if both.failing_with(rt, place, op).is_none() {
+            both.put(rt, place, op);
         }
-    } else if place < len && both.failure_without(rt, place).is_none() {
+    } else if place < len && both.failing_without(rt, place).is_none() {
         both.cut(rt, place);
     }
     let asked = draw / 16 % (both.len() + 1);
@@ -160,13 +153,13 @@ fn drawn_edit(rt: &impl Abort, both: &mut Compared, draw: u32) {
 
 #[test]
 fn drawn_edits_are_those_of_the_plain_list(rt: HostRuntime) {
-    let mut both = Compared::new(rt.alloc());
+    let mut both = Compared::new(rt.alloc(), FusedQueue::new(rt.alloc()));
     let mut state = 1u32;
     for _ in 0..400u32 {
         state = state.wrapping_mul(1_664_525).wrapping_add(1_013_904_223);
         drawn_edit(&rt, &mut both, state >> 8);
     }
-    let (rows, stored) = (u64::from(both.len()), both.stored());
+    let (rows, stored) = (u64::from(both.len()), both.queue().structure().stored());
     assert!(&rt; rows > 100);
     assert!(&rt; stored <= 27 * rows);
 }

@@ -3,13 +3,15 @@
 //!
 //! One file for each crate: `queues`, `stacks`, `deques` and `dictionaries` of the four fully retroactive structures, `bridges`
 //! of `bridge_pq` and `fusions` of `pq_fusion`, which are compared with a plain list, `checkpoints` of `checkpoint_full` over the
-//! first, and `engines` of `engine`.
+//! first, and `engines` of `engine`. Most are tested through one `history`, which numbers the rows, and two `compared`.
 #![tactic(auto)]
 
 #[cfg(test)]
 mod bridges;
 #[cfg(test)]
 mod checkpoints;
+#[cfg(test)]
+mod compared;
 #[cfg(test)]
 mod deques;
 #[cfg(test)]
@@ -18,6 +20,12 @@ mod dictionaries;
 mod engines;
 #[cfg(test)]
 mod fusions;
+#[cfg(test)]
+mod history;
+#[cfg(test)]
+mod lines;
+#[cfg(test)]
+mod listings;
 #[cfg(test)]
 mod queues;
 #[cfg(test)]

@@ -3,9 +3,10 @@ ghost use Rattle.retro_base.specs.declared.kind.Kind.TheVariants.{Pq};
 ghost use Rattle.retro_base.specs.Kind.{kind_of};
 ghost use Rattle.retro_base.specs.Limits.{most_rows};
 
+use crate::listings::expect_same;
 use bridge_pq::BridgeQueue;
 use retro_base::{
-    Change, Kind, Listing, MAX_NEXT, MAX_ROWS, Op, Partial, PlainList, Question, Retro, Row, Steps,
+    Change, Kind, MAX_NEXT, MAX_ROWS, Op, Partial, PlainList, Question, Retro, Row, Steps,
 };
 use std::alloc::Global;
 use std::marker::Model;
@@ -148,13 +149,5 @@ impl Compared {
         ensures { result ≡ self }
     {
         self.queue
-    }
-}
-
-/// Sees that two listings have the same items.
-pub(crate) fn expect_same(rt: &impl Abort, listing: &Listing, wanted: &Listing) {
-    assert_eq!(rt; listing.len(), wanted.len());
-    for index in 0..listing.len() {
-        assert_eq!(rt; listing.item(index), wanted.item(index));
     }
 }
