@@ -12,12 +12,12 @@ ghost use Rattle.retro_dictionary.specs.RowLabels.{row_rule};
 
 use crate::beside::{free_label, one_more};
 use crate::kept::Kept;
-use crate::kept_row::KeptRow;
 use crate::lifetimes::{cut, join, key_of, left_before, next_label, put_by};
 use crate::relabel::put_relabelled;
 use crate::search::PairSearch;
 use key_index::KeyIndex;
 use lifetime_segments::Segments;
+use monoid_laws::Counted;
 use retro_base::{NoMemory, Op, Row, Steps};
 use std::sync::ledger::{Blank, Ledger};
 
@@ -93,7 +93,7 @@ fn put_between<L: Ledger>(
     kept.labels.insert_labelled(place, label)?;
     if kept
         .rows
-        .insert(place, KeptRow::new(row), &mut steps)
+        .insert(place, Counted::new(row), &mut steps)
         .is_err()
     {
         kept.labels.remove(place);
@@ -146,7 +146,7 @@ pub(crate) fn take_out<L: Ledger>(
     ensures err { OnErr result (kept.new ≡ kept.old) }
 {
     let mut steps = Steps::<L>::new(blank);
-    let row = kept.rows.get(place, &mut steps).row();
+    let row = kept.rows.get(place, &mut steps).value();
     let label = kept.labels.label_at(place);
     take_labelled(&mut kept.index, &mut kept.segments, label, row.op)?;
     kept.labels.remove(place);

@@ -30,8 +30,7 @@
 //! - `dictionary`: the type and its calls. `edit`: rows put in and taken out; `beside`, the label of a new row, and `relabel`,
 //!   where none is left; `lifetimes`, what becomes of two lifetimes. `failing`: the place of the row that fails first.
 //! - `asked`: questions, by what is found of a range of keys. `listed`: the whole content.
-//! - `pairs`: `KeyPair`, `KeyRange`, `Found`. `search`: `PairSearch`. `kept`: what is kept of the rows. `kept_row`: a row as its
-//!   tree keeps it.
+//! - `pairs`: `KeyPair`, `KeyRange`, `Found`. `search`: `PairSearch`. `kept`: what is kept of the rows.
 //! - `laws`: what lifetimes tell of a dictionary, how an edit changes them, and how rarely rows are relabelled.
 #![tactic(auto)]
 
@@ -41,7 +40,6 @@ mod dictionary;
 mod edit;
 mod failing;
 mod kept;
-mod kept_row;
 pub mod laws;
 mod lifetimes;
 mod listed;

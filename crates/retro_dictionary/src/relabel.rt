@@ -13,11 +13,11 @@ ghost use Rattle.retro_dictionary.specs.Ready.{IsKept, IsReadyFor};
 ghost use Rattle.retro_dictionary.specs.Relabelling.{CanRelabel, begun_by, labelled_anew, new_label, other_labels, relabelled_with, with_row_at};
 
 use crate::kept::Kept;
-use crate::kept_row::KeptRow;
 use crate::lifetimes::{key_of, next_label, put_by};
 use crate::search::PairSearch;
 use key_index::{KeyIndex, Labels2};
 use lifetime_segments::Segments;
+use monoid_laws::Counted;
 use order_labels::{Labels, gap_of};
 use retro_base::{NoMemory, Op, Row, Steps};
 use std::alloc::Global;
@@ -118,7 +118,7 @@ fn begin(
 
 /// The lifetimes of all pairs, where the labels of the rows are spread evenly. They are made from the last row to the first.
 fn segments_of<L: Ledger>(
-    rows: &Tree<KeptRow>,
+    rows: &Tree<Counted<Row>>,
     index: &KeyIndex,
     steps: &mut Steps<L>,
 ) -> Result<Segments<PairSearch>, NoMemory>
@@ -130,7 +130,7 @@ fn segments_of<L: Ledger>(
     let gap = gap_of(count);
     let mut segments = Segments::new(rows.alloc());
     for place in (0..count).rev() {
-        let op = rows.get(place, steps).row().op;
+        let op = rows.get(place, steps).value().op;
         begin(&mut segments, index, label_of(place, gap), op)?;
     }
     Ok(segments)
@@ -166,7 +166,7 @@ fn put_indexed<L: Ledger>(
     ensures ok { OnOk result (kept.new ≡ labelled_anew place (with_row_at place row kept.old)) }
     ensures err { OnErr result (kept.new ≡ kept.old) }
 {
-    kept.rows.insert(place, KeptRow::new(row), steps)?;
+    kept.rows.insert(place, Counted::new(row), steps)?;
     if label_anew(kept, place, steps).is_err() {
         kept.rows.remove(place, steps);
         return Err(NoMemory);

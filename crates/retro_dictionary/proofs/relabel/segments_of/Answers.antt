@@ -21,7 +21,7 @@ pub begin-requires : goal.begin-requires
 begin-requires g c = record {
   can = can-begin (spread (length c.args.rows.now)) c.args.rows.now c.args.index.now (length-spread (length c.args.rows.now))
       (spread-rises (length c.args.rows.now) (omega (arith, c.requires.few))) c.requires.few c.requires.indexed
-      (c.loop-place.place - 1) c.label_of.result c.row-op.result (next-label g (goal.at.begin-requires g c).After-label_of) (c.get.ensures.item ∙ ap Some (sym c.row-op.ensures))
+      (c.loop-place.place - 1) c.label_of.result c.value-op.result (next-label g (goal.at.begin-requires g c).After-label_of) (c.get.ensures.item ∙ ap Some (sym c.value-op.ensures))
       c.loop-place.place c.loop-place.segments (omega arith) c.loop-place.invariant;
 }
 
@@ -30,5 +30,5 @@ loop-place-preserved g c =
     c.in_ok-begin.ensures.ok
     ∙ one-made (spread (length c.args.rows.now)) c.args.rows.now c.args.index.now (length-spread (length c.args.rows.now))
     (spread-rises (length c.args.rows.now) (omega (arith, c.requires.few))) c.requires.few c.requires.indexed
-    (c.loop-place.place - 1) c.label_of.result c.row-op.result (next-label g (goal.at.loop-place-preserved g c).After-label_of) (c.get.ensures.item ∙ ap Some (sym c.row-op.ensures))
+    (c.loop-place.place - 1) c.label_of.result c.value-op.result (next-label g (goal.at.loop-place-preserved g c).After-label_of) (c.get.ensures.item ∙ ap Some (sym c.value-op.ensures))
     c.loop-place.place c.loop-place.segments (omega arith) c.loop-place.invariant
