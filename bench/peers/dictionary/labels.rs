@@ -22,69 +22,121 @@ pub fn spread(index: u32, count: u32) -> u64 {
     (u64::from(index) + 1) * gap
 }
 
-/// Labels of rows, which rise from above 0 to below the end.
-pub struct Labels(Tree<Label>);
+/// So many insertions lie between two relabellings at the least.
+const LEAST_INSERTIONS: u32 = 22;
+
+/// A row takes one part in so many of a gap at the least.
+const PARTS: u64 = 4096;
+
+/// The greatest power of two up to a distance.
+fn rounded(distance: u64) -> u64 {
+    1 << distance.max(1).ilog2()
+}
+
+/// Labels of rows, which rise from above 0 to below the end, and how many were put in since all were relabelled.
+pub struct Labels {
+    rows: Tree<Label>,
+    since: u32,
+}
 
 impl Labels {
     pub fn new() -> Labels {
-        Labels(Tree::empty())
-    }
-
-    pub fn at(&self, place: u32) -> u64 {
-        self.0.get(place).0
-    }
-
-    pub fn before(&self, place: u32) -> u64 {
-        if place == 0 {
-            0
-        } else {
-            self.0.get(place - 1).0
+        Labels {
+            rows: Tree::empty(),
+            since: 0,
         }
     }
 
+    pub fn at(&self, place: u32) -> u64 {
+        self.rows.get(place).0
+    }
+
+    pub fn before(&self, place: u32) -> u64 {
+        if place == 0 { 0 } else { self.at(place - 1) }
+    }
+
     fn behind(&self, place: u32) -> u64 {
-        let is_last = place == self.0.len();
-        if is_last { END } else { self.0.get(place).0 }
+        if place == self.rows.len() {
+            END
+        } else {
+            self.at(place)
+        }
     }
 
     pub fn has_room(&self, place: u32) -> bool {
         self.behind(place) - self.before(place) >= 2
     }
 
-    /// The label of a new row: the middle of its neighbours, at the end a round one little after the last, or all rows are
-    /// relabelled.
-    pub fn insert(&mut self, place: u32) -> u64 {
+    /// The label of a row after all others: half the last gap further on, within a quarter of the room.
+    fn after_all(&self, place: u32) -> u64 {
+        let last = self.before(place);
+        let (gap, room) = (last - self.before(place - 1), END - last);
+        let unit = rounded((room >> 17).max((gap / 2).min(room / 4)));
+        last.next_multiple_of(unit) + unit
+    }
+
+    /// The label of a row before others: near the neighbour beyond which the gap is the narrower one.
+    fn beside(&self, place: u32) -> u64 {
         let (before, behind) = (self.before(place), self.behind(place));
-        let room = behind - before;
-        if room >= 2 {
-            let label = if 0 < place && place == self.0.len() {
-                let unit = 1 << (room / 65_536).max(1).ilog2();
-                (before / unit + 1) * unit
+        let left = if place == 0 {
+            END
+        } else {
+            before - self.before(place - 1)
+        };
+        let is_last = place == self.rows.len();
+        let right = if is_last {
+            END
+        } else {
+            self.behind(place + 1) - behind
+        };
+        let gap = behind - before;
+        let distance = if left == right {
+            gap / 2
+        } else {
+            (gap / PARTS).max((left.min(right) / 2).min(gap / 4))
+        };
+        let owed = 1 << (LEAST_INSERTIONS - 1).saturating_sub(self.since);
+        let unit = rounded((gap / 2).min(distance.max(owed)));
+        if left <= right {
+            before + unit
+        } else {
+            behind - unit
+        }
+    }
+
+    /// The label of a new row, or all rows are relabelled.
+    pub fn insert(&mut self, place: u32) -> u64 {
+        if self.has_room(place) {
+            let is_after_all = 0 < place && place == self.rows.len();
+            let label = if is_after_all {
+                self.after_all(place)
             } else {
-                before + room / 2
+                self.beside(place)
             };
-            self.0.insert(place, Label(label));
+            self.rows.insert(place, Label(label));
+            self.since = (self.since + 1).min(LEAST_INSERTIONS);
             return label;
         }
-        self.0.insert(place, Label(behind));
-        let count = self.0.len();
+        self.rows.insert(place, Label(self.behind(place)));
+        self.since = 0;
+        let count = self.rows.len();
         for index in 0..count {
-            self.0.replace(index, Label(spread(index, count)));
+            self.rows.replace(index, Label(spread(index, count)));
         }
-        self.0.get(place).0
+        self.at(place)
     }
 
     pub fn remove(&mut self, place: u32) {
-        self.0.remove(place);
+        self.rows.remove(place);
     }
 
     pub fn place_of(&self, label: u64) -> Option<u32> {
-        let count = self.0.partition_point(|other| other.0 <= label);
+        let count = self.rows.partition_point(|other| other.0 <= label);
         let place = count.checked_sub(1)?;
-        (self.0.get(place).0 == label).then_some(place)
+        (self.at(place) == label).then_some(place)
     }
 
     pub fn all(&self) -> Vec<u64> {
-        (0..self.0.len()).map(|place| self.0.get(place).0).collect()
+        (0..self.rows.len()).map(|place| self.at(place)).collect()
     }
 }
