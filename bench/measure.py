@@ -153,15 +153,14 @@ class Run:
             self.piecewise(phase, most if bound is None else self.counts.get(bound, 0))
 
 
-def phases_of(kind, rows, peer, turn):
-    """The phases of a run. What takes many seconds is run once: a burst into a long dictionary, which makes its lifetimes anew."""
-    known = [pair for pair in PHASES if peer not in KNOWS or pair[0] in KNOWS[peer]]
-    return [pair for pair in known if pair[0] != "burst" or kind != "dict" or rows < 65_536 or turn == 0]
+def phases_of(peer):
+    """The phases that a program knows."""
+    return [pair for pair in PHASES if peer not in KNOWS or pair[0] in KNOWS[peer]]
 
 
-def measured(words, kind, rows, peer, turn, quick):
+def measured(words, kind, rows, peer, quick):
     """One run of a program."""
-    return Run(words, word_of(kind, peer), rows, phases_of(kind, rows, peer, turn), SHARE / 10 if quick else SHARE).go()
+    return Run(words, word_of(kind, peer), rows, phases_of(peer), SHARE / 10 if quick else SHARE).go()
 
 
 def side_by_side(programs, there, kind, rows, quick, times, used):
@@ -170,7 +169,7 @@ def side_by_side(programs, there, kind, rows, quick, times, used):
     for turn in range(1 if quick else max(RUNS.values())):
         for peer in there:
             if turn < RUNS[peer]:
-                last[peer] = measured(programs[peer](kind), kind, rows, peer, turn, quick)
+                last[peer] = measured(programs[peer](kind), kind, rows, peer, quick)
                 note(last[peer], kind, rows, peer, times, used)
     saved = last["retro"].saved
     used[kind, rows, "saved", "retro"] = len(saved) / max(saved.count(b"\n") - 2, 1)

@@ -32,7 +32,7 @@ MEANT = {
 PLOTS = [("end", "measured-end.svg"), ("edit", "measured-edit.svg"), ("past", "measured-past.svg"), ("mixed", "measured-mixed.svg")]
 
 REASONS = {
-    "trees": "A timeline keeps its rows in their order and their numbers in another, and the structure keeps the rows again, with their signs: an edit goes down "
+    "trees": "A timeline keeps its rows in one tree and their runs in others, and the structure keeps the rows again, with their signs: an edit goes down "
              "each of these trees, once to be tested and once to be made, and looks through a leaf of up to 32 items where it ends. The program of the last "
              "column keeps one tree, with 64 rows to a leaf. One tree with all measures, and one way down it, would change it.",
     "trie": "A dictionary keeps each lifetime in up to some dozens of spans of a trie over labels, each a tree of its own: an edit puts one lifetime "
@@ -43,8 +43,6 @@ REASONS = {
                    "change it, as crates/pq_fusion has it.",
     "walk": "A fate is found by one walk over all rows of the timeline, from tree to slice; so is a correction judged. A search from the row on, as in "
             "the structures themselves, would change it.",
-    "relabelling": "Rows that come in at one place use the labels there up: every 22 rows or a few more all rows are given new ones, and all lifetimes of a "
-                   "dictionary are made anew.",
     "pieces": "Pieces are lists, and an edit makes those on the way to the root anew: the last ones are as long as the timeline.",
     "tests": "The program reads a line for every form of the script, tests it in the order of the refusals, and has a limit for all that grows; each call "
              "that takes memory may find none, and then all is as before. The program beside it does without. Fewer ways down a tree for one edit, whose "
@@ -59,7 +57,7 @@ def reason(kind, phase):
     if phase in ("save", "load", "now"):
         return "trees"
     if kind == "dict":
-        return "relabelling" if phase == "burst" else "trie"
+        return "trie"
     if kind == "pqf":
         return "pieces"
     if kind == "pq" and phase in ("first", "past", "forward", "mixed", "move", "undo", "redo", "burst"):
@@ -129,7 +127,7 @@ class Page:
         yield "A timeline is filled at its end first. Three rows in eight take something out, but for the first sixteenth. A dictionary has 1,000 keys. The sizes"
         yield "are 1,024, 8,192, 65,536 and 131,072 rows, which is a full timeline; the phases leave room for the rows that they put in. What a phase has put in is"
         yield "taken out again. A phase ends after some tenths of a second of processor time. Left out, since they take over twenty seconds: SQLite at 131,072 rows,"
-        yield "and a block of a full dictionary beside another full one. A burst into a dictionary of 65,536 rows or more is run once."
+        yield "and a block of a full dictionary beside another full one."
         yield ""
 
     def marks(self):

@@ -1,9 +1,8 @@
 //! Rows in order of time over runs, labels and trees, as crates/order_timeline and crates/order_labels have them: a number
-//! is looked up in a map, which gives the name of a run; the run's label says where it stands.
+//! is looked up in pages of a table, which gives the name of a run; the run's label says where it stands.
 
 use crate::rows::Row;
 use crate::tree::{Item, Link};
-use std::collections::BTreeMap;
 
 impl Item for Row {
     type Measure = ();
@@ -48,7 +47,40 @@ pub struct Timeline {
     labels: Link<Label>,
     /// The label of each name.
     table: Vec<u64>,
-    numbers: BTreeMap<u32, u32>,
+    numbers: Numbers,
+}
+
+/// The name of each row's run, by the row's number, in pages. A page without a name is empty.
+struct Numbers(Vec<Vec<Option<u32>>>);
+
+const SPAN: usize = 256;
+
+impl Numbers {
+    fn get(&self, number: u32) -> Option<u32> {
+        let number = number as usize;
+        *self.0.get(number / SPAN)?.get(number % SPAN)?
+    }
+
+    fn insert(&mut self, number: u32, name: u32) {
+        let number = number as usize;
+        while self.0.len() <= number / SPAN {
+            self.0.push(Vec::new());
+        }
+        let page = &mut self.0[number / SPAN];
+        if page.is_empty() {
+            page.resize(SPAN, None);
+        }
+        page[number % SPAN] = Some(name);
+    }
+
+    fn remove(&mut self, number: u32) {
+        let number = number as usize;
+        let page = &mut self.0[number / SPAN];
+        page[number % SPAN] = None;
+        if page.iter().all(|name| name.is_none()) {
+            *page = Vec::new();
+        }
+    }
 }
 
 impl Timeline {
@@ -58,7 +90,7 @@ impl Timeline {
             runs: Link::empty(),
             labels: Link::empty(),
             table: Vec::new(),
-            numbers: BTreeMap::new(),
+            numbers: Numbers(Vec::new()),
         };
         timeline.add_run(0, 0);
         timeline
@@ -118,10 +150,11 @@ impl Timeline {
     }
 
     pub fn place_of(&self, number: u32) -> Option<usize> {
-        let label = self.table[*self.numbers.get(&number)? as usize];
+        let label = self.table[self.numbers.get(number)? as usize];
         let run = self.labels.partition_point(|other| other.0 < label);
         let start = self.runs.prefix(run) as usize;
-        (start..self.rows.len()).find(|place| self.rows.get(*place).number == number)
+        let end = start + self.runs.get(run).rows as usize;
+        self.rows.find(start, end, &|row| row.number == number)
     }
 
     pub fn insert(&mut self, place: usize, row: Row) {
@@ -135,11 +168,12 @@ impl Timeline {
         self.rows.insert(place, row);
         self.runs.change(at, |run| run.rows += 1);
         if run.rows >= LONGEST_RUN {
-            let (all, half) = (run.rows + 1, LONGEST_RUN / 2);
-            self.runs.change(at, |run| run.rows = half);
-            let name = self.add_run(at + 1, all - half);
+            let all = run.rows + 1;
+            let kept = if at + 1 == self.runs.len() { all - 1 } else { all / 2 };
+            self.runs.change(at, |run| run.rows = kept);
+            let name = self.add_run(at + 1, all - kept);
             let start = self.runs.prefix(at + 1) as usize;
-            for place in start..start + (all - half) as usize {
+            for place in start..start + (all - kept) as usize {
                 self.numbers.insert(self.rows.get(place).number, name);
             }
         }
@@ -148,7 +182,7 @@ impl Timeline {
     pub fn remove(&mut self, place: usize) -> Row {
         let at = self.run_of(place);
         let row = self.rows.get(place);
-        self.numbers.remove(&row.number);
+        self.numbers.remove(row.number);
         self.rows.remove(place);
         self.runs.change(at, |run| run.rows -= 1);
         if self.runs.get(at).rows == 0 && self.runs.len() > 1 {

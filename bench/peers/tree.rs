@@ -259,6 +259,31 @@ impl<T: Item> Link<T> {
         }
     }
 
+    /// The first place from one to before another whose item passes a test.
+    pub fn find(&self, from: usize, to: usize, test: &impl Fn(&T) -> bool) -> Option<usize> {
+        if to <= from {
+            return None;
+        }
+        match &self.part {
+            Part::Leaf(items) => items[from..to.min(items.len())]
+                .iter()
+                .position(test)
+                .map(|at| from + at),
+            Part::Node(node) => {
+                let before = node.left.len();
+                if let Some(place) = node.left.find(from, to.min(before), test) {
+                    return Some(place);
+                }
+                if from <= before && before < to && test(&node.item) {
+                    return Some(before);
+                }
+                let (from, to) = (from.saturating_sub(before + 1), to.saturating_sub(before + 1));
+                let place = node.right.find(from, to, test)?;
+                Some(place + before + 1)
+            }
+        }
+    }
+
     /// How many first items pass a test, which no item after one that fails it passes.
     pub fn partition_point(&self, test: impl Fn(&T) -> bool) -> usize {
         let (mut link, mut passed) = (self, 0);
