@@ -101,8 +101,9 @@ impl AtTheFront {
 
 #[test]
 fn rows_at_one_place_use_the_labels_up(rt: HostRuntime) {
-    // A run of rows is divided at the 33rd row and at each 17th after that, each time in the gap after the first label. Forty
-    // divisions use up its 40 bits, as the same labels show by themselves: so all runs are given new labels at row 696.
+    // The first run is divided at the 33rd row, when it is the last one too, at the 34th and at each 17th after that, each time in
+    // the gap after the first label. Forty divisions use up its 40 bits, as the same labels show by themselves: so all runs are
+    // given new labels at row 680.
     let mut labels = Labels::new(rt.alloc());
     labels.insert(0).expect(&rt, "memory");
     for division in 1..=40 {
