@@ -168,7 +168,7 @@ def side_by_side(programs, there, kind, rows, quick, times, used):
     last = {}
     for turn in range(1 if quick else max(RUNS.values())):
         for peer in there:
-            if turn < RUNS[peer]:
+            if turn < (1 if kind == "pqf" else RUNS[peer]):  # a run of `pqf` takes minutes
                 last[peer] = measured(programs[peer](kind), kind, rows, peer, quick)
                 note(last[peer], kind, rows, peer, times, used)
     saved = last["retro"].saved
