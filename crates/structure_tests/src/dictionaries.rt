@@ -235,16 +235,22 @@ fn the_least_and_the_greatest_numbers_are_there(rt: HostRuntime) {
     expect_contents(&rt, &mut history);
 }
 
-/// Forty-one rows that come in at the front, of two keys in turn: the last of them uses the labels up, and all get new
-/// ones. The row at each index puts 140 less the index.
+/// Forty-one rows of two keys in turn, which come in each between the last two: the 23rd of them uses the labels up, and all get
+/// new ones. The row at each index puts 140 less the index.
 fn relabelled(rt: &impl Abort, alloc: Global) -> History {
     let mut history = History::new(alloc);
-    for step in 0..41i64 {
-        let op = Op::Put {
-            key: step % 2,
-            value: 100 + step,
+    for step in 0..41u32 {
+        let half = step / 2;
+        let (place, index) = if step % 2 == 0 {
+            (half, half)
+        } else {
+            (half + 1, 40 - half)
         };
-        history.put(rt, 0, op);
+        let op = Op::Put {
+            key: i64::from(index % 2),
+            value: 140 - i64::from(index),
+        };
+        history.put(rt, place, op);
     }
     history
 }
@@ -302,6 +308,40 @@ fn relabelled_rows_are_edited(rt: HostRuntime) {
     let mut history = relabelled(&rt, rt.alloc());
     expect_del(&rt, &mut history);
     expect_cuts(&rt, &mut history);
+}
+
+/// Three hundred rows of key 1, and three thousand of key 2 that come in one after another in the middle of them: so many find
+/// a label without any other being changed.
+fn with_many_at_one_place(rt: &impl Abort, alloc: Global) -> History {
+    let mut history = History::new(alloc);
+    for place in 0..300u32 {
+        let value = i64::from(place);
+        history.put(rt, place, Op::Put { key: 1, value });
+    }
+    for later in 0..3000u32 {
+        let value = i64::from(later);
+        history.put(rt, 150 + later, Op::Put { key: 2, value });
+    }
+    history
+}
+
+#[test]
+fn many_rows_come_in_at_one_place(rt: HostRuntime) {
+    let mut history = with_many_at_one_place(&rt, rt.alloc());
+    let latest = Question::Get { key: 2 };
+    history.expect_answers(
+        &rt,
+        &[
+            (150, GET, number(149)),
+            (150, latest, Answer::Nothing),
+            (151, latest, number(0)),
+            (1150, latest, number(999)),
+            (3150, latest, number(2999)),
+            (3150, GET, number(149)),
+            (3151, GET, number(150)),
+            (3300, GET, number(299)),
+        ],
+    );
 }
 
 const FIRST: KeyPair = KeyPair { key: 1, value: 10 };
