@@ -1,6 +1,7 @@
-use retro_base::{Kind, Name, Op, Row, Rows, Text};
+use retro_base::{Kind, Name, NoMemory, Op, Row, Rows, Text};
 use std::alloc::Global;
 use std::process::Abort;
+use std::test::Fail;
 use timeline_file::{BlockError, BlockReader, RowCause, print_block};
 
 /// What a block of a kind with this next number comes to, of which these lines stand after the header: how
@@ -11,7 +12,7 @@ fn outcome(
     (kind, next): (Kind, u32),
     lines: &[u8],
     ended: bool,
-) -> Result<u32, BlockError> {
+) -> Result<Result<u32, BlockError>, NoMemory> {
     let reader = BlockReader::new(alloc, kind, next, None);
     read_on(rt, reader, lines, ended)
 }
@@ -22,12 +23,12 @@ fn read_on(
     mut reader: BlockReader,
     lines: &[u8],
     ended: bool,
-) -> Result<u32, BlockError> {
+) -> Result<Result<u32, BlockError>, NoMemory> {
     for line in lines.split(|byte| *byte == b'\n') {
         assert!(rt; line.len() <= 4096);
-        reader.take(line, false).expect(rt, "memory");
+        reader.take(line, false)?;
     }
-    reader.finish(ended).map(|rows| rows.len())
+    Ok(reader.finish(ended).map(|rows| rows.len()))
 }
 
 fn bad(place: u32, cause: RowCause) -> Result<u32, BlockError> {
@@ -35,7 +36,7 @@ fn bad(place: u32, cause: RowCause) -> Result<u32, BlockError> {
 }
 
 #[test]
-fn what_a_queue_comes_to(rt: HostRuntime) {
+fn what_a_queue_comes_to(rt: HostRuntime) -> Result<(), Fail> {
     let cases: [(u32, &[u8], Result<u32, BlockError>); 15] = [
         (3, b"#1 10 enq 5\n#2 20 deq", Ok(2)),
         (1, b"", Ok(0)),
@@ -54,13 +55,14 @@ fn what_a_queue_comes_to(rt: HostRuntime) {
         (9, b"#1 5 deq\nx\n#1 5 enq 1", bad(1, RowCause::Replay)),
     ];
     for (next, lines, expected) in cases {
-        let found = outcome(&rt, rt.alloc(), (Kind::Queue, next), lines, true);
+        let found = outcome(&rt, rt.alloc(), (Kind::Queue, next), lines, true)?;
         assert_eq!(rt; found, expected, "{lines:?}");
     }
+    Ok(())
 }
 
 #[test]
-fn how_many_row_lines_a_block_has(rt: HostRuntime) {
+fn how_many_row_lines_a_block_has(rt: HostRuntime) -> Result<(), Fail> {
     let rows: &[u8] = b"#1 10 enq 5\n; two\n\n#2 20 deq";
     let cases: [(u32, u32, &[u8], bool, Result<u32, BlockError>); 8] = [
         (3, 2, rows, true, Ok(2)),
@@ -75,33 +77,35 @@ fn how_many_row_lines_a_block_has(rt: HostRuntime) {
     ];
     for (next, count, lines, ended, expected) in cases {
         let reader = BlockReader::new(rt.alloc(), Kind::Queue, next, Some(count));
-        let found = read_on(&rt, reader, lines, ended);
+        let found = read_on(&rt, reader, lines, ended)?;
         assert_eq!(rt; found, expected, "{next} {count}");
     }
+    Ok(())
 }
 
 #[test]
-fn how_a_block_ends(rt: HostRuntime) {
+fn how_a_block_ends(rt: HostRuntime) -> Result<(), Fail> {
     let pairs = b"#2 7 put 1 10\n #1  7 del 01 ";
-    let found = outcome(&rt, rt.alloc(), (Kind::Dict, 3), pairs, true);
+    let found = outcome(&rt, rt.alloc(), (Kind::Dict, 3), pairs, true)?;
     assert_eq!(rt; found, Ok(2));
-    let found = outcome(&rt, rt.alloc(), (Kind::Dict, 3), pairs, false);
+    let found = outcome(&rt, rt.alloc(), (Kind::Dict, 3), pairs, false)?;
     assert_eq!(rt; found, Err(BlockError::Unfinished));
-    let found = outcome(&rt, rt.alloc(), (Kind::Dict, 3), b"#1 5 del 7", false);
+    let found = outcome(&rt, rt.alloc(), (Kind::Dict, 3), b"#1 5 del 7", false)?;
     assert_eq!(rt; found, bad(1, RowCause::Replay));
     let entries = b"#1 3 ins 4\n#3 3 delmin\n#2 8 ins -4";
-    let found = outcome(&rt, rt.alloc(), (Kind::Pq, 4), entries, true);
+    let found = outcome(&rt, rt.alloc(), (Kind::Pq, 4), entries, true)?;
     assert_eq!(rt; found, Ok(3));
     let mut reader = BlockReader::new(rt.alloc(), Kind::Queue, 9, None);
-    reader.take(b"#1 5 enq 1", false).expect(&rt, "memory");
-    reader.take(&[b' '; 4096], true).expect(&rt, "memory");
+    reader.take(b"#1 5 enq 1", false)?;
+    reader.take(&[b' '; 4096], true)?;
     let found = reader.finish(true).map(|rows| rows.len());
     assert_eq!(rt; found, bad(2, RowCause::Syntax));
+    Ok(())
 }
 
 #[test]
-fn what_is_saved(rt: HostRuntime) {
-    let name = Name::read(b"stock").expect(&rt, "a name");
+fn what_is_saved(rt: HostRuntime) -> Result<(), Fail> {
+    let name = Name::read(b"stock").ok_or("stock")?;
     let mut rows = Rows::new(rt.alloc());
     let ops = [
         Op::Put { key: -1, value: 7 },
@@ -117,11 +121,10 @@ fn what_is_saved(rt: HostRuntime) {
             number,
             time: 1000,
             op: *op,
-        })
-        .expect(&rt, "memory");
+        })?;
     }
     let mut out = Text::new(rt.alloc());
-    print_block(&name, Kind::Dict, 16777216, &rows, &mut out).expect(&rt, "memory");
+    print_block(&name, Kind::Dict, 16777216, &rows, &mut out)?;
     let expected = b"timeline stock dict next 16777216 rows 3
 #2 1000 put -1 7
 #16777215 1000 put -9223372036854775808 0
@@ -129,4 +132,5 @@ fn what_is_saved(rt: HostRuntime) {
 end
 ";
     assert_eq!(rt; out.as_bytes(), expected.as_slice());
+    Ok(())
 }

@@ -1,6 +1,6 @@
 use evidence::{Evidence, print_evidence, read_evidence};
 use retro_base::{Change, Entry, Name, Op, Text};
-use std::process::Abort;
+use std::test::Fail;
 
 /// Lines that are spelled as evidence is.
 const SPELLED: [&[u8]; 6] = [
@@ -44,14 +44,15 @@ const OTHERS: [&[u8]; 27] = [
 ];
 
 #[test]
-fn what_is_spelled_is_printed_again(rt: HostRuntime) {
+fn what_is_spelled_is_printed_again(rt: HostRuntime) -> Result<(), Fail> {
     let mut out = Text::new(rt.alloc());
     for line in SPELLED {
-        let evidence = read_evidence(line).expect(&rt, "a line of evidence");
+        let evidence = read_evidence(line).ok_or("not read")?;
         out.clear();
-        print_evidence(&evidence, &mut out).expect(&rt, "memory");
+        print_evidence(&evidence, &mut out)?;
         assert_eq!(rt; out.as_bytes(), line);
     }
+    Ok(())
 }
 
 #[test]
@@ -62,9 +63,9 @@ fn other_lines_spell_nothing(rt: HostRuntime) {
 }
 
 #[test]
-fn what_a_line_says(rt: HostRuntime) {
+fn what_a_line_says(rt: HostRuntime) -> Result<(), Fail> {
     let expected = Evidence {
-        name: Name::read(b"p").expect(&rt, "a name"),
+        name: Name::read(b"p").ok_or("p")?,
         added: false,
         place: 2,
         number: 2,
@@ -76,4 +77,5 @@ fn what_a_line_says(rt: HostRuntime) {
     };
     let found = read_evidence(b"edit p cut 2 #2 delmin bridge 0 gain #3 2");
     assert_eq!(rt; found, Some(expected));
+    Ok(())
 }

@@ -1,8 +1,7 @@
 use evidence::read_evidence;
 use followers::{Follower, Mirror, Tally, feed};
 use retro_base::{Name, Text};
-use std::alloc::Global;
-use std::process::Abort;
+use std::test::Fail;
 
 /// What two tallies and the mirrors of `p` and `q` report after these lines of evidence; an empty one is none.
 const REPORTED: [([&[u8]; 5], &[u8], &[u8], &[u8]); 4] = [
@@ -53,48 +52,32 @@ const REPORTED: [([&[u8]; 5], &[u8], &[u8], &[u8]); 4] = [
     ),
 ];
 
-/// Two tallies, and the mirrors of `p` and `q`.
-fn four_followers(rt: &impl Abort, alloc: Global) -> Vec<Box<dyn Follower>> {
-    let mut followers: Vec<Box<dyn Follower>> = Vec::new(alloc);
-    for _ in 0..2 {
-        let tally = Box::new(alloc, Tally::new()).expect(rt, "memory");
-        followers.push(tally).expect(rt, "memory");
-    }
-    for name in [b"p", b"q"] {
-        let name = Name::read(name).expect(rt, "a name");
-        let mirror = Box::new(alloc, Mirror::new(alloc, name)).expect(rt, "memory");
-        followers.push(mirror).expect(rt, "memory");
-    }
-    followers
-}
-
-/// Sees that these are the reports.
-fn expect_reports(
-    rt: &impl Abort,
-    alloc: Global,
-    followers: &Vec<Box<dyn Follower>>,
-    expected: [&[u8]; 4],
-) {
-    let mut text = Text::new(alloc);
-    assert_eq!(rt; followers.len(), expected.len());
-    for (follower, report) in followers.iter().zip(expected) {
-        text.clear();
-        follower.report(&mut text).expect(rt, "memory");
-        assert_eq!(rt; text.as_bytes(), report);
-    }
-}
-
 #[test]
-fn followers_report_what_they_took(rt: HostRuntime) {
+fn followers_report_what_they_took(rt: HostRuntime) -> Result<(), Fail> {
+    let alloc = rt.alloc();
+    let mut text = Text::new(alloc);
     for (lines, tally, of_p, of_q) in REPORTED {
-        let mut followers = four_followers(&rt, rt.alloc());
+        let mut followers: Vec<Box<dyn Follower>> = Vec::new(alloc);
+        followers.push(Box::new(alloc, Tally::new())?)?;
+        followers.push(Box::new(alloc, Tally::new())?)?;
+        let p = Name::read(b"p").ok_or("p")?;
+        followers.push(Box::new(alloc, Mirror::new(alloc, p))?)?;
+        let q = Name::read(b"q").ok_or("q")?;
+        followers.push(Box::new(alloc, Mirror::new(alloc, q))?)?;
         for line in lines {
             if line.is_empty() {
                 continue;
             }
-            let event = read_evidence(line).expect(&rt, "a line of evidence");
-            feed(&mut followers, &event).expect(&rt, "memory");
+            let event = read_evidence(line).ok_or("not read")?;
+            feed(&mut followers, &event)?;
         }
-        expect_reports(&rt, rt.alloc(), &followers, [tally, tally, of_p, of_q]);
+        let expected = [tally, tally, of_p, of_q];
+        assert_eq!(rt; followers.len(), expected.len());
+        for (follower, report) in followers.iter().zip(expected) {
+            text.clear();
+            follower.report(&mut text)?;
+            assert_eq!(rt; text.as_bytes(), report);
+        }
     }
+    Ok(())
 }

@@ -3,6 +3,7 @@ use script_grammar::{
     Command, LineError, Moment, Query, Spot, print_answer, print_listing, read_line,
 };
 use std::process::Abort;
+use std::test::Fail;
 
 fn read(rt: &impl Abort, line: &[u8]) -> Result<Command, LineError> {
     assert!(rt; line.len() <= 4096);
@@ -19,10 +20,10 @@ fn ask(name: Name, moment: Moment, question: Question) -> Command {
 }
 
 #[test]
-fn commands(rt: HostRuntime) {
-    let q = Name::read(b"q").expect(&rt, "a name");
-    let at = Name::read(b"at").expect(&rt, "a name");
-    let long = Name::read(b"Abcdefghijklmnopqrstuvwxyz-_0123").expect(&rt, "a name");
+fn commands(rt: HostRuntime) -> Result<(), Fail> {
+    let q = Name::read(b"q").ok_or("q")?;
+    let at = Name::read(b"at").ok_or("at")?;
+    let long = Name::read(b"Abcdefghijklmnopqrstuvwxyz-_0123").ok_or("32 bytes")?;
     let lines: [(&[u8], Command); 33] = [
         (b"", Command::Nothing),
         (b"   ", Command::Nothing),
@@ -220,11 +221,12 @@ fn commands(rt: HostRuntime) {
     for (line, command) in lines {
         assert_eq!(rt; read(&rt, line), Ok(command), "{line:?}");
     }
+    Ok(())
 }
 
 #[test]
-fn operations(rt: HostRuntime) {
-    let name = Name::read(b"q").expect(&rt, "a name");
+fn operations(rt: HostRuntime) -> Result<(), Fail> {
+    let name = Name::read(b"q").ok_or("q")?;
     let spot = Spot::At { time: 1 };
     let lines: [(&[u8], Op); 13] = [
         (b"q at 1 enq 5", Op::Enq { value: 5 }),
@@ -254,11 +256,12 @@ fn operations(rt: HostRuntime) {
             "{line:?}"
         );
     }
+    Ok(())
 }
 
 #[test]
-fn questions(rt: HostRuntime) {
-    let name = Name::read(b"q").expect(&rt, "a name");
+fn questions(rt: HostRuntime) -> Result<(), Fail> {
+    let name = Name::read(b"q").ok_or("q")?;
     let lines: [(&[u8], Question); 13] = [
         (b"q ask size", Question::Size),
         (b"q ask front", Question::Front),
@@ -284,6 +287,7 @@ fn questions(rt: HostRuntime) {
             "{line:?}"
         );
     }
+    Ok(())
 }
 
 #[test]
@@ -382,38 +386,34 @@ fn no_commands(rt: HostRuntime) {
 }
 
 #[test]
-fn answers(rt: HostRuntime) {
+fn answers(rt: HostRuntime) -> Result<(), Fail> {
     let mut out = Text::new(rt.alloc());
     let pair = Answer::Pair {
         key: i64::MIN,
         value: 7,
     };
     for answer in [Answer::Number { value: -12 }, pair, Answer::Nothing] {
-        print_answer(answer, &mut out).expect(&rt, "memory");
+        print_answer(answer, &mut out)?;
     }
     assert_eq!(rt;
         out.as_bytes(),
         b"= -12= -9223372036854775808:7= none".as_slice()
     );
+    Ok(())
 }
 
 #[test]
-fn listings(rt: HostRuntime) {
+fn listings(rt: HostRuntime) -> Result<(), Fail> {
     let mut out = Text::new(rt.alloc());
     let mut listing = Listing::new(rt.alloc());
-    print_listing(&listing, &mut out).expect(&rt, "memory");
-    listing
-        .push(Item::Single { value: 3 })
-        .expect(&rt, "memory");
-    listing
-        .push(Item::Pair { key: -1, value: 20 })
-        .expect(&rt, "memory");
-    listing
-        .push(Item::Single { value: i64::MIN })
-        .expect(&rt, "memory");
-    print_listing(&listing, &mut out).expect(&rt, "memory");
+    print_listing(&listing, &mut out)?;
+    listing.push(Item::Single { value: 3 })?;
+    listing.push(Item::Pair { key: -1, value: 20 })?;
+    listing.push(Item::Single { value: i64::MIN })?;
+    print_listing(&listing, &mut out)?;
     assert_eq!(rt;
         out.as_bytes(),
         b"= empty= 3 -1:20 -9223372036854775808".as_slice()
     );
+    Ok(())
 }

@@ -1,6 +1,7 @@
 use evidence_check::{CheckError, Checker};
 use std::alloc::Global;
 use std::process::Abort;
+use std::test::Fail;
 
 /// How many lines of evidence are accepted, or which line is refused, counted from 1, and why.
 fn judgement(rt: &impl Abort, alloc: Global, lines: &[u8]) -> Result<u32, (u32, CheckError)> {
@@ -17,7 +18,7 @@ fn judgement(rt: &impl Abort, alloc: Global, lines: &[u8]) -> Result<u32, (u32, 
 }
 
 #[test]
-fn what_is_made_of_lines(rt: HostRuntime) {
+fn what_is_made_of_lines(rt: HostRuntime) -> Result<(), Fail> {
     let cases: [(&[u8], Result<u32, (u32, CheckError)>); 31] = [
         (
             b"edit p add 0 #1 ins 4 bridge 0 gain #1 4\nedit p add 1 #2 ins 2 bridge 1 gain #2 2\n\
@@ -158,10 +159,11 @@ fn what_is_made_of_lines(rt: HostRuntime) {
     for (lines, expected) in cases {
         assert_eq!(rt; judgement(&rt, rt.alloc(), lines), expected, "{lines:?}");
     }
+    Ok(())
 }
 
 #[test]
-fn long_lines(rt: HostRuntime) {
+fn long_lines(rt: HostRuntime) -> Result<(), Fail> {
     let mut checker = Checker::new(rt.alloc());
     let mut evidence = [b' '; 4096];
     evidence[..5].copy_from_slice(b"edit ");
@@ -169,4 +171,5 @@ fn long_lines(rt: HostRuntime) {
     assert_eq!(rt; checker.accepted(), 0);
     assert_eq!(rt; checker.take(&[b' '; 4096], true), Ok(()));
     assert_eq!(rt; checker.accepted(), 0);
+    Ok(())
 }

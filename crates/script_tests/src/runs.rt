@@ -10,14 +10,13 @@ mod outboxes;
 mod priority_queues;
 mod what_became;
 
-use retro_base::Text;
+use retro_base::{NoMemory, Text};
 use retro_cli::{Status, Words, run};
 use retro_io::{Failed, MemorySink, MemorySource, Sink, WholeSource};
 use std::alloc::Global;
-use std::process::Abort;
 
 /// The calls of a source that fail, and those of a sink.
-#[derive(Clone, Copy, Debug)]
+#[derive(Clone, Copy)]
 struct Failing<'a> {
     reads: &'a [u32],
     writes: &'a [u32],
@@ -30,78 +29,26 @@ const NONE_FAILS: Failing = Failing {
 
 /// Runs the program over a source that gives so many bytes at a time.
 fn run_over(
-    rt: &impl Abort,
     alloc: Global,
     command_line: &[&[u8]],
     script: &[u8],
     piece: u32,
     failing: &Failing,
-) -> (Status, MemorySink) {
-    let words = words_of(rt, alloc, command_line);
-    let mut source = MemorySource::new(alloc, script, piece.max(1), failing.reads).expect(
-        rt, "memory",
-    );
-    let mut sink = MemorySink::new(alloc, 65536, 4096, failing.writes).expect(rt, "memory");
-    let status = run(alloc, &words, &mut source, &mut sink);
-    (status, sink)
-}
-
-/// The words of a command line, of which there are at most eight.
-fn words_of(rt: &impl Abort, alloc: Global, command_line: &[&[u8]]) -> Words {
+) -> Result<(Status, MemorySink), NoMemory> {
     let mut words = Words::new(alloc);
     for word in command_line {
-        assert!(rt; words.len() < 8);
-        words.push(word).expect(rt, "memory");
+        if words.len() < 8 {
+            words.push(word)?;
+        }
     }
-    words
-}
-
-/// What the program writes, and how it ends.
-#[derive(Clone, Copy)]
-struct Outcome<'a> {
-    written: &'a [u8],
-    status: Status,
-}
-
-/// Sees what comes of a run over a source that gives so many bytes at a time.
-fn expect_outcome(
-    rt: &impl Abort,
-    alloc: Global,
-    command_line: &[&[u8]],
-    script: &[u8],
-    (piece, failing): (u32, &Failing),
-    outcome: Outcome<'_>,
-) {
-    let (status, sink) = run_over(rt, alloc, command_line, script, piece, failing);
-    assert_eq!(rt;
-        sink.written(),
-        outcome.written,
-        "{script:?} in pieces of {piece}"
-    );
-    assert_eq!(rt; status, outcome.status, "{script:?} in pieces of {piece}");
-}
-
-/// A script, its answers, and how the run ends.
-type Answered<'a> = (&'a [u8], &'a [u8], Status);
-
-/// Sees that each of these scripts gets its answers, over a source that gives so many bytes at a time.
-fn expect_answers(rt: &impl Abort, alloc: Global, scripts: &[Answered<'_>], piece: u32) {
-    for (script, written, status) in scripts {
-        let outcome = Outcome {
-            written,
-            status: *status,
-        };
-        expect_outcome(rt, alloc, &[b"run"], script, (piece, &NONE_FAILS), outcome);
-    }
-}
-
-/// Appends to a script or to what is expected of it.
-fn append(rt: &impl Abort, text: &mut Text, bytes: &[u8]) {
-    text.push_all(bytes).expect(rt, "memory");
+    let mut source = MemorySource::new(alloc, script, piece.max(1), failing.reads)?;
+    let mut sink = MemorySink::new(alloc, 65536, 4096, failing.writes)?;
+    let status = run(alloc, &words, &mut source, &mut sink);
+    Ok((status, sink))
 }
 
 #[test]
-fn scripts_get_their_answers(rt: HostRuntime) {
+fn scripts_get_their_answers(rt: HostRuntime) -> Result<(), NoMemory> {
     let scripts: [(&[u8], &[u8], Status); 20] = [
         (
             b"new q queue\nq at 10 enq 5\nq at 20 enq 7\nq ask front\nq at 15 deq\nq ask front\n\
@@ -247,66 +194,72 @@ fn scripts_get_their_answers(rt: HostRuntime) {
         // No line feed ends the last line, and a carriage return before one is no part of the line.
         (b"new q queue\r\nq ask front", b"ok\n= none\n", Status::Done),
     ];
-    for piece in [1, 7, 65536] {
-        expect_answers(&rt, rt.alloc(), &scripts, piece);
+    for (number, (script, answers, status)) in scripts.into_iter().enumerate() {
+        for piece in [1, 7, 65536] {
+            let (ended, sink) = run_over(rt.alloc(), &[b"run"], script, piece, &NONE_FAILS)?;
+            assert_eq!(rt;
+                sink.written(),
+                answers,
+                "row {number} in pieces of {piece}"
+            );
+            assert_eq!(rt; ended, status, "row {number} in pieces of {piece}");
+        }
     }
+    Ok(())
 }
 
 /// More edits than are kept: the last of them are undone, until none is left to undo.
 #[test]
-fn the_oldest_edit_is_not_undone(rt: HostRuntime) {
-    let (mut script, mut answers) = (Text::new(rt.alloc()), Text::new(rt.alloc()));
-    append(&rt, &mut script, b"new q queue\n");
-    append(&rt, &mut answers, b"ok\n");
+fn the_oldest_edit_is_not_undone(rt: HostRuntime) -> Result<(), NoMemory> {
+    let mut script = Vec::from_slice(rt.alloc(), b"new q queue\n")?;
+    let mut answers = Text::new(rt.alloc());
+    answers.push_all(b"ok\n")?;
     for number in 1..=1025 {
-        append(&rt, &mut script, b"q at 1 enq 0\n");
-        append(&rt, &mut answers, b"ok #");
-        answers.push_number(number).expect(&rt, "memory");
-        append(&rt, &mut answers, b"\n");
+        script.extend_from_slice(b"q at 1 enq 0\n")?;
+        answers.push_all(b"ok #")?;
+        answers.push_number(number)?;
+        answers.push_all(b"\n")?;
     }
     for _ in 0..1024 {
-        append(&rt, &mut script, b"q undo\n");
-        append(&rt, &mut answers, b"ok\n");
+        script.extend_from_slice(b"q undo\n")?;
+        answers.push_all(b"ok\n")?;
     }
-    append(&rt, &mut script, b"q undo\nq ask size\n");
-    append(&rt, &mut answers, b"refused nothing to undo\n= 1\n");
-    expect_answers(
-        &rt,
-        rt.alloc(),
-        &[(script.as_bytes(), answers.as_bytes(), Status::Refused)],
-        512,
-    );
+    script.extend_from_slice(b"q undo\nq ask size\n")?;
+    answers.push_all(b"refused nothing to undo\n= 1\n")?;
+    let (status, sink) = run_over(rt.alloc(), &[b"run"], script.as_slice(), 512, &NONE_FAILS)?;
+    assert_eq!(rt; sink.written(), answers.as_bytes());
+    assert_eq!(rt; status, Status::Refused);
+    Ok(())
 }
 
 #[test]
-fn long_lines_are_refused(rt: HostRuntime) {
-    let mut script = Text::new(rt.alloc());
-    append(&rt, &mut script, b"new q queue\n");
+fn long_lines_are_refused(rt: HostRuntime) -> Result<(), NoMemory> {
+    let mut script = Vec::from_slice(rt.alloc(), b"new q queue\n")?;
     for spaces in [4086, 4087] {
-        append(&rt, &mut script, b"q ask size");
+        script.extend_from_slice(b"q ask size")?;
         for _ in 0..spaces {
-            append(&rt, &mut script, b" ");
+            script.push(b' ')?;
         }
-        append(&rt, &mut script, b"\n");
+        script.push(b'\n')?;
     }
-    append(&rt, &mut script, b"q ask size\r\nq ask size");
-    let answers = b"ok\n= 0\nrefused long\n= 0\n= 0\n";
-    expect_answers(
-        &rt,
-        rt.alloc(),
-        &[(script.as_bytes(), answers, Status::Refused)],
-        512,
+    script.extend_from_slice(b"q ask size\r\nq ask size")?;
+    let (status, sink) = run_over(rt.alloc(), &[b"run"], script.as_slice(), 512, &NONE_FAILS)?;
+    assert_eq!(rt;
+        sink.written(),
+        b"ok\n= 0\nrefused long\n= 0\n= 0\n".as_slice()
     );
+    assert_eq!(rt; status, Status::Refused);
+    Ok(())
 }
 
 #[test]
-fn faults_and_other_words_have_their_status(rt: HostRuntime) {
+fn faults_and_other_words_have_their_status(rt: HostRuntime) -> Result<(), NoMemory> {
     let script = b"new q queue\nq ask size\n";
     let second_read = Failing {
         reads: &[1],
         writes: &[],
     };
-    let (status, sink) = run_over(&rt, rt.alloc(), &[b"run"], script, 16, &second_read);
+    let (status, sink) = run_over(rt.alloc(), &[b"run"], script, 16, &second_read)?;
     assert_eq!(rt; sink.written(), b"ok\n".as_slice());
     assert_eq!(rt; status.code(), 3);
 
@@ -314,7 +267,7 @@ fn faults_and_other_words_have_their_status(rt: HostRuntime) {
         reads: &[],
         writes: &[1],
     };
-    let (status, sink) = run_over(&rt, rt.alloc(), &[b"run"], script, 16, &second_write);
+    let (status, sink) = run_over(rt.alloc(), &[b"run"], script, 16, &second_write)?;
     assert_eq!(rt; sink.written(), b"ok\n".as_slice());
     assert_eq!(rt; status.code(), 4);
 
@@ -326,44 +279,18 @@ fn faults_and_other_words_have_their_status(rt: HostRuntime) {
         &[b"follow", b"9x"],
     ];
     for command_line in command_lines {
-        let (status, sink) = run_over(&rt, rt.alloc(), command_line, script, 16, &NONE_FAILS);
+        let (status, sink) = run_over(rt.alloc(), command_line, script, 16, &NONE_FAILS)?;
         assert_eq!(rt; sink.written(), b"".as_slice());
         assert_eq!(rt; status.code(), 2);
     }
-}
-
-const QUEUE: &[u8] =
-    b"new q queue\nq at 10 enq 5\nq at 20 enq 7\nq ask front\nq at 15 deq\nq ask front\n\
-    q at 5 enq 9\nq ask front\n";
-
-/// Sees what was written of the answers to `QUEUE` where one read fails.
-fn expect_read_fault(rt: &impl Abort, alloc: Global, read: u32, written: &[u8]) {
-    let failing = Failing {
-        reads: &[read],
-        writes: &[],
-    };
-    let outcome = Outcome {
-        written,
-        status: Status::ReadFault,
-    };
-    expect_outcome(rt, alloc, &[b"run"], QUEUE, (1, &failing), outcome);
-}
-
-/// Sees what was written of the answers to `QUEUE` where one write fails.
-fn expect_write_fault(rt: &impl Abort, alloc: Global, write: u32, written: &[u8]) {
-    let failing = Failing {
-        reads: &[],
-        writes: &[write],
-    };
-    let outcome = Outcome {
-        written,
-        status: Status::WriteFault,
-    };
-    expect_outcome(rt, alloc, &[b"run"], QUEUE, (512, &failing), outcome);
+    Ok(())
 }
 
 #[test]
-fn a_fault_leaves_the_answers_before_it(rt: HostRuntime) {
+fn a_fault_leaves_the_answers_before_it(rt: HostRuntime) -> Result<(), NoMemory> {
+    let script =
+        b"new q queue\nq at 10 enq 5\nq at 20 enq 7\nq ask front\nq at 15 deq\nq ask front\n\
+        q at 5 enq 9\nq ask front\n";
     // The reads from one line's end to the next, each of one byte; the write that is the next; and what stands then.
     let table: [(u32, u32, u32, &[u8]); 8] = [
         (0, 12, 0, b""),
@@ -377,13 +304,34 @@ fn a_fault_leaves_the_answers_before_it(rt: HostRuntime) {
     ];
     for (from, to, write, answers) in table {
         for read in from..to {
-            expect_read_fault(&rt, rt.alloc(), read, answers);
+            let failing = Failing {
+                reads: &[read],
+                writes: &[],
+            };
+            let (status, sink) = run_over(rt.alloc(), &[b"run"], script, 1, &failing)?;
+            assert_eq!(rt; sink.written(), answers);
+            assert_eq!(rt; status, Status::ReadFault);
         }
-        expect_write_fault(&rt, rt.alloc(), write, answers);
+        let failing = Failing {
+            reads: &[],
+            writes: &[write],
+        };
+        let (status, sink) = run_over(rt.alloc(), &[b"run"], script, 512, &failing)?;
+        assert_eq!(rt; sink.written(), answers);
+        assert_eq!(rt; status, Status::WriteFault);
     }
     // The read that would have answered the end.
-    let all = b"ok\nok #1\nok #2\n= 5\nok #3\n= 7\nok #4\n= 5\n";
-    expect_read_fault(&rt, rt.alloc(), 101, all);
+    let failing = Failing {
+        reads: &[101],
+        writes: &[],
+    };
+    let (status, sink) = run_over(rt.alloc(), &[b"run"], script, 1, &failing)?;
+    assert_eq!(rt;
+        sink.written(),
+        b"ok\nok #1\nok #2\n= 5\nok #3\n= 7\nok #4\n= 5\n".as_slice()
+    );
+    assert_eq!(rt; status, Status::ReadFault);
+    Ok(())
 }
 
 /// A sink that takes all, and of which the first flush fails and no later one.
@@ -431,10 +379,10 @@ impl Sink for FirstFlushFails {
 }
 
 #[test]
-fn a_flush_that_fails_is_not_tried_again(rt: HostRuntime) {
-    let words = words_of(&rt, rt.alloc(), &[b"run"]);
-    let script = b"new q queue\nq ask size\n";
-    let mut source = WholeSource::new(rt.alloc(), script).expect(&rt, "memory");
+fn a_flush_that_fails_is_not_tried_again(rt: HostRuntime) -> Result<(), NoMemory> {
+    let mut words = Words::new(rt.alloc());
+    words.push(b"run")?;
+    let mut source = WholeSource::new(rt.alloc(), b"new q queue\nq ask size\n")?;
     let mut sink = FirstFlushFails {
         flushes: 0,
         flushed: false,
@@ -443,37 +391,40 @@ fn a_flush_that_fails_is_not_tried_again(rt: HostRuntime) {
     let status = run(rt.alloc(), &words, &mut source, &mut sink);
     assert_eq!(rt; status, Status::WriteFault);
     assert_eq!(rt; sink.flushes, 1);
+    Ok(())
 }
 
 #[test]
-fn a_long_content_is_one_answer(rt: HostRuntime) {
-    let (mut script, mut listing) = (Text::new(rt.alloc()), Text::new(rt.alloc()));
-    append(&rt, &mut script, b"new q queue\n");
-    append(&rt, &mut listing, b"=");
+fn a_long_content_is_one_answer(rt: HostRuntime) -> Result<(), NoMemory> {
+    let mut script = Vec::from_slice(rt.alloc(), b"new q queue\n")?;
+    let mut listing = Vec::from_slice(rt.alloc(), b"=")?;
     for _ in 0..1000 {
-        append(&rt, &mut script, b"q at 1 enq -9223372036854775808\n");
-        append(&rt, &mut listing, b" -9223372036854775808");
+        script.extend_from_slice(b"q at 1 enq -9223372036854775808\n")?;
+        listing.extend_from_slice(b" -9223372036854775808")?;
     }
-    append(&rt, &mut script, b"q ask all\n");
-    append(&rt, &mut listing, b"\n");
-    let script = script.as_bytes();
-    let (status, sink) = run_over(&rt, rt.alloc(), &[b"run"], script, 512, &NONE_FAILS);
-    assert!(rt; sink.written().ends_with(listing.as_bytes()));
+    script.extend_from_slice(b"q ask all\n")?;
+    listing.push(b'\n')?;
+    let (status, sink) = run_over(rt.alloc(), &[b"run"], script.as_slice(), 512, &NONE_FAILS)?;
+    assert!(rt; sink.written().ends_with(listing.as_slice()));
     assert_eq!(rt; status, Status::Done);
+    Ok(())
 }
 
 #[test]
-fn a_script_of_a_megabyte_is_answered(rt: HostRuntime) {
-    let mut script = Text::new(rt.alloc());
-    append(&rt, &mut script, b"new q queue\n");
+fn a_script_of_a_megabyte_is_answered(rt: HostRuntime) -> Result<(), NoMemory> {
+    let mut script = Vec::from_slice(rt.alloc(), b"new q queue\n")?;
     for _ in 0..32_768 {
-        append(&rt, &mut script, b"; a line that is passed over...\n");
+        script.extend_from_slice(b"; a line that is passed over...\n")?;
     }
-    append(&rt, &mut script, b"q ask size\n");
-    expect_answers(
-        &rt,
+    script.extend_from_slice(b"q ask size\n")?;
+    let (status, sink) = run_over(
         rt.alloc(),
-        &[(script.as_bytes(), b"ok\n= 0\n", Status::Done)],
+        &[b"run"],
+        script.as_slice(),
         65_536,
-    );
+        &NONE_FAILS,
+    )?;
+    assert_eq!(rt; sink.written(), b"ok\n= 0\n".as_slice());
+    assert_eq!(rt; status, Status::Done);
+    Ok(())
 }

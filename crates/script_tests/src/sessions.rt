@@ -1,5 +1,6 @@
 use retro_base::{Change, Item, Kind, Listing, MAX_NEXT, MAX_ROWS, NoMemory, Op, PlainList, Row};
 use std::process::Abort;
+use std::test::Fail;
 use timeline_undo::{EditError, MAX_STEPS, Put, Session, Shift, Target, Turn, Turns, UndoError};
 
 const PUSH: Op = Op::Push { value: 1 };
@@ -76,9 +77,9 @@ fn shift_row(
 }
 
 #[test]
-fn steps_are_undone_and_made_again(rt: HostRuntime) {
+fn steps_are_undone_and_made_again(rt: HostRuntime) -> Result<(), Fail> {
     let stack = PlainList::new(rt.alloc(), Kind::Stack);
-    let mut session = Session::new(rt.alloc(), stack, 1).expect(&rt, "memory");
+    let mut session = Session::new(rt.alloc(), stack, 1)?;
     assert_eq!(rt; session.undo(), Err(UndoError::Nothing));
     assert_eq!(rt;
         put_at(&rt, &mut session, 10, PUSH)
@@ -115,13 +116,14 @@ fn steps_are_undone_and_made_again(rt: HostRuntime) {
     assert_eq!(rt; session.undo(), Ok(single(true, 0, 1, 10, PUSH)));
     expect_numbers(&rt, &session, &[1]);
     assert_eq!(rt; session.next(), 3);
+    Ok(())
 }
 
 /// A row that adds is put in before the old one is cut, and one that takes after it. Undo and redo make both edits.
 #[test]
-fn rows_are_replaced_in_one_step(rt: HostRuntime) {
+fn rows_are_replaced_in_one_step(rt: HostRuntime) -> Result<(), Fail> {
     let stack = PlainList::new(rt.alloc(), Kind::Stack);
-    let mut session = Session::new(rt.alloc(), stack, 1).expect(&rt, "memory");
+    let mut session = Session::new(rt.alloc(), stack, 1)?;
     put_at(&rt, &mut session, 10, PUSH).expect(&rt, "accepted");
     put_at(&rt, &mut session, 20, Op::Pop).expect(&rt, "accepted");
     assert_eq!(rt;
@@ -176,13 +178,14 @@ fn rows_are_replaced_in_one_step(rt: HostRuntime) {
     expect_numbers(&rt, &session, &[3, 2]);
     assert_eq!(rt; session.next(), 5);
     assert!(rt; !session.spent());
+    Ok(())
 }
 
 /// More steps than are kept: each puts a row in at the end, and the last of them are undone, until none is left.
 #[test]
-fn the_oldest_step_is_dropped(rt: HostRuntime) {
+fn the_oldest_step_is_dropped(rt: HostRuntime) -> Result<(), Fail> {
     let queue = PlainList::new(rt.alloc(), Kind::Queue);
-    let mut session = Session::new(rt.alloc(), queue, 1).expect(&rt, "memory");
+    let mut session = Session::new(rt.alloc(), queue, 1)?;
     for _ in 0..MAX_STEPS + 1 {
         put_at(&rt, &mut session, 1, Op::Enq { value: 0 }).expect(&rt, "accepted");
     }
@@ -191,4 +194,5 @@ fn the_oldest_step_is_dropped(rt: HostRuntime) {
     }
     assert_eq!(rt; session.undo(), Err(UndoError::Nothing));
     expect_numbers(&rt, &session, &[1]);
+    Ok(())
 }

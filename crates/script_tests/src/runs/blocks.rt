@@ -1,11 +1,10 @@
-use super::{append, expect_answers};
-use retro_base::Text;
+use super::{NONE_FAILS, run_over};
+use retro_base::{NoMemory, Text};
 use retro_cli::Status;
 use std::alloc::Global;
-use std::process::Abort;
 
 #[test]
-fn blocks_are_read_and_saved(rt: HostRuntime) {
+fn blocks_are_read_and_saved(rt: HostRuntime) -> Result<(), NoMemory> {
     let scripts: [(&[u8], &[u8], Status); 18] = [
         // A whole timeline is read, and saved again.
         (
@@ -116,28 +115,33 @@ fn blocks_are_read_and_saved(rt: HostRuntime) {
             Status::Refused,
         ),
     ];
-    expect_answers(&rt, rt.alloc(), &scripts, 512);
+    for (number, (script, answers, status)) in scripts.into_iter().enumerate() {
+        let (ended, sink) = run_over(rt.alloc(), &[b"run"], script, 512, &NONE_FAILS)?;
+        assert_eq!(rt; sink.written(), answers, "row {number}");
+        assert_eq!(rt; ended, status, "row {number}");
+    }
+    Ok(())
 }
 
 /// One row more than a timeline may have: the block is refused, and makes no timeline.
 /// A block of a queue with so many row lines, and the lines after it.
-fn long_block(rt: &impl Abort, alloc: Global, rows: u32, after: &[u8]) -> Text {
+fn long_block(alloc: Global, rows: u32, after: &[u8]) -> Result<Text, NoMemory> {
     let mut script = Text::new(alloc);
-    append(rt, &mut script, b"timeline q queue next ");
-    script.push_number(u64::from(rows) + 1).expect(rt, "memory");
-    append(rt, &mut script, b"\n");
+    script.push_all(b"timeline q queue next ")?;
+    script.push_number(u64::from(rows) + 1)?;
+    script.push_all(b"\n")?;
     for number in 1..=u64::from(rows) {
-        append(rt, &mut script, b"#");
-        script.push_number(number).expect(rt, "memory");
-        append(rt, &mut script, b" 1 enq 0\n");
+        script.push_all(b"#")?;
+        script.push_number(number)?;
+        script.push_all(b" 1 enq 0\n")?;
     }
-    append(rt, &mut script, b"end\n");
-    append(rt, &mut script, after);
-    script
+    script.push_all(b"end\n")?;
+    script.push_all(after)?;
+    Ok(script)
 }
 
 #[test]
-fn a_block_has_as_many_rows_as_a_timeline(rt: HostRuntime) {
+fn a_block_has_as_many_rows_as_a_timeline(rt: HostRuntime) -> Result<(), NoMemory> {
     let blocks: [(u32, &[u8], &[u8]); 2] = [
         (131072, b"q at 1 enq 0\n", b"ok\nrefused full\n"),
         (
@@ -147,12 +151,10 @@ fn a_block_has_as_many_rows_as_a_timeline(rt: HostRuntime) {
         ),
     ];
     for (rows, after, answers) in blocks {
-        let script = long_block(&rt, rt.alloc(), rows, after);
-        expect_answers(
-            &rt,
-            rt.alloc(),
-            &[(script.as_bytes(), answers, Status::Refused)],
-            4096,
-        );
+        let script = long_block(rt.alloc(), rows, after)?;
+        let (ended, sink) = run_over(rt.alloc(), &[b"run"], script.as_bytes(), 4096, &NONE_FAILS)?;
+        assert_eq!(rt; sink.written(), answers, "{rows}");
+        assert_eq!(rt; ended, Status::Refused);
     }
+    Ok(())
 }

@@ -1,4 +1,5 @@
-use super::{NONE_FAILS, Outcome, expect_answers, expect_outcome};
+use super::{NONE_FAILS, run_over};
+use retro_base::NoMemory;
 use retro_cli::Status;
 
 const ORDERS: &[u8] =
@@ -12,7 +13,7 @@ const EVIDENCE: &[u8] = b"ok\nedit p add 0 #1 ins 4 bridge 0 gain #1 4\n\
       edit p add 2 #5 ins 1 bridge 0 gain #3 2\nedit p cut 3 #2 delmin bridge 2 gain #5 1\n";
 
 #[test]
-fn rows_are_corrected_in_one_step(rt: HostRuntime) {
+fn rows_are_corrected_in_one_step(rt: HostRuntime) -> Result<(), NoMemory> {
     let scripts: [(&[u8], &[u8], Status); 6] = [
         // A row is moved, and the move undone. The row that fails is named after the whole step.
         (
@@ -55,15 +56,18 @@ fn rows_are_corrected_in_one_step(rt: HostRuntime) {
             Status::Refused,
         ),
     ];
-    expect_answers(&rt, rt.alloc(), &scripts, 512);
+    for (number, (script, answers, status)) in scripts.into_iter().enumerate() {
+        let (ended, sink) = run_over(rt.alloc(), &[b"run"], script, 512, &NONE_FAILS)?;
+        assert_eq!(rt; sink.written(), answers, "row {number}");
+        assert_eq!(rt; ended, status, "row {number}");
+    }
+    Ok(())
 }
 
 #[test]
-fn evidence_of_a_correction_is_accepted(rt: HostRuntime) {
-    let outcome = Outcome {
-        written: b"accepted 9\n",
-        status: Status::Done,
-    };
-    let piece = (512, &NONE_FAILS);
-    expect_outcome(&rt, rt.alloc(), &[b"check"], EVIDENCE, piece, outcome);
+fn evidence_of_a_correction_is_accepted(rt: HostRuntime) -> Result<(), NoMemory> {
+    let (ended, sink) = run_over(rt.alloc(), &[b"check"], EVIDENCE, 512, &NONE_FAILS)?;
+    assert_eq!(rt; sink.written(), b"accepted 9\n".as_slice());
+    assert_eq!(rt; ended, Status::Done);
+    Ok(())
 }

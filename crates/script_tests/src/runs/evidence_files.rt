@@ -1,8 +1,6 @@
-use super::{Failing, NONE_FAILS, Outcome, append, expect_outcome};
-use retro_base::Text;
+use super::{NONE_FAILS, run_over};
+use retro_base::{NoMemory, Text};
 use retro_cli::Status;
-use std::alloc::Global;
-use std::process::Abort;
 
 /// The output of a script that puts three rows into a priority queue and asks it twice.
 const HONEST: [&[u8]; 6] = [
@@ -30,57 +28,44 @@ enum Forgery {
 }
 
 /// The file with one forgery.
-fn forged(rt: &impl Abort, out: &mut Text, at: usize, forgery: Forgery) {
+fn forged(out: &mut Text, at: usize, forgery: Forgery) -> Result<(), NoMemory> {
     let ending: &[u8] = match forgery {
         Forgery::WithReturns => b"\r\n",
         _ => b"\n",
     };
     for (index, line) in HONEST.into_iter().enumerate() {
         if index + 1 != at {
-            append(rt, out, line);
-            append(rt, out, ending);
+            out.push_all(line)?;
+            out.push_all(ending)?;
             continue;
         }
         match forgery {
             Forgery::Replaced(other) => {
-                append(rt, out, other);
-                append(rt, out, ending);
+                out.push_all(other)?;
+                out.push_all(ending)?;
             }
             Forgery::LeftOut => (),
             Forgery::Doubled => {
-                append(rt, out, line);
-                append(rt, out, ending);
-                append(rt, out, line);
-                append(rt, out, ending);
+                out.push_all(line)?;
+                out.push_all(ending)?;
+                out.push_all(line)?;
+                out.push_all(ending)?;
             }
             Forgery::Appended(_) | Forgery::WithReturns => {
-                append(rt, out, line);
-                append(rt, out, ending);
+                out.push_all(line)?;
+                out.push_all(ending)?;
             }
         }
     }
     if let Forgery::Appended(last) = forgery {
-        append(rt, out, last);
-        append(rt, out, ending);
+        out.push_all(last)?;
+        out.push_all(ending)?;
     }
-}
-
-/// Sees how a file is judged.
-fn expect_judgement(rt: &impl Abort, alloc: Global, file: &[u8], piece: u32, judgement: &[u8]) {
-    let refused = judgement.starts_with(b"refused");
-    let outcome = Outcome {
-        written: judgement,
-        status: if refused {
-            Status::Refused
-        } else {
-            Status::Done
-        },
-    };
-    expect_outcome(rt, alloc, &[b"check"], file, (piece, &NONE_FAILS), outcome);
+    Ok(())
 }
 
 #[test]
-fn forged_files_are_found_out(rt: HostRuntime) {
+fn forged_files_are_found_out(rt: HostRuntime) -> Result<(), NoMemory> {
     let cases: [(usize, Forgery, &[u8]); 24] = [
         (0, Forgery::WithReturns, b"accepted 3\n"),
         // Another place, number, row or change is reported.
@@ -188,15 +173,32 @@ fn forged_files_are_found_out(rt: HostRuntime) {
     ];
     for (at, forgery, judgement) in cases {
         let mut file = Text::new(rt.alloc());
-        forged(&rt, &mut file, at, forgery);
+        forged(&mut file, at, forgery)?;
         for piece in [1, 65536] {
-            expect_judgement(&rt, rt.alloc(), file.as_bytes(), piece, judgement);
+            let (ended, sink) = run_over(
+                rt.alloc(),
+                &[b"check"],
+                file.as_bytes(),
+                piece,
+                &NONE_FAILS,
+            )?;
+            assert_eq!(rt; sink.written(), judgement);
+            let refused = judgement.starts_with(b"refused");
+            assert_eq!(rt;
+                ended,
+                if refused {
+                    Status::Refused
+                } else {
+                    Status::Done
+                }
+            );
         }
     }
+    Ok(())
 }
 
 #[test]
-fn other_files_are_judged(rt: HostRuntime) {
+fn other_files_are_judged(rt: HostRuntime) -> Result<(), NoMemory> {
     let cases: [(&[u8], &[u8]); 11] = [
         (b"", b"accepted 0\n"),
         (
@@ -245,30 +247,43 @@ fn other_files_are_judged(rt: HostRuntime) {
         ),
     ];
     for (file, judgement) in cases {
-        expect_judgement(&rt, rt.alloc(), file, 512, judgement);
+        let (ended, sink) = run_over(rt.alloc(), &[b"check"], file, 512, &NONE_FAILS)?;
+        assert_eq!(rt; sink.written(), judgement);
+        let refused = judgement.starts_with(b"refused");
+        assert_eq!(rt;
+            ended,
+            if refused {
+                Status::Refused
+            } else {
+                Status::Done
+            }
+        );
     }
+    Ok(())
 }
 
 /// A line of evidence that is too long is none; another one is passed over, however long it is.
 #[test]
-fn long_lines_are_judged_by_their_first_bytes(rt: HostRuntime) {
+fn long_lines_are_judged_by_their_first_bytes(rt: HostRuntime) -> Result<(), NoMemory> {
     let cases: [(&[u8], &[u8]); 2] = [
         (b"edit ", b"refused line 1 syntax\n"),
         (b"edits", b"accepted 0\n"),
     ];
     for (begin, judgement) in cases {
         let mut file = Text::new(rt.alloc());
-        append(&rt, &mut file, begin);
+        file.push_all(begin)?;
         for _ in 0..4100 {
-            append(&rt, &mut file, b" ");
+            file.push_all(b" ")?;
         }
-        append(&rt, &mut file, b"\n");
-        expect_judgement(&rt, rt.alloc(), file.as_bytes(), 512, judgement);
+        file.push_all(b"\n")?;
+        let (_ended, sink) = run_over(rt.alloc(), &[b"check"], file.as_bytes(), 512, &NONE_FAILS)?;
+        assert_eq!(rt; sink.written(), judgement);
     }
+    Ok(())
 }
 
 #[test]
-fn generated_scripts_are_summed_up(rt: HostRuntime) {
+fn generated_scripts_are_summed_up(rt: HostRuntime) -> Result<(), NoMemory> {
     let cases: [(&[&[u8]], &[u8], Status); 11] = [
         (
             &[b"gen", b"queue", b"0", b"9"],
@@ -303,40 +318,34 @@ fn generated_scripts_are_summed_up(rt: HostRuntime) {
         (&[b"check", b"run"], b"", Status::Words),
     ];
     for (words, summary, status) in cases {
-        let outcome = Outcome {
-            written: summary,
-            status,
-        };
-        let piece = (512, &NONE_FAILS);
-        expect_outcome(&rt, rt.alloc(), words, b"new q queue\n", piece, outcome);
+        let (ended, sink) = run_over(rt.alloc(), words, b"new q queue\n", 512, &NONE_FAILS)?;
+        assert_eq!(rt; sink.written(), summary);
+        assert_eq!(rt; ended, status);
     }
+    Ok(())
 }
 
 /// A fault of reading leaves nothing, and one of writing a part of the line.
 #[test]
-fn faults_of_a_judgement(rt: HostRuntime) {
-    let reading = Failing {
+fn faults_of_a_judgement(rt: HostRuntime) -> Result<(), NoMemory> {
+    let reading = super::Failing {
         reads: &[2],
         writes: &[],
     };
-    let unread = Outcome {
-        written: b"",
-        status: Status::ReadFault,
-    };
-    let file = b"ok\nedit \n";
-    expect_outcome(&rt, rt.alloc(), &[b"check"], file, (3, &reading), unread);
-    let writing = Failing {
+    let (ended, sink) = run_over(rt.alloc(), &[b"check"], b"ok\nedit \n", 3, &reading)?;
+    assert_eq!(rt; sink.written(), b"".as_slice());
+    assert_eq!(rt; ended, Status::ReadFault);
+    let writing = super::Failing {
         reads: &[],
         writes: &[0],
-    };
-    let unwritten = Outcome {
-        written: b"",
-        status: Status::WriteFault,
     };
     for words in [
         [b"check".as_slice()].as_slice(),
         &[b"gen", b"pq", b"3", b"1"],
     ] {
-        expect_outcome(&rt, rt.alloc(), words, b"", (3, &writing), unwritten);
+        let (ended, sink) = run_over(rt.alloc(), words, b"", 3, &writing)?;
+        assert_eq!(rt; sink.written(), b"".as_slice());
+        assert_eq!(rt; ended, Status::WriteFault);
     }
+    Ok(())
 }

@@ -1,37 +1,31 @@
-use super::{Failing, NONE_FAILS, Outcome, words_of};
+use super::{Failing, NONE_FAILS};
 use followers::{Follower, Mirror, Tally};
-use retro_base::Name;
-use retro_cli::{Status, run_followed};
+use retro_base::{Name, NoMemory};
+use retro_cli::{Status, Words, run_followed};
 use retro_io::{MemorySink, MemorySource};
 use std::alloc::Global;
-use std::process::Abort;
 
-/// Runs the program with these followers, and sees what it writes and how it ends.
-fn expect_followed(
-    rt: &impl Abort,
+/// Runs the program with so many tallies as followers.
+fn follow_over(
     alloc: Global,
-    command_line: &[&[u8]],
-    (script, failing): (&[u8], &Failing),
-    followers: Vec<Box<dyn Follower>>,
-    outcome: Outcome<'_>,
-) {
-    let words = words_of(rt, alloc, command_line);
-    let mut source = MemorySource::new(alloc, script, 16, failing.reads).expect(rt, "memory");
-    let mut sink = MemorySink::new(alloc, 65536, 4096, failing.writes).expect(rt, "memory");
-    assert!(rt; followers.len() <= 1024);
-    let status = run_followed(alloc, &words, &mut source, &mut sink, followers);
-    assert_eq!(rt; sink.written(), outcome.written, "{script:?}");
-    assert_eq!(rt; status, outcome.status, "{script:?}");
-}
-
-/// So many tallies.
-fn tallies(rt: &impl Abort, alloc: Global, count: u32) -> Vec<Box<dyn Follower>> {
+    word: &[u8],
+    script: &[u8],
+    tallies: u32,
+    failing: &Failing,
+) -> Result<(Status, MemorySink), NoMemory> {
+    let mut words = Words::new(alloc);
+    words.push(word)?;
     let mut followers: Vec<Box<dyn Follower>> = Vec::new(alloc);
-    for _ in 0..count {
-        let tally = Box::new(alloc, Tally::new()).expect(rt, "memory");
-        followers.push(tally).expect(rt, "memory");
+    for _ in 0..tallies {
+        followers.push(Box::new(alloc, Tally::new())?)?;
     }
-    followers
+    let mut source = MemorySource::new(alloc, script, 16, failing.reads)?;
+    let mut sink = MemorySink::new(alloc, 65536, 4096, failing.writes)?;
+    if followers.len() > 1024 {
+        return Err(NoMemory);
+    }
+    let status = run_followed(alloc, &words, &mut source, &mut sink, followers);
+    Ok((status, sink))
 }
 
 const QUEUE: &[u8] =
@@ -42,7 +36,7 @@ const PRIORITIES: &[u8] =
     b"new p pq\np at 10 ins 4\np at 20 delmin\np at 5 ins 2\np ask min\np ask at 5 min\n";
 
 #[test]
-fn followers_report_after_the_answers(rt: HostRuntime) {
+fn followers_report_after_the_answers(rt: HostRuntime) -> Result<(), NoMemory> {
     let scripts: [(&[u8], &[u8], u32, &[u8], Status); 8] = [
         (
             b"follow",
@@ -95,16 +89,16 @@ fn followers_report_after_the_answers(rt: HostRuntime) {
         (b"check", b"", 1, b"accepted 0\n", Status::Done),
         (b"follows", QUEUE, 1, b"", Status::Words),
     ];
-    for (word, script, count, written, status) in scripts {
-        let followers = tallies(&rt, rt.alloc(), count);
-        let outcome = Outcome { written, status };
-        let script = (script, &NONE_FAILS);
-        expect_followed(&rt, rt.alloc(), &[word], script, followers, outcome);
+    for (word, script, tallies, expected, status) in scripts {
+        let (found, sink) = follow_over(rt.alloc(), word, script, tallies, &NONE_FAILS)?;
+        assert_eq!(rt; sink.written(), expected);
+        assert_eq!(rt; found, status);
     }
+    Ok(())
 }
 
 #[test]
-fn a_fault_leaves_no_report_or_its_whole_lines(rt: HostRuntime) {
+fn a_fault_leaves_no_report_or_its_whole_lines(rt: HostRuntime) -> Result<(), NoMemory> {
     let faults: [(Failing, &[u8], Status); 2] = [
         (
             Failing {
@@ -123,26 +117,49 @@ fn a_fault_leaves_no_report_or_its_whole_lines(rt: HostRuntime) {
             Status::WriteFault,
         ),
     ];
-    let script = b"new q queue\nq ask size\n";
-    for (failing, written, status) in faults {
-        let followers = tallies(&rt, rt.alloc(), 1);
-        let outcome = Outcome { written, status };
-        let script = (script.as_slice(), &failing);
-        expect_followed(&rt, rt.alloc(), &[b"follow"], script, followers, outcome);
+    for (failing, expected, status) in faults {
+        let (found, sink) = follow_over(
+            rt.alloc(),
+            b"follow",
+            b"new q queue\nq ask size\n",
+            1,
+            &failing,
+        )?;
+        assert_eq!(rt; sink.written(), expected);
+        assert_eq!(rt; found, status);
     }
+    Ok(())
 }
 
-/// A tally and a mirror of `p`.
-fn tally_and_mirror(rt: &impl Abort, alloc: Global) -> Vec<Box<dyn Follower>> {
-    let mut followers = tallies(rt, alloc, 1);
-    let name = Name::read(b"p").expect(rt, "a name");
-    let mirror = Box::new(alloc, Mirror::new(alloc, name)).expect(rt, "memory");
-    followers.push(mirror).expect(rt, "memory");
-    followers
+/// Runs the program with a tally and a mirror of `p` as followers.
+fn follow_p(
+    alloc: Global,
+    command_line: &[&[u8]],
+    script: &[u8],
+    failing: &Failing,
+) -> Result<(Status, MemorySink), NoMemory> {
+    let mut words = Words::new(alloc);
+    for word in command_line {
+        if words.len() < 8 {
+            words.push(word)?;
+        }
+    }
+    let mut followers: Vec<Box<dyn Follower>> = Vec::new(alloc);
+    followers.push(Box::new(alloc, Tally::new())?)?;
+    if let Some(name) = Name::read(b"p") {
+        followers.push(Box::new(alloc, Mirror::new(alloc, name))?)?;
+    }
+    let mut source = MemorySource::new(alloc, script, 16, failing.reads)?;
+    let mut sink = MemorySink::new(alloc, 65536, 4096, failing.writes)?;
+    if followers.len() > 1024 {
+        return Err(NoMemory);
+    }
+    let status = run_followed(alloc, &words, &mut source, &mut sink, followers);
+    Ok((status, sink))
 }
 
 #[test]
-fn a_follower_is_muted(rt: HostRuntime) {
+fn a_follower_is_muted(rt: HostRuntime) -> Result<(), NoMemory> {
     let scripts: [(&[&[u8]], &[u8], &[u8], Status); 9] = [
         // Numbers stay, and a muted follower sees and reports nothing more.
         (
@@ -202,16 +219,16 @@ fn a_follower_is_muted(rt: HostRuntime) {
         (&[b"follow", b"9x"], b"mute 0\n", b"", Status::Words),
         (&[b"follow", b"p", b"q"], b"mute 0\n", b"", Status::Words),
     ];
-    for (words, script, written, status) in scripts {
-        let followers = tally_and_mirror(&rt, rt.alloc());
-        let outcome = Outcome { written, status };
-        let script = (script, &NONE_FAILS);
-        expect_followed(&rt, rt.alloc(), words, script, followers, outcome);
+    for (words, script, expected, status) in scripts {
+        let (found, sink) = follow_p(rt.alloc(), words, script, &NONE_FAILS)?;
+        assert_eq!(rt; sink.written(), expected);
+        assert_eq!(rt; found, status);
     }
+    Ok(())
 }
 
 #[test]
-fn a_report_that_is_not_written_leaves_the_answers_before(rt: HostRuntime) {
+fn a_report_that_is_not_written_leaves_the_answers_before(rt: HostRuntime) -> Result<(), NoMemory> {
     let faults: [(Failing, &[u8], Status); 3] = [
         (
             Failing {
@@ -238,12 +255,15 @@ fn a_report_that_is_not_written_leaves_the_answers_before(rt: HostRuntime) {
             Status::WriteFault,
         ),
     ];
-    let script = b"new q queue\nmute 0\nq ask size\nq ask at 5 size\n";
-    for (failing, written, status) in faults {
-        let followers = tally_and_mirror(&rt, rt.alloc());
-        let outcome = Outcome { written, status };
-        let script = (script.as_slice(), &failing);
-        let words: [&[u8]; 2] = [b"follow", b"p"];
-        expect_followed(&rt, rt.alloc(), &words, script, followers, outcome);
+    for (failing, expected, status) in faults {
+        let (found, sink) = follow_p(
+            rt.alloc(),
+            &[b"follow", b"p"],
+            b"new q queue\nmute 0\nq ask size\nq ask at 5 size\n",
+            &failing,
+        )?;
+        assert_eq!(rt; sink.written(), expected);
+        assert_eq!(rt; found, status);
     }
+    Ok(())
 }

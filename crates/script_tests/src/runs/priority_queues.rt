@@ -1,11 +1,10 @@
-use super::{append, expect_answers};
-use retro_base::Text;
+use super::{NONE_FAILS, run_over};
+use retro_base::{NoMemory, Text};
 use retro_cli::Status;
 use std::alloc::Global;
-use std::process::Abort;
 
 #[test]
-fn priority_queues_tell_their_evidence(rt: HostRuntime) {
+fn priority_queues_tell_their_evidence(rt: HostRuntime) -> Result<(), NoMemory> {
     let scripts: [(&[u8], &[u8], Status); 8] = [
         // An insert in front gains what was taken in its place.
         (
@@ -140,32 +139,37 @@ fn priority_queues_tell_their_evidence(rt: HostRuntime) {
             Status::Done,
         ),
     ];
-    expect_answers(&rt, rt.alloc(), &scripts, 512);
-    // A queue that is held as a product of pieces answers alike.
-    for (script, answers, status) in scripts {
-        let fused = held_in_pieces(&rt, rt.alloc(), script);
-        expect_answers(&rt, rt.alloc(), &[(fused.as_bytes(), answers, status)], 512);
+    for (number, (script, answers, status)) in scripts.into_iter().enumerate() {
+        let (ended, sink) = run_over(rt.alloc(), &[b"run"], script, 512, &NONE_FAILS)?;
+        assert_eq!(rt; sink.written(), answers, "row {number}");
+        assert_eq!(rt; ended, status, "row {number}");
+        // A queue that is held as a product of pieces answers alike.
+        let fused = held_in_pieces(rt.alloc(), script)?;
+        let (ended, sink) = run_over(rt.alloc(), &[b"run"], fused.as_bytes(), 512, &NONE_FAILS)?;
+        assert_eq!(rt; sink.written(), answers, "row {number}, fused");
+        assert_eq!(rt; ended, status, "row {number}, fused");
     }
+    Ok(())
 }
 
 /// The script with `pqf` for `pq` in its first line, where that is a line `new`.
-fn held_in_pieces(rt: &impl Abort, alloc: Global, script: &[u8]) -> Text {
+fn held_in_pieces(alloc: Global, script: &[u8]) -> Result<Text, NoMemory> {
     let mut text = Text::new(alloc);
     if !script.starts_with(b"new ") {
-        append(rt, &mut text, script);
-        return text;
+        text.push_all(script)?;
+        return Ok(text);
     }
     for (number, line) in script.split(|byte| *byte == b'\n').enumerate() {
         if !line.is_empty() {
-            append(rt, &mut text, line);
-            append(rt, &mut text, if number == 0 { b"f\n" } else { b"\n" });
+            text.push_all(line)?;
+            text.push_all(if number == 0 { b"f\n" } else { b"\n" })?;
         }
     }
-    text
+    Ok(text)
 }
 
 #[test]
-fn a_fused_queue_is_saved_as_any_other(rt: HostRuntime) {
+fn a_fused_queue_is_saved_as_any_other(rt: HostRuntime) -> Result<(), NoMemory> {
     let script =
         b"new p pqf\np at 10 ins 4\np at 20 delmin\np at 5 ins 2\np ask min\np ask at 5 min\nsave p\n\
         timeline r pqf next 1\nend\n";
@@ -173,5 +177,8 @@ fn a_fused_queue_is_saved_as_any_other(rt: HostRuntime) {
         b"ok\nedit p add 0 #1 ins 4 bridge 0 gain #1 4\nedit p add 1 #2 delmin bridge 1 lose #1 4\n\
         edit p add 0 #3 ins 2 bridge 0 gain #1 4\n= 4\n= 2\ntimeline p pq next 4 rows 3\n#3 5 ins 2\n#1 10 ins 4\n\
         #2 20 delmin\nend\nrefused syntax\nrefused syntax\n";
-    expect_answers(&rt, rt.alloc(), &[(script, answers, Status::Refused)], 512);
+    let (ended, sink) = run_over(rt.alloc(), &[b"run"], script, 512, &NONE_FAILS)?;
+    assert_eq!(rt; sink.written(), answers.as_slice());
+    assert_eq!(rt; ended, Status::Refused);
+    Ok(())
 }

@@ -1,8 +1,9 @@
-use super::expect_answers;
+use super::{NONE_FAILS, run_over};
+use retro_base::NoMemory;
 use retro_cli::Status;
 
 #[test]
-fn fates_of_rows(rt: HostRuntime) {
+fn fates_of_rows(rt: HostRuntime) -> Result<(), NoMemory> {
     let scripts: [(&[u8], &[u8], Status); 7] = [
         // A queue: what is taken at once, in turn, by the last row, and what stays. Rows that are no answer.
         (
@@ -57,5 +58,10 @@ fn fates_of_rows(rt: HostRuntime) {
             Status::Done,
         ),
     ];
-    expect_answers(&rt, rt.alloc(), &scripts, 512);
+    for (number, (script, answers, status)) in scripts.into_iter().enumerate() {
+        let (ended, sink) = run_over(rt.alloc(), &[b"run"], script, 512, &NONE_FAILS)?;
+        assert_eq!(rt; sink.written(), answers, "row {number}");
+        assert_eq!(rt; ended, status, "row {number}");
+    }
+    Ok(())
 }
