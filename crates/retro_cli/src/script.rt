@@ -3,7 +3,7 @@ ghost use Rattle.retro_base.specs.Limits.{longest_line, most_bytes};
 ghost use Rattle.retro_io.specs.Faults.{CountsFaults, last_count};
 ghost use Rattle.retro_io.specs.Sink.{Appends, AppendsProperPrefix};
 ghost use Rattle.retro_io.specs.Flushes.{EndsWithFailedSend, EndsWithFailedWrite, StaysUnflushed};
-ghost use Rattle.retro_io.specs.LineReader.{GivesLine, MovesOn, StopsAt, TookForLine, given, has_ended, has_failed, held, limit_of, rest_of, source_of, taken};
+ghost use Rattle.retro_io.specs.LineReader.{GivesLine, KeepsSource, MovesOn, ShowsErrors, StopsAt, TookForLine, given, has_ended, has_failed, held, limit_of, rest_of, source_of, taken};
 ghost use Rattle.retro_io.specs.Lines.{has_line_feed};
 ghost use Rattle.retro_io.specs.Marks.{is_fault};
 ghost use Rattle.retro_cli.specs.Ends.{Answers, Stands};
@@ -132,12 +132,11 @@ fn next_line<S: Source, K: Sink>(
     requires open { has_failed reader.old ≡ false }
     requires sent { has_line_feed (held reader.old) ≡ false → K.waiting _sink.now ≡ [] }
     ensures moves { MovesOn reader.old reader.new }
-    ensures failed { has_failed reader.new ≡ is_err result }
+    ensures shows { ShowsErrors result reader.new }
     ensures source_faults { CountsFaults (is_fault result) (S.faults (source_of reader.old)) (S.faults (source_of reader.new)) }
     ensures gives { IfOk result (λ mark. GivesLine mark reader.old reader.new) }
     ensures stops { IfErr result (λ error. StopsAt error reader.old reader.new) }
-    ensures too_long { IsErrOf result ReadError.TooLong ↔ (taken reader.new ≡ limit_of reader.new + 1) }
-    ensures kept_end { has_ended reader.old ≡ true → (source_of reader.new ≡ source_of reader.old) × (result ≡ Ok Mark.End) }
+    ensures kept { KeepsSource result reader.old reader.new }
     ensures took { TookForLine result reader.old reader.new }
 {
     reader.next()

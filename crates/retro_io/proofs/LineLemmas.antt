@@ -1,13 +1,13 @@
 -- Lemmas on lines and line feeds.
 use Rattle.std.proofs.Common.{◌≡◌, ◌≢◌, ℕ, zero, suc, ◌+◌, ◌-◌, ◌≤◌, ◌<◌, Bool, true, false, cond, Option, None, Some, MatchOption}
-use Rattle.std.proofs.Common.{is_some, List, [], ◌∷◌, ◌++◌, length, take, drop, map, get_or, sym, ap, ◌∙◌, refl, arith}
+use Rattle.std.proofs.Common.{is_some, List, [], ◌∷◌, ◌++◌, length, take, drop, get_or, sym, ap, ◌∙◌, refl, arith}
 use Rattle.std.specs.Prelude.{◌==◌}
 use Rattle.std.specs.List.{slice_range}
 use Rattle.std.proofs.lemmas.List.{take-append-drop, drop_more, length-take-le, get_or-take, get_or-drop, length-drop, take-take, drop-take}
 use Rattle.std.proofs.lemmas.Bool.{eq-eqb, ne_eqb}
 use Rattle.std.proofs.lemmas.List.Edits.{between_more}
 use Rattle.retro_io.specs.LineLaws.{both_false, unbroken-append}
-use Rattle.retro_io.specs.Lines.{line_feed, carriage_return, onto_first, pieces, without_return, lines, has_line_feed}
+use Rattle.retro_io.specs.Lines.{line_feed, carriage_return, without_return, has_line_feed}
 
 pub unbroken-prefix : (xs ys : List ℕ) → has_line_feed (xs ++ ys) ≡ false → has_line_feed xs ≡ false
 unbroken-prefix [] ys p = refl

@@ -1,5 +1,5 @@
 -- What contracts see of a line reader.
-use Rattle.std.specs.Prelude.{◌≡◌, ℕ, Bool, true, false, ◌+◌, ◌-◌, ◌≤◌, ◌<◌, List, [], ◌++◌, length, take, Option, None, Some, Result, IfSome, IsTrue}
+use Rattle.std.specs.Prelude.{◌≡◌, ℕ, Bool, true, false, ◌+◌, ◌-◌, ◌≤◌, ◌<◌, List, [], ◌++◌, length, take, Option, None, Some, Result, Ok, IfSome, IsTrue, IsErrOf, is_err, ◌↔◌}
 use Rattle.std.specs.Borrow.{GName}
 use Rattle.retro_io.specs.declared.line_reader.LineReader.{LineReader}
 use Rattle.retro_io.specs.declared.mark.Mark.{Mark}
@@ -60,6 +60,13 @@ module _ {S : Type 0} {G : Ghosts S} where
   abbrev pub rest_of : LineReader S G → Option (List ℕ)
   rest_of r = held_and_left (held r) (G.left (source_of r))
 
+  -- it has taken nothing yet
+  pub record IsUnread (reader : LineReader S G) : Type 0 where
+    pub held : held reader ≡ []
+    pub taken : taken reader ≡ 0
+    pub unended : has_ended reader ≡ false
+    pub unfailed : has_failed reader ≡ false
+
   -- a reader moves on: it took more bytes of its own source, one past its limit at the most
   pub record MovesOn (before after : LineReader S G) : Type 0 where
     pub reference : reference_of after ≡ reference_of before
@@ -68,6 +75,15 @@ module _ {S : Type 0} {G : Ghosts S} where
     pub within : taken after ≤ limit_of after + 1
     pub count : G.taken (source_of after) ≡ count_after (G.taken (source_of before)) (taken after - taken before)
     pub left : GivesCount (G.left (source_of before)) (taken after - taken before) (G.left (source_of after))
+
+  -- after a call it shows whether the answer was an error, and by one byte past its limit that there were too many
+  abbrev pub ShowsErrors : Result Mark ReadError → LineReader S G → Type 0
+  ShowsErrors answer after = (has_failed after ≡ is_err answer) × (IsErrOf answer TooLong ↔ (taken after ≡ limit_of after + 1))
+
+  -- the source stays where a whole line is held, and where a read has answered the end, which then is the answer
+  pub record KeepsSource (answer : Result Mark ReadError) (before after : LineReader S G) : Type 0 where
+    pub line : has_line_feed (held before) ≡ true → source_of after ≡ source_of before
+    pub end : has_ended before ≡ true → (source_of after ≡ source_of before) × (answer ≡ Ok End)
 
   -- a call took some bytes by reads that were due, and made its answer of the bytes held and of these
   abbrev pub TookForLine : Result Mark ReadError → LineReader S G → LineReader S G → Type 0

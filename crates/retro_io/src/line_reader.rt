@@ -31,18 +31,15 @@ pub struct LineReader<'a, S: Source> {
 }
 
 impl<'a, S: Source> LineReader<'a, S> {
-    ghost use Rattle.retro_io.specs.LineReader.{GivesLine, MovesOn, StopsAt, TookForLine, held, line_of, taken, limit_of, has_ended, has_failed, source_of, reference_of};
+    ghost use Rattle.retro_io.specs.LineReader.{GivesLine, IsUnread, KeepsSource, MovesOn, ShowsErrors, StopsAt, TookForLine, held, line_of, taken, limit_of, has_ended, has_failed, source_of, reference_of};
 
     /// A reader of the lines of the source. It reserves all the memory that it will need.
     pub fn new(alloc: Global, source: &'a mut S, limit: u64) -> Result<LineReader<'a, S>, NoMemory>
         requires { limit < 2 ^ 62 }
         ensures reference { IfOk result (λ r. reference_of r ≡ source.entry.ghost_name) }
         ensures source { IfOk result (λ r. source_of r ≡ source.entry.now) }
-        ensures held { IfOk result (λ r. held r ≡ []) }
-        ensures taken { IfOk result (λ r. taken r ≡ 0) }
         ensures limit { IfOk result (λ r. limit_of r ≡ limit) }
-        ensures ended { IfOk result (λ r. has_ended r ≡ false) }
-        ensures failed { IfOk result (λ r. has_failed r ≡ false) }
+        ensures unread { IfOk result IsUnread }
     {
         let buffer = LineBuffer::new(alloc)?;
         Ok(LineReader::with_buffer(buffer, source, limit))
@@ -54,11 +51,8 @@ impl<'a, S: Source> LineReader<'a, S> {
         requires empty { buffer.held ≡ [] }
         ensures reference { reference_of result ≡ source.entry.ghost_name }
         ensures source { source_of result ≡ source.entry.now }
-        ensures held { held result ≡ [] }
-        ensures taken { taken result ≡ 0 }
         ensures limit { limit_of result ≡ limit }
-        ensures ended { has_ended result ≡ false }
-        ensures failed { has_failed result ≡ false }
+        ensures unread { IsUnread result }
     {
         LineReader {
             source,
@@ -108,16 +102,14 @@ impl<'a, S: Source> LineReader<'a, S> {
     pub fn next(&mut self) -> Result<Mark, ReadError>
         requires { has_failed self.old ≡ false }
         ensures moves { MovesOn self.old self.new }
-        ensures failed { has_failed self.new ≡ is_err result }
+        ensures shows { ShowsErrors result self.new }
         ensures source_faults { CountsFaults (is_fault result) (S.faults (source_of self.old)) (S.faults (source_of self.new)) }
         // The lines given are those of the bytes, whatever the pieces.
         ensures gives { IfOk result (λ mark. GivesLine mark self.old self.new) }
         ensures stops { IfErr result (λ error. StopsAt error self.old self.new) }
-        ensures too_long { IsErrOf result ReadError.TooLong ↔ (taken self.new ≡ limit_of self.new + 1) }
         // Over every source the line is the first of the bytes held and of those that the reads gave. It reads only where no whole
         // line is held and no read of its own has answered the end or failed, and offers a buffer of the stated size.
-        ensures kept_line { has_line_feed (held self.old) ≡ true → source_of self.new ≡ source_of self.old }
-        ensures kept_end { has_ended self.old ≡ true → (source_of self.new ≡ source_of self.old) × (result ≡ Ok Mark.End) }
+        ensures kept { KeepsSource result self.old self.new }
         ensures took { TookForLine result self.old self.new }
     {
         if self.ended {
@@ -135,12 +127,11 @@ impl<'a, S: Source> LineReader<'a, S> {
         requires ended { has_ended self.old ≡ false }
         requires unbroken { has_line_feed (held self.old) ≡ false }
         ensures moves { MovesOn self.old self.new }
-        ensures failed { has_failed self.new ≡ is_err result }
+        ensures shows { ShowsErrors result self.new }
         ensures source_faults { CountsFaults (is_fault result) (S.faults (source_of self.old)) (S.faults (source_of self.new)) }
         ensures took { Took (S.left (source_of self.old)) (S.left (source_of self.new)) (taken self.new - taken self.old)
             (λ got. MakesOf result (line_of self.new) (has_ended self.new) (held self.old) (held self.new) got
             × WereDue S.reads (limit_of self.old - taken self.old) (held self.old) false (source_of self.old) got (source_of self.new)) }
-        ensures too_long { IsErrOf result ReadError.TooLong ↔ (taken self.new ≡ limit_of self.new + 1) }
     {
         while self.buffer.len() <= LONGEST + 1 {
             let held = self.buffer.len();
@@ -161,12 +152,11 @@ impl<'a, S: Source> LineReader<'a, S> {
         requires unbroken { has_line_feed (held self.old) ≡ false }
         requires long { longest_line + 1 < length (held self.old) }
         ensures moves { MovesOn self.old self.new }
-        ensures failed { has_failed self.new ≡ is_err result }
+        ensures shows { ShowsErrors result self.new }
         ensures source_faults { CountsFaults (is_fault result) (S.faults (source_of self.old)) (S.faults (source_of self.new)) }
         ensures took { Took (S.left (source_of self.old)) (S.left (source_of self.new)) (taken self.new - taken self.old)
             (λ got. MakesOf result (line_of self.new) (has_ended self.new) (held self.old) (held self.new) got
             × WereDue S.reads (limit_of self.old - taken self.old) (held self.old) false (source_of self.old) got (source_of self.new)) }
-        ensures too_long { IsErrOf result ReadError.TooLong ↔ (taken self.new ≡ limit_of self.new + 1) }
     {
         loop {
             self.buffer.keep_prefix();

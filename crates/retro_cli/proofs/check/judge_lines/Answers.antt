@@ -20,7 +20,7 @@ loop-judging-preserved g c =
     let took = rw c.line.ensures at c.in_ok-take.ensures.judged in
     record {
       moves = MovesOn-then c.args.reader.now c.loop-judging.reader c.next.new.self c.loop-judging.invariant.moves c.in_ok-next.ensures.moves;
-      failed = c.in_ok-next.ensures.failed;
+      failed = c.in_ok-next.ensures.shows.0;
       source_faults = c.in_ok-next.ensures.source_faults ∙ c.loop-judging.invariant.source_faults;
       count = rw took (omega (arith, one, more, c.loop-judging.invariant.count));
       judges = λ bytes e.

@@ -25,7 +25,7 @@ returns-in_err-next_line-clause-stands g c =
     let p = err_from_is_err_and c.from_residual-in_err-next_line.result c.from_residual-in_err-next_line.ensures.1 in
     let stops = c.in_err-next_line.ensures.stops in
     let moves = c.loop-bench.invariant.moves in
-    let not_ended : has_ended c.loop-bench.reader ≡ false = open_before_error _ _ c.in_err-next_line.ensures.kept_end in
+    let not_ended : has_ended c.loop-bench.reader ≡ false = open_before_error _ _ c.in_err-next_line.ensures.kept.end in
     let answers = before_end _ _ _ _ _ _ _ _ _ not_ended (goes_on_sent _ _ _ _ _ _ _ _ _ _ c.send_before_read.ensures.written c.loop-bench.invariant.answers) in
     rw p.1
     (stands_at_error _ g.K.Sink _ _ _ _ _ c.in_err-next_line.field-0.0 p.0 p.2
@@ -42,7 +42,7 @@ returns-in_err-refused-clause-stands g c =
     let p = err_from_is_err_and c.from_residual-in_err-refused.result c.from_residual-in_err-refused.ensures.1 in
     let as_given : GivenAs c.in_ok-next_line.field-0 c.match-branch-3.long =
     elim c.match-branch-3.branch [ in-Whole w ↦ rw w.in-Whole.is w.long-is | in-Long w ↦ rw w.in-Long.is w.long-is ] in
-    let not_ended : has_ended c.loop-bench.reader ≡ false = open_before_line _ _ _ as_given c.in_ok-next_line.ensures.kept_end in
+    let not_ended : has_ended c.loop-bench.reader ≡ false = open_before_line _ _ _ as_given c.in_ok-next_line.ensures.kept.end in
     rw (p.1, p.2)
     (stands_at_answer _ g.K.Sink _ _ _ _ _ _ c.in_err-refused.field-0.0
     (first_answers _ _ _ _ _ _ _ _ _ (goes_on_sent _ _ _ _ _ _ _ _ _ _ c.send_before_read.ensures.written c.loop-bench.invariant.answers))
@@ -83,7 +83,7 @@ returns-in_err-refused-clause-earlier g c =
     let now = c.next_line.new.reader in
     let as_given : GivenAs c.in_ok-next_line.field-0 c.match-branch-3.long =
     elim c.match-branch-3.branch [ in-Whole w ↦ rw w.in-Whole.is w.long-is | in-Long w ↦ rw w.in-Long.is w.long-is ] in
-    let not_ended : has_ended c.loop-bench.reader ≡ false = open_before_line _ _ _ as_given c.in_ok-next_line.ensures.kept_end in
+    let not_ended : has_ended c.loop-bench.reader ≡ false = open_before_line _ _ _ as_given c.in_ok-next_line.ensures.kept.end in
     λ short.
     rw (c.in_err-refused.ensures.untouched (unwritten c.in_err-refused.field-0.0 (sym p.2 ∙ memory_is c.from_residual-in_err-refused.result p.0 p.1 short)))
     (answers_of_earlier g.S.Source _ _ _ _ _ _ _ (λ script from.
@@ -156,12 +156,12 @@ pub loop-bench-preserved : goal.loop-bench-preserved
 loop-bench-preserved g c =
     let as_given : GivenAs c.in_ok-next_line.field-0 c.match-branch-3.long =
     elim c.match-branch-3.branch [ in-Whole w ↦ rw w.in-Whole.is w.long-is | in-Long w ↦ rw w.in-Long.is w.long-is ] in
-    let not_ended : has_ended c.loop-bench.reader ≡ false = open_before_line _ _ _ as_given c.in_ok-next_line.ensures.kept_end in
+    let not_ended : has_ended c.loop-bench.reader ≡ false = open_before_line _ _ _ as_given c.in_ok-next_line.ensures.kept.end in
     let answered = rw c.line.ensures at c.in_ok-refused.ensures.answered in
     record {
       moves = MovesOn-then c.args.reader.now c.loop-bench.reader c.next_line.new.reader c.loop-bench.invariant.moves c.in_ok-next_line.ensures.moves;
       unspent = rw answered.0 refl;
-      failed = c.in_ok-next_line.ensures.failed;
+      failed = c.in_ok-next_line.ensures.shows.0;
       source_faults = c.in_ok-next_line.ensures.source_faults ∙ c.loop-bench.invariant.source_faults;
       sink_faults = c.in_ok-refused.ensures.sink_faults ∙ c.in_ok-send_before_read.ensures.sink_faults ∙ c.loop-bench.invariant.sink_faults;
       unflushed = StaysUnflushed-more g.K.Sink _ _ _ (StaysUnflushed-more g.K.Sink _ _ _ c.loop-bench.invariant.unflushed c.in_ok-send_before_read.ensures.unflushed) c.in_ok-refused.ensures.unflushed;
