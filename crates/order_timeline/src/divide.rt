@@ -1,16 +1,14 @@
-ghost use Rattle.std.specs.Prelude.{◌<◌, ◌≤◌, length};
-ghost use Rattle.order_timeline.specs.Runs.{IsInRuns};
+ghost use Rattle.std.specs.Prelude.{◌≡◌, ◌<◌, ◌≤◌, length};
+ghost use Rattle.order_timeline.specs.Kept.{AreInRuns};
 ghost use Rattle.retro_base.specs.Limits.{most_rows};
 ghost use Rattle.retro_base.specs.Timeline.{HaveOwnNumbers};
 
-use crate::names::Names;
-use crate::numbers::{Numbers, write_run};
+use crate::kept::Kept;
+use crate::numbers::write_run;
 use crate::run::Run;
 use crate::runs::start_of;
-use monoid_laws::Counted;
-use retro_base::{MAX_ROWS, NoMemory, Row, Steps};
+use retro_base::{MAX_ROWS, NoMemory, Steps};
 use std::sync::ledger::Ledger;
-use weighted_tree::Tree;
 
 /// A run that is longer is divided.
 pub(crate) const LONGEST_RUN: u32 = 32;
@@ -28,36 +26,41 @@ fn first_part(count: u32, is_last: bool) -> u32
 }
 
 /// Divides a run. Where there is no memory for another run, all stays.
-pub(crate) fn divide<L: Ledger>(
-    rows: &Tree<Counted<Row>>,
-    runs: &mut Tree<Run>,
-    names: &mut Names,
-    numbers: &mut Numbers,
-    run: u32,
-    steps: &mut Steps<L>,
-)
-    requires in_runs { IsInRuns rows.now runs.old names.old numbers.old }
-    requires there { run < length runs.old }
-    requires few { length rows.now ≤ most_rows }
-    requires own { HaveOwnNumbers rows.now }
-    ensures { IsInRuns rows.now runs.new names.new numbers.new }
+pub(crate) fn divide<L: Ledger>(kept: &mut Kept, run: u32, steps: &mut Steps<L>)
+    requires in_runs { AreInRuns kept.old }
+    requires there { run < length kept.old.runs }
+    requires few { length kept.old.rows ≤ most_rows }
+    requires own { HaveOwnNumbers kept.old.rows }
+    ensures rows { kept.new.rows ≡ kept.old.rows }
+    ensures in_runs { AreInRuns kept.new }
 {
-    if names.len() >= MAX_ROWS {
+    if kept.names.len() >= MAX_ROWS {
         return;
     }
-    let count = runs.get(run, steps).rows();
-    let half = first_part(count, run + 1 == runs.len());
-    if runs.insert(run + 1, Run::new(count - half), steps).is_err() {
+    let count = kept.runs.get(run, steps).rows();
+    let half = first_part(count, run + 1 == kept.runs.len());
+    if kept
+        .runs
+        .insert(run + 1, Run::new(count - half), steps)
+        .is_err()
+    {
         return;
     }
-    match names.insert(run + 1, steps) {
+    match kept.names.insert(run + 1, steps) {
         Ok(name) => {
-            runs.replace(run, Run::new(half), steps);
-            let from = start_of(runs, run + 1, steps);
-            write_run(numbers, rows, from, count - half, name, steps);
+            kept.runs.replace(run, Run::new(half), steps);
+            let from = start_of(&kept.runs, run + 1, steps);
+            write_run(
+                &mut kept.numbers,
+                &kept.rows,
+                from,
+                count - half,
+                name,
+                steps,
+            );
         }
         Err(NoMemory) => {
-            runs.remove(run + 1, steps);
+            kept.runs.remove(run + 1, steps);
         }
     }
 }

@@ -1,12 +1,14 @@
 ghost use Rattle.std.specs.Prelude.{◌≡◌, ◌<◌, length, slice_get, Some, OnOk, OnErr};
 ghost use Rattle.std.specs.List.{insert, remove};
 ghost use Rattle.retro_base.specs.Visits.{OpensCounter};
-ghost use Rattle.order_timeline.specs.Runs.{RepresentsRows, beside};
+ghost use Rattle.order_timeline.specs.Kept.{IsKept};
+ghost use Rattle.order_timeline.specs.Runs.{beside};
 ghost use Rattle.order_timeline.specs.Rows.{MayCome};
 
 use crate::divide::{LONGEST_RUN, divide};
+use crate::kept::Kept;
 use crate::names::Names;
-use crate::numbers::{Numbers, add, forget};
+use crate::numbers::{add, forget};
 use crate::run::Run;
 use crate::runs::{run_for, run_of};
 use monoid_laws::Counted;
@@ -16,36 +18,37 @@ use weighted_tree::Tree;
 
 /// Puts a row in at a place. After `NoMemory` the rows are as before.
 pub(crate) fn put_in<L: Ledger>(
-    rows: &mut Tree<Counted<Row>>,
-    runs: &mut Tree<Run>,
-    names: &mut Names,
-    numbers: &mut Numbers,
+    kept: &mut Kept,
     place: u32,
     row: Row,
     blank: Blank,
 ) -> Result<(), NoMemory>
     requires counter { OpensCounter blank.name L.name blank.parts L.parts }
-    requires kept { RepresentsRows rows.old runs.old names.old numbers.old }
-    requires comes { MayCome rows.old place row }
-    ensures kept { RepresentsRows rows.new runs.new names.new numbers.new }
-    ensures ok { OnOk result (rows.new ≡ insert rows.old place row) }
-    ensures err { OnErr result (rows.new ≡ rows.old) }
+    requires kept { IsKept kept.old }
+    requires comes { MayCome kept.old.rows place row }
+    ensures kept { IsKept kept.new }
+    ensures ok { OnOk result (kept.new.rows ≡ insert kept.old.rows place row) }
+    ensures err { OnErr result (kept.new.rows ≡ kept.old.rows) }
 {
     let mut steps = Steps::<L>::new(blank);
-    first_run(runs, names, &mut steps)?;
-    let run = run_for(runs, place, &mut steps);
-    let name = names.name_at(run, &mut steps);
-    add(numbers, row.number, name)?;
-    if rows.insert(place, Counted::new(row), &mut steps).is_err() {
-        forget(numbers, row.number);
+    first_run(&mut kept.runs, &mut kept.names, &mut steps)?;
+    let run = run_for(&kept.runs, place, &mut steps);
+    let name = kept.names.name_at(run, &mut steps);
+    add(&mut kept.numbers, row.number, name)?;
+    if kept
+        .rows
+        .insert(place, Counted::new(row), &mut steps)
+        .is_err()
+    {
+        forget(&mut kept.numbers, row.number);
         return Err(NoMemory);
     }
-    let count = runs.get(run, &mut steps).rows();
-    runs.replace(run, Run::new(count + 1), &mut steps);
+    let count = kept.runs.get(run, &mut steps).rows();
+    kept.runs.replace(run, Run::new(count + 1), &mut steps);
     if count < LONGEST_RUN {
         return Ok(());
     }
-    divide(rows, runs, names, numbers, run, &mut steps);
+    divide(kept, run, &mut steps);
     Ok(())
 }
 
@@ -71,31 +74,24 @@ fn first_run<L: Ledger>(
 }
 
 /// Takes the row at a place out, and gives it back.
-pub(crate) fn take_out<L: Ledger>(
-    rows: &mut Tree<Counted<Row>>,
-    runs: &mut Tree<Run>,
-    names: &mut Names,
-    numbers: &mut Numbers,
-    place: u32,
-    blank: Blank,
-) -> Row
+pub(crate) fn take_out<L: Ledger>(kept: &mut Kept, place: u32, blank: Blank) -> Row
     requires counter { OpensCounter blank.name L.name blank.parts L.parts }
-    requires kept { RepresentsRows rows.old runs.old names.old numbers.old }
-    requires within { place < length rows.old }
-    ensures kept { RepresentsRows rows.new runs.new names.new numbers.new }
-    ensures row { slice_get rows.old place ≡ Some result }
-    ensures rows { rows.new ≡ remove rows.old place }
+    requires kept { IsKept kept.old }
+    requires within { place < length kept.old.rows }
+    ensures kept { IsKept kept.new }
+    ensures row { slice_get kept.old.rows place ≡ Some result }
+    ensures rows { kept.new.rows ≡ remove kept.old.rows place }
 {
     let mut steps = Steps::<L>::new(blank);
-    let run = run_of(runs, place, &mut steps);
-    let row = rows.remove(place, &mut steps).value();
-    forget(numbers, row.number);
-    let count = runs.get(run, &mut steps).rows();
+    let run = run_of(&kept.runs, place, &mut steps);
+    let row = kept.rows.remove(place, &mut steps).value();
+    forget(&mut kept.numbers, row.number);
+    let count = kept.runs.get(run, &mut steps).rows();
     if count == 1 {
-        runs.remove(run, &mut steps);
-        names.remove(run, &mut steps);
+        kept.runs.remove(run, &mut steps);
+        kept.names.remove(run, &mut steps);
         return row;
     }
-    runs.replace(run, Run::new(count - 1), &mut steps);
+    kept.runs.replace(run, Run::new(count - 1), &mut steps);
     row
 }

@@ -1,14 +1,13 @@
 ghost use Rattle.std.specs.Prelude.{◌≡◌, ◌-◌, ◌<◌, ◌≤◌, ◌==◌, ◌++◌, min, take, drop, length, slice_get, position, Some};
 ghost use Rattle.retro_base.specs.Limits.{most_rows};
-ghost use Rattle.order_timeline.specs.Runs.{RepresentsRows, IsNotBefore};
+ghost use Rattle.order_timeline.specs.Kept.{IsKept};
+ghost use Rattle.order_timeline.specs.Runs.{IsNotBefore};
 ghost use Rattle.retro_base.specs.Places.{place_of_row, place_of_time};
 ghost use Rattle.retro_base.specs.Timeline.{TimesNeverFall};
 ghost use Rattle.retro_base.specs.Visits.{OpensCounter};
 
 use crate::divide::LONGEST_RUN;
-use crate::names::Names;
-use crate::numbers::Numbers;
-use crate::run::Run;
+use crate::kept::Kept;
 use crate::runs::start_of;
 use monoid_laws::Counted;
 use retro_base::{Row, Steps};
@@ -62,23 +61,16 @@ pub(crate) fn read_from<L: Ledger>(
 }
 
 /// The place of the row with this number, where there is one.
-pub(crate) fn place_of<L: Ledger>(
-    rows: &Tree<Counted<Row>>,
-    runs: &Tree<Run>,
-    names: &Names,
-    numbers: &Numbers,
-    number: u32,
-    blank: Blank,
-) -> Option<u32>
+pub(crate) fn place_of<L: Ledger>(kept: &Kept, number: u32, blank: Blank) -> Option<u32>
     requires counter { OpensCounter blank.name L.name blank.parts L.parts }
-    requires kept { RepresentsRows rows.now runs.now names.now numbers.now }
-    ensures { result ≡ place_of_row number rows.now }
+    requires kept { IsKept kept.now }
+    ensures { result ≡ place_of_row number kept.now.rows }
 {
     let mut steps = Steps::<L>::new(blank);
-    let name = numbers.get(number)?;
-    let run = names.place_of(name, &mut steps)?;
-    let start = start_of(runs, run, &mut steps);
-    place_from(rows, start, number, &mut steps)
+    let name = kept.numbers.get(number)?;
+    let run = kept.names.place_of(name, &mut steps)?;
+    let start = start_of(&kept.runs, run, &mut steps);
+    place_from(&kept.rows, start, number, &mut steps)
 }
 
 /// The same from a place on.

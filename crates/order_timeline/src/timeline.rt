@@ -8,35 +8,28 @@ ghost use Rattle.order_timeline.specs.Rows.{IsOrdered};
 
 use crate::edit::{put_in, take_out};
 use crate::find::{place_of, read, read_from, rows_up_to};
-use crate::names::Names;
-use crate::numbers::Numbers;
-use crate::run::Run;
-use monoid_laws::Counted;
+use crate::kept::Kept;
 use retro_base::{NoMemory, Row};
 use std::alloc::Global;
 use std::marker::{Brand, Model};
 use std::sync::ledger::Blank;
-use weighted_tree::Tree;
 
 /// Rows in order of time, each with a number of its own.
 #[derive(Drop)]
 pub struct Timeline {
-    rows: Tree<Counted<Row>>,
-    runs: Tree<Run>,
-    names: Names,
-    numbers: Numbers,
+    kept: Kept,
 }
 
 impl Model for Timeline {
     ghost use Rattle.std.specs.Prelude.{List};
     ghost use Rattle.retro_base.specs.declared.row.Row.{Row};
-    ghost use Rattle.order_timeline.specs.Runs.{RepresentsRows};
+    ghost use Rattle.order_timeline.specs.Kept.{IsKept};
 
     ghost Value = { List Row };
 
-    ghost view = { λ timeline. timeline.rows };
+    ghost view = { λ timeline. timeline.kept.rows };
 
-    ghost invariant = { λ timeline. RepresentsRows timeline.rows timeline.runs timeline.names timeline.numbers };
+    ghost invariant = { λ timeline. IsKept timeline.kept };
 }
 
 impl Timeline {
@@ -45,10 +38,7 @@ impl Timeline {
         ensures { result ≡ [] }
     {
         Timeline {
-            rows: Tree::new(alloc),
-            runs: Tree::new(alloc),
-            names: Names::new(alloc),
-            numbers: Numbers::new(alloc),
+            kept: Kept::new(alloc),
         }
     }
 
@@ -57,7 +47,7 @@ impl Timeline {
         ensures length { result ≡ length self.now }
         ensures ordered { IsOrdered self.now }
     {
-        self.rows.len()
+        self.kept.rows.len()
     }
 
     /// The row at a place.
@@ -65,7 +55,7 @@ impl Timeline {
         requires { place < length self.now }
         ensures { slice_get self.now place ≡ Some result }
     {
-        read::<Brand>(&self.rows, place, Blank::new(1))
+        read::<Brand>(&self.kept.rows, place, Blank::new(1))
     }
 
     /// Copies the rows from a place on into a slice, as many as fit or are there, and gives their number.
@@ -74,7 +64,7 @@ impl Timeline {
         ensures count { result ≡ min (length self.now - from) (length rows.old) }
         ensures rows { rows.new ≡ take result (drop from self.now) ++ drop result rows.old }
     {
-        read_from::<Brand>(&self.rows, from, rows, Blank::new(1))
+        read_from::<Brand>(&self.kept.rows, from, rows, Blank::new(1))
     }
 
     /// The place of a time: how many rows stand up to it.
@@ -83,7 +73,7 @@ impl Timeline {
         ensures within { result ≤ length self.now }
         ensures fits { Fits self.now result time }
     {
-        rows_up_to::<Brand>(&self.rows, time, Blank::new(1))
+        rows_up_to::<Brand>(&self.kept.rows, time, Blank::new(1))
     }
 
     /// The place of the row with this number, where there is one.
@@ -92,14 +82,7 @@ impl Timeline {
         ensures within { IfSome result (λ place. place < length self.now) }
         ensures few { length self.now ≤ most_rows }
     {
-        place_of::<Brand>(
-            &self.rows,
-            &self.runs,
-            &self.names,
-            &self.numbers,
-            number,
-            Blank::new(1),
-        )
+        place_of::<Brand>(&self.kept, number, Blank::new(1))
     }
 
     /// Puts a row in at a place where its time fits. After `NoMemory` all is as before.
@@ -111,15 +94,7 @@ impl Timeline {
         ensures ok { OnOk result (self.new ≡ insert self.old place row) }
         ensures err { OnErr result (self.new ≡ self.old) }
     {
-        put_in::<Brand>(
-            &mut self.rows,
-            &mut self.runs,
-            &mut self.names,
-            &mut self.numbers,
-            place,
-            row,
-            Blank::new(1),
-        )
+        put_in::<Brand>(&mut self.kept, place, row, Blank::new(1))
     }
 
     /// Takes the row at a place out, and gives it back.
@@ -128,13 +103,6 @@ impl Timeline {
         ensures row { slice_get self.old place ≡ Some result }
         ensures rows { self.new ≡ remove self.old place }
     {
-        take_out::<Brand>(
-            &mut self.rows,
-            &mut self.runs,
-            &mut self.names,
-            &mut self.numbers,
-            place,
-            Blank::new(1),
-        )
+        take_out::<Brand>(&mut self.kept, place, Blank::new(1))
     }
 }

@@ -8,27 +8,27 @@ use Rattle.order_timeline.proofs.find.place_of.Goals as goal
 pub returns-in_err-name : goal.returns-in_err-name
 returns-in_err-name g c =
     let named = c.requires.kept.in_runs.named in
-    let none : name_of c.args.number c.args.rows.now (beside c.args.runs.now c.args.names.now) ≡ None = sym (named.filed c.args.number) ∙ sym c.get.ensures ∙ c.in_err-name.was in
-    c.from_residual.ensures ∙ sym (no_place c.args.number c.args.rows.now (beside c.args.runs.now c.args.names.now) named.beside none)
+    let none : name_of c.args.number c.args.kept.now.rows (beside c.args.kept.now.runs c.args.kept.now.names) ≡ None = sym (named.filed c.args.number) ∙ sym c.get.ensures ∙ c.in_err-name.was in
+    c.from_residual.ensures ∙ sym (no_place c.args.number c.args.kept.now.rows (beside c.args.kept.now.runs c.args.kept.now.names) named.beside none)
 
 pub start_of-start-requires-clause-few : goal.start_of-start-requires-clause-few
-start_of-start-requires-clause-few g c = omega (arith, all_rows c.args.rows.now c.args.runs.now c.args.names.now c.args.numbers.now c.requires.kept.in_runs, c.requires.kept.ordered.few)
+start_of-start-requires-clause-few g c = omega (arith, all_rows c.args.kept.now.rows c.args.kept.now.runs c.args.kept.now.names c.args.kept.now.numbers c.requires.kept.in_runs, c.requires.kept.ordered.few)
 
 pub returns-in_err-run : goal.returns-in_err-run
 returns-in_err-run g c =
-    let rows = c.args.rows.now in
-    let runs = c.args.runs.now in
-    let names = c.args.names.now in
+    let rows = c.args.kept.now.rows in
+    let runs = c.args.kept.now.runs in
+    let names = c.args.kept.now.names in
     let name = c.in_ok-name.name in
     let some : name_of c.args.number rows (beside runs names) ≡ Some name = sym (c.requires.kept.in_runs.named.filed c.args.number) ∙ sym c.get.ensures ∙ c.in_ok-name.was in
     c.from_residual-in_err-run.ensures ∙ sym (no_run c.args.number name rows runs names c.requires.kept.in_runs.each
-    (all_rows rows runs names c.args.numbers.now c.requires.kept.in_runs) some (sym c.place_of.ensures.place ∙ c.in_err-run.was))
+    (all_rows rows runs names c.args.kept.now.numbers c.requires.kept.in_runs) some (sym c.place_of.ensures.place ∙ c.in_err-run.was))
 
 pub place_from-requires : goal.place_from-requires
 place_from-requires g c =
-    let rows = c.args.rows.now in
-    let runs = c.args.runs.now in
-    let names = c.args.names.now in
+    let rows = c.args.kept.now.rows in
+    let runs = c.args.kept.now.runs in
+    let names = c.args.kept.now.names in
     let name = c.in_ok-name.name in
     let some : name_of c.args.number rows (beside runs names) ≡ Some name = sym (c.requires.kept.in_runs.named.filed c.args.number) ∙ sym c.get.ensures ∙ c.in_ok-name.was in
     subst (λ start. IsNotBefore rows start c.args.number) (sym c.start_of-start.ensures) (not_before_run c.args.number name c.in_ok-run.run' rows runs names some (sym c.place_of.ensures.place ∙ c.in_ok-run.was))

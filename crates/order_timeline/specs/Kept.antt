@@ -1,0 +1,11 @@
+-- What a timeline keeps, as one.
+use Rattle.order_timeline.specs.declared.kept.Kept.{Kept}
+use Rattle.order_timeline.specs.Runs.{IsInRuns, RepresentsRows}
+
+-- its rows are in runs
+abbrev pub AreInRuns : Kept → Type 0
+AreInRuns kept = IsInRuns kept.rows kept.runs kept.names kept.numbers
+
+-- its rows are those of a timeline, in runs
+abbrev pub IsKept : Kept → Type 0
+IsKept kept = RepresentsRows kept.rows kept.runs kept.names kept.numbers

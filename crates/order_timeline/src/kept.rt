@@ -1,0 +1,36 @@
+ghost use Rattle.std.specs.Prelude.{◌≡◌, []};
+ghost use Rattle.order_timeline.specs.Kept.{IsKept};
+
+use crate::names::Names;
+use crate::numbers::Numbers;
+use crate::run::Run;
+use monoid_laws::Counted;
+use retro_base::Row;
+use std::alloc::Global;
+use weighted_tree::Tree;
+
+/// What a timeline keeps of its rows.
+#[derive(Drop)]
+pub(crate) struct Kept {
+    pub(crate) rows: Tree<Counted<Row>>,
+    /// How many rows there are in each run of neighbours.
+    pub(crate) runs: Tree<Run>,
+    /// A name for each run.
+    pub(crate) names: Names,
+    /// The name of each row's run, by the row's number.
+    pub(crate) numbers: Numbers,
+}
+
+impl Kept {
+    pub(crate) fn new(alloc: Global) -> Kept
+        ensures rows { result.rows ≡ [] }
+        ensures kept { IsKept result }
+    {
+        Kept {
+            rows: Tree::new(alloc),
+            runs: Tree::new(alloc),
+            names: Names::new(alloc),
+            numbers: Numbers::new(alloc),
+        }
+    }
+}
