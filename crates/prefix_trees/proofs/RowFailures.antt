@@ -1,13 +1,15 @@
 -- From a search in the signs of rows to the first row that finds nothing to take.
-use Rattle.std.proofs.Common.{◌≡◌, ℕ, ◌+◌, ◌-◌, ◌<◌, ◌≤◌, ℤ, pos, negsuc, ◌-ℤ◌, Bool, List, length, Option, Some, None, sym, ap, ◌∙◌, arith, subst}
+use Rattle.std.proofs.Common.{◌≡◌, ℕ, ◌+◌, ◌-◌, ◌<◌, ◌≤◌, ℤ, pos, negsuc, ◌-ℤ◌, Bool, true, List, length, Option, Some, None, sym, ap, ◌∙◌, arith, subst}
+use Rattle.std.specs.Int.Signed.{le_z}
 use Rattle.std.specs.Prelude.{slice_get}
 use Rattle.std.specs.List.{insert, remove}
+use Rattle.monoid_laws.specs.PrefixSumLaws.{le_true}
 use Rattle.retro_base.specs.declared.op.Op.{Op}
 use Rattle.retro_base.specs.declared.row.Row.{Row}
 use Rattle.prefix_trees.specs.Growth.{sign_of}
 use Rattle.prefix_trees.specs.Falls.{NeverFalls, FallsFirst}
 use Rattle.prefix_trees.specs.Prefixes.{FindsFirstAtMost, IsFirstAtMost, NoneAtMost}
-use Rattle.prefix_trees.specs.EditLaws.{signs_and_marks, falls-insert, falls-later, falls-remove-none, falls-remove-some}
+use Rattle.prefix_trees.specs.EditLaws.{signs_and_marks, falls-insert, falls-later, falls-remove-none, falls-remove-some, never-falls-insert, never-falls-remove}
 
 -- a search with these arguments is one with those
 searched : (signs signs' : List (ℤ × Bool)) (from end end' : ℕ) (value value' : ℤ) (answer : Option ℕ) → signs ≡ signs' → end ≡ end' → value ≡ value'
@@ -16,6 +18,16 @@ searched signs signs' from end end' value value' answer same_signs same_end same
     subst (λ s. FindsFirstAtMost s from end' value' answer) same_signs
     (subst (λ n. FindsFirstAtMost signs from n value' answer) same_end
     (subst (λ v. FindsFirstAtMost signs from end v answer) same_value found))
+
+-- a row that takes nothing, or one that adds nothing and is taken out, stops no other
+pub with_none : (rows : List Row) (place : ℕ) (op : Op) (sign : ℤ) → NeverFalls rows → place ≤ length rows → sign ≡ sign_of op → le_z (pos 0) sign ≡ true
+    → (row : Row) → row.op ≡ op → FallsFirst (insert rows place row) None
+with_none rows place op sign never within is takes_none row same =
+    never-falls-insert rows place never row within (le_true (pos 0) (sign_of row.op) (subst (λ s. le_z (pos 0) s ≡ true) (is ∙ ap sign_of (sym same)) takes_none))
+
+pub without_nothing : (rows : List Row) (place : ℕ) (row : Row) (sign : ℤ) → NeverFalls rows → slice_get rows place ≡ Some row → place < length rows
+    → sign ≡ sign_of row.op → le_z sign (pos 0) ≡ true → FallsFirst (remove rows place) None
+without_nothing rows place row sign never at inside is adds_none = never-falls-remove rows place never row at inside (le_true (sign_of row.op) (pos 0) (subst (λ s. le_z s (pos 0) ≡ true) is adds_none))
 
 module _ (rows : List Row) (signs : List (ℤ × Bool)) (signs_are : signs ≡ signs_and_marks rows) (never : NeverFalls rows) (place end : ℕ) (end_is : end ≡ length rows) (value : ℤ) where
   pub with_row : (op : Op) (answer : Option ℕ) → value ≡ negsuc 0 -ℤ sign_of op → place ≤ length rows → FindsFirstAtMost signs place end value answer

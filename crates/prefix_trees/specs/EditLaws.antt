@@ -108,6 +108,12 @@ module _ (rows : List Row) (place : ℕ) (never : NeverFalls rows) where
       not_before = λ k before. enough_with k (λ earlier after below. omega (arith, ints, first.not_before earlier after (omega arith), prefix-grown rows earlier)) (omega (arith, first.within));
     }
 
+    -- a row that takes nothing lowers no sum
+    pub never-falls-insert : pos 0 ≤ℤ sign_of row.op → FallsFirst (insert rows place row) None
+    never-falls-insert takes_none = λ k small.
+        enough_with k (λ earlier after below. omega (arith, ints, takes_none, enough earlier (omega (arith, length-insert rows place row within))))
+        (omega (arith, length-insert rows place row within))
+
     pub falls-insert : (answer : Option ℕ) → FindsFirstAtMost (signs_and_marks rows) place (length rows) (negsuc 0 -ℤ sign_of row.op) answer → FallsFirst (insert rows place row) answer
     falls-insert answer found = falls_with answer found
 
@@ -143,6 +149,11 @@ module _ (rows : List Row) (place : ℕ) (never : NeverFalls rows) where
       length_less [] place inside = absurd (omega arith)
       length_less (r ∷ rows) zero inside = omega arith
       length_less (r ∷ rows) (suc place) inside = omega (arith, length_less rows place (omega arith))
+
+    -- without a row that adds nothing no sum is lower
+    pub never-falls-remove : sign_of row.op ≤ℤ pos 0 → FallsFirst (remove rows place) None
+    never-falls-remove adds_none k small =
+        enough_without k (λ later after below. omega (arith, ints, adds_none, enough later (omega (arith, length_without)))) (omega (arith, length_without))
 
     pub falls-remove-none : FindsFirstAtMost (signs_and_marks rows) (place + 1) (length rows) (sign_of row.op -ℤ pos 1) None → FallsFirst (remove rows place) None
     falls-remove-none none k small =

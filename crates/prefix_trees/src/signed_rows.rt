@@ -95,7 +95,7 @@ impl SignedRows {
     }
 
     /// The index of the first row that finds nothing to take, were a row with this operation put in at
-    /// the place; none where each finds something.
+    /// the place; none where each finds something, as where the row takes nothing itself.
     pub fn failure_after_insert<L: Ledger>(
         &self,
         place: u32,
@@ -108,13 +108,16 @@ impl SignedRows {
         ensures index { IfSome result (λ index. index ≤ length self.now) }
         ensures visits { VisitsWithin 24 (length self.now) steps.old steps.new }
     {
+        if sign_of(op) >= 0 {
+            return None;
+        }
         let end = self.len();
         self.signs
             .first_at_most(place, end, deepest_with(op), steps)
     }
 
     /// The index of the first row that finds nothing to take, were the row at the place taken out; none
-    /// where each finds something.
+    /// where each finds something, as where the row adds nothing.
     pub fn failure_after_remove<L: Ledger>(&self, place: u32, steps: &mut Steps<L>) -> Option<u32>
         requires within { place < length self.now }
         requires never { NeverFalls self.now }
@@ -122,8 +125,11 @@ impl SignedRows {
         ensures index { IfSome result (λ index. index + 1 < length self.now) }
         ensures visits { VisitsWithin 36 (length self.now) steps.old steps.new }
     {
-        let end = self.len();
         let row = self.row_at(place, steps);
+        if sign_of(row.op) <= 0 {
+            return None;
+        }
+        let end = self.len();
         let deepest = deepest_without(row.op);
         let later = self.signs.first_at_most(place + 1, end, deepest, steps)?;
         Some(later - 2)

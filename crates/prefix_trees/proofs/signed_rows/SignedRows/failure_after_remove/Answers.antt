@@ -1,6 +1,6 @@
-use Rattle.std.proofs.Common.{◌∙◌, ap, rules}
+use Rattle.std.proofs.Common.{◌∙◌, ap, rules, w8, to_z, of_z}
 use Rattle.prefix_trees.specs.EditLaws.{signs_and_marks}
-use Rattle.prefix_trees.proofs.RowFailures.{without_none, without_some, two_on, within_rest}
+use Rattle.prefix_trees.proofs.RowFailures.{without_none, without_nothing, without_some, two_on, within_rest}
 use Rattle.prefix_trees.proofs.signed_rows.SignedRows.failure_after_remove.Goals as goal
 
 pub returns-in_err-later-clause-first : goal.returns-in_err-later-clause-first
@@ -26,3 +26,7 @@ returns-clause-index g c =
     within_rest c.args.self.now c.self.inside.signs (c.self.invariant ∙ ap signs_and_marks c.self.view_is) c.requires.never
     c.args.place c.len-end.result (search rules) _ c.row_at-row.result (search rules) c.requires.within (search rules)
     c.in_ok-later.later c.in_ok-later.ensures.first
+
+pub returns-then-sign_of-le0-clause-first : goal.returns-then-sign_of-le0-clause-first
+returns-then-sign_of-le0-clause-first g c =
+    without_nothing c.args.self.now c.args.place c.row_at-row.result (to_z w8 (of_z w8 c.sign_of.result)) c.requires.never (search rules) c.requires.within (search rules) c.if-sign_of-le0.true
