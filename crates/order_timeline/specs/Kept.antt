@@ -7,5 +7,5 @@ abbrev pub AreInRuns : Kept → Type 0
 AreInRuns kept = IsInRuns kept.rows kept.runs kept.names kept.numbers
 
 -- its rows are those of a timeline, in runs
-abbrev pub IsKept : Kept → Type 0
-IsKept kept = RepresentsRows kept.rows kept.runs kept.names kept.numbers
+abbrev pub KeepsRows : Kept → Type 0
+KeepsRows kept = RepresentsRows kept.rows kept.runs kept.names kept.numbers

@@ -1,7 +1,7 @@
 ghost use Rattle.std.specs.Prelude.{◌≡◌, ◌<◌, length, slice_get, Some, OnOk, OnErr};
 ghost use Rattle.std.specs.List.{insert, remove};
 ghost use Rattle.retro_base.specs.Visits.{OpensCounter};
-ghost use Rattle.order_timeline.specs.Kept.{IsKept};
+ghost use Rattle.order_timeline.specs.Kept.{KeepsRows};
 ghost use Rattle.order_timeline.specs.Runs.{beside};
 ghost use Rattle.order_timeline.specs.Rows.{MayCome};
 
@@ -24,9 +24,9 @@ pub(crate) fn put_in<L: Ledger>(
     blank: Blank,
 ) -> Result<(), NoMemory>
     requires counter { OpensCounter blank.name L.name blank.parts L.parts }
-    requires kept { IsKept kept.old }
+    requires kept { KeepsRows kept.old }
     requires comes { MayCome kept.old.rows place row }
-    ensures kept { IsKept kept.new }
+    ensures kept { KeepsRows kept.new }
     ensures ok { OnOk result (kept.new.rows ≡ insert kept.old.rows place row) }
     ensures err { OnErr result (kept.new.rows ≡ kept.old.rows) }
 {
@@ -76,9 +76,9 @@ fn first_run<L: Ledger>(
 /// Takes the row at a place out, and gives it back.
 pub(crate) fn take_out<L: Ledger>(kept: &mut Kept, place: u32, blank: Blank) -> Row
     requires counter { OpensCounter blank.name L.name blank.parts L.parts }
-    requires kept { IsKept kept.old }
+    requires kept { KeepsRows kept.old }
     requires within { place < length kept.old.rows }
-    ensures kept { IsKept kept.new }
+    ensures kept { KeepsRows kept.new }
     ensures row { slice_get kept.old.rows place ≡ Some result }
     ensures rows { kept.new.rows ≡ remove kept.old.rows place }
 {

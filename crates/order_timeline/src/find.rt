@@ -1,6 +1,6 @@
 ghost use Rattle.std.specs.Prelude.{◌≡◌, ◌-◌, ◌<◌, ◌≤◌, ◌==◌, ◌++◌, min, take, drop, length, slice_get, position, Some};
 ghost use Rattle.retro_base.specs.Limits.{most_rows};
-ghost use Rattle.order_timeline.specs.Kept.{IsKept};
+ghost use Rattle.order_timeline.specs.Kept.{KeepsRows};
 ghost use Rattle.order_timeline.specs.Runs.{IsNotBefore};
 ghost use Rattle.retro_base.specs.Places.{place_of_row, place_of_time};
 ghost use Rattle.retro_base.specs.Timeline.{TimesNeverFall};
@@ -63,7 +63,7 @@ pub(crate) fn read_from<L: Ledger>(
 /// The place of the row with this number, where there is one.
 pub(crate) fn place_of<L: Ledger>(kept: &Kept, number: u32, blank: Blank) -> Option<u32>
     requires counter { OpensCounter blank.name L.name blank.parts L.parts }
-    requires kept { IsKept kept.now }
+    requires kept { KeepsRows kept.now }
     ensures { result ≡ place_of_row number kept.now.rows }
 {
     let mut steps = Steps::<L>::new(blank);

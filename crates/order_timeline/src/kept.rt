@@ -1,5 +1,5 @@
 ghost use Rattle.std.specs.Prelude.{◌≡◌, []};
-ghost use Rattle.order_timeline.specs.Kept.{IsKept};
+ghost use Rattle.order_timeline.specs.Kept.{KeepsRows};
 
 use crate::names::Names;
 use crate::numbers::Numbers;
@@ -24,7 +24,7 @@ pub(crate) struct Kept {
 impl Kept {
     pub(crate) fn new(alloc: Global) -> Kept
         ensures rows { result.rows ≡ [] }
-        ensures kept { IsKept result }
+        ensures kept { KeepsRows result }
     {
         Kept {
             rows: Tree::new(alloc),

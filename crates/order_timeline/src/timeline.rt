@@ -23,13 +23,13 @@ pub struct Timeline {
 impl Model for Timeline {
     ghost use Rattle.std.specs.Prelude.{List};
     ghost use Rattle.retro_base.specs.declared.row.Row.{Row};
-    ghost use Rattle.order_timeline.specs.Kept.{IsKept};
+    ghost use Rattle.order_timeline.specs.Kept.{KeepsRows};
 
     ghost Value = { List Row };
 
     ghost view = { λ timeline. timeline.kept.rows };
 
-    ghost invariant = { λ timeline. IsKept timeline.kept };
+    ghost invariant = { λ timeline. KeepsRows timeline.kept };
 }
 
 impl Timeline {
