@@ -5,3 +5,4 @@ mod Moved
 mod MovedEnds
 mod Results
 mod Held
+mod Collected

@@ -232,7 +232,7 @@ module _ {A : Type 0} {before : A → A → Bool} (order : IsOrder before) where
       ] refl
 
   -- elements that were put in order are as they were
-  absorbs_after : (xs ys : List A) → in_order before (xs ++ in_order before ys) ≡ in_order before (xs ++ ys)
+  pub absorbs_after : (xs ys : List A) → in_order before (xs ++ in_order before ys) ≡ in_order before (xs ++ ys)
   absorbs_after [] ys = in_order-kept order (in_order before ys) (in_order-ordered order ys)
   absorbs_after (x ∷ xs) ys = ap (put_in before x) (absorbs_after xs ys)
 

@@ -1,11 +1,11 @@
 -- The place of an element among those in their order.
-use Rattle.std.proofs.Common.{◌≡◌, ℕ, zero, suc, ◌≤◌, ◌<◌, Some, slice_get, Bool, true, false, cond, not, List, [], ◌∷◌, length, refl, sym, ap, ◌∙◌, arith}
+use Rattle.std.proofs.Common.{◌≡◌, ℕ, zero, suc, ◌≤◌, ◌<◌, Some, slice_get, Bool, true, false, cond, not, List, [], ◌∷◌, length, refl, ap, arith}
 use Rattle.std.specs.List.{insert, remove}
 use Rattle.std.specs.List.Sorted.{IsPartitionPoint}
 use Rattle.retro_base.specs.OrderLaws.{all_weaker}
 use Rattle.weighted_tree.specs.Partitioned.{IsPartitioned}
 use Rattle.lifetime_segments.specs.Ordered.{IsOrder, AreInOrder, put_in, is_in, without, place_in}
-use Rattle.lifetime_segments.specs.OrderedLaws.{between}
+use Rattle.lifetime_segments.specs.OrderedLaws.{after}
 
 -- the place of an element is where it is put in, and where it is taken out
 pub insert-place : {A : Type 0} (before : A → A → Bool) (x : A) (xs : List A) → insert xs (place_in before x xs) x ≡ put_in before x xs
@@ -66,13 +66,7 @@ place-point before x (y ∷ ys) (suc count) within point =
 
 -- in an order they stop at one place
 module _ {A : Type 0} {before : A → A → Bool} (order : IsOrder before) where
-  not_past : (x y z : A) → before y x ≡ false → before z y ≡ false → before z x ≡ false
-  not_past x y z here later = elim (before z x) as (λ b. before z x ≡ b → b ≡ false) [
-    | true ↦ λ near. sym (between order x y z near later) ∙ here
-    | false ↦ λ _. refl
-  ] refl
-
   pub place-parted : (x : A) (xs : List A) → AreInOrder before xs → IsPartitioned (λ y. before y x) xs
   place-parted x [] ordered = tt
   place-parted x (y ∷ ys) ordered =
-      (λ here. all_weaker (λ z. before z y ≡ false) (λ z. before z x ≡ false) ys (λ z later. not_past x y z here later) ordered.0, place-parted x ys ordered.1)
+      (λ here. all_weaker (λ z. before z y ≡ false) (λ z. before z x ≡ false) ys (λ z later. after order x y z here later) ordered.0, place-parted x ys ordered.1)

@@ -157,7 +157,7 @@ module _ {A : Type 0} {before : A → A → Bool} (order : IsOrder before) where
   ] refl
 
   -- what is not before, seen through an element between
-  after : (x y z : A) → before y x ≡ false → before z y ≡ false → before z x ≡ false
+  pub after : (x y z : A) → before y x ≡ false → before z y ≡ false → before z x ≡ false
   after x y z first second = elim (before z x) as (λ b. before z x ≡ b → b ≡ false) [
     | true ↦ λ near. sym (between x y z near second) ∙ first
     | false ↦ λ _. refl

@@ -1,5 +1,5 @@
 -- Lifetimes as they lie in the dyadic spans of a trie.
-use Rattle.std.specs.Prelude.{◌≡◌, ◌==◌, ◌≤◌, ◌-◌, ◌^◌, ◌&&◌, ℕ, zero, suc, Bool, true, false, cond, not, nat_le, nat_lt, List, [], ◌∷◌, map, length}
+use Rattle.std.specs.Prelude.{◌≡◌, ◌==◌, ◌≤◌, ◌-◌, ◌^◌, ◌&&◌, ℕ, zero, suc, Bool, true, false, cond, not, nat_le, nat_lt, List, [], ◌∷◌, ◌++◌, map, length}
 use Rattle.std.specs.List.{filter, AllByRecursion}
 use Rattle.lifetime_segments.specs.declared.lifetime.Lifetime.{Lifetime}
 use Rattle.lifetime_segments.specs.declared.trie.Trie.{Trie, Empty, Full'}
@@ -154,6 +154,16 @@ AnswersAt {A} before answer level label query trie result =
 abbrev pub NodeAnswersAt : {A M Q P : Type 0} → (A → A → Bool) → (List A → Q → P) → ℕ → ℕ → Q → Node A M → P → Type 0
 NodeAnswersAt {A} before answer level label query node result =
     (lives : List (Lifetime A)) → IsOfNode before (suc level) lives node → length lives ≤ most_items → result ≡ answer (in_order before (items_below level label lives)) query
+
+-- whatever lifetimes it has, the items that are there at a label were appended to others, in any order
+abbrev pub CollectsAt : {A M : Type 0} → (A → A → Bool) → ℕ → ℕ → Trie A M → List A → List A → Type 0
+CollectsAt {A} before level label trie old new =
+    (lives : List (Lifetime A)) → IsOf before level lives trie → in_order before new ≡ in_order before (old ++ items_at label lives)
+
+-- the same of the items below a node
+abbrev pub NodeCollectsAt : {A M : Type 0} → (A → A → Bool) → ℕ → ℕ → Node A M → List A → List A → Type 0
+NodeCollectsAt {A} before level label node old new =
+    (lives : List (Lifetime A)) → IsOfNode before (suc level) lives node → in_order before new ≡ in_order before (old ++ items_below level label lives)
 
 -- lifetimes in their order and in range, not too many, with the trie of their items
 pub record AreHeld {A M : Type 0} (before : A → A → Bool) (held : List (Lifetime A)) (root : Trie A M) : Type 0 where

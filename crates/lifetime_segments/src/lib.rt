@@ -3,7 +3,7 @@
 //! A search is decomposable where its answer over some items is combined of its answers over two parts of them, as a
 //! count, a sum or the least item is (Bentley and Saxe 1980). [`Decomposable`] is such a search with its laws, which each
 //! implementation proves, and [`Segments`] answers it over the items of all lifetimes that hold a label, for every one
-//! of them. Where nothing is asked but at the last label, the items alone serve better.
+//! of them, and gives these items. Where nothing is asked but at the last label, the items alone serve better.
 //!
 //! `Segments` is a segment tree (Bentley 1977) over labels of 40 bits. The spans of labels are dyadic: that of the root
 //! has all labels, and each has two halves. A lifetime is made up of at most two spans of each level, and its item lies
@@ -17,9 +17,10 @@
 //! | `add`, `take` | a search of log n in each of at most 80 nodes |
 //! | `move_end` | that of an `add` and a `take`, but for the nodes of spans that the lifetime has with either end |
 //! | `ask` | one `ask` in each of at most 41 nodes, and as many of `combine` |
+//! | `items_at` | a walk through at most 41 nodes, and through the items that it gives |
 //!
 //! `add` and `move_end` take memory for a node of each new span and for one of each tree, and leave all as it was where
-//! there is none; no other call takes any.
+//! there is none; `items_at` takes it for what it gives. No other call takes any.
 //!
 //! What the layer above may rely on, beside the clauses: the definitions of specs/Ordered.antt, specs/Lifetimes.antt and
 //! specs/Lawful.antt, and the laws of lists in their order in specs/OrderedLaws.antt and specs/LifetimeLaws.antt. So a
@@ -27,9 +28,11 @@
 //!
 //! - `decomposable`: the trait. `segments`: the type and its calls. `lifetime`: what lies in a span, and what in its halves.
 //! - `trie`: the nodes of the spans. `edit`: putting an item in, moving its end and taking it out. `search`: the way to a label.
+//!   `collect`: the items on this way.
 //! - `sorted`: trees that keep their items in an order.
 #![tactic(auto)]
 
+mod collect;
 mod decomposable;
 mod edit;
 mod lifetime;

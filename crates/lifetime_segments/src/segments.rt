@@ -1,4 +1,4 @@
-ghost use Rattle.std.specs.Prelude.{◌≡◌, ◌<◌, ◌≤◌, true, [], length, OnOk, OnErr};
+ghost use Rattle.std.specs.Prelude.{◌≡◌, ◌<◌, ◌≤◌, true, [], length, IfOk, OnOk, OnErr};
 ghost use Rattle.std.specs.List.{AllByRecursion};
 ghost use Rattle.retro_base.specs.Visits.{OpensCounter};
 ghost use Rattle.lifetime_segments.specs.Lawful.{most_items};
@@ -6,6 +6,7 @@ ghost use Rattle.lifetime_segments.specs.Lifetimes.{label_end, lifetime, IsInRan
 ghost use Rattle.lifetime_segments.specs.Ordered.{AreInOrder, put_in, in_order, is_in, without};
 ghost use Rattle.lifetime_segments.specs.Tries.{AreHeld, ending};
 
+use crate::collect::collected;
 use crate::decomposable::Decomposable;
 use crate::lifetime::Lifetime;
 use crate::sorted::{ByStart, holds, put, take_out};
@@ -99,6 +100,16 @@ impl<D: Decomposable> Segments<D> {
         ensures { result ≡ D.answer (in_order D.stands_before (items_at label self.now)) query }
     {
         search::ask::<D>(&self.root, LEVELS, label, query)
+    }
+
+    /// The items of all lifetimes that hold the label, in no order of their own.
+    pub fn items_at(&self, label: u64) -> Result<Vec<D::Item>, NoMemory>
+        requires within { label < label_end }
+        ensures items { IfOk result (λ items. in_order D.stands_before items.items ≡ in_order D.stands_before (items_at label self.now)) }
+        ensures few { IfOk result (λ items. length items.items ≤ most_items) }
+    {
+        let alloc = self.held.alloc();
+        collected::<D, Brand>(&self.root, LEVELS, label, alloc, Blank::new(1))
     }
 }
 

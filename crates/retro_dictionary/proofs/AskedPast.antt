@@ -24,12 +24,10 @@ use Rattle.retro_dictionary.specs.DictionaryLaws.{LifetimesHoldContent, SearchAn
 use Rattle.retro_dictionary.specs.Kept.{AreKept}
 use Rattle.retro_dictionary.proofs.Answered.{answer-found}
 use Rattle.retro_dictionary.specs.Labelled.{labelled}
-use Rattle.retro_dictionary.specs.Listed.{AreThere}
 use Rattle.retro_dictionary.specs.Lifetimes.{lifetimes_of}
 use Rattle.retro_dictionary.specs.PairSearch.{pair_before, found_in}
-use Rattle.retro_dictionary.specs.declared.pairs.KeyRange.{KeyRange}
 use Rattle.retro_dictionary.specs.PairSearchLaws.{pair_order}
-use Rattle.retro_dictionary.specs.Asked.{found_at, range_of, answer_from}
+use Rattle.retro_dictionary.specs.Asked.{AreOfNumbers, pairs_at, range_of, answer_from}
 use Rattle.retro_dictionary.proofs.HeldPairs.{held}
 use Rattle.retro_dictionary.proofs.InOrder.{in_order-same}
 use Rattle.retro_dictionary.proofs.LabelledRows.{beside, length-fronts, rises, up_to-is}
@@ -53,7 +51,8 @@ pub record IsThere (rows : List Row) (labels : List ℕ) (lifetimes : List (Life
   pub left : List (ℤ × ℤ)
   pub state : state_at Dict rows place ≡ pairs left
   pub few : length left ≤ most_rows
-  pub listed : AreThere labels lifetimes place left
+  pub of_numbers : AreOfNumbers left
+  pub are : pairs_at labels lifetimes place ≡ left
 
 module _ (rows : List Row) (labels : List ℕ) (index : List KeyRow) (lifetimes : List (Lifetime (ℤ × ℤ))) (place : ℕ) (kept : AreKept rows labels index lifetimes) (within : place ≤ length rows) where
   first_rows : Leave (take place rows) []
@@ -81,32 +80,23 @@ module _ (rows : List Row) (labels : List ℕ) (index : List KeyRow) (lifetimes 
       ∙ in_order-same pair_order (items_at label (lifetimes_of (labelled labels rows)) ++ []) first_rows.left theirs.same
       ∙ in_order-kept pair_order first_rows.left (pairs-ordered first_rows.left theirs.sorted)
 
-  sorted_first : AreSorted first_rows.left
-  sorted_first =
-      let below = before_after in
-      (held (label_before 0 labels place) (omega (arith, below.0, below.1)) (labelled labels rows) [] first_rows.left
-      (rises label_limit 0 labels rows apart) sorted_nil (run_first (label_before 0 labels place) refl)).sorted
-
-  found_later : (earlier : ℕ) (range : KeyRange) → place ≡ suc earlier → found_at labels lifetimes (suc earlier) range ≡ found_in first_rows.left range
-  found_later earlier range is =
-      ap (λ ps. found_in ps range) (found_first (label_before 0 labels (suc earlier)) (ap (label_before 0 labels) is) (omega (arith, before_after.0, before_after.1, ap (label_before 0 labels) is)))
-
-  found_at-is : (range : KeyRange) → found_at labels lifetimes place range ≡ found_in first_rows.left range
-  found_at-is range = go place refl where
-    go : (p : ℕ) → place ≡ p → found_at labels lifetimes p range ≡ found_in first_rows.left range
+  pairs_at-is : pairs_at labels lifetimes place ≡ first_rows.left
+  pairs_at-is = go place refl where
+    go : (p : ℕ) → place ≡ p → pairs_at labels lifetimes p ≡ first_rows.left
     go zero is =
         let none : run [] (pairs []) ≡ Ok (pairs first_rows.left) = ap (λ p. run (take p rows) (pairs [])) (sym is) ∙ first_rows.ran in
         let ends = run-none (pairs []) in
-        let empty_left : first_rows.left ≡ [] = cc in
-        ap (λ ps. found_in ps range) (sym empty_left)
-    go (suc earlier) is = found_later earlier range is
+        cc
+    go (suc earlier) is =
+        found_first (label_before 0 labels (suc earlier)) (ap (label_before 0 labels) is) (omega (arith, before_after.0, before_after.1, ap (label_before 0 labels) is))
 
   pub there : IsThere rows labels lifetimes place
   there = record {
     left = first_rows.left;
     state = ap (λ r. result_unwrap_or r (empty Dict)) first_rows.ran;
     few = omega (arith, first_rows.few, length-take place rows, kept.replayable.few);
-    listed = record { rising = sorted_first; of_numbers = first_rows.keys; found = λ range. found_at-is range };
+    of_numbers = first_rows.keys;
+    are = pairs_at-is;
   }
 
 -- the pairs that are there in their order
@@ -124,4 +114,4 @@ holds-content rows labels index lifetimes place kept some within = content_at ro
 pub answers-found : SearchAnswers
 answers-found rows labels index lifetimes place question kept within =
     let at = there rows labels index lifetimes place kept within in
-    ap (λ state. answer_of state question) at.state ∙ answer-found at.left question at.listed.of_numbers at.few ∙ ap (answer_from question) (sym (at.listed.found (range_of question)))
+    ap (λ state. answer_of state question) at.state ∙ answer-found at.left question at.of_numbers at.few ∙ ap (λ ps. answer_from question (found_in ps (range_of question))) (sym at.are)

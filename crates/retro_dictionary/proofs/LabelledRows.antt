@@ -10,10 +10,8 @@ use Rattle.key_index.specs.KeyRows.{KeyRow, LabelsRise, is_on, last_of, last_bef
 use Rattle.lifetime_segments.specs.declared.lifetime.Lifetime.{Lifetime}
 use Rattle.lifetime_segments.specs.Lifetimes.{items_at}
 use Rattle.lifetime_segments.specs.Ordered.{in_order}
-use Rattle.retro_dictionary.specs.declared.pairs.Found.{Found}
-use Rattle.retro_dictionary.specs.declared.pairs.KeyRange.{KeyRange}
-use Rattle.retro_dictionary.specs.Asked.{found_at}
-use Rattle.retro_dictionary.specs.PairSearch.{pair_before, found_in}
+use Rattle.retro_dictionary.specs.Asked.{pairs_at}
+use Rattle.retro_dictionary.specs.PairSearch.{pair_before}
 use Rattle.order_labels.specs.Labels.{AreApart, label_limit, label_before, label_after as label_later}
 use Rattle.retro_dictionary.specs.Edited.{IsBetween, label_or_end}
 use Rattle.retro_dictionary.specs.Labelled.{labelled}
@@ -292,12 +290,10 @@ before-is labels zero label some read = absurd (omega arith)
 before-is labels (suc place) label some read =
     sym (before-read 0 labels place label (subst (λ n. slice_get labels n ≡ Some label) (let less : suc place - 1 ≡ place = omega arith in less) read))
 
-pub found-after : (labels : List ℕ) (lifetimes : List (Lifetime (ℤ × ℤ))) (place label : ℕ) (range : KeyRange) (value : Found) → 0 < place → slice_get labels (place - 1) ≡ Some label
-    → value ≡ found_in (in_order pair_before (items_at label lifetimes)) range → value ≡ found_at labels lifetimes place range
-found-after labels lifetimes zero label range value some read is = absurd (omega arith)
-found-after labels lifetimes (suc place) label range value some read is =
-    let there : slice_get labels place ≡ Some label = subst (λ n. slice_get labels n ≡ Some label) (let less : suc place - 1 ≡ place = omega arith in less) read in
-    is ∙ ap (λ l. found_in (in_order pair_before (items_at l lifetimes)) range) (sym (before-read 0 labels place label there))
+pub pairs-after : (labels : List ℕ) (lifetimes : List (Lifetime (ℤ × ℤ))) (place label : ℕ) → 0 < place → slice_get labels (place - 1) ≡ Some label
+    → in_order pair_before (items_at label lifetimes) ≡ pairs_at labels lifetimes place
+pairs-after labels lifetimes zero label some read = absurd (omega arith)
+pairs-after labels lifetimes (suc place) label some read = ap (λ l. in_order pair_before (items_at l lifetimes)) (before-is labels (suc place) label some read)
 
 pub length-labelled : (labels : List ℕ) (rows : List Row) → length (labelled labels rows) ≤ length rows
 length-labelled [] rows = omega arith

@@ -15,6 +15,7 @@ pub mod KeptEdits
 pub mod EditSteps
 pub mod FailingRow
 pub mod ListedPairs
+pub mod SortedPairs
 pub mod Relabelling
 pub mod RareRows
 pub mod MadeLifetimes

@@ -1,5 +1,5 @@
 -- Which pairs answer a question of a dictionary, and what is answered of what is found of them.
-use Rattle.std.specs.Prelude.{ℕ, zero, suc, ℤ, pos, neg_ℤ, ◌-ℤ◌, ◌^◌, ◌≤ℤ◌, List}
+use Rattle.std.specs.Prelude.{ℕ, zero, suc, ℤ, pos, neg_ℤ, ◌-ℤ◌, ◌^◌, ◌≤ℤ◌, List, []}
 use Rattle.std.specs.List.{AllByRecursion}
 use Rattle.std.specs.Option.{option_map}
 use Rattle.retro_base.specs.declared.question.Question.{Question}
@@ -13,7 +13,7 @@ use Rattle.lifetime_segments.specs.Ordered.{in_order}
 use Rattle.order_labels.specs.Labels.{label_before}
 use Rattle.retro_dictionary.specs.declared.pairs.Found.{Found}
 use Rattle.retro_dictionary.specs.declared.pairs.KeyRange.{KeyRange}
-use Rattle.retro_dictionary.specs.PairSearch.{pair_before, found_in, none_found}
+use Rattle.retro_dictionary.specs.PairSearch.{pair_before, found_in}
 
 -- numbers of 64 bits
 abbrev pub least_number : ℤ
@@ -52,7 +52,11 @@ answer_from (Count low high) found = Number (pos found.count)
 answer_from (Sum low high) found = Number found.sum
 answer_from question found = Nothing
 
--- what is found at a place: of the pairs whose lifetimes hold the label of the row before it
+-- the pairs at a place, in their order: those whose lifetimes hold the label of the row before it
+abbrev pub pairs_at : List ℕ → List (Lifetime (ℤ × ℤ)) → ℕ → List (ℤ × ℤ)
+pairs_at labels lifetimes zero = []
+pairs_at labels lifetimes (suc place) = in_order pair_before (items_at (label_before 0 labels (suc place)) lifetimes)
+
+-- what is found of them
 abbrev pub found_at : List ℕ → List (Lifetime (ℤ × ℤ)) → ℕ → KeyRange → Found
-found_at labels lifetimes zero range = none_found
-found_at labels lifetimes (suc place) range = found_in (in_order pair_before (items_at (label_before 0 labels (suc place)) lifetimes)) range
+found_at labels lifetimes place range = found_in (pairs_at labels lifetimes place) range

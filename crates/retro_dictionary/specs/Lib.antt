@@ -6,7 +6,6 @@ pub mod PairSearch
 pub mod PairMeasure
 pub mod PairSearchLaws
 pub mod Asked
-pub mod Listed
 pub mod Labelled
 pub mod RelabellingLaw
 pub mod RowLabels

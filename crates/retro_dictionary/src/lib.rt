@@ -17,7 +17,7 @@
 //! | `insert`, `remove` | log² n in each of at most 80 spans, for each of at most three lifetimes |
 //! | `insert`, where no label is left | as much for each row; at least 22 insertions lie between two of these |
 //! | `ask`, `ask_now` | log n in each of at most 41 spans |
-//! | `all` | as much for each pair |
+//! | `all` | a walk through at most 41 spans, and a sort of the k pairs that it gives: k log k |
 //!
 //! `insert`, `remove` and `all` take memory; where there is none, all is as before.
 //!

@@ -1,17 +1,21 @@
-ghost use Rattle.std.specs.Prelude.{◌≡◌, ◌≤◌, length, IfOk};
+ghost use Rattle.std.specs.Prelude.{◌≡◌, ◌<◌, ◌≤◌, ◌^◌, length, IfOk};
+ghost use Rattle.lifetime_segments.specs.Lawful.{most_items};
+ghost use Rattle.lifetime_segments.specs.Lifetimes.{label_end, items_at};
+ghost use Rattle.lifetime_segments.specs.Ordered.{in_order};
 ghost use Rattle.order_labels.specs.Labels.{AreLabels};
-ghost use Rattle.retro_dictionary.specs.Asked.{found_at, keys_from, greatest_number};
-ghost use Rattle.retro_dictionary.specs.Listed.{IsListingAt};
+ghost use Rattle.retro_base.specs.Answers.{content};
+ghost use Rattle.retro_base.specs.State.{pairs};
+ghost use Rattle.retro_dictionary.specs.Asked.{pairs_at};
+ghost use Rattle.retro_dictionary.specs.PairSearch.{pair_before};
 
-use crate::asked::found_at;
-use crate::pairs::{Found, KeyRange};
+use crate::pairs::KeyPair;
 use crate::search::PairSearch;
 use lifetime_segments::Segments;
 use order_labels::Labels;
 use retro_base::{Item, Listing, NoMemory};
 use std::alloc::Global;
 
-/// The pairs at a place, their keys rising. Each of them costs one search.
+/// The pairs at a place, their keys rising.
 pub(crate) fn list_at(
     labels: &Labels,
     segments: &Segments<PairSearch>,
@@ -20,34 +24,37 @@ pub(crate) fn list_at(
 ) -> Result<Listing, NoMemory>
     requires within { place ≤ length labels.now }
     requires labels { AreLabels labels.now }
-    ensures { IfOk result (λ listing. IsListingAt labels.now segments.now place listing) }
+    ensures { IfOk result (λ listing. listing ≡ content (pairs (pairs_at labels.now segments.now place))) }
+{
+    if place == 0 {
+        return Ok(Listing::new(alloc));
+    }
+    let held = held_at(segments, labels.label_at(place - 1))?;
+    listing_of(&held, alloc)
+}
+
+/// The pairs whose lifetimes hold a label, in their order.
+fn held_at(segments: &Segments<PairSearch>, label: u64) -> Result<Vec<KeyPair>, NoMemory>
+    requires within { label < label_end }
+    ensures pairs { IfOk result (λ held. held.items ≡ in_order pair_before (items_at label segments.now)) }
+    ensures few { IfOk result (λ held. length held.items ≤ most_items) }
+{
+    let mut held = segments.items_at(label)?;
+    held.sort_unstable();
+    Ok(held)
+}
+
+/// The listing of these pairs.
+fn listing_of(held: &[KeyPair], alloc: Global) -> Result<Listing, NoMemory>
+    requires { length held.now < 2 ^ 32 }
+    ensures { IfOk result (λ listing. listing ≡ content (pairs held.now)) }
 {
     let mut listing = Listing::new(alloc);
-    let mut low = i64::MIN;
-    let count = found_from(labels, segments, place, low).count;
-    for _ in 0..count {
-        let Some(pair) = found_from(labels, segments, place, low).least else {
-            return Ok(listing);
-        };
+    for pair in held {
         listing.push(Item::Pair {
             key: pair.key,
             value: pair.value,
         })?;
-        // After the greatest key of all nothing is left.
-        low = pair.key.saturating_add(1);
     }
     Ok(listing)
-}
-
-/// What is found at a place of the pairs from a key on.
-fn found_from(labels: &Labels, segments: &Segments<PairSearch>, place: u32, low: i64) -> Found
-    requires within { place ≤ length labels.now }
-    requires labels { AreLabels labels.now }
-    ensures { result ≡ found_at labels.now segments.now place (keys_from low greatest_number) }
-{
-    let range = KeyRange {
-        low,
-        high: i64::MAX,
-    };
-    found_at(labels, segments, place, range)
 }

@@ -16,7 +16,7 @@ use weighted_tree::Tree;
 /// The label after all labels.
 const END: u64 = 1 << 40;
 
-#[derive(Clone, Copy)]
+#[derive(Clone, Copy, PartialEq, Eq)]
 struct Amount {
     value: u32,
 }
@@ -151,6 +151,26 @@ fn answers_at_labels(rt: HostRuntime) {
     ] {
         assert!(rt; label < END);
         assert_eq!(rt; segments.ask(label, ()), Total { count, sum });
+    }
+}
+
+#[test]
+fn gives_the_items_at_labels(rt: HostRuntime) {
+    let mut segments = Segments::<Totals>::new(rt.alloc());
+    add(&rt, &mut segments, 2, 8, 10);
+    add(&rt, &mut segments, 4, END, 20);
+    for (label, ten, twenty) in [
+        (1, false, false),
+        (2, true, false),
+        (5, true, true),
+        (8, false, true),
+        (END - 1, false, true),
+    ] {
+        assert!(rt; label < END);
+        let items = segments.items_at(label).expect(&rt, "memory");
+        assert_eq!(rt; items.len(), usize::from(ten) + usize::from(twenty));
+        assert_eq!(rt; items.contains(&Amount { value: 10 }), ten);
+        assert_eq!(rt; items.contains(&Amount { value: 20 }), twenty);
     }
 }
 

@@ -12,4 +12,4 @@ returns c =
     let within : c.args.place ≤ length c.self.inside.kept.rows = search rules in
     let at = there c.self.inside.kept.rows c.self.inside.kept.labels c.self.inside.kept.index c.self.inside.kept.segments c.args.place c.self.invariant within in
     let state : state_at Dict c.args.self.now c.args.place ≡ pairs at.left = sym (ap (λ rows. state_at Dict rows c.args.place) c.self.view_is) ∙ at.state in
-    IfOk-weaker c.list_at.result _ _ (λ listing is. is at.left at.listed ∙ sym (ap content state)) c.list_at.ensures
+    IfOk-weaker c.list_at.result _ _ (λ listing is. is ∙ ap (λ ps. content (pairs ps)) at.are ∙ sym (ap content state)) c.list_at.ensures

@@ -1,0 +1,72 @@
+-- Items that are collected span by span are those that are there at a label.
+use Rattle.std.proofs.Common.{◌≡◌, ℕ, suc, ◌+◌, ◌-◌, ◌≤◌, ◌<◌, Bool, true, false, cond, List, [], ◌∷◌, ◌++◌, map, length, take, drop, sym, ap, ◌∙◌, arith, append_assoc}
+use Rattle.std.specs.Prelude.{◌^◌, nat_lt}
+use Rattle.std.proofs.lemmas.Bool.Decides.{nat_tests}
+use Rattle.std.proofs.lemmas.List.{map-id, take_all, append-nil, drop_all}
+use Rattle.std.proofs.Math.Seq.{take-append_seam}
+use Rattle.weighted_tree.specs.Reads.{overwritten}
+use Rattle.lifetime_segments.specs.declared.lifetime.Lifetime.{Lifetime}
+use Rattle.lifetime_segments.specs.declared.trie.Trie.{Trie, Empty}
+use Rattle.lifetime_segments.specs.declared.trie.Node.{Node}
+use Rattle.lifetime_segments.specs.Lawful.{most_items}
+use Rattle.lifetime_segments.specs.Lifetimes.{items_at}
+use Rattle.lifetime_segments.specs.Ordered.{IsOrder, put_in, in_order}
+use Rattle.lifetime_segments.specs.OrderedLaws.{length-in_order}
+use Rattle.lifetime_segments.specs.Tries.{IsOfNode, in_first, in_second, items_below, CollectsAt, NodeCollectsAt}
+use Rattle.lifetime_segments.proofs.Nodes.{absorbs_after, empty_at, items_at-few, node_at, node_at_zero, node_left, node_right}
+
+-- items that were read over as many others
+pub read_all : {A : Type 0} (items former new rest : List A) (count room : ℕ) → count ≡ length items → length former ≡ count → room ≡ count
+    → new ≡ overwritten former 0 (map (λ (item : A). item) (take count items)) → take room (new ++ rest) ≡ items
+read_all {A = A} items former new rest count room all long whole is =
+    let taken : map (λ (item : A). item) (take count items) ≡ items = map-id (take count items) ∙ take_all count items (omega arith) in
+    let read : new ≡ items = is ∙ ap (λ xs. xs ++ drop (0 + length xs) former) taken ∙ ap (λ more. items ++ more) (drop_all (0 + length items) former (omega arith)) ∙ append-nil items in
+    ap (λ xs. take room (xs ++ rest)) read ∙ ap (λ n. take n (items ++ rest)) (let same : room ≡ length items = omega arith in same) ∙ take-append_seam items rest
+
+module _ {A : Type 0} {before : A → A → Bool} (order : IsOrder before) where
+  -- lists that are one in their order are so after the same elements
+  one_after : (zs xs ys : List A) → in_order before xs ≡ in_order before ys → in_order before (zs ++ xs) ≡ in_order before (zs ++ ys)
+  one_after [] xs ys one = one
+  one_after (z ∷ zs) xs ys one = ap (put_in before z) (one_after zs xs ys one)
+
+  module _ {M : Type 0} where
+    pub collects_none : (level label : ℕ) (trie : Trie A M) (old : List A) → label < 2 ^ level → trie ≡ Empty → CollectsAt before level label trie old old
+    collects_none level label trie old within none lives is_of =
+        ap (in_order before) (sym (append-nil old))
+        ∙ ap (λ xs. in_order before (old ++ xs)) (sym (empty_at order level label lives within trie none is_of))
+        ∙ absorbs_after order old (items_at label lives)
+
+    pub collects_zero : (level label : ℕ) (node : Node A M) (old new : List A) (lives : List (Lifetime A)) → level ≡ 0 → label < 2 ^ level → new ≡ old ++ node.items
+        → IsOfNode before level lives node → in_order before new ≡ in_order before (old ++ items_at label lives)
+    collects_zero level label node old new lives bottom within is is_of =
+        ap (in_order before) is
+        ∙ ap (λ xs. in_order before (old ++ xs)) (node_at_zero order level label lives node bottom within is_of)
+        ∙ absorbs_after order old (items_at label lives)
+
+    pub collects_more : (level label : ℕ) (node : Node A M) (old own new : List A) (lives : List (Lifetime A)) → label < 2 ^ suc level → own ≡ old ++ node.items
+        → NodeCollectsAt before level label node own new → IsOfNode before (suc level) lives node → in_order before new ≡ in_order before (old ++ items_at label lives)
+    collects_more level label node old own new lives within is below is_of =
+        let items = items_below level label lives in
+        below lives is_of
+        ∙ ap (λ xs. in_order before (xs ++ items)) is
+        ∙ ap (in_order before) (append_assoc old node.items items)
+        ∙ one_after old (node.items ++ items) (items_at label lives) (sym (absorbs_after order node.items items) ∙ node_at order level label lives node within is_of)
+
+    pub collects_first : (level label : ℕ) (node : Node A M) (old new : List A) → label < 2 ^ level → CollectsAt before level label node.left old new → NodeCollectsAt before level label node old new
+    collects_first level label node old new within left lives is_of =
+        let near : nat_lt label (2 ^ level) ≡ true = grind (arith, nat_tests) in
+        left (in_first level lives) (node_left before level lives node is_of)
+        ∙ ap (λ b. in_order before (old ++ cond b (items_at label (in_first level lives)) (items_at (label - 2 ^ level) (in_second level lives)))) (sym near)
+
+    pub collects_second : (level label : ℕ) (node : Node A M) (old new : List A) → 2 ^ level ≤ label → CollectsAt before level (label - 2 ^ level) node.right old new
+        → NodeCollectsAt before level label node old new
+    collects_second level label node old new from right lives is_of =
+        let far : nat_lt label (2 ^ level) ≡ false = grind (arith, nat_tests) in
+        right (in_second level lives) (node_right before level lives node is_of)
+        ∙ ap (λ b. in_order before (old ++ cond b (items_at label (in_first level lives)) (items_at (label - 2 ^ level) (in_second level lives)))) (sym far)
+
+-- no more are collected than there are lifetimes
+pub collected-few : {A : Type 0} (before : A → A → Bool) (label : ℕ) (lives : List (Lifetime A)) (items : List A) → length lives ≤ most_items → in_order before items ≡ in_order before (items_at label lives)
+    → length items ≤ most_items
+collected-few before label lives items few one =
+    omega (arith, length-in_order before items, ap length one, length-in_order before (items_at label lives), items_at-few label lives)

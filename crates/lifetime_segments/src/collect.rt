@@ -1,0 +1,92 @@
+ghost use Rattle.std.specs.Prelude.{◌≡◌, ◌<◌, ◌≤◌, ◌^◌, ◌++◌, suc, [], OnOk, IfOk};
+ghost use Rattle.retro_base.specs.Visits.{OpensCounter};
+ghost use Rattle.lifetime_segments.specs.Tries.{CollectsAt, NodeCollectsAt};
+
+use crate::decomposable::Decomposable;
+use crate::lifetime::labels;
+use crate::trie::{Node, Trie};
+use monoid_laws::Measured;
+use retro_base::{NoMemory, Steps};
+use std::alloc::Global;
+use std::sync::ledger::{Blank, Ledger};
+use weighted_tree::Tree;
+
+/// The items in the spans above a label, span by span.
+pub(crate) fn collected<D: Decomposable, L: Ledger>(
+    root: &Trie<D::Item>,
+    level: u32,
+    label: u64,
+    alloc: Global,
+    blank: Blank,
+) -> Result<Vec<D::Item>, NoMemory>
+    requires counter { OpensCounter blank.name L.name blank.parts L.parts }
+    requires level { level ≤ 40 }
+    requires within { label < 2 ^ level }
+    ensures { IfOk result (λ items. CollectsAt D.stands_before level label root.now [] items.items) }
+{
+    let mut steps = Steps::<L>::new(blank);
+    let mut items = Vec::new(alloc);
+    collect::<D, L>(root, level, label, &mut items, &mut steps)?;
+    Ok(items)
+}
+
+/// Appends the items in the spans above a label.
+#[cycle(collect)]
+fn collect<D: Decomposable, L: Ledger>(
+    trie: &Trie<D::Item>,
+    level: u32,
+    label: u64,
+    items: &mut Vec<D::Item>,
+    steps: &mut Steps<L>,
+) -> Result<(), NoMemory>
+    requires level { level ≤ 40 }
+    requires within { label < 2 ^ level }
+    ensures { OnOk result (CollectsAt D.stands_before level label trie.now items.old.items items.new.items) }
+{
+    let Trie::Full(node) = trie else {
+        return Ok(());
+    };
+    append(&node.items, items, steps)?;
+    if level == 0 {
+        return Ok(());
+    }
+    collect_half::<D, L>(node, level - 1, label, items, steps)
+}
+
+/// Appends the items in the spans below a node and above a label.
+#[cycle(collect)]
+fn collect_half<D: Decomposable, L: Ledger>(
+    node: &Node<D::Item>,
+    level: u32,
+    label: u64,
+    items: &mut Vec<D::Item>,
+    steps: &mut Steps<L>,
+) -> Result<(), NoMemory>
+    requires level { level < 40 }
+    requires within { label < 2 ^ suc level }
+    ensures { OnOk result (NodeCollectsAt D.stands_before level label node.now items.old.items items.new.items) }
+{
+    let half = labels(level);
+    if label < half {
+        collect::<D, L>(&node.left, level, label, items, steps)
+    } else {
+        collect::<D, L>(&node.right, level, label - half, items, steps)
+    }
+}
+
+/// Appends the items of a tree.
+fn append<T: Measured, L: Ledger>(
+    tree: &Tree<T>,
+    items: &mut Vec<T>,
+    steps: &mut Steps<L>,
+) -> Result<(), NoMemory>
+    ensures { OnOk result (items.new.items ≡ items.old.items ++ tree.now) }
+{
+    if tree.len() == 0 {
+        return Ok(());
+    }
+    let mut read = vec![in tree.alloc(); tree.get(0, steps); tree.len() as usize]?;
+    tree.read(0, |item: &T| *item, &mut read, steps);
+    items.append(&mut read)?;
+    Ok(())
+}
