@@ -41,7 +41,7 @@ REASONS = {
     "checkpoints": "A question about the past of a priority queue rolls the nearest checkpoint to its place and back, row by row, up to a width of rows, "
                    "and each of these rows is an edit of two trees. An edit goes to every checkpoint after its place. One product of pieces would "
                    "change it, as crates/pq_fusion has it.",
-    "walk": "A fate is found by one walk over all rows of the timeline, from tree to slice; so is a correction judged. A search from the row on, as in "
+    "walk": "A fate is found by one walk over all rows of the timeline, from tree to slice. A search from the row on, as in "
             "the structures themselves, would change it.",
     "pieces": "Pieces are lists, and an edit makes those on the way to the root anew: the last ones are as long as the timeline.",
     "tests": "The program reads a line for every form of the script, tests it in the order of the refusals, and has a limit for all that grows; each call "
@@ -62,7 +62,7 @@ def reason(kind, phase):
         return "pieces"
     if kind == "pq" and phase in ("first", "past", "forward", "mixed", "move", "undo", "redo", "burst"):
         return "checkpoints"
-    return "walk" if phase == "move" else "trees"
+    return "trees"
 
 
 def number(value):

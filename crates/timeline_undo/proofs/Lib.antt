@@ -3,6 +3,7 @@ pub mod Steps
 pub mod TwoKeys
 pub mod Replaced
 pub mod Tallied
+pub mod Judged
 pub mod Shifts
 pub mod InTurn
 pub mod Rings

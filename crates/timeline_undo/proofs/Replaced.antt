@@ -67,7 +67,7 @@ put_first rows r there within =
           rw e (put_after rows r.index (r.before - suc r.index) r.before r.new r.old (omega arith) there within)
     ] refl
 
-cut_first : (rows : List Row) (r : Replacement) → slice_get rows r.index ≡ Some r.old
+pub cut_first : (rows : List Row) (r : Replacement) → slice_get rows r.index ≡ Some r.old
     → edited_by rows (cut_then_put r.index r.old (before_without r.index r.before) r.new) ≡ replaced rows r
 cut_first rows r there =
     elim (nat_le r.before r.index) as (λ b. nat_le r.before r.index ≡ b → edited_by rows (cut_then_put r.index r.old (before_without r.index r.before) r.new) ≡ replaced rows r) [

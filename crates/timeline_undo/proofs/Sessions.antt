@@ -1,15 +1,14 @@
 -- A session stays one after each of its calls.
-use Rattle.std.proofs.Common.{◌≡◌, ℕ, Bool, true, false, cond, ◌+◌, ◌-◌, ◌<◌, ◌≤◌, List, [], ◌∷◌, ◌++◌, length, take, drop, slice_get, Option, Some, None, sym, ◌∙◌, ap, subst, arith}
+use Rattle.std.proofs.Common.{◌≡◌, ℕ, Bool, true, false, cond, ◌+◌, ◌-◌, List, [], ◌∷◌, ◌++◌, length, take, drop, slice_get, Option, Some, None, sym, ◌∙◌, ap, subst, arith}
 use Rattle.std.proofs.lemmas.List.{length-append}
+use Rattle.std.proofs.lemmas.List.Edits.{insert_end}
 use Rattle.circular_buffer.specs.Buffer.{Buffer, buffer, keep_last}
 use Rattle.retro_base.specs.declared.kind.Kind.{Kind}
 use Rattle.retro_base.specs.declared.row.Row.{Row}
-use Rattle.retro_base.specs.Limits.{most_rows, most_steps, next_limit}
+use Rattle.retro_base.specs.Limits.{most_steps}
 use Rattle.retro_base.specs.Edits.{Step, add, cut, edited_by, inverse_step}
 use Rattle.retro_base.specs.Kind.{kind_of}
-use Rattle.retro_base.specs.Order.{Fits}
 use Rattle.retro_base.specs.Replay.{failure, IsValid}
-use Rattle.retro_base.specs.OrderLaws.{all_with, times_with}
 use Rattle.retro_base.specs.ReplayableLaws.{replayable_with, replayable_without}
 use Rattle.retro_base.specs.Timeline.{IsFresh, IsTimeline}
 use Rattle.retro_base.specs.TimelineLaws.{next_is_fresh, timeline_with, timeline_without}
@@ -18,20 +17,20 @@ use Rattle.timeline_undo.specs.declared.noted.NotedStep.{NotedStep}
 use Rattle.timeline_undo.specs.declared.turn.Turn.{Turn}
 use Rattle.timeline_undo.specs.declared.edit.Interrupted.{Interrupted}
 use Rattle.timeline_undo.specs.declared.edit.Interrupted.TheVariants.{AtOnce, Midway}
-use Rattle.timeline_undo.specs.Session.{IsSpentWithin, edit_reported}
+use Rattle.timeline_undo.specs.Session.{CanStand, HasRoom, IsSpentWithin, edit_reported}
 use Rattle.timeline_undo.specs.Kept.{step_of, latest, latest_undone, StandInTurn, IsLeftMidway, IsSession}
 use Rattle.timeline_undo.proofs.InTurn.{in_turn_first, in_turn_others, inverse_step_twice, step_back, timeline_after}
 use Rattle.timeline_undo.proofs.Rings.{up_to_newest, latest-more, latest_undone-more, latest_undone-kept, few_kept}
 
 -- an accepted insert leaves a timeline, and so does an accepted delete
 pub insert_leads : (kind : Kind) (performed rows : List Row) (next place : ℕ) (row : Row) (failing : Option ℕ) → performed ≡ rows → IsTimeline kind rows next
-    → place ≤ length rows → Fits rows place row.time → length rows < most_rows → next < next_limit → kind_of row.op ≡ kind → row.number ≡ next
+    → CanStand rows place row.time → HasRoom rows next → kind_of row.op ≡ kind → row.number ≡ next
     → failing ≡ failure kind (insert performed place row) → failing ≡ None → IsTimeline kind (insert rows place row) (next + 1)
-insert_leads kind performed rows next place row failing same timeline within fits room below of_kind drawn first none =
+insert_leads kind performed rows next place row failing same timeline stands room of_kind drawn first none =
     let valid : IsValid kind (insert rows place row) = rw same at (sym first ∙ none) in
     let fresh : IsFresh row.number rows = rw drawn (next_is_fresh kind rows next timeline) in
-    timeline_with kind rows next place row timeline below drawn fits
-    (replayable_with kind rows place row timeline.replayable room within fresh of_kind valid)
+    timeline_with kind rows next place row timeline room.1 drawn stands.1
+    (replayable_with kind rows place row timeline.replayable room.0 stands.0 fresh of_kind valid)
 
 pub delete_leads : (kind : Kind) (performed rows : List Row) (next place : ℕ) (failing : Option ℕ) → performed ≡ rows → IsTimeline kind rows next
     → failing ≡ failure kind (remove performed place) → failing ≡ None → IsTimeline kind (remove rows place) next
@@ -39,16 +38,10 @@ delete_leads kind performed rows next place failing same timeline first none =
     let valid : IsValid kind (remove rows place) = rw same at (sym first ∙ none) in
     timeline_without kind rows next place timeline (replayable_without kind rows place timeline.replayable valid)
 
--- and so does a row that comes after all others, with a number of its own
-pub append_leads : (kind : Kind) (rows : List Row) (next place : ℕ) (row : Row) → IsTimeline kind rows next → place ≡ length rows
-    → (1 ≤ row.number) × (row.number < next) → IsFresh row.number rows → Fits rows (length rows) row.time → length rows < most_rows → kind_of row.op ≡ kind
-    → IsValid kind (insert rows (length rows) row) → IsTimeline kind (insert rows place row) next
-append_leads kind rows next place row timeline end number fresh fits room of_kind valid = rw end (record {
-  replayable = replayable_with kind rows (length rows) row timeline.replayable room (omega arith) fresh of_kind valid;
-  in_order = times_with rows (length rows) row timeline.in_order fits;
-  numbered = all_with (λ r. (1 ≤ r.number) × (r.number < next)) rows (length rows) row timeline.numbered number;
-  next_in_range = timeline.next_in_range;
-})
+-- and so does a row that comes after all others
+pub append_leads : (kind : Kind) (rows : List Row) (next place : ℕ) (row : Row) → place ≡ length rows → IsTimeline kind (rows ++ row ∷ []) next
+    → IsTimeline kind (insert rows place row) next
+append_leads kind rows next place row end timeline = rw (end, insert_end rows row) timeline
 
 -- after it a session without a history is one still
 pub session_appended : (kind : Kind) (old performed rows after : List Row) (next : ℕ) (undo redo : Buffer NotedStep) → IsSession kind old rows next undo redo

@@ -1,15 +1,16 @@
--- A row that is replaced: which row fails first, and that the list between the two edits is a timeline.
-use Rattle.std.proofs.Common.{◌≡◌, ℕ, zero, suc, ◌+◌, ◌<◌, ◌≤◌, true, false, List, [], ◌∷◌, length, slice_get, Option, Some, None, IfSome, Result, Ok, Err, refl, sym, ◌∙◌, ap, subst, arith}
+-- A row that is replaced: that the list between the two edits is a timeline, and what the row that fails says of the step.
+use Rattle.std.proofs.Common.{◌≡◌, ℕ, zero, suc, ◌+◌, ◌<◌, ◌≤◌, Bool, true, false, List, [], ◌∷◌, length, slice_get, Option, Some, None, IfSome, Result, Ok, Err, refl, sym, ◌∙◌, ap, subst, arith}
 use Rattle.std.specs.List.{insert, remove, AllByRecursion}
 use Rattle.std.specs.Option.{option_and_then, option_map}
 use Rattle.std.specs.Result.{result_err}
 use Rattle.std.proofs.lemmas.List.Edits.{length-remove}
+use Rattle.circular_buffer.specs.Buffer.{Buffer}
 use Rattle.retro_base.specs.declared.kind.Kind.{Kind}
 use Rattle.retro_base.specs.declared.row.Row.{Row}
 use Rattle.retro_base.specs.EditedLists.{can_go_back, remove-insert}
 use Rattle.retro_base.specs.Edits.{Step, add, cut, edited_by, failing_row}
 use Rattle.retro_base.specs.Kind.{adds, kind_of}
-use Rattle.retro_base.specs.Limits.{most_rows, next_limit}
+use Rattle.retro_base.specs.Limits.{most_rows}
 use Rattle.retro_base.specs.Order.{Fits}
 use Rattle.retro_base.specs.OrderLaws.{all_at, all_with, all_without, fits_before, time_fits, times_without}
 use Rattle.retro_base.specs.Replay.{failure, run, IsValid}
@@ -23,28 +24,27 @@ use Rattle.retro_base.specs.lemmas.GivingEdits.{adding_row_replays, taking_row_c
 use Rattle.timeline_undo.specs.declared.replacement.Replacement.{Replacement}
 use Rattle.timeline_undo.specs.declared.shift.Target.{Target}
 use Rattle.timeline_undo.specs.declared.shift.Target.TheVariants.{At, Into}
-use Rattle.timeline_undo.specs.Kept.{StandInTurn}
-use Rattle.timeline_undo.specs.Replaced.{replaced, replacement_of, step_of_replacement}
-use Rattle.timeline_undo.specs.Session.{FailsFirst}
+use Rattle.timeline_undo.specs.Kept.{StandInTurn, steps_of}
+use Rattle.timeline_undo.specs.Replaced.{Replaces, replaced, replacement_of, step_of_replacement}
+use Rattle.timeline_undo.specs.declared.error.EditError.{EditError}
+use Rattle.timeline_undo.specs.declared.noted.NotedStep.{NotedStep}
+use Rattle.timeline_undo.specs.Session.{FailsFirst, HasRoom, IsLeftByShift, IsShiftUnmade, IsStepCause, IsUnmade, SessionState}
 use Rattle.timeline_undo.specs.Shift.{IsTargetOf, index_after, place_for, put_then_cut, cut_then_put, replacing, shift_at, shift_of}
-use Rattle.timeline_undo.specs.Tallies.{tallied, tally_before}
 use Rattle.timeline_undo.proofs.InTurn.{timeline_later}
-use Rattle.timeline_undo.proofs.Replaced.{edited_is_replaced, put_first, replacement_is_shift}
+use Rattle.timeline_undo.proofs.Replaced.{edited_is_replaced, replacement_is_shift}
 use Rattle.timeline_undo.proofs.Steps.{place_within, stands_after_put, within_of}
-use Rattle.timeline_undo.proofs.Tallied.{tally_names}
 
 -- a row of a timeline may be replaced
 pub record MayShift (kind : Kind) (rows : List Row) (next : ℕ) (target : Target) (index : ℕ) (old : Row) : Type 0 where
   pub timeline : IsTimeline kind rows next
-  pub room : length rows < most_rows
-  pub below : next < next_limit
+  pub room : HasRoom rows next
   pub of_kind : IsTargetOf kind target
   pub there : slice_get rows index ≡ Some old
 
-pub may_shift : (kind : Kind) (rows : List Row) (next : ℕ) (target : Target) (index : ℕ) (old : Row) → IsTimeline kind rows next → length rows < most_rows
-    → next < next_limit → IsTargetOf kind target → slice_get rows index ≡ Some old → MayShift kind rows next target index old
-may_shift kind rows next target index old timeline room below of_kind there =
-    record { timeline = timeline; room = room; below = below; of_kind = of_kind; there = there }
+pub may_shift : (kind : Kind) (rows : List Row) (next : ℕ) (target : Target) (index : ℕ) (old : Row) → IsTimeline kind rows next → HasRoom rows next
+    → IsTargetOf kind target → slice_get rows index ≡ Some old → MayShift kind rows next target index old
+may_shift kind rows next target index old timeline room of_kind there =
+    record { timeline = timeline; room = room; of_kind = of_kind; there = there }
 
 new_of_kind : (kind : Kind) (target : Target) (number : ℕ) (old : Row) → kind_of old.op ≡ kind → IsTargetOf kind target → kind_of (replacing target number old).op ≡ kind
 new_of_kind kind (At time) number old was here = was
@@ -70,20 +70,9 @@ module _ (kind : Kind) (rows : List Row) (next : ℕ) (target : Target) (index :
       ap (edited_by rows) (sym (replacement_is_shift rows target next index old may.timeline.in_order may.there))
       ∙ edited_is_replaced rows (replacement_of rows target next index old) may.there before_within
 
-  -- the tally names the first of them that cannot be performed
-  pub shift_fails : result_err (tallied (replaced rows (replacement_of rows target next index old)) (tally_before old.op (replacing target next old).op))
-      ≡ failing_row kind (edited_by rows (shift_of rows target next index old))
-  shift_fails =
-      tally_names kind rows (insert rows (place_for target index rows) (replacing target next old)) (replaced rows (replacement_of rows target next index old))
-      (place_for target index rows) (index_after (place_for target index rows) index) (replacing target next old) old (record {
-        of_kind = may.timeline.replayable.of_kind;
-        valid = may.timeline.replayable.valid;
-        here = here;
-        middle_is = refl;
-        there = stands_after_put rows (place_for target index rows) index (replacing target next old) old may.there;
-        after_is = sym (put_first rows (replacement_of rows target next index old) may.there before_within);
-      }) old_of_kind
-      ∙ ap (failing_row kind) (sym shift_is_replaced)
+  -- the row may be replaced
+  pub shift_replaces : Replaces kind rows (replacement_of rows target next index old)
+  shift_replaces = record { there = may.there; within = before_within; of_kind = here }
 
 -- the row that fails is named
 fails_by : (kind : Kind) (rows : List Row) (failing : Row) (first : Option ℕ) → failure kind rows ≡ first
@@ -143,9 +132,9 @@ module _ (kind : Kind) (rows : List Row) (next : ℕ) (target : Target) (index :
 
   put_leads : adds (replacing target next old).op ≡ true → IsTimeline kind (insert rows (place_for target index rows) (replacing target next old)) (next + 1)
   put_leads adding =
-      timeline_with kind rows next (place_for target index rows) (replacing target next old) may.timeline may.below (drawn_number target next old)
+      timeline_with kind rows next (place_for target index rows) (replacing target next old) may.timeline may.room.1 (drawn_number target next old)
       (fits_present target rows next index old may.timeline.in_order may.there)
-      (replayable_with kind rows (place_for target index rows) (replacing target next old) may.timeline.replayable may.room put_within
+      (replayable_with kind rows (place_for target index rows) (replacing target next old) may.timeline.replayable may.room.0 put_within
       (rw (drawn_number target next old) (next_is_fresh kind rows next may.timeline)) new_here
       (adding_row_replays kind rows (place_for target index rows) (replacing target next old) may.timeline.replayable.of_kind may.timeline.replayable.valid new_here adding))
 
@@ -187,12 +176,12 @@ module _ (kind : Kind) (rows : List Row) (next : ℕ) (target : Target) (index :
       → StandInTurn kind (next + 1) rows (cut_then_put index old (place_for target index (remove rows index)) (replacing target next old))
   cut_stands taking valid =
       let middle = cut_leads taking valid in
-      let fewer : length (remove rows index) < most_rows = omega (arith, length-remove rows index (index_below rows index old may.there), may.room) in (
-        record { within = may.there; timeline = timeline_later kind (remove rows index) next may.below middle },
+      let fewer : length (remove rows index) < most_rows = omega (arith, length-remove rows index (index_below rows index old may.there), may.room.0) in (
+        record { within = may.there; timeline = timeline_later kind (remove rows index) next may.room.1 middle },
         (
           record {
             within = cut_within;
-            timeline = timeline_with kind (remove rows index) next (place_for target index (remove rows index)) (replacing target next old) middle may.below (drawn_number target next old)
+            timeline = timeline_with kind (remove rows index) next (place_for target index (remove rows index)) (replacing target next old) middle may.room.1 (drawn_number target next old)
                 (fits_without target rows next index old may.timeline.in_order may.there)
                 (replayable_with kind (remove rows index) (place_for target index (remove rows index)) (replacing target next old) middle.replayable fewer cut_within
                 (rw (drawn_number target next old) (next_is_fresh kind (remove rows index) next middle)) new_here valid);
@@ -214,37 +203,49 @@ shift_stands kind rows next target index old may valid =
           subst (StandInTurn kind (next + 1) rows) (sym is) (cut_stands kind rows next target index old may taking (rw is at valid))
     ] refl
 
--- what the walk and the edits of a replacement say of the step
+-- what the edits of a replacement and the row that fails say of the step
 pub edits_are_shift : (rows : List Row) (target : Target) (next index : ℕ) (old : Row) (r : Replacement) (edits : Step) → TimesNeverFall rows
     → slice_get rows index ≡ Some old → r ≡ replacement_of rows target next index old → edits ≡ step_of_replacement r → edits ≡ shift_of rows target next index old
 edits_are_shift rows target next index old r edits never there is made =
     made ∙ ap step_of_replacement is ∙ replacement_is_shift rows target next index old never there
 
-pub walk_names : (kind : Kind) (rows : List Row) (next : ℕ) (target : Target) (index : ℕ) (old : Row) (r : Replacement) (failing : Option Row)
-    → MayShift kind rows next target index old → r ≡ replacement_of rows target next index old
-    → failing ≡ result_err (tallied (replaced rows r) (tally_before r.old.op r.new.op))
+pub replaces_by : (kind : Kind) (rows : List Row) (next : ℕ) (target : Target) (index : ℕ) (old : Row) (r : Replacement) → MayShift kind rows next target index old
+    → r ≡ replacement_of rows target next index old → Replaces kind rows r
+replaces_by kind rows next target index old r may is = subst (Replaces kind rows) (sym is) (shift_replaces kind rows next target index old may)
+
+pub names_failing : (kind : Kind) (rows : List Row) (next : ℕ) (target : Target) (index : ℕ) (old : Row) (r : Replacement) (failing : Option Row)
+    → MayShift kind rows next target index old → r ≡ replacement_of rows target next index old → failing ≡ failing_row kind (replaced rows r)
     → failing ≡ failing_row kind (edited_by rows (shift_of rows target next index old))
-walk_names kind rows next target index old r failing may is found =
-    found ∙ ap (λ (q : Replacement). result_err (tallied (replaced rows q) (tally_before q.old.op q.new.op))) is ∙ shift_fails kind rows next target index old may
+names_failing kind rows next target index old r failing may is found =
+    found ∙ ap (λ q. failing_row kind (replaced rows q)) is ∙ ap (failing_row kind) (sym (shift_is_replaced kind rows next target index old may))
 
-pub walk_passes : (kind : Kind) (rows : List Row) (next : ℕ) (target : Target) (index : ℕ) (old : Row) (r : Replacement) (failing : Option Row)
-    → MayShift kind rows next target index old → r ≡ replacement_of rows target next index old
-    → failing ≡ result_err (tallied (replaced rows r) (tally_before r.old.op r.new.op)) → failing ≡ None
+pub none_failing : (kind : Kind) (rows : List Row) (next : ℕ) (target : Target) (index : ℕ) (old : Row) (r : Replacement) (failing : Option Row)
+    → MayShift kind rows next target index old → r ≡ replacement_of rows target next index old → failing ≡ failing_row kind (replaced rows r) → failing ≡ None
     → IsValid kind (edited_by rows (shift_of rows target next index old))
-walk_passes kind rows next target index old r failing may is found none =
-    none_fails kind (edited_by rows (shift_of rows target next index old)) (sym (walk_names kind rows next target index old r failing may is found) ∙ none)
+none_failing kind rows next target index old r failing may is found none =
+    none_fails kind (edited_by rows (shift_of rows target next index old)) (sym (names_failing kind rows next target index old r failing may is found) ∙ none)
 
--- the edits stand in turn where the walk has found no failing row
-pub walk_stands : (kind : Kind) (rows : List Row) (next : ℕ) (target : Target) (index : ℕ) (old : Row) (r : Replacement) (failing : Option Row) (edits : Step)
-    → MayShift kind rows next target index old → r ≡ replacement_of rows target next index old
-    → failing ≡ result_err (tallied (replaced rows r) (tally_before r.old.op r.new.op)) → failing ≡ None → edits ≡ step_of_replacement r
-    → StandInTurn kind (next + 1) rows edits
-walk_stands kind rows next target index old r failing edits may is found none made =
+-- the edits stand in turn where no row fails
+pub edits_stand : (kind : Kind) (rows : List Row) (next : ℕ) (target : Target) (index : ℕ) (old : Row) (r : Replacement) (failing : Option Row) (edits : Step)
+    → MayShift kind rows next target index old → r ≡ replacement_of rows target next index old → failing ≡ failing_row kind (replaced rows r) → failing ≡ None
+    → edits ≡ step_of_replacement r → StandInTurn kind (next + 1) rows edits
+edits_stand kind rows next target index old r failing edits may is found none made =
     subst (StandInTurn kind (next + 1) rows) (sym (edits_are_shift rows target next index old r edits may.timeline.in_order may.there is made))
-    (shift_stands kind rows next target index old may (walk_passes kind rows next target index old r failing may is found none))
+    (shift_stands kind rows next target index old may (none_failing kind rows next target index old r failing may is found none))
 
 -- a row stands at the index
 pub if_there : (P : Step → Type 0) (rows : List Row) (target : Target) (next index : ℕ) (old : Row) → slice_get rows index ≡ Some old
     → P (shift_of rows target next index old) → IfSome (shift_at rows target next index) P
 if_there P rows target next index old there holds =
     subst (λ (o : Option Row). IfSome (option_map (shift_of rows target next index) o) P) (sym there) holds
+
+-- why it is not replaced
+abbrev pub seen : Kind → List Row → ℕ → Buffer NotedStep → Buffer NotedStep → Bool → SessionState
+seen kind rows next undo redo spent =
+    record { kind = kind; rows = rows; next = next; history = record { undo = steps_of undo.items; redo = steps_of redo.items }; spent = spent }
+
+pub unmade : (before after : SessionState) (target : Target) (place : ℕ) (old : Row) (error : EditError) → slice_get before.rows place ≡ Some old
+    → IsStepCause before.kind before.rows (shift_of before.rows target before.next place old) error
+    → IsLeftByShift before (shift_of before.rows target before.next place old) after error → IsShiftUnmade before place target after error
+unmade before after target place old error there cause left =
+    if_there (λ step. IsUnmade before step after error) before.rows target before.next place old there (cause, left)

@@ -1,8 +1,9 @@
 -- The rows after a row was replaced, and its two edits.
-use Rattle.std.specs.Prelude.{ℕ, suc, ◌-◌, nat_le, List, ◌∷◌, ◌++◌, take, drop, slice_range, if◌then◌else◌}
+use Rattle.std.specs.Prelude.{◌≡◌, ℕ, suc, ◌-◌, ◌≤◌, nat_le, List, ◌∷◌, ◌++◌, length, take, drop, slice_get, slice_range, Some, if◌then◌else◌}
+use Rattle.retro_base.specs.declared.kind.Kind.{Kind}
 use Rattle.retro_base.specs.declared.row.Row.{Row}
 use Rattle.retro_base.specs.Edits.{Step}
-use Rattle.retro_base.specs.Kind.{adds}
+use Rattle.retro_base.specs.Kind.{adds, kind_of}
 use Rattle.timeline_undo.specs.declared.replacement.Replacement.{Replacement}
 use Rattle.timeline_undo.specs.declared.shift.Target.{Target}
 use Rattle.timeline_undo.specs.Shift.{place_for, put_then_cut, cut_then_put, replacing}
@@ -11,6 +12,12 @@ use Rattle.timeline_undo.specs.Shift.{place_for, put_then_cut, cut_then_put, rep
 abbrev pub replacement_of : List Row → Target → ℕ → ℕ → Row → Replacement
 replacement_of rows target number index old =
     record { index = index; old = old; before = place_for target index rows; new = replacing target number old }
+
+-- the old row stands at its index, and the new one is of the kind
+pub record Replaces (kind : Kind) (rows : List Row) (r : Replacement) : Type 0 where
+  pub there : slice_get rows r.index ≡ Some r.old
+  pub within : r.before ≤ length rows
+  pub of_kind : kind_of r.new.op ≡ kind
 
 -- so many of the rows without the old one stand before the new row
 abbrev pub before_without : ℕ → ℕ → ℕ

@@ -1,8 +1,10 @@
 -- A timeline that is edited, with what can be undone of it.
-use Rattle.std.specs.Prelude.{◌≡◌, ℕ, ◌+◌, Bool, true, List, [], ◌∷◌, ◌⊎◌, slice_get, Option, Some, None, if◌then◌else◌}
+use Rattle.std.specs.Prelude.{◌≡◌, ℕ, ◌+◌, ◌<◌, ◌≤◌, Bool, true, List, [], ◌∷◌, ◌⊎◌, length, slice_get, Option, Some, None, IfSome, if◌then◌else◌}
 use Rattle.retro_base.specs.declared.kind.Kind.{Kind}
 use Rattle.retro_base.specs.declared.op.Op.{Op}
 use Rattle.retro_base.specs.declared.row.Row.{Row}
+use Rattle.retro_base.specs.Limits.{most_rows, next_limit}
+use Rattle.retro_base.specs.Order.{Fits}
 use Rattle.retro_base.specs.Replay.{failure}
 use Rattle.retro_base.specs.Edits.{Edit, Step, add, cut, edited, edited_by, inverse_step, IsStepAccepted}
 use Rattle.retro_base.specs.MadeEdits.{IsMade}
@@ -13,7 +15,9 @@ use Rattle.timeline_undo.specs.declared.error.UndoError.TheVariants as undos
 use Rattle.timeline_undo.specs.declared.turn.Turn.{Turn}
 use Rattle.timeline_undo.specs.declared.turn.Turns.{Turns}
 use Rattle.timeline_undo.specs.declared.turn.Turns.TheVariants.{Single, Double}
+use Rattle.timeline_undo.specs.declared.shift.Target.{Target}
 use Rattle.timeline_undo.specs.History.{History, recorded, undone, redone}
+use Rattle.timeline_undo.specs.Shift.{shift_at}
 
 -- what a session is seen as: a kind, rows, the number that the next row draws, a history, and whether it is spent
 pub record SessionState : Type 0 where
@@ -26,6 +30,14 @@ pub record SessionState : Type 0 where
 -- the row that an insert puts in: it draws the next number
 abbrev pub drawn : SessionState → ℕ → Op → Row
 drawn session time op = record { number = session.next; time = time; op = op }
+
+-- a row of this time can be put in at this place
+abbrev pub CanStand : List Row → ℕ → ℕ → Type 0
+CanStand rows place time = (place ≤ length rows) × Fits rows place time
+
+-- there is room for one more row, and a number that it can draw
+abbrev pub HasRoom : List Row → ℕ → Type 0
+HasRoom rows next = (length rows < most_rows) × (next < next_limit)
 
 -- after an accepted edit, which is a step of its own
 abbrev pub with_edit : SessionState → Edit → SessionState
@@ -76,6 +88,13 @@ IsLeftWithout before step after = (after ≡ before) ⊎ IsSpentWithin before.ro
 abbrev pub IsLeftByShift : SessionState → Step → SessionState → EditError → Type 0
 IsLeftByShift before step after (edits.Fails number time) = after ≡ before
 IsLeftByShift before step after edits.NoMemory = IsLeftWithout before step after
+
+-- why the row at a place is not replaced, and what that leaves
+abbrev pub IsUnmade : SessionState → Step → SessionState → EditError → Type 0
+IsUnmade before step after error = IsStepCause before.kind before.rows step error × IsLeftByShift before step after error
+
+abbrev pub IsShiftUnmade : SessionState → ℕ → Target → SessionState → EditError → Type 0
+IsShiftUnmade before place target after error = IfSome (shift_at before.rows target before.next place) (λ step. IsUnmade before step after error)
 
 -- what an undo or a redo leaves that is not made, where this step is the newest, if there is one
 abbrev pub IsLeftByUndo : SessionState → Option Step → SessionState → UndoError → Type 0

@@ -8,9 +8,10 @@
 //!
 //! `shift` replaces a row in one step of two list edits: by its operation at another time, or by another operation at its
 //! own place. The new row draws a number. A new row that adds is put in before the old one is cut, and one that takes after
-//! it, so that the rows between the two edits replay wherever those after both do. Only the rows after both are judged:
-//! one walk over the rows counts the items, or looks after the two keys of a dictionary, and names the first row that could
-//! not be performed, before anything is edited and without memory.
+//! it, so that the rows between the two edits replay wherever those after both do. Only the rows after both are judged,
+//! before anything is edited and without memory. Where the new row adds they replay if those after the cut alone do, and where
+//! both rows take if those after the insertion alone do: one search of the structure tells. Else one walk over the rows counts
+//! the items, or looks after the two keys of a dictionary, and names the first row that could not be performed.
 //!
 //! What the layer above may rely on: a session is seen as a kind, rows, the number that the next row draws, and a
 //! history (`specs/Session.antt`, `specs/History.antt`, `specs/Shift.antt`); `EditError::Fails` comes exactly where the
@@ -23,12 +24,12 @@
 //! |---|---|
 //! | `put`, `cut`, `append` | an edit of the timeline and one of the structure |
 //! | `undo`, `redo` | that for each list edit of the step |
-//! | `shift` | that twice, and a walk over all rows |
+//! | `shift` | that twice; a walk over all rows too, where the rows do not replay or one search does not show that they do |
 //! | `ask_now`, `ask`, `all` | those of the structure |
 //!
 //! - `session`: the type and its calls. `turn`, `shift`, `error`: what they take and answer.
 //! - `edit`, `noted`, `failing`: an edit in both lists, what the history keeps of it, the row that fails.
-//! - `replacement`, `scan`, `tally`: a row that is to be replaced, the walk that looks for the row that fails, what it counts.
+//! - `replacement`, `scan`, `tally`: a row that is to be replaced, the search and the walk that judge it, what the walk counts.
 //! - `laws`: an undo leads back.
 #![tactic(auto)]
 

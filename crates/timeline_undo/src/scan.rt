@@ -1,19 +1,63 @@
-ghost use Rattle.std.specs.Prelude.{◌≡◌, ◌+◌, ◌<◌, ◌≤◌, [], ◌∷◌, ◌++◌, length, slice_range};
+ghost use Rattle.std.specs.Prelude.{◌≡◌, ◌+◌, ◌<◌, ◌≤◌, [], ◌∷◌, ◌++◌, length, slice_range, IsTrue};
 ghost use Rattle.std.specs.Result.{result_err};
+ghost use Rattle.retro_base.specs.Edits.{failing_row};
 ghost use Rattle.retro_base.specs.Limits.{most_rows};
+ghost use Rattle.retro_base.specs.Replay.{IsValid};
+ghost use Rattle.retro_base.specs.Timeline.{IsReplayable};
 ghost use Rattle.timeline_undo.specs.Tallies.{IsUpTo, tallied, tally_before};
-ghost use Rattle.timeline_undo.specs.Replaced.{replaced};
+ghost use Rattle.timeline_undo.specs.Replaced.{Replaces, replaced};
 
 use crate::replacement::Replacement;
 use crate::tally::Tally;
 use order_timeline::Timeline;
-use retro_base::{Op, Row};
+use retro_base::{Op, Retro, Row};
 
 /// How many rows are read at a time.
 const WINDOW: usize = 64;
 
-/// The first row that could not be performed, were the row replaced; none where all rows could.
-pub(crate) fn failing_after(timeline: &Timeline, replacement: Replacement) -> Option<Row>
+/// The first row that could not be performed, were the row replaced; none where all rows could. One search of the structure finds most
+/// replacements that leave none, and a walk over the rows judges the others.
+pub(crate) fn failing_after<R: Retro>(
+    timeline: &Timeline,
+    structure: &R,
+    replacement: Replacement,
+) -> Option<Row>
+    requires same { R.rows structure.now ≡ timeline.now }
+    requires replayable { IsReplayable (R.kind structure.now) timeline.now }
+    requires replaces { Replaces (R.kind structure.now) timeline.now replacement }
+    ensures { result ≡ failing_row (R.kind structure.now) (replaced timeline.now replacement) }
+{
+    if passes_one_search(structure, replacement) {
+        return None;
+    }
+    failing_by_walk(timeline, replacement)
+}
+
+/// Whether one search shows that all rows could be performed, were the row replaced. Rows that can be performed still can once a row
+/// that adds is put in, or one that takes is taken out. So it is enough that they can after the cut alone, where the new row adds,
+/// and after the insertion alone, where both rows take.
+fn passes_one_search<R: Retro>(structure: &R, replacement: Replacement) -> bool
+    requires replayable { IsReplayable (R.kind structure.now) (R.rows structure.now) }
+    requires replaces { Replaces (R.kind structure.now) (R.rows structure.now) replacement }
+    ensures { IsTrue result → IsValid (R.kind structure.now) (replaced (R.rows structure.now) replacement) }
+{
+    let Replacement {
+        index,
+        old,
+        before,
+        new,
+    } = replacement;
+    if new.op.adds() {
+        structure.failure_after_remove(index).is_none()
+    } else if old.op.adds() {
+        false
+    } else {
+        structure.failure_after_insert(before, new.op).is_none()
+    }
+}
+
+/// The first row that could not be performed, were the row replaced, by a walk over all rows.
+fn failing_by_walk(timeline: &Timeline, replacement: Replacement) -> Option<Row>
     requires index { replacement.index < length timeline.now }
     requires before { replacement.before ≤ length timeline.now }
     requires few { length timeline.now ≤ most_rows }

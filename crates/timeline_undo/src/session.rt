@@ -1,15 +1,14 @@
 ghost use Rattle.std.specs.Prelude.{◌≡◌, ◌↔◌, ◌+◌, ◌≤◌, ◌<◌, [], length, slice_get, Some, true, false, IfOk, IfErr, IfSome, OnErr, OnOk, IsErrOf, ◌∷◌, ◌++◌, option_map};
 ghost use Rattle.retro_base.specs.Answers.{answer_of, content};
-ghost use Rattle.retro_base.specs.Edits.{add, cut, Step, inverse_step, IsAccepted, IsStepAccepted};
+ghost use Rattle.retro_base.specs.Edits.{add, cut, Step, inverse_step, IsAccepted};
 ghost use Rattle.retro_base.specs.Kind.{kind_of};
-ghost use Rattle.retro_base.specs.Limits.{most_rows, next_limit};
+ghost use Rattle.retro_base.specs.Limits.{next_limit};
 ghost use Rattle.retro_base.specs.MadeEdits.{IsMade};
-ghost use Rattle.retro_base.specs.Order.{Fits};
 ghost use Rattle.retro_base.specs.Questions.{suits};
 ghost use Rattle.retro_base.specs.Replay.{present, state_at};
-ghost use Rattle.retro_base.specs.Timeline.{IsFresh, IsTimeline};
+ghost use Rattle.retro_base.specs.Timeline.{IsTimeline};
 ghost use Rattle.timeline_undo.specs.History.{newest_step, no_history};
-ghost use Rattle.timeline_undo.specs.Session.{AreMade, drawn, edit_reported, IsCause, IsLeftByShift, IsLeftByUndo, IsStepCause, step_reported, with_edit, with_insert, with_redo, with_shift, with_undo};
+ghost use Rattle.timeline_undo.specs.Session.{AreMade, CanStand, drawn, edit_reported, HasRoom, IsCause, IsLeftByUndo, IsShiftUnmade, step_reported, with_edit, with_insert, with_redo, with_shift, with_undo};
 ghost use Rattle.timeline_undo.specs.Shift.{IsTargetOf, shift_at};
 ghost use Rattle.timeline_undo.specs.declared.turn.Turns.TheVariants.{Double};
 
@@ -119,12 +118,9 @@ impl<R: Retro + Drop> Session<R> {
 
     /// Puts in a row that draws the next number. After every error all is as before.
     pub fn put(&mut self, place: u32, time: u64, op: Op) -> Result<Put, EditError>
-        requires within { place ≤ length self.old.rows }
-        requires fits { Fits self.old.rows place time }
-        requires room { length self.old.rows < most_rows }
-        requires number { self.old.next < next_limit }
+        requires stands { CanStand self.old.rows place time }
+        requires room { HasRoom self.old.rows self.old.next }
         requires of_kind { kind_of op ≡ self.old.kind }
-        ensures accepted { OnOk result (IsAccepted self.old.kind self.old.rows (add place (drawn self.old time op))) }
         ensures session { OnOk result (self.new ≡ with_insert self.old place (drawn self.old time op)) }
         ensures number { IfOk result (λ put. put.number ≡ self.old.next) }
         ensures made { IfOk result (λ put. IsMade self.old.kind self.old.rows (add place (drawn self.old time op)) put.change) }
@@ -152,12 +148,7 @@ impl<R: Retro + Drop> Session<R> {
     /// Appends a row that has a number already, as one of a block that is read has. It is no step of the history,
     /// which has none. After `NoMemory` all is as before.
     pub fn append(&mut self, row: Row) -> Result<Change, NoMemory>
-        requires number { (1 ≤ row.number) × (row.number < self.old.next) }
-        requires fresh { IsFresh row.number self.old.rows }
-        requires fits { Fits self.old.rows (length self.old.rows) row.time }
-        requires room { length self.old.rows < most_rows }
-        requires of_kind { kind_of row.op ≡ self.old.kind }
-        requires accepted { IsAccepted self.old.kind self.old.rows (add (length self.old.rows) row) }
+        requires timeline { IsTimeline self.old.kind (self.old.rows ++ row ∷ []) self.old.next }
         requires history { self.old.history ≡ no_history }
         ensures session { OnOk result (self.new ≡ record self.old { rows = self.old.rows ++ row ∷ [] }) }
         ensures made { IfOk result (IsMade self.old.kind self.old.rows (add (length self.old.rows) row)) }
@@ -191,24 +182,21 @@ impl<R: Retro + Drop> Session<R> {
     }
 
     /// Replaces the row at a place in one step, by a row that draws the next number. Whether the rows after both list edits replay
-    /// is found by a walk over the rows before anything is edited, which takes no memory. After `Fails` all is as before; after
-    /// `NoMemory` it is so too, or the session is spent.
+    /// is found before anything is edited, which takes no memory: by one search of the structure, where that shows that they do, and
+    /// else by a walk over the rows. After `Fails` all is as before; after `NoMemory` it is so too, or the session is spent.
     pub fn shift(&mut self, place: u32, target: Target) -> Result<Shift, EditError>
         requires within { place < length self.old.rows }
-        requires room { length self.old.rows < most_rows }
-        requires number { self.old.next < next_limit }
+        requires room { HasRoom self.old.rows self.old.next }
         requires of_kind { IsTargetOf self.old.kind target }
         ensures step { IfOk result (λ shift. shift_at self.old.rows target self.old.next place ≡ Some (step_reported (Double shift.first shift.second))) }
-        ensures accepted { IfOk result (λ shift. IsStepAccepted self.old.kind self.old.rows (step_reported (Double shift.first shift.second))) }
         ensures session { IfOk result (λ shift. self.new ≡ with_shift self.old (step_reported (Double shift.first shift.second))) }
         ensures number { IfOk result (λ shift. shift.number ≡ self.old.next) }
         ensures made { IfOk result (λ shift. AreMade self.old.kind self.old.rows (Double shift.first shift.second)) }
-        ensures cause { IfErr result (λ error. IfSome (shift_at self.old.rows target self.old.next place) (λ step. IsStepCause self.old.kind self.old.rows step error)) }
-        ensures err { IfErr result (λ error. IfSome (shift_at self.old.rows target self.old.next place) (λ step. IsLeftByShift self.old step self.new error)) }
+        ensures err { IfErr result (IsShiftUnmade self.old place target self.new) }
     {
         let old = self.timeline.row_at(place);
         let replacement = Replacement::of(&self.timeline, place, old, target, self.next);
-        if let Some(failing) = failing_after(&self.timeline, replacement) {
+        if let Some(failing) = failing_after(&self.timeline, &self.structure, replacement) {
             return Err(fails_at(failing));
         }
         let (first, second) = replacement.edits();

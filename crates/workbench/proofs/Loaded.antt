@@ -1,6 +1,7 @@
--- The evidence of the rows of a block, row by row.
-use Rattle.std.proofs.Common.{◌≡◌, ℕ, suc, ◌+◌, List, [], ◌∷◌, ◌++◌, length, take, slice_get, Some, refl, sym, ap, ◌∙◌, subst, arith, append_assoc, append-nil, length-append}
+-- The rows of a block, one after another, and their evidence.
+use Rattle.std.proofs.Common.{◌≡◌, ℕ, suc, ◌+◌, ◌<◌, ◌≤◌, List, [], ◌∷◌, ◌++◌, length, take, slice_get, Some, refl, sym, ap, ◌∙◌, subst, arith, append_assoc, append-nil, length-append}
 use Rattle.std.proofs.lemmas.List.Edits.{insert_end}
+use Rattle.std.specs.Result.{result_err}
 use Rattle.evidence.specs.declared.evidence.Evidence.{Evidence}
 use Rattle.retro_base.specs.declared.kind.Kind.{Kind}
 use Rattle.retro_base.specs.declared.kind.Kind.TheVariants.{Queue, Stack, Deque, Dict, Pq}
@@ -8,8 +9,34 @@ use Rattle.retro_base.specs.declared.row.Change.{Change}
 use Rattle.retro_base.specs.declared.row.Row.{Row}
 use Rattle.retro_base.specs.Edits.{Edit, Step, add, edited, edited_by}
 use Rattle.retro_base.specs.MadeEdits.{IsMade}
-use Rattle.retro_base.specs.PrefixLaws.{take_more, taken_below}
+use Rattle.retro_base.specs.OrderLaws.{all_with, times_with}
+use Rattle.retro_base.specs.PrefixLaws.{comes_next, take_more, taken_below}
+use Rattle.retro_base.specs.ReplayableLaws.{replayable_with}
+use Rattle.retro_base.specs.State.{empty, step}
+use Rattle.retro_base.specs.Timeline.{IsTimeline}
+use Rattle.retro_base.specs.lemmas.Folds.{fold_rows-nil}
 use Rattle.workbench.specs.Reported.{evidence_of, evidence_of_step, appends_from, loaded_evidence, noted}
+
+-- the first rows of a timeline are one, with no row and with one more
+pub timeline_begins : (kind : Kind) (rows : List Row) (next : ℕ) → IsTimeline kind rows next → IsTimeline kind [] next
+timeline_begins kind rows next timeline = record {
+  replayable = record { few = omega arith; of_kind = tt; own_numbers = tt; valid = ap result_err (fold_rows-nil step (empty kind)) };
+  in_order = tt;
+  numbered = tt;
+  next_in_range = timeline.next_in_range;
+}
+
+pub timeline_grows : (kind : Kind) (rows : List Row) (next index : ℕ) (row : Row) → IsTimeline kind rows next → slice_get rows index ≡ Some row
+    → IsTimeline kind (take index rows) next → IsTimeline kind (take index rows ++ row ∷ []) next
+timeline_grows kind rows next index row timeline there before =
+    let begun = take index rows in
+    let more = comes_next kind rows next index row timeline there in
+    subst (λ rs. IsTimeline kind rs next) (insert_end begun row) (record {
+      replayable = replayable_with kind begun (length begun) row before.replayable more.room (omega arith) more.fresh more.of_kind more.accepted;
+      in_order = times_with begun (length begun) row before.in_order more.fits;
+      numbered = all_with (λ r. (1 ≤ r.number) × (r.number < next)) begun (length begun) row before.numbered more.numbered;
+      next_in_range = before.next_in_range;
+    })
 
 -- the evidence of one more edit
 evidence_more : (name : List ℕ) (rows : List Row) (step : Step) (edit : Edit)

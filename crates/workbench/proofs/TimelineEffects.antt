@@ -11,7 +11,7 @@ use Rattle.timeline_undo.specs.History.{newest_step}
 use Rattle.timeline_undo.specs.Shift.{shift_at, shift_of}
 use Rattle.timeline_undo.specs.declared.shift.Target.{Target}
 use Rattle.timeline_undo.specs.declared.shift.Target.TheVariants.{Into}
-use Rattle.timeline_undo.specs.Session.{SessionState, FailsFirst, IsCause, IsLeftByShift, IsLeftByUndo, IsStepCause}
+use Rattle.timeline_undo.specs.Session.{SessionState, FailsFirst, IsCause, IsLeftByUndo, IsShiftUnmade, IsUnmade}
 use Rattle.timeline_undo.specs.declared.error.UndoError.{UndoError}
 use Rattle.timeline_undo.specs.declared.error.UndoError.TheVariants as undos
 use Rattle.timeline_undo.specs.declared.error.EditError.{EditError}
@@ -139,17 +139,15 @@ at_step P step (Some other) same holds = let is : other ≡ step = cc in subst P
 -- the refusal of a step by the cause that it has
 pub shift_refused : (name : List ℕ) (s after : SessionState) (target : Target) (place : ℕ) (error : EditError) (result : Result Outcome NoMemory)
     → length s.rows < most_rows → s.next < next_limit
-    → IfSome (shift_at s.rows target s.next place) (λ step. IsStepCause s.kind s.rows step error)
-    → IfSome (shift_at s.rows target s.next place) (λ step. IsLeftByShift s step after error) → IsRefusedBy error result
+    → IsShiftUnmade s place target after error → IsRefusedBy error result
     → IfOk result (λ outcome. ShiftsAt (named name s) target place (record { timeline = named name after; outcome = outcome }))
-shift_refused name s after target place (errors.Fails failing time) result room number cause left refused =
+shift_refused name s after target place (errors.Fails failing time) result room number unmade refused =
     rw refused (λ step at.
-    let same : after ≡ s = at_step (λ q. IsLeftByShift s q after (errors.Fails failing time)) step (shift_at s.rows target s.next place) at left in
-    rw same (shifts_makes (named name s) step (lt-leb most_rows (length s.rows) room) (lt-leb next_limit s.next number)
-    ∙ makes_fails (named name s) step (s.next + 1) (Inserted s.next) failing time
-    (at_step (λ q. IsStepCause s.kind s.rows q (errors.Fails failing time)) step (shift_at s.rows target s.next place) at cause)))
-shift_refused name s after target place errors.NoMemory (Ok outcome) room number cause left refused = absurd (refused outcome refl)
-shift_refused name s after target place errors.NoMemory (Err error) room number cause left refused = tt
+    let why : IsUnmade s step after (errors.Fails failing time) = at_step (λ q. IsUnmade s q after (errors.Fails failing time)) step (shift_at s.rows target s.next place) at unmade in
+    rw why.1 (shifts_makes (named name s) step (lt-leb most_rows (length s.rows) room) (lt-leb next_limit s.next number)
+    ∙ makes_fails (named name s) step (s.next + 1) (Inserted s.next) failing time why.0))
+shift_refused name s after target place errors.NoMemory (Ok outcome) room number unmade refused = absurd (refused outcome refl)
+shift_refused name s after target place errors.NoMemory (Err error) room number unmade refused = tt
 
 pub shift_accepted : (t : NamedTimeline) (target : Target) (place : ℕ) (done : Step) → nat_le most_rows (length t.rows) ≡ false → nat_le next_limit t.next ≡ false
     → shift_at t.rows target t.next place ≡ Some done → failure t.kind (edited_by t.rows done) ≡ None

@@ -7,15 +7,11 @@ use Rattle.timeline_undo.proofs.session.Session.append.Goals as goal
 
 pub make-requires-clause-in_order : goal.make-requires-clause-in_order
 make-requires-clause-in_order g c =
-    (append_leads _ _ _ _ c.args.row c.self.invariant.timeline c.len-place.ensures.length (rw (← c.self.view_is) at c.requires.number)
-    (rw (← c.self.view_is) at c.requires.fresh) (rw (← c.self.view_is) at c.requires.fits) (rw (← c.self.view_is) at c.requires.room)
-    (rw (← c.self.view_is) at c.requires.of_kind) (rw (← c.self.view_is) at c.requires.accepted)).in_order
+    (append_leads _ _ _ _ c.args.row c.len-place.ensures.length (rw (← c.self.view_is) at c.requires.timeline)).in_order
 
 pub make-requires-clause-replayable : goal.make-requires-clause-replayable
 make-requires-clause-replayable g c =
-    (append_leads _ _ _ _ c.args.row c.self.invariant.timeline c.len-place.ensures.length (rw (← c.self.view_is) at c.requires.number)
-    (rw (← c.self.view_is) at c.requires.fresh) (rw (← c.self.view_is) at c.requires.fits) (rw (← c.self.view_is) at c.requires.room)
-    (rw (← c.self.view_is) at c.requires.of_kind) (rw (← c.self.view_is) at c.requires.accepted)).replayable
+    (append_leads _ _ _ _ c.args.row c.len-place.ensures.length (rw (← c.self.view_is) at c.requires.timeline)).replayable
 
 pub invariant_of-self-2 : goal.invariant_of-self-2
 invariant_of-self-2 g c =
@@ -24,9 +20,7 @@ invariant_of-self-2 g c =
     (session_appended _ _ _ _ _ _ c.self.inside.undo c.self.inside.redo c.self.invariant
     (nothing_noted _ (ap (λ (h : History). h.undo) none)) (nothing_noted _ (ap (λ (h : History). h.redo) none))
     (c.in_ok-turn.ensures.same ∙ c.in_ok-turn.ensures.rows)
-    (append_leads _ _ _ _ c.args.row c.self.invariant.timeline c.len-place.ensures.length (rw (← c.self.view_is) at c.requires.number)
-    (rw (← c.self.view_is) at c.requires.fresh) (rw (← c.self.view_is) at c.requires.fits) (rw (← c.self.view_is) at c.requires.room)
-    (rw (← c.self.view_is) at c.requires.of_kind) (rw (← c.self.view_is) at c.requires.accepted)))
+    (append_leads _ _ _ _ c.args.row c.len-place.ensures.length (rw (← c.self.view_is) at c.requires.timeline)))
 
 pub returns-clause-session : goal.returns-clause-session
 returns-clause-session g c =

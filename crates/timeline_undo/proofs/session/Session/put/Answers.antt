@@ -6,32 +6,33 @@ use Rattle.timeline_undo.proofs.session.Session.put.Goals as goal
 
 pub make-requires-clause-in_order : goal.make-requires-clause-in_order
 make-requires-clause-in_order g c =
-    (insert_leads _ _ _ _ c.args.place _ _ c.self.invariant.same c.self.invariant.timeline (rw (← c.self.view_is) at c.requires.within) (rw (← c.self.view_is) at c.requires.fits)
-    (rw (← c.self.view_is) at c.requires.room) (rw (← c.self.view_is) at c.requires.number) (rw (← c.self.view_is) at c.requires.of_kind) refl
+    (insert_leads _ _ _ _ c.args.place _ _ c.self.invariant.same c.self.invariant.timeline (rw (← c.self.view_is) at c.requires.stands)
+    (rw (← c.self.view_is) at c.requires.room) (rw (← c.self.view_is) at c.requires.of_kind) refl
     (c.failure_after_insert.ensures.first _ refl) c.in_default.is).in_order
 
 pub make-requires-clause-replayable : goal.make-requires-clause-replayable
 make-requires-clause-replayable g c =
-    (insert_leads _ _ _ _ c.args.place _ _ c.self.invariant.same c.self.invariant.timeline (rw (← c.self.view_is) at c.requires.within) (rw (← c.self.view_is) at c.requires.fits)
-    (rw (← c.self.view_is) at c.requires.room) (rw (← c.self.view_is) at c.requires.number) (rw (← c.self.view_is) at c.requires.of_kind) refl
+    (insert_leads _ _ _ _ c.args.place _ _ c.self.invariant.same c.self.invariant.timeline (rw (← c.self.view_is) at c.requires.stands)
+    (rw (← c.self.view_is) at c.requires.room) (rw (← c.self.view_is) at c.requires.of_kind) refl
     (c.failure_after_insert.ensures.first _ refl) c.in_default.is).replayable
 
 pub invariant_of-self-2 : goal.invariant_of-self-2
 invariant_of-self-2 g c =
-    let below = rw (← c.self.view_is) at c.requires.number in
+    let room = rw (← c.self.view_is) at c.requires.room in
+    let stands = rw (← c.self.view_is) at c.requires.stands in
     rw (c.in_ok-turn.ensures.kind, c.in_ok-turn.ensures.rows, c.note.ensures.undo, c.note.ensures.redo)
     (session_noted _ _ c.self.inside.timeline (c.self.inside.next + 1) c.self.inside.undo c.self.inside.redo _ c.self.invariant.undo_room c.self.invariant.redo_room
     (c.in_ok-turn.ensures.same ∙ c.in_ok-turn.ensures.rows)
-    (timeline_later _ _ _ below c.self.invariant.timeline) (
+    (timeline_later _ _ _ room.1 c.self.invariant.timeline) (
       record {
-        within = rw (← c.self.view_is) at c.requires.within;
-        timeline = insert_leads _ _ _ _ c.args.place _ _ c.self.invariant.same c.self.invariant.timeline (rw (← c.self.view_is) at c.requires.within) (rw (← c.self.view_is) at c.requires.fits)
-            (rw (← c.self.view_is) at c.requires.room) below (rw (← c.self.view_is) at c.requires.of_kind) refl
+        within = stands.0;
+        timeline = insert_leads _ _ _ _ c.args.place _ _ c.self.invariant.same c.self.invariant.timeline stands room
+            (rw (← c.self.view_is) at c.requires.of_kind) refl
             (c.failure_after_insert.ensures.first _ refl) c.in_default.is;
       },
       tt,
     )
-    (in_turn_later _ _ _ _ below c.self.invariant.undoable))
+    (in_turn_later _ _ _ _ room.1 c.self.invariant.undoable))
 
 pub returns-clause-session : goal.returns-clause-session
 returns-clause-session g c =

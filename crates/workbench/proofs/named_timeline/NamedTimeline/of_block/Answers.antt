@@ -1,24 +1,17 @@
 use Rattle.std.proofs.Common.{rules, refl, ap, take}
-use Rattle.retro_base.specs.PrefixLaws.{comes_next, take_more}
+use Rattle.retro_base.specs.PrefixLaws.{take_more}
 use Rattle.timeline_undo.specs.Session.{SessionState}
-use Rattle.workbench.proofs.Loaded.{evidence_grows, loaded_none, put_in_after}
+use Rattle.workbench.proofs.Loaded.{evidence_grows, loaded_none, put_in_after, timeline_begins, timeline_grows}
 use Rattle.workbench.proofs.named_timeline.NamedTimeline.of_block.Goals as goal
 
-pub append-requires-clause-fresh : goal.append-requires-clause-fresh
-append-requires-clause-fresh c = rw c.loop-index.invariant.session (comes_next _ _ _ _ _ c.requires c.row-row.ensures).fresh
-
-pub append-requires-clause-fits : goal.append-requires-clause-fits
-append-requires-clause-fits c = rw c.loop-index.invariant.session (comes_next _ _ _ _ _ c.requires c.row-row.ensures).fits
-
-pub append-requires-clause-of_kind : goal.append-requires-clause-of_kind
-append-requires-clause-of_kind c = rw c.loop-index.invariant.session (comes_next _ _ _ _ _ c.requires c.row-row.ensures).of_kind
-
-pub append-requires-clause-accepted : goal.append-requires-clause-accepted
-append-requires-clause-accepted c = rw c.loop-index.invariant.session (comes_next _ _ _ _ _ c.requires c.row-row.ensures).accepted
+pub append-requires-clause-timeline : goal.append-requires-clause-timeline
+append-requires-clause-timeline c =
+    rw c.loop-index.invariant.session (timeline_grows c.args.kind c.args.rows.now c.args.next c.loop-index.index c.row-row.result c.requires c.row-row.ensures c.loop-index.invariant.timeline)
 
 pub loop-index-init : goal.loop-index-init
 loop-index-init c = record {
   session = search rules;
+  timeline = timeline_begins c.args.kind c.args.rows.now c.args.next c.requires;
   evidence = rw c.new-evidence.ensures (loaded_none c.args.name c.args.kind);
 }
 
@@ -32,6 +25,7 @@ loop-index-preserved c =
     (ap (λ (s : SessionState). s.rows) kept) c.put_in.ensures.reported c.put_in.ensures.change c.in_ok-change.ensures.made in
     record {
       session = rw (c.in_ok-change.ensures.session, kept) (rw (take_more rows index row c.row-row.ensures) refl);
+      timeline = rw (take_more rows index row c.row-row.ensures) (timeline_grows c.args.kind rows c.args.next index row c.requires c.row-row.ensures c.loop-index.invariant.timeline);
       evidence = evidence_grows c.args.name c.args.kind rows index row _ _ c.row-row.ensures c.loop-index.invariant.evidence
           (rw c.put_in.ensures.reported at (c.in_ok-note.ensures (take index rows) made));
     }

@@ -10,7 +10,7 @@ returns-in-Ok c =
     let room : length c.self.inside.session.rows < most_rows = omega (arith, ap length c.timeline.ensures.rows) in
     let number : c.self.inside.session.next < next_limit = omega (arith, c.next.ensures.next) in
     rw (← c.self.view_is)
-    (shifted_told c.tell_both.result (named c.self.inside.name c.self.inside.session) _ c.args.target c.args.place _ room number done.step done.accepted
+    (shifted_told c.tell_both.result (named c.self.inside.name c.self.inside.session) _ c.args.target c.args.place _ room number done.step done.made.1.after.valid
     (ap (named c.self.inside.name) done.session)
     (rw (done.session, done.number) at (c.tell_both.ensures c.self.inside.session.rows (rw done.session done.made))))
 
@@ -19,5 +19,5 @@ returns-in-Err c =
     let room : length c.self.inside.session.rows < most_rows = omega (arith, ap length c.timeline.ensures.rows) in
     let number : c.self.inside.session.next < next_limit = omega (arith, c.next.ensures.next) in
     rw (← c.self.view_is)
-    (shift_refused c.self.inside.name c.self.inside.session _ c.args.target c.args.place _ c.refused_by.result room number c.in-Err.ensures.cause c.in-Err.ensures.err
+    (shift_refused c.self.inside.name c.self.inside.session _ c.args.target c.args.place _ c.refused_by.result room number c.in-Err.ensures.err
     c.refused_by.ensures)
