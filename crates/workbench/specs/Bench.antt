@@ -1,5 +1,5 @@
 -- The bench: the timelines that a script has made, in the order in which it made them, and the block that is being read.
-use Rattle.std.specs.Prelude.{ℕ, Bool, List, [], length, Option, None}
+use Rattle.std.specs.Prelude.{ℕ, Bool, false, List, [], length, Option, None}
 use Rattle.std.specs.List.{find, list_any}
 use Rattle.std.specs.Str.{bytes_eq}
 use Rattle.retro_base.specs.declared.kind.Kind.{Kind}
@@ -44,6 +44,10 @@ pub record BenchState : Type 0 where
 -- a timeline with rows of which nothing can be undone
 abbrev pub with_rows : List ℕ → Kind → ℕ → List Row → NamedTimeline
 with_rows name kind next rows = record { name = name; kind = kind; rows = rows; next = next; history = no_history }
+
+-- the session of such a timeline
+abbrev pub loaded_session : Kind → ℕ → List Row → SessionState
+loaded_session kind next rows = record { kind = kind; rows = rows; next = next; history = no_history; spent = false }
 
 -- a timeline without rows
 abbrev pub fresh : List ℕ → Kind → NamedTimeline

@@ -1,4 +1,4 @@
-ghost use Rattle.std.specs.Prelude.{◌≡◌, ◌≤◌, ◌<◌, true, length, List, Some, [], ◌∷◌, IfOk, OnErr};
+ghost use Rattle.std.specs.Prelude.{◌≡◌, ◌≤◌, ◌<◌, true, length, List, Some, [], ◌∷◌, IfOk, OnErr, OnOk};
 ghost use Rattle.retro_base.specs.Kind.{kind_of, same_kind};
 ghost use Rattle.retro_base.specs.Answers.{content};
 ghost use Rattle.retro_base.specs.declared.row.Row.{Row};
@@ -9,6 +9,7 @@ ghost use Rattle.engine.specs.Engine.{is_fused, kind_inside, rows_inside};
 ghost use Rattle.timeline_undo.specs.Session.{AreMade, edit_reported, step_reported};
 ghost use Rattle.timeline_undo.specs.Shift.{IsTargetOf, shift_at};
 ghost use Rattle.timeline_undo.specs.declared.turn.Turns.TheVariants.{Double};
+ghost use Rattle.workbench.specs.Bench.{loaded_session};
 ghost use Rattle.workbench.specs.Reported.{loaded_evidence, reported};
 ghost use Rattle.retro_base.specs.Questions.{suits};
 ghost use Rattle.retro_base.specs.Replay.{state_at};
@@ -26,7 +27,9 @@ use crate::reported::{note, reported, reported_both};
 use engine::Engine;
 use fates::{Fate, fate_of};
 use order_timeline::Timeline;
-use retro_base::{Change, Kind, MAX_NEXT, MAX_ROWS, Name, NoMemory, Op, Question, Row, Rows};
+use retro_base::{
+    Change, Kind, MAX_NEXT, MAX_ROWS, Name, NoMemory, Op, Question, Retro, Row, Rows,
+};
 use script_grammar::{Moment, Query, Spot};
 use std::alloc::Global;
 use std::marker::Model;
@@ -103,13 +106,9 @@ impl NamedTimeline {
         ensures timeline { IfOk result (λ loaded. loaded.timeline ≡ with_rows name kind next rows.now) }
         ensures evidence { IfOk result (λ loaded. loaded.evidence ≡ loaded_evidence name kind rows.now) }
     {
-        let mut session = Session::new(alloc, Engine::new(alloc, kind), next)?;
         let mut evidence = EvidenceLines::new(alloc);
-        for index in 0..rows.len() {
-            let row = rows.row(index);
-            let change = session.append(row)?;
-            note(&mut evidence, name, kind, put_in(index, row, change))?;
-        }
+        let engine = Engine::new(alloc, kind);
+        let session = session_of(alloc, name, engine, next, rows, &mut evidence)?;
         let timeline = NamedTimeline {
             alloc,
             name,
@@ -405,6 +404,48 @@ impl NamedTimeline {
             rows,
         })
     }
+}
+
+/// The session over a structure without rows that has these rows put in, with their evidence.
+fn session_of<R: Retro + Drop>(
+    alloc: Global,
+    name: Name,
+    structure: R,
+    next: u32,
+    rows: &Rows,
+    evidence: &mut EvidenceLines,
+) -> Result<Session<R>, NoMemory>
+    requires empty { R.rows structure ≡ [] }
+    requires timeline { IsTimeline (R.kind structure) rows.now next }
+    requires none { evidence.old ≡ [] }
+    ensures session { IfOk result (λ session. session ≡ loaded_session (R.kind structure) next rows.now) }
+    ensures evidence { OnOk result (evidence.new ≡ loaded_evidence name (R.kind structure) rows.now) }
+{
+    let mut session = Session::new(alloc, structure, next)?;
+    append_all(&mut session, name, rows, evidence)?;
+    Ok(session)
+}
+
+/// Appends rows to a session without rows, one after another, and notes their evidence.
+fn append_all<R: Retro + Drop>(
+    session: &mut Session<R>,
+    name: Name,
+    rows: &Rows,
+    evidence: &mut EvidenceLines,
+) -> Result<(), NoMemory>
+    requires empty { session.old ≡ loaded_session session.old.kind session.old.next [] }
+    requires timeline { IsTimeline session.old.kind rows.now session.old.next }
+    requires none { evidence.old ≡ [] }
+    ensures session { OnOk result (session.new ≡ loaded_session session.old.kind session.old.next rows.now) }
+    ensures evidence { OnOk result (evidence.new ≡ loaded_evidence name session.old.kind rows.now) }
+{
+    let kind = session.kind();
+    for index in 0..rows.len() {
+        let row = rows.row(index);
+        let change = session.append(row)?;
+        note(evidence, name, kind, put_in(index, row, change))?;
+    }
+    Ok(())
 }
 
 /// The list edit that puts a row in.
