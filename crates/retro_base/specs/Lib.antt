@@ -14,6 +14,7 @@ pub mod OrderLaws
 pub mod ReplayableLaws
 pub mod PrefixLaws
 pub mod MadeEdits
+pub mod InsertedLaws
 pub mod TimelineLaws
 pub mod Questions
 pub mod Bridges

@@ -4,8 +4,7 @@ ghost use Rattle.retro_base.specs.declared.row.Row.{Row};
 ghost use Rattle.retro_base.specs.Changes.{IsChange};
 ghost use Rattle.retro_base.specs.Content.{state_of, RepresentsRows};
 ghost use Rattle.retro_base.specs.Edits.{add, cut};
-ghost use Rattle.retro_base.specs.Kind.{kind_of};
-ghost use Rattle.retro_base.specs.Timeline.{IsFresh};
+ghost use Rattle.retro_base.specs.Timeline.{IsReplayable};
 ghost use Rattle.retro_base.specs.State.{empty};
 ghost use Rattle.retro_base.specs.Replay.{run, IsValid};
 
@@ -134,9 +133,7 @@ fn remove_and_replay(
 fn change_of_insert(kind: Kind, rows: &[Row], present: &Content, place: usize, row: Row) -> Change
     requires kept { RepresentsRows kind rows.now (state_of present.now) }
     requires within { place ≤ length rows.now }
-    requires fresh { IsFresh row.number rows.now }
-    requires of_kind { kind_of row.op ≡ kind }
-    requires replays { IsValid kind (insert rows.now place row) }
+    requires replayable { IsReplayable kind (insert rows.now place row) }
     ensures { IsChange kind rows.now (add place row) result }
 {
     match present {

@@ -9,7 +9,7 @@ ghost use Rattle.retro_base.specs.Answers.{answer_of, content};
 ghost use Rattle.retro_base.specs.Questions.{suits};
 ghost use Rattle.retro_base.specs.Edits.{add, cut};
 ghost use Rattle.retro_base.specs.Changes.{IsChange};
-ghost use Rattle.retro_base.specs.Timeline.{IsFresh, IsReplayable};
+ghost use Rattle.retro_base.specs.Timeline.{IsReplayable};
 
 use crate::{Answer, Change, Kind, Listing, NoMemory, Op, Question, Row};
 
@@ -51,10 +51,7 @@ pub trait Retro {
     /// before.
     fn insert(&mut self, place: u32, row: Row) -> Result<Change, NoMemory>
         requires within { place ≤ length (rows self.old) }
-        requires room { length (rows self.old) < most_rows }
-        requires fresh { IsFresh row.number (rows self.old) }
-        requires of_kind { kind_of row.op ≡ kind self.old }
-        requires replays { IsValid (kind self.old) (insert (rows self.old) place row) }
+        requires replayable { IsReplayable (kind self.old) (insert (rows self.old) place row) }
         ensures kind { kind self.new ≡ kind self.old }
         ensures rows { OnOk result (rows self.new ≡ insert (rows self.old) place row) }
         ensures replayable { OnOk result (IsReplayable (kind self.new) (rows self.new)) }

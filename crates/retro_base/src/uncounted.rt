@@ -3,14 +3,13 @@
 ghost use Rattle.std.specs.Prelude.{◌≡◌, ◌+◌, ◌<◌, ◌≤◌, length, slice_get, true, Some, IfSome, IfOk, OnOk, OnErr};
 ghost use Rattle.std.specs.List.{insert, remove};
 ghost use Rattle.retro_base.specs.declared.row.Row.{Row};
-ghost use Rattle.retro_base.specs.Limits.{most_rows};
 ghost use Rattle.retro_base.specs.Kind.{kind_of};
 ghost use Rattle.retro_base.specs.Replay.{failure, IsValid, present};
 ghost use Rattle.retro_base.specs.Answers.{answer_of};
 ghost use Rattle.retro_base.specs.Questions.{suits};
 ghost use Rattle.retro_base.specs.Edits.{add, cut};
 ghost use Rattle.retro_base.specs.Changes.{IsChange};
-ghost use Rattle.retro_base.specs.Timeline.{IsFresh, IsReplayable};
+ghost use Rattle.retro_base.specs.Timeline.{IsReplayable};
 ghost use Rattle.retro_base.specs.Visits.{OpensCounter};
 
 use crate::{Answer, Change, NoMemory, Op, Partial, Question, Row, Steps};
@@ -71,10 +70,7 @@ fn find_failure_without<P: Partial, L: Ledger>(
 /// `insert` of the structure.
 pub fn insert<P: Partial>(structure: &mut P, place: u32, row: Row) -> Result<Change, NoMemory>
     requires within { place ≤ length (P.rows structure.old) }
-    requires room { length (P.rows structure.old) < most_rows }
-    requires fresh { IsFresh row.number (P.rows structure.old) }
-    requires of_kind { kind_of row.op ≡ P.kind structure.old }
-    requires replays { IsValid (P.kind structure.old) (insert (P.rows structure.old) place row) }
+    requires replayable { IsReplayable (P.kind structure.old) (insert (P.rows structure.old) place row) }
     ensures kind { P.kind structure.new ≡ P.kind structure.old }
     ensures rows { OnOk result (P.rows structure.new ≡ insert (P.rows structure.old) place row) }
     ensures replayable { OnOk result (IsReplayable (P.kind structure.new) (P.rows structure.new)) }
@@ -91,10 +87,7 @@ fn put_in<P: Partial, L: Ledger>(
     blank: Blank,
 ) -> Result<Change, NoMemory>
     requires within { place ≤ length (P.rows structure.old) }
-    requires room { length (P.rows structure.old) < most_rows }
-    requires fresh { IsFresh row.number (P.rows structure.old) }
-    requires of_kind { kind_of row.op ≡ P.kind structure.old }
-    requires replays { IsValid (P.kind structure.old) (insert (P.rows structure.old) place row) }
+    requires replayable { IsReplayable (P.kind structure.old) (insert (P.rows structure.old) place row) }
     requires counter { OpensCounter blank.name L.name blank.parts L.parts }
     ensures kind { P.kind structure.new ≡ P.kind structure.old }
     ensures rows { OnOk result (P.rows structure.new ≡ insert (P.rows structure.old) place row) }

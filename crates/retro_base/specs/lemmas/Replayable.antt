@@ -1,32 +1,19 @@
 -- A history stays one when a row is put in or taken out that leaves it valid.
-use Rattle.std.proofs.Common.{◌≡◌, ◌≢◌, ℕ, zero, suc, ◌<◌, ◌≤◌, List, [], ◌∷◌, length, take, refl, sym, ap, ◌∙◌, lit≤}
-use Rattle.std.specs.List.{insert, remove, AllByRecursion}
+use Rattle.std.proofs.Common.{◌≡◌, ◌≢◌, ℕ, zero, suc, List, [], ◌∷◌, take, refl, sym, ap, lit≤}
+use Rattle.std.specs.List.{remove, AllByRecursion}
 use Rattle.retro_base.specs.declared.kind.Kind.{Kind}
 use Rattle.retro_base.specs.declared.kind.Kind.TheVariants.{Queue, Stack, Deque, Dict, Pq}
 use Rattle.retro_base.specs.declared.row.Change.TheVariants.{Plain}
 use Rattle.retro_base.specs.declared.row.Row.{Row}
-use Rattle.retro_base.specs.Limits.{most_rows}
-use Rattle.retro_base.specs.Kind.{kind_of}
 use Rattle.retro_base.specs.Replay.{fold_rows, IsValid}
 use Rattle.retro_base.specs.Edits.{Edit}
 use Rattle.retro_base.specs.Changes.{IsChange}
-use Rattle.retro_base.specs.Timeline.{Structure, IsFresh, IsReplayable}
-use Rattle.retro_base.specs.ReplayableLaws.{replayable_with, replayable_without}
+use Rattle.retro_base.specs.Timeline.{Structure, IsReplayable}
+use Rattle.retro_base.specs.ReplayableLaws.{replayable_without}
 
 pub empty_replayable : (kind : Kind) → IsReplayable kind []
 unfolding fold_rows
 empty_replayable kind = record { few = lit≤ tt; of_kind = tt; own_numbers = tt; valid = refl }
-
--- the same, where the requirements are on a value that is seen as this kind and these rows
-pub replayable_seen_with : (now : Structure) (kind : Kind) (rows : List Row) (place : ℕ) (row : Row)
-    → ◌≡◌ {A = Structure} (record { kind = kind; rows = rows }) now → IsReplayable kind rows
-    → length now.rows < most_rows → place ≤ length now.rows → IsFresh row.number now.rows
-    → kind_of row.op ≡ now.kind → IsValid now.kind (insert now.rows place row) → IsReplayable kind (insert rows place row)
-replayable_seen_with now kind rows place row seen replayable room within fresh of_kind valid =
-    let same_rows : now.rows ≡ rows = ap (λ (h : Structure). h.rows) (sym seen) in
-    let same_kind : now.kind ≡ kind = ap (λ (h : Structure). h.kind) (sym seen) in
-    replayable_with kind rows place row replayable (rw same_rows at room) (rw same_rows at within) (rw same_rows at fresh)
-    (of_kind ∙ same_kind) (rw (same_kind, same_rows) at valid)
 
 -- what holds of all elements holds of those before a place
 pub all_before : {X : Type 0} (P : X → Type 0) (xs : List X) (place : ℕ) → AllByRecursion P xs → AllByRecursion P (take place xs)
@@ -35,6 +22,7 @@ all_before P [] (suc place) all = tt
 all_before P (x ∷ xs) zero all = tt
 all_before P (x ∷ xs) (suc place) all = (all.0, all_before P xs place all.1)
 
+-- taking a row out, where what is asked is said of a value that is seen as this kind and these rows
 pub replayable_seen_without : (now : Structure) (kind : Kind) (rows : List Row) (place : ℕ)
     → ◌≡◌ {A = Structure} (record { kind = kind; rows = rows }) now → IsReplayable kind rows
     → IsValid now.kind (remove now.rows place) → IsReplayable kind (remove rows place)

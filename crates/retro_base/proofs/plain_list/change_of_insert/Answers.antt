@@ -1,15 +1,16 @@
 use Rattle.std.proofs.Common.{ap, inl, inr}
 use Rattle.retro_base.specs.Content.{state_of}
 use Rattle.retro_base.specs.Edits.{add}
+use Rattle.retro_base.specs.InsertedLaws.{fresh_for, kind_for}
 use Rattle.retro_base.proofs.KeptChange.{kept_adds, kept_accepts, kept_survivors, kept_changes, plain_of_items, plain_of_pairs}
 use Rattle.retro_base.proofs.plain_list.change_of_insert.Goals as goal
 
 pub change_with-requires-clause-possible : goal.change_with-requires-clause-possible
 change_with-requires-clause-possible c = kept_adds c.args.kind c.args.rows.now _ c.in-Entries.alive c.args.place c.args.row c.requires.kept (ap state_of c.in-Entries.is)
-    c.requires.within c.requires.fresh c.requires.of_kind
+    c.requires.within (fresh_for c.args.kind c.args.rows.now c.args.place c.args.row c.requires.replayable) (kind_for c.args.kind c.args.rows.now c.args.place c.args.row c.requires.replayable)
 
 pub change_with-requires-clause-accepted : goal.change_with-requires-clause-accepted
-change_with-requires-clause-accepted c = kept_accepts c.args.kind c.args.rows.now _ _ c.in-Entries.alive c.requires.kept (ap state_of c.in-Entries.is) c.requires.replays
+change_with-requires-clause-accepted c = kept_accepts c.args.kind c.args.rows.now _ _ c.in-Entries.alive c.requires.kept (ap state_of c.in-Entries.is) c.requires.replayable.valid
 
 pub change_with-requires-clause-alive : goal.change_with-requires-clause-alive
 change_with-requires-clause-alive c = kept_survivors c.args.kind c.args.rows.now _ c.in-Entries.alive c.requires.kept (ap state_of c.in-Entries.is)
