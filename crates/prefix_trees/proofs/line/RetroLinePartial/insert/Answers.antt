@@ -1,15 +1,9 @@
 use Rattle.std.proofs.Common.{◌≡◌, sym, rules, subst}
 use Rattle.std.specs.List.{insert}
 use Rattle.retro_base.specs.Timeline.{IsReplayable}
-use Rattle.retro_base.specs.ReplayableLaws.{replayable_with}
 use Rattle.prefix_trees.proofs.line.RetroLinePartial.insert.Goals as goal
 
 pub invariant_of-self-2 : goal.invariant_of-self-2
 invariant_of-self-2 g c =
     let placed : g.S.Sequence.rows c.insert.new.self ≡ insert c.args.self.now c.args.place c.args.row = search rules in
-    subst (IsReplayable g.S.Sequence.kind) (sym placed)
-    (replayable_with g.S.Sequence.kind c.args.self.now c.args.place c.args.row (subst (IsReplayable g.S.Sequence.kind) c.self.view_is c.self.invariant)
-    c.requires.room c.requires.within c.requires.fresh c.requires.of_kind c.requires.replays)
-
-pub returns-clause-replayable : goal.returns-clause-replayable
-returns-clause-replayable g c = invariant_of-self-2 g c
+    subst (IsReplayable g.S.Sequence.kind) (sym placed) c.requires.replayable
