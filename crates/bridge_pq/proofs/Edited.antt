@@ -13,10 +13,10 @@ use Rattle.retro_base.specs.BridgeTable.{added}
 use Rattle.retro_base.specs.Carried.{IsPqHistory, IsPqEdit}
 use Rattle.retro_base.specs.Changes.{IsPqChange}
 use Rattle.retro_base.specs.Edits.{add, cut}
-use Rattle.retro_base.specs.Kind.{kind_of}
+use Rattle.retro_base.specs.InsertedLaws.{fresh_for, kind_for}
 use Rattle.retro_base.specs.Limits.{most_rows}
 use Rattle.retro_base.specs.Replay.{IsValid}
-use Rattle.retro_base.specs.ReplayableLaws.{replayable_with, replayable_without}
+use Rattle.retro_base.specs.ReplayableLaws.{replayable_without}
 use Rattle.retro_base.specs.Timeline.{IsFresh, IsReplayable}
 use Rattle.retro_base.specs.Weights.{added_by}
 use Rattle.retro_base.specs.lemmas.bridges.Entries.{In, contains_in, in_contains}
@@ -39,9 +39,13 @@ rows-length items = simp length-map
 pub history-of : (items : List MarkedRow) (entries : List MarkedEntry) → IsBridged items entries → IsPqHistory (rows_of items)
 history-of items entries bridged = record { of_kind = bridged.replayable.of_kind; own_numbers = bridged.replayable.own_numbers; valid = bridged.replayable.valid }
 
-pub possible-add : (items : List MarkedRow) (entries : List MarkedEntry) (place : ℕ) (row : Row) → IsBridged items entries → place ≤ length items → IsFresh row.number (rows_of items) → kind_of row.op ≡ Pq
+pub possible-add : (items : List MarkedRow) (entries : List MarkedEntry) → IsBridged items entries → (place : ℕ) (row : Row) → place ≤ length items → IsReplayable Pq (insert (rows_of items) place row)
     → IsPqEdit (rows_of items) (add place row)
-possible-add items entries place row bridged within fresh of_kind = record { history = history-of items entries bridged; within = omega (arith, rows-length items); own_row = (of_kind, fresh) }
+possible-add items entries bridged place row within replayable = record {
+  history = history-of items entries bridged;
+  within = omega (arith, rows-length items);
+  own_row = (kind_for Pq (rows_of items) place row replayable, fresh_for Pq (rows_of items) place row replayable);
+}
 
 pub possible-cut : (items : List MarkedRow) (entries : List MarkedEntry) (place : ℕ) (row : Row) → IsBridged items entries → slice_get (rows_of items) place ≡ Some row → IsPqEdit (rows_of items) (cut place row)
 possible-cut items entries place row bridged there = record { history = history-of items entries bridged; within = there; own_row = tt }
@@ -111,16 +115,13 @@ put_then_set items place row a b item within there =
     (set-inserted items place _ _ within)
 
 -- a row comes in
-module _ (items : List MarkedRow) (entries : List MarkedEntry) (bridged : IsBridged items entries) (place : ℕ) (row : Row) (within : place ≤ length items) (room : length items < most_rows)
-    (fresh : IsFresh row.number (rows_of items)) (of_kind : kind_of row.op ≡ Pq) (valid : IsValid Pq (insert (rows_of items) place row)) where
+module _ (items : List MarkedRow) (entries : List MarkedEntry) (bridged : IsBridged items entries) (place : ℕ) (row : Row) (within : place ≤ length items)
+    (inserted : IsReplayable Pq (insert (rows_of items) place row)) where
   abbrev rows : List Row
   rows = rows_of items
 
-  inserted : IsReplayable Pq (insert rows place row)
-  inserted = replayable_with Pq rows place row bridged.replayable (omega (arith, rows-length items)) (omega (arith, rows-length items)) fresh of_kind valid
-
   absent_from : (x : Entry) → added_by row ≡ Some x → ¬ In x (added rows)
-  absent_from x adds = fresh-not-added rows row.number x fresh (added_number row.op row.number x adds)
+  absent_from x adds = fresh-not-added rows row.number x (fresh_for Pq rows place row inserted) (added_number row.op row.number x adds)
 
   absent_alive : (x : Entry) → added_by row ≡ Some x → ¬ In x (survivors rows)
   absent_alive x adds inside = absent_from x adds (survivor-added rows x (history-of items entries bridged) inside)

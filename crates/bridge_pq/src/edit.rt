@@ -4,10 +4,8 @@ ghost use Rattle.retro_base.specs.declared.kind.Kind.TheVariants.{Pq};
 ghost use Rattle.retro_base.specs.Bridges.{survivors};
 ghost use Rattle.retro_base.specs.Changes.{IsPqChange};
 ghost use Rattle.retro_base.specs.Edits.{add, cut};
-ghost use Rattle.retro_base.specs.Kind.{kind_of};
-ghost use Rattle.retro_base.specs.Limits.{most_rows};
 ghost use Rattle.retro_base.specs.Replay.{IsValid};
-ghost use Rattle.retro_base.specs.Timeline.{IsFresh};
+ghost use Rattle.retro_base.specs.Timeline.{IsReplayable};
 ghost use Rattle.retro_base.specs.Visits.{VisitsWithin};
 ghost use Rattle.retro_base.specs.Weights.{added_by};
 ghost use Rattle.bridge_pq.specs.declared.marked_row.MarkedRow.{MarkedRow};
@@ -85,11 +83,8 @@ pub(crate) fn insert_adding<L: Ledger>(
 ) -> Result<Change, NoMemory>
     requires bridged { IsBridged rows.old entries.old }
     requires within { place ≤ length rows.old }
-    requires room { length rows.old < most_rows }
-    requires fresh { IsFresh row.number (rows_of rows.old) }
-    requires of_kind { kind_of row.op ≡ Pq }
     requires adds { added_by row ≡ Some new }
-    requires replays { IsValid Pq (insert (rows_of rows.old) place row) }
+    requires replayable { IsReplayable Pq (insert (rows_of rows.old) place row) }
     ensures bridged { OnOk result (IsBridged rows.new entries.new) }
     ensures rows { OnOk result (rows_of rows.new ≡ insert (rows_of rows.old) place row) }
     ensures change { IfOk result (IsPqChange (rows_of rows.old) (add place row)) }
@@ -117,11 +112,8 @@ pub(crate) fn insert_taking<L: Ledger>(
 ) -> Result<Change, NoMemory>
     requires bridged { IsBridged rows.old entries.old }
     requires within { place ≤ length rows.old }
-    requires room { length rows.old < most_rows }
-    requires fresh { IsFresh row.number (rows_of rows.old) }
-    requires of_kind { kind_of row.op ≡ Pq }
     requires takes { added_by row ≡ None }
-    requires replays { IsValid Pq (insert (rows_of rows.old) place row) }
+    requires replayable { IsReplayable Pq (insert (rows_of rows.old) place row) }
     ensures bridged { OnOk result (IsBridged rows.new entries.new) }
     ensures rows { OnOk result (rows_of rows.new ≡ insert (rows_of rows.old) place row) }
     ensures change { IfOk result (IsPqChange (rows_of rows.old) (add place row)) }

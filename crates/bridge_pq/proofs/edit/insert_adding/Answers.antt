@@ -10,22 +10,25 @@ use Rattle.bridge_pq.specs.MarkedRows.{rows_of}
 use Rattle.bridge_pq.proofs.Places.{map-insert}
 use Rattle.bridge_pq.proofs.Costs.{visits-more}
 use Rattle.bridge_pq.proofs.EntryEdits.{one_longer}
-use Rattle.bridge_pq.proofs.Edited.{new-absent, few-entries, put-adding, put-gained, flip_marks-within, flip_marks-few, flip_marks-among, flip_marks-done}
+use Rattle.bridge_pq.proofs.Edited.{possible-add, new-absent, few-entries, put-adding, put-gained, flip_marks-within, flip_marks-few, flip_marks-among, flip_marks-done}
 use Rattle.bridge_pq.proofs.edit.insert_adding.Goals as goal
+
+pub gained_with-flip-requires-clause-possible : goal.gained_with-flip-requires-clause-possible
+gained_with-flip-requires-clause-possible g c = possible-add c.args.rows.now c.args.entries.now c.requires.bridged c.args.place c.args.row c.requires.within c.requires.replayable
 
 pub put_row_with_entry-requires-clause-few : goal.put_row_with_entry-requires-clause-few
 put_row_with_entry-requires-clause-few g c = few-entries c.args.rows.now c.args.entries.now c.requires.bridged
 
 pub put_row_with_entry-requires-clause-absent : goal.put_row_with_entry-requires-clause-absent
 put_row_with_entry-requires-clause-absent g c = new-absent c.args.rows.now c.args.entries.now c.requires.bridged c.args.place c.args.row c.requires.within
-    c.requires.room c.requires.fresh c.requires.of_kind c.requires.replays c.args.new c.requires.adds
+    c.requires.replayable c.args.new c.requires.adds
 
 pub put_row_with_entry-requires-2-clause-few : goal.put_row_with_entry-requires-2-clause-few
 put_row_with_entry-requires-2-clause-few g c = few-entries c.args.rows.now c.args.entries.now c.requires.bridged
 
 pub put_row_with_entry-requires-2-clause-absent : goal.put_row_with_entry-requires-2-clause-absent
 put_row_with_entry-requires-2-clause-absent g c = new-absent c.args.rows.now c.args.entries.now c.requires.bridged c.args.place c.args.row c.requires.within
-    c.requires.room c.requires.fresh c.requires.of_kind c.requires.replays c.args.new c.requires.adds
+    c.requires.replayable c.args.new c.requires.adds
 
 pub returns-in_err-put_row_with_entry-clause-visits : goal.returns-in_err-put_row_with_entry-clause-visits
 returns-in_err-put_row_with_entry-clause-visits g c =
@@ -45,7 +48,7 @@ returns-in_err-put_row_with_entry-2-clause-visits g c =
 
 pub returns-then-flip-place-clause-bridged : goal.returns-then-flip-place-clause-bridged
 returns-then-flip-place-clause-bridged g c = (put-gained c.args.rows.now c.args.entries.now c.requires.bridged c.args.place c.args.row c.requires.within
-    c.requires.room c.requires.fresh c.requires.of_kind c.requires.replays c.args.new c.gained_with-flip.result.entry c.gained_with-flip.result.survives
+    c.requires.replayable c.args.new c.gained_with-flip.result.entry c.gained_with-flip.result.survives
     c.requires.adds
     (subst (λ p. AddsAt (insert (rows_of c.args.rows.now) c.args.place c.args.row) p c.gained_with-flip.result.entry) (omega (arith, c.if-flip-place.true)) c.gained_with-flip.ensures.flips.there)
     c.gained_with-flip.ensures.flips.marks c.put_row_with_entry.new.rows c.put_row_with_entry.new.entries c.in_ok-put_row_with_entry.ensures.rows c.in_ok-put_row_with_entry.ensures.entries).0
@@ -67,37 +70,33 @@ returns-then-flip-place-clause-visits g c =
 pub flip_marks-requires-clause-within : goal.flip_marks-requires-clause-within
 flip_marks-requires-clause-within g c = flip_marks-within (insert (rows_of c.args.rows.now) c.args.place c.args.row)
     (survivors (rows_of c.args.rows.now)) c.put_row_with_entry-2.new.rows c.put_row_with_entry-2.new.entries
-    (put-adding c.args.rows.now c.args.entries.now c.requires.bridged c.args.place c.args.row c.requires.within c.requires.room c.requires.fresh
-    c.requires.of_kind c.requires.replays c.args.new c.requires.adds c.put_row_with_entry-2.new.rows c.put_row_with_entry-2.new.entries
+    (put-adding c.args.rows.now c.args.entries.now c.requires.bridged c.args.place c.args.row c.requires.within c.requires.replayable c.args.new c.requires.adds c.put_row_with_entry-2.new.rows c.put_row_with_entry-2.new.entries
     c.in_ok-put_row_with_entry-2.ensures.rows c.in_ok-put_row_with_entry-2.ensures.entries) c.gained_with-flip.result.place c.gained_with-flip.result.entry
     c.gained_with-flip.ensures.flips.there
 
 pub flip_marks-requires-clause-few : goal.flip_marks-requires-clause-few
 flip_marks-requires-clause-few g c = flip_marks-few (insert (rows_of c.args.rows.now) c.args.place c.args.row)
     (survivors (rows_of c.args.rows.now)) c.put_row_with_entry-2.new.rows c.put_row_with_entry-2.new.entries
-    (put-adding c.args.rows.now c.args.entries.now c.requires.bridged c.args.place c.args.row c.requires.within c.requires.room c.requires.fresh
-    c.requires.of_kind c.requires.replays c.args.new c.requires.adds c.put_row_with_entry-2.new.rows c.put_row_with_entry-2.new.entries
+    (put-adding c.args.rows.now c.args.entries.now c.requires.bridged c.args.place c.args.row c.requires.within c.requires.replayable c.args.new c.requires.adds c.put_row_with_entry-2.new.rows c.put_row_with_entry-2.new.entries
     c.in_ok-put_row_with_entry-2.ensures.rows c.in_ok-put_row_with_entry-2.ensures.entries) c.gained_with-flip.result.place c.gained_with-flip.result.entry
     c.gained_with-flip.ensures.flips.there
 
 pub flip_marks-requires-clause-rise : goal.flip_marks-requires-clause-rise
 flip_marks-requires-clause-rise g c = (put-adding c.args.rows.now c.args.entries.now c.requires.bridged c.args.place c.args.row c.requires.within
-    c.requires.room c.requires.fresh c.requires.of_kind c.requires.replays c.args.new c.requires.adds c.put_row_with_entry-2.new.rows
+    c.requires.replayable c.args.new c.requires.adds c.put_row_with_entry-2.new.rows
     c.put_row_with_entry-2.new.entries c.in_ok-put_row_with_entry-2.ensures.rows c.in_ok-put_row_with_entry-2.ensures.entries).holds.rise
 
 pub flip_marks-requires-clause-among : goal.flip_marks-requires-clause-among
 flip_marks-requires-clause-among g c = flip_marks-among (insert (rows_of c.args.rows.now) c.args.place c.args.row)
     (survivors (rows_of c.args.rows.now)) c.put_row_with_entry-2.new.rows c.put_row_with_entry-2.new.entries
-    (put-adding c.args.rows.now c.args.entries.now c.requires.bridged c.args.place c.args.row c.requires.within c.requires.room c.requires.fresh
-    c.requires.of_kind c.requires.replays c.args.new c.requires.adds c.put_row_with_entry-2.new.rows c.put_row_with_entry-2.new.entries
+    (put-adding c.args.rows.now c.args.entries.now c.requires.bridged c.args.place c.args.row c.requires.within c.requires.replayable c.args.new c.requires.adds c.put_row_with_entry-2.new.rows c.put_row_with_entry-2.new.entries
     c.in_ok-put_row_with_entry-2.ensures.rows c.in_ok-put_row_with_entry-2.ensures.entries) c.gained_with-flip.result.place c.gained_with-flip.result.entry
     c.gained_with-flip.ensures.flips.there
 
 pub returns-clause-bridged : goal.returns-clause-bridged
 returns-clause-bridged g c = (flip_marks-done (insert (rows_of c.args.rows.now) c.args.place c.args.row)
     (survivors (rows_of c.args.rows.now)) c.put_row_with_entry-2.new.rows c.put_row_with_entry-2.new.entries
-    (put-adding c.args.rows.now c.args.entries.now c.requires.bridged c.args.place c.args.row c.requires.within c.requires.room c.requires.fresh
-    c.requires.of_kind c.requires.replays c.args.new c.requires.adds c.put_row_with_entry-2.new.rows c.put_row_with_entry-2.new.entries
+    (put-adding c.args.rows.now c.args.entries.now c.requires.bridged c.args.place c.args.row c.requires.within c.requires.replayable c.args.new c.requires.adds c.put_row_with_entry-2.new.rows c.put_row_with_entry-2.new.entries
     c.in_ok-put_row_with_entry-2.ensures.rows c.in_ok-put_row_with_entry-2.ensures.entries) c.gained_with-flip.result.place c.gained_with-flip.result.entry
     c.gained_with-flip.ensures.flips.there c.gained_with-flip.result.survives c.gained_with-flip.ensures.flips.marks c.flip_marks.new.rows
     c.flip_marks.new.entries c.flip_marks.ensures.rows c.flip_marks.ensures.entries).0
@@ -105,8 +104,7 @@ returns-clause-bridged g c = (flip_marks-done (insert (rows_of c.args.rows.now) 
 pub returns-clause-rows : goal.returns-clause-rows
 returns-clause-rows g c = (flip_marks-done (insert (rows_of c.args.rows.now) c.args.place c.args.row)
     (survivors (rows_of c.args.rows.now)) c.put_row_with_entry-2.new.rows c.put_row_with_entry-2.new.entries
-    (put-adding c.args.rows.now c.args.entries.now c.requires.bridged c.args.place c.args.row c.requires.within c.requires.room c.requires.fresh
-    c.requires.of_kind c.requires.replays c.args.new c.requires.adds c.put_row_with_entry-2.new.rows c.put_row_with_entry-2.new.entries
+    (put-adding c.args.rows.now c.args.entries.now c.requires.bridged c.args.place c.args.row c.requires.within c.requires.replayable c.args.new c.requires.adds c.put_row_with_entry-2.new.rows c.put_row_with_entry-2.new.entries
     c.in_ok-put_row_with_entry-2.ensures.rows c.in_ok-put_row_with_entry-2.ensures.entries) c.gained_with-flip.result.place c.gained_with-flip.result.entry
     c.gained_with-flip.ensures.flips.there c.gained_with-flip.result.survives c.gained_with-flip.ensures.flips.marks c.flip_marks.new.rows
     c.flip_marks.new.entries c.flip_marks.ensures.rows c.flip_marks.ensures.entries).1
