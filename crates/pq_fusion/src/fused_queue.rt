@@ -1,4 +1,4 @@
-ghost use Rattle.std.specs.Prelude.{◌≡◌, ◌+◌, ◌*◌, ◌<◌, ◌≤◌, [], length, true, IfOk, OnOk, OnErr};
+ghost use Rattle.std.specs.Prelude.{◌≡◌, ◌+◌, ◌*◌, ◌≤◌, [], length, true, IfOk, OnOk, OnErr};
 ghost use Rattle.std.specs.List.{insert, slice_range};
 ghost use Rattle.retro_base.specs.declared.kind.Kind.TheVariants.{Pq};
 ghost use Rattle.retro_base.specs.Answers.{answer_of};
@@ -6,12 +6,11 @@ ghost use Rattle.retro_base.specs.BridgeTable.{added};
 ghost use Rattle.retro_base.specs.Changes.{IsChange};
 ghost use Rattle.retro_base.specs.Digits.{digits};
 ghost use Rattle.retro_base.specs.Edits.{add};
-ghost use Rattle.retro_base.specs.Kind.{kind_of};
 ghost use Rattle.retro_base.specs.Limits.{most_rows};
 ghost use Rattle.retro_base.specs.Questions.{suits};
-ghost use Rattle.retro_base.specs.Replay.{state_at, IsValid};
+ghost use Rattle.retro_base.specs.Replay.{state_at};
 ghost use Rattle.retro_base.specs.State.{entries};
-ghost use Rattle.retro_base.specs.Timeline.{IsFresh, IsReplayable};
+ghost use Rattle.retro_base.specs.Timeline.{IsReplayable};
 ghost use Rattle.pq_fusion.specs.Pieces.{tolerant};
 
 use crate::Piece;
@@ -149,10 +148,7 @@ fn insert_into_both(
 ) -> Result<Change, NoMemory>
     requires same { rows.old ≡ queue.old }
     requires within { place ≤ length queue.old }
-    requires room { length queue.old < most_rows }
-    requires fresh { IsFresh row.number queue.old }
-    requires of_kind { kind_of row.op ≡ Pq }
-    requires replays { IsValid Pq (insert queue.old place row) }
+    requires replayable { IsReplayable Pq (insert queue.old place row) }
     ensures rows { OnOk result (queue.new ≡ insert queue.old place row) }
     ensures replayable { OnOk result (IsReplayable Pq queue.new) }
     ensures change { IfOk result (IsChange Pq queue.old (add place row)) }

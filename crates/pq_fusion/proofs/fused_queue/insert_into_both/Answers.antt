@@ -2,8 +2,12 @@ use Rattle.std.proofs.Common.{◌≡◌, ap, ◌∙◌, sym, subst}
 use Rattle.std.specs.List.{remove}
 use Rattle.retro_base.specs.declared.kind.Kind.TheVariants.{Pq}
 use Rattle.retro_base.specs.EditedLists.{remove-insert}
+use Rattle.retro_base.specs.InsertedLaws.{kind_for}
 use Rattle.retro_base.specs.Replay.{IsValid}
 use Rattle.pq_fusion.proofs.fused_queue.insert_into_both.Goals as goal
+
+pub insert-requires-2-clause-of_kind : goal.insert-requires-2-clause-of_kind
+insert-requires-2-clause-of_kind c = kind_for Pq c.args.queue.now c.args.place c.args.row c.requires.replayable
 
 pub remove-requires-clause-replays : goal.remove-requires-clause-replays
 remove-requires-clause-replays c =
