@@ -1,16 +1,16 @@
 -- The first rows of a timeline: how they grow by its next row, and what they are after an edit of it.
 use Rattle.std.proofs.Common.{◌≡◌, ◌≢◌, ℕ, zero, suc, ◌+◌, ◌-◌, ◌<◌, ◌≤◌, List, [], ◌∷◌, length, take, slice_get, refl, sym, subst, ap, ◌∙◌, arith, Some}
-use Rattle.std.specs.List.{insert, remove, AllByRecursion}
+use Rattle.std.specs.List.{insert, remove}
 use Rattle.std.proofs.lemmas.List.{length-take, length-take-le}
 use Rattle.std.proofs.lemmas.List.Edits.{insert_end}
 use Rattle.retro_base.specs.declared.kind.Kind.{Kind}
 use Rattle.retro_base.specs.declared.row.Row.{Row}
 use Rattle.retro_base.specs.Edits.{add}
 use Rattle.retro_base.specs.Kind.{kind_of}
-use Rattle.retro_base.specs.OrderLaws.{all_at}
 use Rattle.retro_base.specs.PrefixLaws.{valid_take, take_more, taken_below}
 use Rattle.retro_base.specs.Replay.{IsValid}
-use Rattle.retro_base.specs.Timeline.{IsFresh, HaveOwnNumbers, IsReplayable, Structure}
+use Rattle.retro_base.specs.Timeline.{HaveOwnNumbers, IsReplayable, Structure}
+use Rattle.retro_base.specs.lemmas.Replayable.{all_before}
 use Rattle.checkpoint_full.specs.Checkpoints.{after, first_of, place_of, CanTake, HoldsFirstRows}
 
 pub same_structure : (kind other : Kind) (rows others : List Row) → kind ≡ other → rows ≡ others
@@ -40,12 +40,19 @@ without_last xs some = remove_last xs (length xs - 1) (omega arith)
 pub last_can_go : (kind : Kind) (rows : List Row) → 0 < length rows → IsReplayable kind rows → IsValid kind (remove rows (length rows - 1))
 last_can_go kind rows some replayable = rw (without_last rows some) (valid_take kind rows (length rows - 1) replayable.valid)
 
--- the number of a row is none of those before it
-number_is_fresh : (rows : List Row) (index : ℕ) (row : Row) → HaveOwnNumbers rows → slice_get rows index ≡ Some row → IsFresh row.number (take index rows)
-number_is_fresh rows zero row own there = tt
-number_is_fresh [] (suc index) row own there = tt
-number_is_fresh (first ∷ rows) (suc index) row own there =
-    (λ same. all_at (λ r. r.number ≢ first.number) rows index row own.0 there (sym same), number_is_fresh rows index row own.1 there)
+-- the first rows replay as all do
+own_numbers_first : (rows : List Row) (count : ℕ) → HaveOwnNumbers rows → HaveOwnNumbers (take count rows)
+own_numbers_first rows zero own = tt
+own_numbers_first [] (suc count) own = tt
+own_numbers_first (row ∷ rows) (suc count) own = (all_before (λ r. r.number ≢ row.number) rows count own.0, own_numbers_first rows count own.1)
+
+pub replayable_first : (kind : Kind) (rows : List Row) (count : ℕ) → IsReplayable kind rows → IsReplayable kind (take count rows)
+replayable_first kind rows count replayable = record {
+  few = omega (arith, length-take count rows, replayable.few);
+  of_kind = all_before (λ r. kind_of r.op ≡ kind) rows count replayable.of_kind;
+  own_numbers = own_numbers_first rows count replayable.own_numbers;
+  valid = valid_take kind rows count replayable.valid;
+}
 
 insert_next : (rows : List Row) (index : ℕ) (row : Row) → slice_get rows index ≡ Some row → insert (take index rows) index row ≡ take (index + 1) rows
 insert_next rows index row there =
@@ -55,13 +62,7 @@ insert_next rows index row there =
 -- the next row of a timeline can be appended to those before it
 pub next_can_come : (now : Structure) (index : ℕ) (row : Row) → IsReplayable now.kind now.rows → slice_get now.rows index ≡ Some row → CanTake (first_of index now) index row
 next_can_come now index row replayable there =
-    let below = taken_below now.rows index row there in
-    record {
-      room = omega (arith, below.0, below.1, replayable.few);
-      fresh = number_is_fresh now.rows index row replayable.own_numbers there;
-      of_kind = all_at (λ r. kind_of r.op ≡ now.kind) now.rows index row replayable.of_kind there;
-      replays = rw (insert_next now.rows index row there) (valid_take now.kind now.rows (index + 1) replayable.valid);
-    }
+    rw (insert_next now.rows index row there) (replayable_first now.kind now.rows (index + 1) replayable)
 
 pub next_comes : (now : Structure) (index : ℕ) (row : Row) → slice_get now.rows index ≡ Some row → after (first_of index now) (add index row) ≡ first_of (index + 1) now
 next_comes now index row there = same_structure now.kind now.kind _ _ refl (insert_next now.rows index row there)
@@ -131,11 +132,6 @@ pub taken_back : {X : Type 0} (xs : List X) (place : ℕ) (x : X) → place ≤ 
 taken_back xs zero x within = refl
 taken_back [] (suc place) x within = absurd (omega arith)
 taken_back (y ∷ ys) (suc place) x within = ap (λ zs. y ∷ zs) (taken_back ys place x (omega arith))
-
-pub all_first : {X : Type 0} (P : X → Type 0) (xs : List X) (count : ℕ) → AllByRecursion P xs → AllByRecursion P (take count xs)
-all_first P xs zero all = tt
-all_first P [] (suc count) all = tt
-all_first P (x ∷ xs) (suc count) all = (all.0, all_first P xs count all.1)
 
 -- the rows of a checkpoint are the first ones, and no more than all
 pub rows_of_first : (now checkpoint : Structure) → HoldsFirstRows now checkpoint → checkpoint.rows ≡ take (place_of checkpoint) now.rows

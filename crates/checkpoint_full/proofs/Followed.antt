@@ -1,5 +1,5 @@
 -- An edit of the timeline at its checkpoints: each can follow it and be taken back from it, and holds the first rows afterwards.
-use Rattle.std.proofs.Common.{◌≡◌, ◌≢◌, ℕ, zero, suc, ◌+◌, ◌-◌, ◌<◌, ◌≤◌, List, [], ◌∷◌, ◌++◌, length, take, drop, map, refl, sym, subst, ap, ◌∙◌, arith, inl, inr}
+use Rattle.std.proofs.Common.{◌≡◌, ℕ, zero, suc, ◌+◌, ◌-◌, ◌<◌, ◌≤◌, List, [], ◌∷◌, ◌++◌, length, take, drop, map, refl, sym, subst, ap, ◌∙◌, arith, inl, inr}
 use Rattle.std.specs.List.{insert, remove, AllByRecursion}
 use Rattle.std.proofs.lemmas.Bool.{lt-ltb, le-ltb, cases_lt}
 use Rattle.std.proofs.lemmas.List.{take-append-drop}
@@ -8,9 +8,9 @@ use Rattle.retro_base.specs.declared.row.Row.{Row}
 use Rattle.retro_base.specs.Edits.{add, cut}
 use Rattle.retro_base.specs.PrefixLaws.{valid_take}
 use Rattle.retro_base.specs.Replay.{IsValid}
-use Rattle.retro_base.specs.Timeline.{IsFresh, Structure}
+use Rattle.retro_base.specs.Timeline.{Structure}
 use Rattle.checkpoint_full.specs.Checkpoints.{after, place_of, CanTake, CanFollow, CanLose, HoldsFirstRows, with_row, without_row}
-use Rattle.checkpoint_full.proofs.FirstRows.{same_structure, insert_in_first, insert_after_first, remove_in_first, remove_after_first, taken_back, all_first, rows_of_first, kind_of_first, not_after_now}
+use Rattle.checkpoint_full.proofs.FirstRows.{same_structure, insert_in_first, insert_after_first, remove_in_first, remove_after_first, taken_back, replayable_first, rows_of_first, kind_of_first, not_after_now}
 
 -- a checkpoint that stands after the place, and one that does not
 pub row_comes : (place : ℕ) (row : Row) (checkpoint : Structure) → place < place_of checkpoint → with_row place row checkpoint ≡ after checkpoint (add place row)
@@ -36,16 +36,10 @@ shorter place checkpoint less = rw (row_goes place checkpoint less) (omega (arit
 -- a checkpoint can take a row that the timeline can take
 can_take_first : (now checkpoint : Structure) (place : ℕ) (row : Row) → HoldsFirstRows now checkpoint → place < place_of checkpoint → CanTake now place row → CanTake checkpoint place row
 can_take_first now checkpoint place row first less can =
-    let rows = rows_of_first now checkpoint first in
     let kind = kind_of_first now checkpoint first in
     let inserted : insert checkpoint.rows place row ≡ take (suc (place_of checkpoint)) (insert now.rows place row) =
-    ap (λ (rs : List Row). insert rs place row) rows ∙ insert_in_first now.rows (place_of checkpoint) place row less in
-    record {
-      room = omega (arith, not_after_now now checkpoint first, can.room);
-      fresh = subst (λ (rs : List Row). IsFresh row.number rs) (sym rows) (all_first (λ r. r.number ≢ row.number) now.rows (place_of checkpoint) can.fresh);
-      of_kind = can.of_kind ∙ sym kind;
-      replays = rw (kind, inserted) (valid_take now.kind (insert now.rows place row) (suc (place_of checkpoint)) can.replays);
-    }
+    ap (λ (rs : List Row). insert rs place row) (rows_of_first now checkpoint first) ∙ insert_in_first now.rows (place_of checkpoint) place row less in
+    rw (kind, inserted) (replayable_first now.kind (insert now.rows place row) (suc (place_of checkpoint)) can)
 
 valid_first : (now checkpoint : Structure) → HoldsFirstRows now checkpoint → IsValid now.kind now.rows → IsValid checkpoint.kind checkpoint.rows
 valid_first now checkpoint first valid =

@@ -5,10 +5,8 @@ use Rattle.std.specs.List.{insert, remove, AllByRecursion}
 use Rattle.retro_base.specs.declared.kind.Kind.{Kind}
 use Rattle.retro_base.specs.declared.row.Row.{Row}
 use Rattle.retro_base.specs.Edits.{Edit, add, edited}
-use Rattle.retro_base.specs.Kind.{kind_of}
-use Rattle.retro_base.specs.Limits.{most_rows}
 use Rattle.retro_base.specs.Replay.{IsValid}
-use Rattle.retro_base.specs.Timeline.{IsFresh, Structure}
+use Rattle.retro_base.specs.Timeline.{IsReplayable, Structure}
 use Rattle.checkpoint_full.specs.Widths.{most_checkpoints, AreClose, IsThin, IsWidth}
 
 -- what is seen of a structure with checkpoints: beside its rows whether the checkpoints were made, the most rows between
@@ -29,11 +27,8 @@ abbrev pub first_of : ℕ → Structure → Structure
 first_of count now = record { kind = now.kind; rows = take count now.rows }
 
 -- a row can be put in at the place
-pub record CanTake (now : Structure) (place : ℕ) (row : Row) : Type 0 where
-  pub room : length now.rows < most_rows
-  pub fresh : IsFresh row.number now.rows
-  pub of_kind : kind_of row.op ≡ now.kind
-  pub replays : IsValid now.kind (insert now.rows place row)
+abbrev pub CanTake : Structure → ℕ → Row → Type 0
+CanTake now place row = IsReplayable now.kind (insert now.rows place row)
 
 -- the place of a checkpoint: it stands after so many rows
 abbrev pub place_of : Structure → ℕ

@@ -4,11 +4,9 @@ ghost use Rattle.retro_base.specs.declared.row.Row.{Row};
 ghost use Rattle.retro_base.specs.Answers.{answer_of, content};
 ghost use Rattle.retro_base.specs.Changes.{IsChange};
 ghost use Rattle.retro_base.specs.Edits.{add, cut};
-ghost use Rattle.retro_base.specs.Kind.{kind_of};
-ghost use Rattle.retro_base.specs.Limits.{most_rows};
 ghost use Rattle.retro_base.specs.Questions.{suits};
 ghost use Rattle.retro_base.specs.Replay.{IsValid, present, state_at};
-ghost use Rattle.retro_base.specs.Timeline.{IsFresh, IsReplayable};
+ghost use Rattle.retro_base.specs.Timeline.{IsReplayable};
 ghost use Rattle.retro_base.specs.Visits.{OpensCounter, VisitsWithin};
 ghost use Rattle.checkpoint_full.specs.Rule.{places_after_insertion, places_after_removal, width_after_insertion, width_after_removal};
 ghost use Rattle.checkpoint_full.specs.Widths.{least_width, made_places, narrowest};
@@ -180,10 +178,7 @@ impl<P: Partial + Drop> Retro for Full<P> {
     /// The width and the places are then those of the rule; where no checkpoints were made, they stay as they are.
     fn insert(&mut self, place: u32, row: Row) -> Result<Change, NoMemory>
         requires within { place ≤ length self.old.rows }
-        requires room { length self.old.rows < most_rows }
-        requires fresh { IsFresh row.number self.old.rows }
-        requires of_kind { kind_of row.op ≡ self.old.kind }
-        requires replays { IsValid self.old.kind (insert self.old.rows place row) }
+        requires replayable { IsReplayable self.old.kind (insert self.old.rows place row) }
         ensures kind { self.new.kind ≡ self.old.kind }
         ensures rows { OnOk result (self.new.rows ≡ insert self.old.rows place row) }
         ensures replayable { OnOk result (IsReplayable self.new.kind self.new.rows) }
