@@ -4,11 +4,9 @@ ghost use Rattle.retro_base.specs.declared.kind.Kind.TheVariants.{Pq};
 ghost use Rattle.retro_base.specs.Answers.{answer_of, content};
 ghost use Rattle.retro_base.specs.Changes.{IsChange};
 ghost use Rattle.retro_base.specs.Edits.{add, cut};
-ghost use Rattle.retro_base.specs.Kind.{kind_of};
-ghost use Rattle.retro_base.specs.Limits.{most_rows};
 ghost use Rattle.retro_base.specs.Questions.{suits};
 ghost use Rattle.retro_base.specs.Replay.{IsValid, state_at};
-ghost use Rattle.retro_base.specs.Timeline.{IsFresh, IsReplayable};
+ghost use Rattle.retro_base.specs.Timeline.{IsReplayable};
 ghost use Rattle.retro_base.specs.Visits.{OpensCounter, VisitsWithin};
 ghost use Rattle.engine.specs.Engine.{kind_inside, rows_inside, is_line, is_pq, is_fused, made_inside, places_inside, width_inside};
 
@@ -183,10 +181,7 @@ impl Retro for Engine {
 
     fn insert(&mut self, place: u32, row: Row) -> Result<Change, NoMemory>
         requires within { place ≤ length (rows_inside self.old) }
-        requires room { length (rows_inside self.old) < most_rows }
-        requires fresh { IsFresh row.number (rows_inside self.old) }
-        requires of_kind { kind_of row.op ≡ kind_inside self.old }
-        requires replays { IsValid (kind_inside self.old) (insert (rows_inside self.old) place row) }
+        requires replayable { IsReplayable (kind_inside self.old) (insert (rows_inside self.old) place row) }
         ensures kind { kind_inside self.new ≡ kind_inside self.old }
         ensures variant { is_fused self.new ≡ is_fused self.old }
         ensures rows { OnOk result (rows_inside self.new ≡ insert (rows_inside self.old) place row) }
