@@ -1,21 +1,14 @@
-use Rattle.std.proofs.Common.{◌≡◌, sym, ◌∙◌}
-use Rattle.retro_base.specs.Kind.{kind_of}
-use Rattle.retro_base.specs.MadeEdits.{all_inserted, inserted_is_fresh}
+use Rattle.std.proofs.Common.{sym, ◌∙◌}
 use Rattle.retro_base.specs.EditedLists.{remove-insert}
+use Rattle.retro_base.specs.InsertedLaws.{fresh_for}
 use Rattle.timeline_undo.proofs.Edits.{did_fit}
 use Rattle.timeline_undo.proofs.edit.insert_in_both.Goals as goal
 
 pub insert-requires-clause-fresh : goal.insert-requires-clause-fresh
-insert-requires-clause-fresh g c = inserted_is_fresh _ c.args.place c.args.row c.requires.replayable.own_numbers
+insert-requires-clause-fresh g c = fresh_for _ _ c.args.place c.args.row c.requires.replayable
 
 pub insert-requires-clause-fits : goal.insert-requires-clause-fits
 insert-requires-clause-fits g c = did_fit _ c.args.place c.args.row c.requires.in_order
-
-pub insert-requires-2-clause-fresh : goal.insert-requires-2-clause-fresh
-insert-requires-2-clause-fresh g c = rw c.requires.same (inserted_is_fresh _ c.args.place c.args.row c.requires.replayable.own_numbers)
-
-pub insert-requires-2-clause-of_kind : goal.insert-requires-2-clause-of_kind
-insert-requires-2-clause-of_kind g c = all_inserted (λ r. kind_of r.op ≡ _) _ c.args.place c.args.row c.requires.replayable.of_kind
 
 pub returns-in-Err-clause-same : goal.returns-in-Err-clause-same
 returns-in-Err-clause-same g c =
