@@ -1,6 +1,7 @@
 -- The rule of checkpoints at an edit, over the width, the places and the number of rows alone: where a checkpoint is made for a row that
 -- is put in, how all of them move with the rows, and which of them are left, at which width.
-use Rattle.std.specs.Prelude.{ℕ, ◌+◌, ◌-◌, ◌/◌, nat_eq, nat_lt, if◌then◌else◌, List, [], ◌∷◌, ◌++◌, length, drop, map, reverse}
+use Rattle.std.specs.Prelude.{◌≡◌, ℕ, ◌+◌, ◌-◌, ◌/◌, ◌≤◌, nat_eq, nat_lt, if◌then◌else◌, List, [], ◌∷◌, ◌++◌, length, drop, map, reverse}
+use Rattle.retro_base.specs.Edits.{Edit, add, cut}
 use Rattle.checkpoint_full.specs.Checkpoints.{Checkpointed}
 use Rattle.checkpoint_full.specs.Widths.{settled, settled_width}
 
@@ -54,3 +55,20 @@ width_after_removal now place = settled_width now.width (length now.rows - 1) (w
 
 unfoldable pub places_after_removal : Checkpointed → ℕ → List ℕ
 places_after_removal now place = rising (settled now.width (length now.rows - 1) (with_row_less now place))
+
+-- the width and the places after an edit
+abbrev pub width_after : Checkpointed → Edit → ℕ
+width_after now (add place row) = width_after_insertion now place
+width_after now (cut place row) = width_after_removal now place
+
+abbrev pub places_after : Checkpointed → Edit → List ℕ
+places_after now (add place row) = places_after_insertion now place
+places_after now (cut place row) = places_after_removal now place
+
+-- an edit follows the rule: whether the checkpoints were made stays as it was, the width and the places are those of the rule, and the width
+-- never falls
+pub record FollowsRule (before : Checkpointed) (edit : Edit) (after : Checkpointed) : Type 0 where
+  pub made : after.made ≡ before.made
+  pub width : after.width ≡ width_after before edit
+  pub places : after.places ≡ places_after before edit
+  pub wider : before.width ≤ after.width

@@ -8,7 +8,7 @@ ghost use Rattle.retro_base.specs.Questions.{suits};
 ghost use Rattle.retro_base.specs.Replay.{IsValid, present, state_at};
 ghost use Rattle.retro_base.specs.Timeline.{IsReplayable};
 ghost use Rattle.retro_base.specs.Visits.{OpensCounter, VisitsWithin};
-ghost use Rattle.checkpoint_full.specs.Rule.{places_after_insertion, places_after_removal, width_after_insertion, width_after_removal};
+ghost use Rattle.checkpoint_full.specs.Rule.{FollowsRule};
 ghost use Rattle.checkpoint_full.specs.Widths.{least_width, made_places, narrowest};
 
 use crate::kept::{ask_kept, insert_kept, list_kept, remove_kept};
@@ -183,10 +183,7 @@ impl<P: Partial + Drop> Retro for Full<P> {
         ensures rows { OnOk result (self.new.rows ≡ insert self.old.rows place row) }
         ensures replayable { OnOk result (IsReplayable self.new.kind self.new.rows) }
         ensures change { IfOk result (IsChange self.old.kind self.old.rows (add place row)) }
-        ensures made { OnOk result (self.new.made ≡ self.old.made) }
-        ensures width { OnOk result (self.new.width ≡ width_after_insertion self.old place) }
-        ensures places { OnOk result (self.new.places ≡ places_after_insertion self.old place) }
-        ensures wider { OnOk result (self.old.width ≤ self.new.width) }
+        ensures rule { OnOk result (FollowsRule self.old (add place row) self.new) }
         ensures err { OnErr result (self.new ≡ self.old) }
     {
         let change = insert_kept::<P, Brand>(
@@ -212,10 +209,7 @@ impl<P: Partial + Drop> Retro for Full<P> {
         ensures rows { OnOk result (self.new.rows ≡ remove self.old.rows place) }
         ensures replayable { OnOk result (IsReplayable self.new.kind self.new.rows) }
         ensures change { IfOk result (λ taken. IsChange self.old.kind self.old.rows (cut place taken.0) taken.1) }
-        ensures made { OnOk result (self.new.made ≡ self.old.made) }
-        ensures width { OnOk result (self.new.width ≡ width_after_removal self.old place) }
-        ensures places { OnOk result (self.new.places ≡ places_after_removal self.old place) }
-        ensures wider { OnOk result (self.old.width ≤ self.new.width) }
+        ensures rule { IfOk result (λ taken. FollowsRule self.old (cut place taken.0) self.new) }
         ensures err { OnErr result (self.new ≡ self.old) }
     {
         let taken = remove_kept::<P, Brand>(
