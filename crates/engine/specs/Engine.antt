@@ -1,6 +1,6 @@
 -- What an engine is seen as: the kind of the structure inside, which its variant names, its rows, and the checkpoints of a priority
 -- queue.
-use Rattle.std.specs.Prelude.{ℕ, Bool, true, false, List, []}
+use Rattle.std.specs.Prelude.{◌≡◌, ℕ, ◌≤◌, Bool, true, false, List, []}
 use Rattle.retro_base.specs.declared.kind.Kind.{Kind}
 use Rattle.retro_base.specs.declared.kind.Kind.TheVariants as kinds
 use Rattle.retro_base.specs.declared.row.Row.{Row}
@@ -78,3 +78,11 @@ width_inside (Deque inner) = 0
 width_inside (Dict inner) = 0
 width_inside (Pq inner) = inner.width
 width_inside (Fused inner) = 0
+
+-- an edit keeps the structure inside: its kind, which of the two it is of a priority queue, and whether its checkpoints were made; their
+-- width never falls
+pub record KeepsStructure (before after : Engine) : Type 0 where
+  pub kind : kind_inside after ≡ kind_inside before
+  pub fused : is_fused after ≡ is_fused before
+  pub made : made_inside after ≡ made_inside before
+  pub wider : width_inside before ≤ width_inside after

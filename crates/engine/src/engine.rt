@@ -8,7 +8,7 @@ ghost use Rattle.retro_base.specs.Questions.{suits};
 ghost use Rattle.retro_base.specs.Replay.{IsValid, state_at};
 ghost use Rattle.retro_base.specs.Timeline.{IsReplayable};
 ghost use Rattle.retro_base.specs.Visits.{OpensCounter, VisitsWithin};
-ghost use Rattle.engine.specs.Engine.{kind_inside, rows_inside, is_line, is_pq, is_fused, made_inside, places_inside, width_inside};
+ghost use Rattle.engine.specs.Engine.{kind_inside, rows_inside, is_line, is_pq, is_fused, made_inside, places_inside, width_inside, KeepsStructure};
 
 use bridge_pq::BridgeQueue;
 use checkpoint_full::Full;
@@ -182,13 +182,10 @@ impl Retro for Engine {
     fn insert(&mut self, place: u32, row: Row) -> Result<Change, NoMemory>
         requires within { place ≤ length (rows_inside self.old) }
         requires replayable { IsReplayable (kind_inside self.old) (insert (rows_inside self.old) place row) }
-        ensures kind { kind_inside self.new ≡ kind_inside self.old }
-        ensures variant { is_fused self.new ≡ is_fused self.old }
+        ensures keeps { KeepsStructure self.old self.new }
         ensures rows { OnOk result (rows_inside self.new ≡ insert (rows_inside self.old) place row) }
         ensures replayable { OnOk result (IsReplayable (kind_inside self.new) (rows_inside self.new)) }
         ensures change { IfOk result (IsChange (kind_inside self.old) (rows_inside self.old) (add place row)) }
-        ensures made { OnOk result (made_inside self.new ≡ made_inside self.old) }
-        ensures wider { OnOk result (width_inside self.old ≤ width_inside self.new) }
         ensures err { OnErr result (self.new ≡ self.old) }
     {
         match self {
@@ -204,14 +201,11 @@ impl Retro for Engine {
     fn remove(&mut self, place: u32) -> Result<(Row, Change), NoMemory>
         requires within { place < length (rows_inside self.old) }
         requires replays { IsValid (kind_inside self.old) (remove (rows_inside self.old) place) }
-        ensures kind { kind_inside self.new ≡ kind_inside self.old }
-        ensures variant { is_fused self.new ≡ is_fused self.old }
+        ensures keeps { KeepsStructure self.old self.new }
         ensures row { IfOk result (λ taken. slice_get (rows_inside self.old) place ≡ Some taken.0) }
         ensures rows { OnOk result (rows_inside self.new ≡ remove (rows_inside self.old) place) }
         ensures replayable { OnOk result (IsReplayable (kind_inside self.new) (rows_inside self.new)) }
         ensures change { IfOk result (λ taken. IsChange (kind_inside self.old) (rows_inside self.old) (cut place taken.0) taken.1) }
-        ensures made { OnOk result (made_inside self.new ≡ made_inside self.old) }
-        ensures wider { OnOk result (width_inside self.old ≤ width_inside self.new) }
         ensures err { OnErr result (self.new ≡ self.old) }
     {
         match self {
