@@ -1,7 +1,8 @@
 use evidence::read_evidence;
 use followers::{Follower, Mirror, Tally, feed};
 use retro_base::{Name, Text};
-use std::test::Fail;
+use std::alloc::Global;
+use std::process::Abort;
 
 /// What two tallies and the mirrors of `p` and `q` report after these lines of evidence; an empty one is none.
 const REPORTED: [([&[u8]; 5], &[u8], &[u8], &[u8]); 4] = [
@@ -52,32 +53,35 @@ const REPORTED: [([&[u8]; 5], &[u8], &[u8], &[u8]); 4] = [
     ),
 ];
 
-#[test]
-fn followers_report_what_they_took(rt: HostRuntime) -> Result<(), Fail> {
-    let alloc = rt.alloc();
-    let mut text = Text::new(alloc);
-    for (lines, tally, of_p, of_q) in REPORTED {
-        let mut followers: Vec<Box<dyn Follower>> = Vec::new(alloc);
-        followers.push(Box::new(alloc, Tally::new())?)?;
-        followers.push(Box::new(alloc, Tally::new())?)?;
-        let p = Name::read(b"p").ok_or("p")?;
-        followers.push(Box::new(alloc, Mirror::new(alloc, p))?)?;
-        let q = Name::read(b"q").ok_or("q")?;
-        followers.push(Box::new(alloc, Mirror::new(alloc, q))?)?;
-        for line in lines {
-            if line.is_empty() {
-                continue;
-            }
-            let event = read_evidence(line).ok_or("not read")?;
-            feed(&mut followers, &event)?;
-        }
-        let expected = [tally, tally, of_p, of_q];
-        assert_eq!(rt; followers.len(), expected.len());
-        for (follower, report) in followers.iter().zip(expected) {
-            text.clear();
-            follower.report(&mut text)?;
-            assert_eq!(rt; text.as_bytes(), report);
+/// Hands some lines of evidence to two tallies and the mirrors of `p` and `q`, and sees what each reports.
+fn expect_reports(rt: &impl Abort, alloc: Global, lines: &[&[u8]], reports: [&[u8]; 4]) {
+    let p = Name::read(b"p").expect(rt, "a name");
+    let q = Name::read(b"q").expect(rt, "a name");
+    let mut followers: Vec<Box<dyn Follower>> = Vec::new(alloc);
+    for _ in 0..2 {
+        let tally = Box::new(alloc, Tally::new()).expect(rt, "memory");
+        followers.push(tally).expect(rt, "memory");
+    }
+    for name in [p, q] {
+        let mirror = Box::new(alloc, Mirror::new(alloc, name)).expect(rt, "memory");
+        followers.push(mirror).expect(rt, "memory");
+    }
+    for line in lines {
+        if let Some(event) = read_evidence(line) {
+            feed(&mut followers, &event).expect(rt, "memory");
         }
     }
-    Ok(())
+    assert_eq!(rt; followers.len(), reports.len());
+    for (follower, report) in followers.iter().zip(reports) {
+        let mut text = Text::new(alloc);
+        follower.report(&mut text).expect(rt, "memory");
+        assert_eq!(rt; text.as_bytes(), report);
+    }
+}
+
+#[test]
+fn followers_report_what_they_took(rt: HostRuntime) {
+    for (lines, tally, of_p, of_q) in REPORTED {
+        expect_reports(&rt, rt.alloc(), &lines, [tally, tally, of_p, of_q]);
+    }
 }

@@ -1,337 +1,196 @@
-ghost use Rattle.std.specs.Prelude.{◌≤◌, [], None};
+ghost use Rattle.std.specs.Prelude.{◌≤◌, None, []};
 ghost use Rattle.retro_io.specs.Faults.{last_count};
 
-mod blocks;
-mod correction_tables;
-mod corrections;
-mod evidence_files;
-mod followed_runs;
-mod outboxes;
-mod priority_queues;
-mod what_became;
-
-use retro_base::{NoMemory, Text};
-use retro_cli::{Status, Words, run};
-use retro_io::{Failed, MemorySink, MemorySource, Sink, WholeSource};
+use followers::{Follower, Mirror, Tally};
+use retro_base::Name;
+use retro_cli::{Status, Words, run, run_followed};
+use retro_io::{Failed, MemorySink, MemorySource, Outbox, Sink};
 use std::alloc::Global;
+use std::process::Abort;
 
-/// The calls of a source that fail, and those of a sink.
+/// What the program is run on: its words, what its source gives and in which pieces, and which calls of the streams fail.
 #[derive(Clone, Copy)]
-struct Failing<'a> {
+struct Given<'a> {
+    words: &'a [&'a [u8]],
+    script: &'a [u8],
+    piece: u32,
     reads: &'a [u32],
     writes: &'a [u32],
 }
 
-const NONE_FAILS: Failing = Failing {
-    reads: &[],
-    writes: &[],
-};
-
-/// Runs the program over a source that gives so many bytes at a time.
-fn run_over(
-    alloc: Global,
-    command_line: &[&[u8]],
-    script: &[u8],
-    piece: u32,
-    failing: &Failing,
-) -> Result<(Status, MemorySink), NoMemory> {
+fn words_of(rt: &impl Abort, alloc: Global, given: &Given<'_>) -> Words {
     let mut words = Words::new(alloc);
-    for word in command_line {
-        if words.len() < 8 {
-            words.push(word)?;
-        }
+    for word in given.words {
+        assert!(rt; words.len() < 8);
+        words.push(word).expect(rt, "memory");
     }
-    let mut source = MemorySource::new(alloc, script, piece.max(1), failing.reads)?;
-    let mut sink = MemorySink::new(alloc, 65536, 4096, failing.writes)?;
-    let status = run(alloc, &words, &mut source, &mut sink);
-    Ok((status, sink))
+    words
 }
 
-#[test]
-fn scripts_get_their_answers(rt: HostRuntime) -> Result<(), NoMemory> {
-    let scripts: [(&[u8], &[u8], Status); 20] = [
-        (
-            b"new q queue\nq at 10 enq 5\nq at 20 enq 7\nq ask front\nq at 15 deq\nq ask front\n\
-              q at 5 enq 9\nq ask front\n",
-            b"ok\nok #1\nok #2\n= 5\nok #3\n= 7\nok #4\n= 5\n",
-            Status::Done,
-        ),
-        (b"", b"", Status::Done),
-        // The failing row is a later one than the edited one; a refused edit draws no number.
-        (
-            b"new s stack\ns at 10 push 1\ns at 30 pop\ns at 20 pop\ns at 5 pop\ns delete #1\ns at 40 push 3\n",
-            b"ok\nok #1\nok #2\nrefused at #2 30\nrefused at #3 5\nrefused at #2 30\nok #3\n",
-            Status::Refused,
-        ),
-        (
-            b"new s stack\ns at 1 push 1\ns at 2 push 2\ns at 3 push 3\ns ask all\ns ask nth 0\n\
-              s ask nth 2\ns ask nth 3\ns ask at 2 top\n",
-            b"ok\nok #1\nok #2\nok #3\n= 3 2 1\n= 3\n= 1\n= none\n= 2\n",
-            Status::Done,
-        ),
-        (
-            b"new d deque\nd at 1 pushr 1\nd at 2 pushl 2\nd at 3 popr\nd ask all\nd at 0 pushr 9\nd ask all\n",
-            b"ok\nok #1\nok #2\nok #3\n= 2\nok #4\n= 2 9\n",
-            Status::Done,
-        ),
-        // Rows of one time: after all of them, before one, after one.
-        (
-            b"new q queue\nq at 5 enq 1\nq at 5 enq 2\nq before #1 enq 3\nq ask at 5 all\n\
-              q ask before #1 all\nq ask after #1 size\nq ask at 4 all\n",
-            b"ok\nok #1\nok #2\nok #3\n= 3 1 2\n= 3\n= 2\n= empty\n",
-            Status::Done,
-        ),
-        (
-            b"new d dict\nd at 1 put 1 10\nd at 2 del 1\nd ask get 1\nd delete #1\nd delete #2\nd ask get 1\n",
-            b"ok\nok #1\nok #2\n= none\nrefused at #2 2\nok\n= 10\n",
-            Status::Refused,
-        ),
-        // A sum beyond 64 bits, and keys at both ends of their range.
-        (
-            b"new d dict\nd at 1 put -9223372036854775808 9223372036854775807\n\
-              d at 2 put 9223372036854775807 9223372036854775807\n\
-              d ask sum -9223372036854775808 9223372036854775807\nd ask succ 0\nd ask pred 0\n\
-              d ask count 1 0\nd ask at 1 size\n",
-            b"ok\nok #1\nok #2\n= 18446744073709551614\n\
-              = 9223372036854775807:9223372036854775807\n\
-              = -9223372036854775808:9223372036854775807\n= 0\n= 1\n",
-            Status::Done,
-        ),
-        // At most eight timelines; whether the name is free is asked first.
-        (
-            b"new a queue\nnew b queue\nnew c queue\nnew d queue\nnew e queue\nnew f queue\n\
-              new g queue\nnew h queue\nnew i queue\nnew a queue\n",
-            b"ok\nok\nok\nok\nok\nok\nok\nok\nrefused timelines 8\nrefused name taken\n",
-            Status::Refused,
-        ),
-        (
-            b"new q queue\nq at 5 deq\nq at 1 enq 3\nq ask size\nx ask size\nq ask all\nnew r queue\n",
-            b"ok\nrefused at #1 5\nok #1\n= 1\nrefused no timeline x\n= 3\nok\n",
-            Status::Refused,
-        ),
-        // A comment is answered by nothing, and a number may be spelled with zeros in front.
-        (
-            b";note\nnew d deque\n d  at 03 pushl -0\nd ask left\nd ask front\nd ask nth 18446744073709551616\n",
-            b"ok\nok #1\n= 0\nrefused kind\nrefused syntax\n",
-            Status::Refused,
-        ),
-        // Two timelines have rows and numbers of their own.
-        (
-            b"new q queue\nnew s stack\nq at 10 enq 5\ns at 10 push 1\nq at 20 enq 7\n\
-              s at 30 pop\nq ask front\ns at 20 pop\nq at 15 deq\ns at 5 pop\nq ask front\n\
-              s delete #1\nq at 5 enq 9\ns at 40 push 3\nq ask front\n",
-            b"ok\nok\nok #1\nok #1\nok #2\nok #2\n= 5\nrefused at #2 30\nok #3\nrefused at #3 5\n\
-              = 7\nrefused at #2 30\nok #4\nok #3\n= 5\n",
-            Status::Refused,
-        ),
-        // Steps are undone and redone, until another edit comes.
-        (
-            b"new s stack\ns at 1 push 1\ns undo\ns redo\ns undo\ns at 2 push 5\ns redo\ns ask all\n",
-            b"ok\nok #1\nok\nok\nok\nok #2\nrefused nothing to redo\n= 5\n",
-            Status::Refused,
-        ),
-        // A deleted row comes back at its place, with its number; a refused line is no step.
-        (
-            b"new q queue\nq at 5 enq 1\nq at 5 enq 2\nq at 7 enq 3\nq delete #1\nq ask all\nq at 1 deq\n\
-              q undo\nq ask all\nq ask before #2 all\nq redo\nq undo\nq undo\nq ask all\n",
-            b"ok\nok #1\nok #2\nok #3\nok\n= 2 3\nrefused at #4 1\nok\n= 1 2 3\n= 1\nok\nok\nok\n= 1 2\n",
-            Status::Refused,
-        ),
-        // Every refusal of a line that names a timeline.
-        (
-            b"new q queue\nnew q stack\nx ask size\nq at 1 push 3\nq after #9 push 1\nq after #9 enq 1\n\
-              q ask top\nq delete #1\nq undo\nq frob\nnew r heap\nx undo\n",
-            b"ok\nrefused name taken\nrefused no timeline x\nrefused kind\nrefused kind\nrefused no row #9\n\
-              refused kind\nrefused no row #1\nrefused nothing to undo\nrefused syntax\nrefused syntax\n\
-              refused no timeline x\n",
-            Status::Refused,
-        ),
-        // Each row stands in front of the one before it.
-        (
-            b"new q queue\nq at 1 enq 0\nq before #1 enq 0\nq before #2 enq 0\nq before #3 enq 0\n\
-              q before #4 enq 0\nq before #5 enq 0\nq before #6 enq 0\nq before #7 enq 0\n\
-              q before #8 enq 0\nq before #9 enq 0\nq before #10 enq 0\nq before #11 enq 0\n\
-              q before #12 enq 0\nq before #13 enq 0\nq before #14 enq 0\nq before #15 enq 0\n\
-              q before #16 enq 0\nq before #17 enq 0\nq before #18 enq 0\nq before #19 enq 0\n\
-              q before #20 enq 0\nq before #21 enq 0\nq before #22 enq 0\nq before #23 enq 0\n\
-              q before #24 enq 0\nq before #25 enq 0\nq before #26 enq 0\nq before #27 enq 0\n\
-              q before #28 enq 0\nq before #29 enq 0\nq before #30 enq 0\nq before #31 enq 0\n\
-              q before #32 enq 0\nq before #33 enq 0\nq before #34 enq 0\nq before #35 enq 0\n\
-              q before #36 enq 0\nq before #37 enq 0\nq before #38 enq 0\nq before #39 enq 0\n\
-              q before #40 enq 0\nq before #41 enq 0\nq before #42 enq 0\nq before #43 enq 0\n\
-              q before #44 enq 0\nq before #45 enq 0\nq before #46 enq 0\nq before #47 enq 0\n\
-              q before #48 enq 0\nq before #49 enq 0\nq before #50 enq 0\nq before #51 enq 0\n\
-              q before #52 enq 0\nq before #53 enq 0\nq before #54 enq 0\nq before #55 enq 0\n\
-              q before #56 enq 0\nq before #57 enq 0\nq before #58 enq 0\nq before #59 enq 0\n\
-              q before #60 enq 0\nq ask size\nq ask after #61 size\n",
-            b"ok\nok #1\nok #2\nok #3\nok #4\nok #5\nok #6\nok #7\nok #8\nok #9\nok #10\nok #11\n\
-              ok #12\nok #13\nok #14\nok #15\nok #16\nok #17\nok #18\nok #19\nok #20\nok #21\n\
-              ok #22\nok #23\nok #24\nok #25\nok #26\nok #27\nok #28\nok #29\nok #30\nok #31\n\
-              ok #32\nok #33\nok #34\nok #35\nok #36\nok #37\nok #38\nok #39\nok #40\nok #41\n\
-              ok #42\nok #43\nok #44\nok #45\nok #46\nok #47\nok #48\nok #49\nok #50\nok #51\n\
-              ok #52\nok #53\nok #54\nok #55\nok #56\nok #57\nok #58\nok #59\nok #60\nok #61\n\
-              = 61\n= 1\n",
-            Status::Done,
-        ),
-        (
-            b"new d deque\nd at 1 pushl 1\nd at 2 popr\nd at 3 pushr 2\nd at 4 pushl 3\n\
-              d ask all\nd ask at 2 size\nd ask at 3 right\nd delete #2\nd ask all\n",
-            b"ok\nok #1\nok #2\nok #3\nok #4\n= 3 2\n= 0\n= 2\nok\n= 3 1 2\n",
-            Status::Done,
-        ),
-        (
-            b"new d dict\nd at 1 put 1 10\nd at 5 put 1 20\nd at 3 del 1\nd ask at 2 get 1\n\
-              d ask at 3 get 1\nd ask at 4 count 0 9\nd ask sum 0 9\nd delete #1\n",
-            b"ok\nok #1\nok #2\nok #3\n= 10\n= none\n= 0\n= 20\nrefused at #3 3\n",
-            Status::Refused,
-        ),
-        // Bytes that are no text are passed over in a comment alone.
-        (
-            b"new q queue\n\xff\n;\xff\nq ask size\n",
-            b"ok\nrefused syntax\n= 0\n",
-            Status::Refused,
-        ),
-        // No line feed ends the last line, and a carriage return before one is no part of the line.
-        (b"new q queue\r\nq ask front", b"ok\n= none\n", Status::Done),
-    ];
-    for (number, (script, answers, status)) in scripts.into_iter().enumerate() {
-        for piece in [1, 7, 65536] {
-            let (ended, sink) = run_over(rt.alloc(), &[b"run"], script, piece, &NONE_FAILS)?;
-            assert_eq!(rt;
-                sink.written(),
-                answers,
-                "row {number} in pieces of {piece}"
-            );
-            assert_eq!(rt; ended, status, "row {number} in pieces of {piece}");
-        }
-    }
-    Ok(())
+fn source_of(rt: &impl Abort, alloc: Global, given: &Given<'_>) -> MemorySource {
+    assert!(rt; 0 < given.piece);
+    MemorySource::new(alloc, given.script, given.piece, given.reads).expect(rt, "memory")
 }
 
-/// More edits than are kept: the last of them are undone, until none is left to undo.
-#[test]
-fn the_oldest_edit_is_not_undone(rt: HostRuntime) -> Result<(), NoMemory> {
-    let mut script = Vec::from_slice(rt.alloc(), b"new q queue\n")?;
-    let mut answers = Text::new(rt.alloc());
-    answers.push_all(b"ok\n")?;
-    for number in 1..=1025 {
-        script.extend_from_slice(b"q at 1 enq 0\n")?;
-        answers.push_all(b"ok #")?;
-        answers.push_number(number)?;
-        answers.push_all(b"\n")?;
-    }
-    for _ in 0..1024 {
-        script.extend_from_slice(b"q undo\n")?;
-        answers.push_all(b"ok\n")?;
-    }
-    script.extend_from_slice(b"q undo\nq ask size\n")?;
-    answers.push_all(b"refused nothing to undo\n= 1\n")?;
-    let (status, sink) = run_over(rt.alloc(), &[b"run"], script.as_slice(), 512, &NONE_FAILS)?;
-    assert_eq!(rt; sink.written(), answers.as_bytes());
-    assert_eq!(rt; status, Status::Refused);
-    Ok(())
+fn sink_of(rt: &impl Abort, alloc: Global, given: &Given<'_>) -> MemorySink {
+    MemorySink::new(alloc, 65536, 4096, given.writes).expect(rt, "memory")
 }
 
-#[test]
-fn long_lines_are_refused(rt: HostRuntime) -> Result<(), NoMemory> {
-    let mut script = Vec::from_slice(rt.alloc(), b"new q queue\n")?;
-    for spaces in [4086, 4087] {
-        script.extend_from_slice(b"q ask size")?;
-        for _ in 0..spaces {
-            script.push(b' ')?;
-        }
-        script.push(b'\n')?;
-    }
-    script.extend_from_slice(b"q ask size\r\nq ask size")?;
-    let (status, sink) = run_over(rt.alloc(), &[b"run"], script.as_slice(), 512, &NONE_FAILS)?;
-    assert_eq!(rt;
-        sink.written(),
-        b"ok\n= 0\nrefused long\n= 0\n= 0\n".as_slice()
-    );
-    assert_eq!(rt; status, Status::Refused);
-    Ok(())
+fn run_over<K: Sink>(rt: &impl Abort, alloc: Global, given: &Given<'_>, sink: &mut K) -> Status {
+    let words = words_of(rt, alloc, given);
+    let mut source = source_of(rt, alloc, given);
+    run(alloc, &words, &mut source, sink)
 }
 
-#[test]
-fn faults_and_other_words_have_their_status(rt: HostRuntime) -> Result<(), NoMemory> {
-    let script = b"new q queue\nq ask size\n";
-    let second_read = Failing {
-        reads: &[1],
-        writes: &[],
+fn expect_run(
+    rt: &impl Abort,
+    alloc: Global,
+    given: &Given<'_>,
+    (answers, status): (&[u8], Status),
+) {
+    let mut sink = sink_of(rt, alloc, given);
+    let ended = run_over(rt, alloc, given, &mut sink);
+    assert_eq!(rt; sink.written(), answers);
+    assert_eq!(rt; ended, status);
+}
+
+/// The same over an outbox before the sink.
+fn expect_gathered(
+    rt: &impl Abort,
+    alloc: Global,
+    given: &Given<'_>,
+    (answers, status): (&[u8], Status),
+) {
+    let mut outbox = Outbox::new(alloc, sink_of(rt, alloc, given)).expect(rt, "memory");
+    let ended = run_over(rt, alloc, given, &mut outbox);
+    assert_eq!(rt; outbox.sink().written(), answers);
+    assert_eq!(rt; ended, status);
+}
+
+const RUN: &[&[u8]] = &[b"run"];
+
+const SCRIPT: &[u8] =
+    b"new q queue\nq at 10 enq 5\nq at 20 enq 7\nq ask front\nq at 15 deq\nq ask front\n\
+    q at 5 enq 9\nq ask front\n";
+
+const ANSWERS: &[u8] = b"ok\nok #1\nok #2\n= 5\nok #3\n= 7\nok #4\n= 5\n";
+
+/// The reads from one line's end to the next, each of one byte, the write that is the next, and how many bytes of the answers stand
+/// there then.
+const STAGES: [(u32, u32, u32, usize); 9] = [
+    (0, 12, 0, 0),
+    (12, 26, 1, 3),
+    (26, 40, 2, 9),
+    (40, 52, 3, 15),
+    (52, 64, 4, 19),
+    (64, 76, 5, 25),
+    (76, 89, 6, 29),
+    (89, 101, 7, 35),
+    (101, 102, 8, 39),
+];
+
+/// The script over streams of which a read or a write fails, as it is and over an outbox.
+fn expect_fault(
+    rt: &impl Abort,
+    alloc: Global,
+    (reads, writes): (&[u32], &[u32]),
+    ended: (&[u8], Status),
+) {
+    let given = Given {
+        words: RUN,
+        script: SCRIPT,
+        piece: 1,
+        reads,
+        writes,
     };
-    let (status, sink) = run_over(rt.alloc(), &[b"run"], script, 16, &second_read)?;
-    assert_eq!(rt; sink.written(), b"ok\n".as_slice());
-    assert_eq!(rt; status.code(), 3);
+    expect_run(rt, alloc, &given, ended);
+    expect_gathered(rt, alloc, &given, ended);
+}
 
-    let second_write = Failing {
+/// Each read fails in turn, and each write: the answers to all lines before stand there. Over an outbox they have gone on by then.
+#[test]
+fn a_fault_leaves_the_answers_before_it(rt: HostRuntime) {
+    for (from, to, write, length) in STAGES {
+        assert!(rt; length <= ANSWERS.len());
+        let answers = &ANSWERS[..length];
+        for read in from..to {
+            expect_fault(
+                &rt,
+                rt.alloc(),
+                (&[read], &[]),
+                (answers, Status::ReadFault),
+            );
+        }
+        if write < 8 {
+            expect_fault(
+                &rt,
+                rt.alloc(),
+                (&[], &[write]),
+                (answers, Status::WriteFault),
+            );
+        }
+    }
+}
+
+/// Where all lines come in one read, their answers go on in one write: the second one would fail.
+#[test]
+fn held_lines_are_answered_in_one_write(rt: HostRuntime) {
+    let given = Given {
+        words: RUN,
+        script: SCRIPT,
+        piece: 512,
         reads: &[],
         writes: &[1],
     };
-    let (status, sink) = run_over(rt.alloc(), &[b"run"], script, 16, &second_write)?;
-    assert_eq!(rt; sink.written(), b"ok\n".as_slice());
-    assert_eq!(rt; status.code(), 4);
-
-    let command_lines: [&[&[u8]]; 5] = [
-        &[],
-        &[b"run", b"now"],
-        &[b"gen", b"pq", b"x", b"7"],
-        &[b"gen", b"pq", b"1000001", b"7"],
-        &[b"follow", b"9x"],
-    ];
-    for command_line in command_lines {
-        let (status, sink) = run_over(rt.alloc(), command_line, script, 16, &NONE_FAILS)?;
-        assert_eq!(rt; sink.written(), b"".as_slice());
-        assert_eq!(rt; status.code(), 2);
-    }
-    Ok(())
+    expect_gathered(&rt, rt.alloc(), &given, (ANSWERS, Status::Done));
 }
 
+/// A fault of reading leaves nothing of a judgement, and one of writing a part of it.
 #[test]
-fn a_fault_leaves_the_answers_before_it(rt: HostRuntime) -> Result<(), NoMemory> {
-    let script =
-        b"new q queue\nq at 10 enq 5\nq at 20 enq 7\nq ask front\nq at 15 deq\nq ask front\n\
-        q at 5 enq 9\nq ask front\n";
-    // The reads from one line's end to the next, each of one byte; the write that is the next; and what stands then.
-    let table: [(u32, u32, u32, &[u8]); 8] = [
-        (0, 12, 0, b""),
-        (12, 26, 1, b"ok\n"),
-        (26, 40, 2, b"ok\nok #1\n"),
-        (40, 52, 3, b"ok\nok #1\nok #2\n"),
-        (52, 64, 4, b"ok\nok #1\nok #2\n= 5\n"),
-        (64, 76, 5, b"ok\nok #1\nok #2\n= 5\nok #3\n"),
-        (76, 89, 6, b"ok\nok #1\nok #2\n= 5\nok #3\n= 7\n"),
-        (89, 101, 7, b"ok\nok #1\nok #2\n= 5\nok #3\n= 7\nok #4\n"),
+fn each_status_has_its_code(rt: HostRuntime) {
+    let table: [(&[&[u8]], &[u8], &[u32], &[u32], &[u8], Status, u8); 6] = [
+        (RUN, SCRIPT, &[], &[], ANSWERS, Status::Done, 0),
+        (
+            RUN,
+            b"q frob\n",
+            &[],
+            &[],
+            b"refused syntax\n",
+            Status::Refused,
+            1,
+        ),
+        (&[], SCRIPT, &[], &[], b"", Status::Words, 2),
+        (
+            &[b"check"],
+            b"ok\nedit \n",
+            &[2],
+            &[],
+            b"",
+            Status::ReadFault,
+            3,
+        ),
+        (&[b"check"], b"", &[], &[0], b"", Status::WriteFault, 4),
+        (
+            &[b"gen", b"pq", b"3", b"1"],
+            b"",
+            &[],
+            &[0],
+            b"",
+            Status::WriteFault,
+            4,
+        ),
     ];
-    for (from, to, write, answers) in table {
-        for read in from..to {
-            let failing = Failing {
-                reads: &[read],
-                writes: &[],
-            };
-            let (status, sink) = run_over(rt.alloc(), &[b"run"], script, 1, &failing)?;
-            assert_eq!(rt; sink.written(), answers);
-            assert_eq!(rt; status, Status::ReadFault);
-        }
-        let failing = Failing {
-            reads: &[],
-            writes: &[write],
+    for (words, script, reads, writes, answers, status, code) in table {
+        let given = Given {
+            words,
+            script,
+            piece: 3,
+            reads,
+            writes,
         };
-        let (status, sink) = run_over(rt.alloc(), &[b"run"], script, 512, &failing)?;
-        assert_eq!(rt; sink.written(), answers);
-        assert_eq!(rt; status, Status::WriteFault);
+        expect_run(&rt, rt.alloc(), &given, (answers, status));
+        assert_eq!(rt; status.code(), code);
     }
-    // The read that would have answered the end.
-    let failing = Failing {
-        reads: &[101],
-        writes: &[],
-    };
-    let (status, sink) = run_over(rt.alloc(), &[b"run"], script, 1, &failing)?;
-    assert_eq!(rt;
-        sink.written(),
-        b"ok\nok #1\nok #2\n= 5\nok #3\n= 7\nok #4\n= 5\n".as_slice()
-    );
-    assert_eq!(rt; status, Status::ReadFault);
-    Ok(())
 }
 
 /// A sink that takes all, and of which the first flush fails and no later one.
@@ -379,52 +238,120 @@ impl Sink for FirstFlushFails {
 }
 
 #[test]
-fn a_flush_that_fails_is_not_tried_again(rt: HostRuntime) -> Result<(), NoMemory> {
-    let mut words = Words::new(rt.alloc());
-    words.push(b"run")?;
-    let mut source = WholeSource::new(rt.alloc(), b"new q queue\nq ask size\n")?;
+fn a_flush_that_fails_is_not_tried_again(rt: HostRuntime) {
+    let given = Given {
+        words: RUN,
+        script: SCRIPT,
+        piece: 512,
+        reads: &[],
+        writes: &[],
+    };
     let mut sink = FirstFlushFails {
         flushes: 0,
         flushed: false,
         faults: 0,
     };
-    let status = run(rt.alloc(), &words, &mut source, &mut sink);
+    let status = run_over(&rt, rt.alloc(), &given, &mut sink);
     assert_eq!(rt; status, Status::WriteFault);
     assert_eq!(rt; sink.flushes, 1);
-    Ok(())
 }
 
-#[test]
-fn a_long_content_is_one_answer(rt: HostRuntime) -> Result<(), NoMemory> {
-    let mut script = Vec::from_slice(rt.alloc(), b"new q queue\n")?;
-    let mut listing = Vec::from_slice(rt.alloc(), b"=")?;
-    for _ in 0..1000 {
-        script.extend_from_slice(b"q at 1 enq -9223372036854775808\n")?;
-        listing.extend_from_slice(b" -9223372036854775808")?;
-    }
-    script.extend_from_slice(b"q ask all\n")?;
-    listing.push(b'\n')?;
-    let (status, sink) = run_over(rt.alloc(), &[b"run"], script.as_slice(), 512, &NONE_FAILS)?;
-    assert!(rt; sink.written().ends_with(listing.as_slice()));
-    assert_eq!(rt; status, Status::Done);
-    Ok(())
+/// The program with a tally and a mirror of `p` as followers.
+fn run_followed_over(
+    rt: &impl Abort,
+    alloc: Global,
+    given: &Given<'_>,
+    sink: &mut MemorySink,
+) -> Status {
+    let words = words_of(rt, alloc, given);
+    let mut source = source_of(rt, alloc, given);
+    let name = Name::read(b"p").expect(rt, "a name");
+    let tally = Box::new(alloc, Tally::new()).expect(rt, "memory");
+    let mirror = Box::new(alloc, Mirror::new(alloc, name)).expect(rt, "memory");
+    let mut followers: Vec<Box<dyn Follower>> = Vec::new(alloc);
+    followers.push(tally).expect(rt, "memory");
+    followers.push(mirror).expect(rt, "memory");
+    run_followed(alloc, &words, &mut source, sink, followers)
 }
 
+fn expect_followed(
+    rt: &impl Abort,
+    alloc: Global,
+    given: &Given<'_>,
+    (answers, status): (&[u8], Status),
+) {
+    let mut sink = sink_of(rt, alloc, given);
+    let ended = run_followed_over(rt, alloc, given, &mut sink);
+    assert_eq!(rt; sink.written(), answers);
+    assert_eq!(rt; ended, status);
+}
+
+/// A fault leaves no report, or the reports before it; with the word `run` no follower is asked.
 #[test]
-fn a_script_of_a_megabyte_is_answered(rt: HostRuntime) -> Result<(), NoMemory> {
-    let mut script = Vec::from_slice(rt.alloc(), b"new q queue\n")?;
-    for _ in 0..32_768 {
-        script.extend_from_slice(b"; a line that is passed over...\n")?;
+fn followers_report_in_a_run(rt: HostRuntime) {
+    let follow: &[&[u8]] = &[b"follow", b"p"];
+    let jobs = b"new p pq\np at 10 ins 4\nmute 0\np at 1 ins 7\n";
+    let muted = b"new q queue\nmute 0\nq ask size\nq ask at 5 size\n";
+    let table: [(&[&[u8]], &[u8], &[u32], &[u32], &[u8], Status); 7] = [
+        (
+            follow,
+            jobs,
+            &[],
+            &[],
+            b"ok\nedit p add 0 #1 ins 4 bridge 0 gain #1 4\nreport 0 gains 1 losses 0 sum 4\n\
+              edit p add 0 #2 ins 7 bridge 0 gain #2 7\nreport 1 mirror p 4 7\n",
+            Status::Done,
+        ),
+        (
+            RUN,
+            b"mute 0\n",
+            &[],
+            &[],
+            b"refused no follower 0\n",
+            Status::Refused,
+        ),
+        (
+            &[b"follow"],
+            b"new q queue\nq ask size\n",
+            &[1],
+            &[],
+            b"ok\n",
+            Status::ReadFault,
+        ),
+        (
+            &[b"follow"],
+            b"new q queue\nq ask size\n",
+            &[],
+            &[2],
+            b"ok\n= 0\n",
+            Status::WriteFault,
+        ),
+        (
+            follow,
+            muted,
+            &[2],
+            &[],
+            b"ok\nreport 0 gains 0 losses 0 sum 0\n= 0\n",
+            Status::ReadFault,
+        ),
+        (follow, muted, &[], &[1], b"ok\n", Status::WriteFault),
+        (
+            follow,
+            muted,
+            &[],
+            &[3],
+            b"ok\nreport 0 gains 0 losses 0 sum 0\n= 0\n",
+            Status::WriteFault,
+        ),
+    ];
+    for (words, script, reads, writes, answers, status) in table {
+        let given = Given {
+            words,
+            script,
+            piece: 16,
+            reads,
+            writes,
+        };
+        expect_followed(&rt, rt.alloc(), &given, (answers, status));
     }
-    script.extend_from_slice(b"q ask size\n")?;
-    let (status, sink) = run_over(
-        rt.alloc(),
-        &[b"run"],
-        script.as_slice(),
-        65_536,
-        &NONE_FAILS,
-    )?;
-    assert_eq!(rt; sink.written(), b"ok\n= 0\n".as_slice());
-    assert_eq!(rt; status, Status::Done);
-    Ok(())
 }

@@ -1,7 +1,9 @@
-use retro_base::{Change, Item, Kind, Listing, MAX_NEXT, MAX_ROWS, NoMemory, Op, PlainList, Row};
+use retro_base::{
+    Answer, Change, Item, Kind, MAX_NEXT, MAX_ROWS, Op, PlainList, Question, Retro, Row,
+};
+use std::alloc::Global;
 use std::process::Abort;
-use std::test::Fail;
-use timeline_undo::{EditError, MAX_STEPS, Put, Session, Shift, Target, Turn, Turns, UndoError};
+use timeline_undo::{EditError, Put, Session, Shift, Target, Turn, Turns, UndoError};
 
 const PUSH: Op = Op::Push { value: 1 };
 
@@ -76,123 +78,194 @@ fn shift_row(
     session.shift(place, target)
 }
 
-#[test]
-fn steps_are_undone_and_made_again(rt: HostRuntime) -> Result<(), Fail> {
-    let stack = PlainList::new(rt.alloc(), Kind::Stack);
-    let mut session = Session::new(rt.alloc(), stack, 1)?;
-    assert_eq!(rt; session.undo(), Err(UndoError::Nothing));
-    assert_eq!(rt;
-        put_at(&rt, &mut session, 10, PUSH)
-            .expect(&rt, "accepted")
-            .number,
-        1
-    );
-    assert_eq!(rt;
-        put_at(&rt, &mut session, 5, Op::Pop),
-        Err(EditError::Fails { number: 2, time: 5 })
-    );
-    assert_eq!(rt;
-        put_at(&rt, &mut session, 20, Op::Pop)
-            .expect(&rt, "accepted")
-            .number,
-        2
-    );
-    assert_eq!(rt;
-        cut_row(&rt, &mut session, 1),
-        Err(EditError::Fails {
-            number: 2,
-            time: 20
-        })
-    );
-    assert_eq!(rt; session.undo(), Ok(single(false, 1, 2, 20, Op::Pop)));
-    assert_eq!(rt; session.undo(), Ok(single(false, 0, 1, 10, PUSH)));
-    assert_eq!(rt; session.undo(), Err(UndoError::Nothing));
-    assert_eq!(rt; session.redo(), Ok(single(true, 0, 1, 10, PUSH)));
-    assert_eq!(rt;
-        cut_row(&rt, &mut session, 1),
-        Ok(turn(false, 0, 1, 10, PUSH))
-    );
-    assert_eq!(rt; session.redo(), Err(UndoError::Nothing));
-    assert_eq!(rt; session.undo(), Ok(single(true, 0, 1, 10, PUSH)));
-    expect_numbers(&rt, &session, &[1]);
-    assert_eq!(rt; session.next(), 3);
-    Ok(())
+/// Puts rows in, each at its time, and sees what comes of it: the number that it draws, or why it is refused.
+fn expect_put(
+    rt: &impl Abort,
+    session: &mut Session<PlainList>,
+    rows: &[(u64, Op, Result<u32, EditError>)],
+) {
+    for (time, op, expected) in rows {
+        let found = put_at(rt, session, *time, *op).map(|put| put.number);
+        assert_eq!(rt; found, *expected);
+    }
 }
 
-/// A row that adds is put in before the old one is cut, and one that takes after it. Undo and redo make both edits.
+fn expect_cut(
+    rt: &impl Abort,
+    session: &mut Session<PlainList>,
+    number: u32,
+    expected: Result<Turn, EditError>,
+) {
+    assert_eq!(rt; cut_row(rt, session, number), expected);
+}
+
+fn expect_undone(
+    rt: &impl Abort,
+    session: &mut Session<PlainList>,
+    steps: &[Result<Turns, UndoError>],
+) {
+    for expected in steps {
+        assert_eq!(rt; session.undo(), *expected);
+    }
+}
+
+fn expect_redone(
+    rt: &impl Abort,
+    session: &mut Session<PlainList>,
+    steps: &[Result<Turns, UndoError>],
+) {
+    for expected in steps {
+        assert_eq!(rt; session.redo(), *expected);
+    }
+}
+
+/// A session without rows, whose first row draws number 1.
+fn empty(rt: &impl Abort, alloc: Global, kind: Kind) -> Session<PlainList> {
+    Session::new(alloc, PlainList::new(alloc, kind), 1).expect(rt, "memory")
+}
+
+fn fails(number: u32, time: u64) -> EditError {
+    EditError::Fails { number, time }
+}
+
+/// A session of a stack whose rows #1 and #2 push at 10 and pop at 20; two others were refused.
+fn push_and_pop(rt: &impl Abort, alloc: Global) -> Session<PlainList> {
+    let mut session = empty(rt, alloc, Kind::Stack);
+    let rows = [
+        (10, PUSH, Ok(1)),
+        (5, Op::Pop, Err(fails(2, 5))),
+        (20, Op::Pop, Ok(2)),
+        (30, Op::Pop, Err(fails(3, 30))),
+    ];
+    expect_put(rt, &mut session, &rows);
+    session
+}
+
+/// Another step empties what can be redone.
+fn expect_steps(rt: &impl Abort, session: &mut Session<PlainList>) {
+    let nothing = Err(UndoError::Nothing);
+    let put = single(false, 0, 1, 10, PUSH);
+    let again = single(true, 0, 1, 10, PUSH);
+    expect_cut(rt, session, 1, Err(fails(2, 20)));
+    let popped = single(false, 1, 2, 20, Op::Pop);
+    expect_undone(rt, session, &[Ok(popped), Ok(put), nothing]);
+    expect_redone(rt, session, &[Ok(again)]);
+    expect_cut(rt, session, 1, Ok(turn(false, 0, 1, 10, PUSH)));
+    expect_redone(rt, session, &[nothing]);
+    expect_undone(rt, session, &[Ok(again)]);
+    expect_numbers(rt, session, &[1]);
+    assert_eq!(rt; session.next(), 3);
+}
+
 #[test]
-fn rows_are_replaced_in_one_step(rt: HostRuntime) -> Result<(), Fail> {
-    let stack = PlainList::new(rt.alloc(), Kind::Stack);
-    let mut session = Session::new(rt.alloc(), stack, 1)?;
-    put_at(&rt, &mut session, 10, PUSH).expect(&rt, "accepted");
-    put_at(&rt, &mut session, 20, Op::Pop).expect(&rt, "accepted");
-    assert_eq!(rt;
-        shift_row(&rt, &mut session, 1, Target::At { time: 15 }),
-        Ok(Shift {
-            number: 3,
-            first: turn(true, 1, 3, 15, PUSH),
-            second: turn(false, 0, 1, 10, PUSH),
-        })
-    );
-    assert_eq!(rt;
-        shift_row(&rt, &mut session, 2, Target::At { time: 30 }),
-        Ok(Shift {
-            number: 4,
-            first: turn(false, 1, 2, 20, Op::Pop),
-            second: turn(true, 1, 4, 30, Op::Pop),
-        })
-    );
-    assert_eq!(rt;
-        shift_row(&rt, &mut session, 4, Target::At { time: 5 }),
-        Err(EditError::Fails { number: 5, time: 5 })
-    );
-    assert_eq!(rt;
-        shift_row(&rt, &mut session, 3, Target::Into { op: Op::Pop }),
-        Err(EditError::Fails {
-            number: 5,
-            time: 15
-        })
-    );
-    assert_eq!(rt;
-        session.undo(),
-        Ok(Turns::Double {
-            first: turn(false, 1, 4, 30, Op::Pop),
-            second: turn(true, 1, 2, 20, Op::Pop),
-        })
-    );
-    assert_eq!(rt;
-        session.undo(),
-        Ok(Turns::Double {
-            first: turn(true, 0, 1, 10, PUSH),
-            second: turn(false, 1, 3, 15, PUSH),
-        })
-    );
-    expect_numbers(&rt, &session, &[1, 2]);
-    assert_eq!(rt;
-        session.redo(),
-        Ok(Turns::Double {
-            first: turn(true, 1, 3, 15, PUSH),
-            second: turn(false, 0, 1, 10, PUSH),
-        })
-    );
-    expect_numbers(&rt, &session, &[3, 2]);
+fn steps_are_undone_and_made_again(rt: HostRuntime) {
+    let mut session = push_and_pop(&rt, rt.alloc());
+    expect_steps(&rt, &mut session);
+}
+
+/// A row that adds is put in before the old one is cut, and one that takes after it.
+fn expect_shifts(rt: &impl Abort, session: &mut Session<PlainList>) {
+    let rows = [
+        (
+            1,
+            Target::At { time: 15 },
+            Ok(Shift {
+                number: 3,
+                first: turn(true, 1, 3, 15, PUSH),
+                second: turn(false, 0, 1, 10, PUSH),
+            }),
+        ),
+        (
+            2,
+            Target::At { time: 30 },
+            Ok(Shift {
+                number: 4,
+                first: turn(false, 1, 2, 20, Op::Pop),
+                second: turn(true, 1, 4, 30, Op::Pop),
+            }),
+        ),
+        (4, Target::At { time: 5 }, Err(fails(5, 5))),
+        (3, Target::Into { op: Op::Pop }, Err(fails(5, 15))),
+    ];
+    for (number, target, expected) in rows {
+        assert_eq!(rt; shift_row(rt, session, number, target), expected);
+    }
+}
+
+/// Undo and redo make both edits of a step.
+fn expect_both_edits(rt: &impl Abort, session: &mut Session<PlainList>) {
+    let first_back = Turns::Double {
+        first: turn(true, 0, 1, 10, PUSH),
+        second: turn(false, 1, 3, 15, PUSH),
+    };
+    let second_back = Turns::Double {
+        first: turn(false, 1, 4, 30, Op::Pop),
+        second: turn(true, 1, 2, 20, Op::Pop),
+    };
+    let again = Turns::Double {
+        first: turn(true, 1, 3, 15, PUSH),
+        second: turn(false, 0, 1, 10, PUSH),
+    };
+    expect_undone(rt, session, &[Ok(second_back), Ok(first_back)]);
+    expect_numbers(rt, session, &[1, 2]);
+    expect_redone(rt, session, &[Ok(again)]);
+    expect_numbers(rt, session, &[3, 2]);
+}
+
+#[test]
+fn rows_are_replaced_in_one_step(rt: HostRuntime) {
+    let mut session = push_and_pop(&rt, rt.alloc());
+    expect_shifts(&rt, &mut session);
+    expect_both_edits(&rt, &mut session);
     assert_eq!(rt; session.next(), 5);
     assert!(rt; !session.spent());
-    Ok(())
 }
 
-/// More steps than are kept: each puts a row in at the end, and the last of them are undone, until none is left.
+/// What is asked of a place, and the whole content there.
+fn expect_at(
+    rt: &impl Abort,
+    session: &mut Session<PlainList>,
+    place: u32,
+    (top, items): (Answer, &[Item]),
+) {
+    assert!(rt; place <= session.timeline().len());
+    assert!(rt; Question::Top.suits(session.kind()));
+    assert_eq!(rt; session.ask(place, Question::Top).expect(rt, "memory"), top);
+    let listing = session.all(place).expect(rt, "memory");
+    assert_eq!(rt; listing.len() as usize, items.len());
+    for (index, item) in items.iter().enumerate() {
+        assert!(rt; index < listing.len() as usize);
+        assert_eq!(rt; listing.item(index as u32), *item);
+    }
+}
+
 #[test]
-fn the_oldest_step_is_dropped(rt: HostRuntime) -> Result<(), Fail> {
-    let queue = PlainList::new(rt.alloc(), Kind::Queue);
-    let mut session = Session::new(rt.alloc(), queue, 1)?;
-    for _ in 0..MAX_STEPS + 1 {
-        put_at(&rt, &mut session, 1, Op::Enq { value: 0 }).expect(&rt, "accepted");
-    }
-    for _ in 0..MAX_STEPS {
-        assert!(rt; session.undo().is_ok());
-    }
-    assert_eq!(rt; session.undo(), Err(UndoError::Nothing));
-    expect_numbers(&rt, &session, &[1]);
-    Ok(())
+fn each_place_is_asked(rt: HostRuntime) {
+    let mut session = empty(&rt, rt.alloc(), Kind::Stack);
+    expect_put(&rt, &mut session, &[(10, PUSH, Ok(1))]);
+    let one = Answer::Number { value: 1 };
+    expect_at(&rt, &mut session, 0, (Answer::Nothing, &[]));
+    expect_at(&rt, &mut session, 1, (one, &[Item::Single { value: 1 }]));
+}
+
+/// A row of a block that is read is no step.
+fn appended(rt: &impl Abort, alloc: Global) -> Session<PlainList> {
+    let queue = PlainList::new(alloc, Kind::Queue);
+    let mut session = Session::new(alloc, queue, 9).expect(rt, "memory");
+    let row = Row {
+        number: 7,
+        time: 5,
+        op: Op::Enq { value: 1 },
+    };
+    let failing = session.structure().failure_after_insert(0, row.op);
+    assert_eq!(rt; failing, None);
+    assert_eq!(rt; session.append(row).expect(rt, "memory"), Change::Plain);
+    session
+}
+
+#[test]
+fn a_row_is_appended(rt: HostRuntime) {
+    let mut session = appended(&rt, rt.alloc());
+    expect_undone(&rt, &mut session, &[Err(UndoError::Nothing)]);
+    expect_numbers(&rt, &session, &[7]);
 }

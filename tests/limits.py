@@ -1,0 +1,278 @@
+#!/usr/bin/env python3
+"""Hands `retro` inputs that are too long to be written down: what happens at each limit, and past it.
+
+    python3 tests/limits.py [PROGRAM]
+
+PROGRAM is build/retro where none is named. Each input is made here line by line, with the answer of each line beside it. The last
+line says how many have passed and failed.
+"""
+
+import os
+import subprocess
+import sys
+
+LIMIT = 120  # seconds that one input may take
+ROOT = os.path.dirname(os.path.dirname(os.path.abspath(__file__)))
+LEAST = -(2**63)
+
+STEPS = 1_024  # that a timeline keeps
+LINE = 4_096  # bytes of a line
+ROWS = 131_072  # of a timeline
+
+
+def more_steps_than_are_kept():
+    """The last of them are undone, until none is left to undo."""
+    yield "new q queue", "ok"
+    for number in range(1, STEPS + 2):
+        yield "q at 1 enq 0", "ok #%d" % number
+    for _ in range(STEPS):
+        yield "q undo", "ok"
+    yield "q undo", "refused nothing to undo"
+    yield "q ask size", "= 1"
+
+
+def lines_that_are_too_long():
+    """The line feed and one carriage return are no part of a line."""
+    yield "new q queue", "ok"
+    question = "q ask size"
+    yield question.ljust(LINE), "= 0"
+    yield question.ljust(LINE + 1), "refused long"
+    yield question.ljust(LINE) + "\r", "= 0"
+    yield question + "\r", "= 0"
+    yield question, "= 0"
+
+
+def a_script_of_a_megabyte():
+    yield "new q queue", "ok"
+    for _ in range(32_768):
+        yield "; a line that is passed over...", None
+    yield "q ask size", "= 0"
+
+
+def a_long_content():
+    yield "new q queue", "ok"
+    for number in range(1, 1_001):
+        yield "q at 1 enq %d" % LEAST, "ok #%d" % number
+    yield "q ask all", "=" + 1_000 * (" %d" % LEAST)
+
+
+def block(rows, answer):
+    """A block of a queue with so many row lines."""
+    yield "timeline q queue next %d" % (rows + 1), None
+    for number in range(1, rows + 1):
+        yield "#%d 1 enq 0" % number, None
+    yield "end", answer
+
+
+def a_block_as_long_as_a_timeline():
+    yield from block(ROWS, "ok")
+    yield "q at 1 enq 0", "refused full"
+    yield "q move #1 at 1", "refused full"
+    yield "q change #1 enq 1", "refused full"
+
+
+def a_block_that_is_too_long():
+    yield from block(ROWS + 1, "refused full")
+    yield "q ask size", "refused no timeline q"
+
+
+def a_row_line_that_is_too_long():
+    yield "timeline q queue next 9", None
+    yield "#1 5 enq 1", None
+    yield (LINE + 1) * " ", None
+    yield "end", "refused row 2 syntax"
+
+
+def a_timeline_of_many_rows():
+    """All at one time: the numbers from 1 on are put in."""
+    rows = 3_000
+    yield "new q queue", "ok"
+    for number in range(1, rows + 1):
+        yield "q at 5 enq %d" % number, "ok #%d" % number
+    yield "q ask all", "=" + "".join(" %d" % number for number in range(1, rows + 1))
+    yield "q ask size", "= 3000"
+    yield "q ask nth 2999", "= 3000"
+    yield "q ask before #2001 size", "= 2000"
+    yield "q after #1 deq", "ok #3001"
+    yield "q ask front", "= 2"
+    yield "q delete #1", "refused at #3001 5"
+    yield "q delete #3000", "ok"
+    yield "q ask size", "= 2998"
+    yield "q ask at 4 size", "= 0"
+
+
+def labels_of_runs_that_are_used_up():
+    """A run of rows is divided at the 33rd row and at each 17th after that, and forty divisions in the same gap use up the 40 bits of a
+    label: so the runs are given new labels at row 696."""
+    rows = 1_000
+    yield "new q queue", "ok"
+    yield "q at 5 enq 1", "ok #1"
+    for number in range(1, rows):
+        yield "q before #%d enq 7" % number, "ok #%d" % (number + 1)
+    for number in range(1, rows + 1):
+        yield "q ask after #%d size" % number, "= %d" % (rows + 1 - number)
+
+
+def labels_of_a_dictionary_that_are_used_up():
+    """Rows of two keys in turn, which come in each between the last two: the 23rd of them uses the labels up, and all get new ones. The
+    row at each index puts 140 less the index."""
+    rows = []
+    yield "new d dict", "ok"
+    for step in range(41):
+        half = step // 2
+        place, index = (half, half) if step % 2 == 0 else (half + 1, 40 - half)
+        where = "before #%d" % rows[place] if place < len(rows) else "at 0"
+        yield "d %s put %d %d" % (where, index % 2, 140 - index), "ok #%d" % (step + 1)
+        rows.insert(place, step + 1)
+    for place, number in enumerate(rows):
+        size, total = [(0, 0), (1, 140)][place] if place < 2 else (2, 283 - 2 * place)
+        yield "d ask before #%d size" % number, "= %d" % size
+        yield "d ask before #%d sum 0 9" % number, "= %d" % total
+    yield "d ask before #%d all" % rows[40], "= 0:102 1:101"
+    yield "d ask all", "= 0:100 1:101"
+    # They are edited: key 1 is deleted after the row that puts it the third time, which it had not been.
+    yield "d after #%d del 1" % rows[4], "ok #42"
+    yield "d after #%d del 1" % rows[4], "refused at #42 0"
+    yield "d ask before #42 get 1", "= 137"
+    yield "d ask after #42 get 1", "= none"
+    yield "d ask after #42 size", "= 1"
+    yield "d ask after #%d get 1" % rows[5], "= 135"
+    yield "d delete #42", "ok"
+    yield "d ask after #%d get 1" % rows[4], "= 137"
+    yield "d ask after #%d get 1" % rows[5], "= 135"
+    yield "d delete #%d" % rows[3], "ok"
+    yield "d ask after #%d get 1" % rows[4], "= 139"
+    yield "d ask after #%d get 1" % rows[5], "= 135"
+
+
+def many_rows_of_a_dictionary_at_one_place():
+    """Three hundred rows of key 1, and three thousand of key 2 that come in one after another in the middle of them: so many find a label
+    without any other being changed."""
+    yield "new d dict", "ok"
+    for place in range(300):
+        yield "d at 0 put 1 %d" % place, "ok #%d" % (place + 1)
+    for later in range(3_000):
+        yield "d before #151 put 2 %d" % later, "ok #%d" % (301 + later)
+    yield "d ask before #301 get 1", "= 149"
+    yield "d ask before #301 get 2", "= none"
+    yield "d ask after #301 get 2", "= 0"
+    yield "d ask after #1300 get 2", "= 999"
+    yield "d ask after #3300 get 2", "= 2999"
+    yield "d ask after #3300 get 1", "= 149"
+    yield "d ask after #151 get 1", "= 150"
+    yield "d ask get 1", "= 299"
+
+
+def entry(number):
+    """A row at the end of a priority queue whose keys rise: all its entries stay, so each place is a bridge."""
+    line = "p at %d ins %d" % (number, number)
+    return line, "edit p add %d #%d ins %d bridge %d gain #%d %d" % (number - 1, number, number, number - 1, number, number)
+
+
+def entries(count):
+    yield "new p pq", "ok"
+    for number in range(1, count + 1):
+        yield entry(number)
+
+
+def a_gap_between_checkpoints_that_is_split():
+    """Of 3,000 rows; 1,100 more come in after the five hundredth, each before those that came there before."""
+    yield from entries(3_000)
+    yield "p ask at 1500 size", "= 1500"
+    for number in range(3_001, 4_101):
+        yield "p after #500 ins 0", "edit p add 500 #%d ins 0 bridge 500 gain #%d 0" % (number, number)
+    for place in range(0, 501, 100):
+        yield "p ask before #%d size" % (place + 1 if place < 500 else 4_100), "= %d" % place
+    for place in range(600, 1_601, 100):
+        yield "p ask after #%d size" % (4_601 - place), "= %d" % place
+    for place in range(1_700, 4_101, 100):
+        yield "p ask after #%d size" % (place - 1_100), "= %d" % place
+
+
+def checkpoints_that_go_where_rows_go():
+    """Of 40,000 rows the first 39,000 are taken out, one after another."""
+    yield from entries(40_000)
+    yield "p ask at 20000 size", "= 20000"
+    yield "p ask at 39999 nth 0", "= 1"
+    for number in range(1, 39_001):
+        yield "p delete #%d" % number, "edit p cut 0 #%d ins %d bridge none lose #%d %d" % (number, number, number, number)
+    yield "p ask size", "= 1000"
+    yield "p ask at 39500 min", "= 39001"
+
+
+def a_checkpoint_too_many():
+    """It doubles the width between them."""
+    yield from entries(32_700)
+    yield "p ask at 1500 size", "= 1500"
+    for number in range(32_701, 32_901):
+        yield entry(number)
+    for place in range(0, 32_901, 100):
+        yield "p ask at %d size" % place, "= %d" % place
+
+
+SCRIPTS = [
+    more_steps_than_are_kept,
+    lines_that_are_too_long,
+    a_script_of_a_megabyte,
+    a_long_content,
+    a_block_as_long_as_a_timeline,
+    a_block_that_is_too_long,
+    a_row_line_that_is_too_long,
+    a_timeline_of_many_rows,
+    labels_of_runs_that_are_used_up,
+    labels_of_a_dictionary_that_are_used_up,
+    many_rows_of_a_dictionary_at_one_place,
+    a_gap_between_checkpoints_that_is_split,
+    checkpoints_that_go_where_rows_go,
+    a_checkpoint_too_many,
+]
+
+# Evidence with a line of more than 4,096 bytes: a line of evidence is none then, and another one is passed over, however long it is.
+LONG_EVIDENCE = [
+    (b"edit ", "refused line 1 syntax", 1),
+    (b"edits", "accepted 0", 0),
+]
+
+
+def answers_of(program, words, given):
+    """What the program writes, line by line, and its status."""
+    done = subprocess.run([program] + words, input=given, stdout=subprocess.PIPE, timeout=LIMIT)
+    return done.stdout.decode().splitlines(), done.returncode
+
+
+def passes(name, found, wanted):
+    """Whether the answers and the status are those that are wanted; the first difference is shown."""
+    if found == wanted:
+        return True
+    (answers, status), (right, ends) = found, wanted
+    print("%s: status %d, wanted %d" % (name, status, ends))
+    for index in range(max(len(answers), len(right))):
+        met, due = answers[index : index + 1], right[index : index + 1]
+        if met != due:
+            print("    answer %d: %.200r, wanted %.200r" % (index + 1, met, due))
+            break
+    return False
+
+
+def results(program):
+    """Whether each input is answered as it has to be."""
+    for script in SCRIPTS:
+        lines = list(script())
+        wanted = [answer for _, answer in lines if answer is not None]
+        status = 1 if any(answer.startswith("refused") for answer in wanted) else 0
+        given = "\n".join(line for line, _ in lines).encode()
+        yield passes(script.__name__, answers_of(program, ["run"], given), (wanted, status))
+    for begin, judgement, status in LONG_EVIDENCE:
+        found = answers_of(program, ["check"], begin + 4_100 * b" " + b"\n")
+        yield passes("a long line of evidence", found, ([judgement], status))
+
+
+def main():
+    program = os.path.abspath(sys.argv[1] if len(sys.argv) > 1 else os.path.join(ROOT, "build", "retro"))
+    passings = list(results(program))
+    print("%d passed, %d failed" % (sum(passings), len(passings) - sum(passings)))
+    sys.exit(not all(passings))
+
+
+if __name__ == "__main__":
+    main()
