@@ -29,26 +29,50 @@ fn four_signs<L: Ledger>(rt: &impl Abort, alloc: Global, steps: &mut Steps<L>) -
     tree
 }
 
+fn expect_sums<L: Ledger>(rt: &impl Abort, tree: &SignTree, sums: &[i64], steps: &mut Steps<L>) {
+    assert_eq!(rt; tree.len() as usize + 1, sums.len());
+    for (place, sum) in sums.iter().enumerate() {
+        assert!(rt; place <= tree.len() as usize);
+        assert_eq!(rt; tree.prefix(place as u32, steps), *sum);
+    }
+}
+
+fn expect_first<L: Ledger>(rt: &impl Abort, tree: &SignTree, steps: &mut Steps<L>) {
+    for (from, sum, place) in [(1, 1, Some(1)), (0, -1, None)] {
+        assert!(rt; from <= 4 && tree.len() == 4);
+        assert_eq!(rt; tree.first_at_most(from, 4, sum, steps), place);
+    }
+}
+
+fn expect_last<L: Ledger>(rt: &impl Abort, tree: &SignTree, steps: &mut Steps<L>) {
+    assert_eq!(rt; tree.len(), 4);
+    assert_eq!(rt; tree.last_at_most(0, 3, 1, steps), Some(3));
+}
+
+fn expect_marked<L: Ledger>(rt: &impl Abort, tree: &SignTree, steps: &mut Steps<L>) {
+    for (index, place) in [(2, Some(3)), (3, None)] {
+        assert_eq!(rt; tree.kth_marked(index, steps), place);
+    }
+}
+
+/// A copy keeps its signs, whatever is taken out of the tree.
+fn expect_copy<L: Ledger>(rt: &impl Abort, tree: &mut SignTree, steps: &mut Steps<L>) {
+    let copy = tree.copy(steps).expect(rt, "memory");
+    assert_eq!(rt; tree.len(), 4);
+    assert_eq!(rt; tree.remove(2, steps), (-1, false));
+    expect_sums(rt, tree, &[0, 1, 2, 3], steps);
+    expect_sums(rt, &copy, &[0, 1, 2, 1, 2], steps);
+}
+
 fn answers<L: Ledger>(rt: &impl Abort, alloc: Global, blank: Blank)
     requires counter { OpensCounter blank.name L.name blank.parts L.parts }
 {
     let mut steps = Steps::<L>::new(blank);
     let mut tree = four_signs(rt, alloc, &mut steps);
-    assert_eq!(rt; tree.len(), 4);
-    for (place, sum) in [0, 1, 2, 1, 2].iter().enumerate() {
-        assert!(rt; place < 5);
-        assert_eq!(rt; tree.prefix(place as u32, &mut steps), *sum);
-    }
-    assert_eq!(rt; tree.last_at_most(0, 3, 1, &mut steps), Some(3));
-    assert_eq!(rt; tree.first_at_most(1, 4, 1, &mut steps), Some(1));
-    assert_eq!(rt; tree.first_at_most(0, 4, -1, &mut steps), None);
-    assert_eq!(rt; tree.kth_marked(2, &mut steps), Some(3));
-    assert_eq!(rt; tree.kth_marked(3, &mut steps), None);
-    let copy = tree.copy(&mut steps).expect(rt, "memory");
-    assert_eq!(rt; tree.remove(2, &mut steps), (-1, false));
-    assert_eq!(rt; (copy.len(), tree.len()), (4, 3));
-    assert_eq!(rt; tree.prefix(3, &mut steps), 3);
-    assert_eq!(rt; copy.prefix(4, &mut steps), 2);
+    expect_first(rt, &tree, &mut steps);
+    expect_last(rt, &tree, &mut steps);
+    expect_marked(rt, &tree, &mut steps);
+    expect_copy(rt, &mut tree, &mut steps);
 }
 
 #[test]

@@ -66,18 +66,19 @@ fn searches<L: Ledger>(tree: &Tree<Amount>, steps: &mut Steps<L>) -> [Option<u32
     [first, last, none]
 }
 
-fn asked<L: Ledger>(
-    rt: &impl Abort,
-    tree: &Tree<Amount>,
-    copy: &Tree<Amount>,
-    steps: &mut Steps<L>,
-) {
+fn expect_items<L: Ledger>(rt: &impl Abort, tree: &Tree<Amount>, steps: &mut Steps<L>) {
     assert_eq!(rt; tree.len(), 3);
     assert_eq!(rt; items(tree, steps), [5, -2, 7]);
-    assert_eq!(rt; tree.measure(0, 2, steps).sum(), 3);
+}
+
+fn expect_searches<L: Ledger>(rt: &impl Abort, tree: &Tree<Amount>, steps: &mut Steps<L>) {
+    assert_eq!(rt; tree.len(), 3);
     assert_eq!(rt; searches(tree, steps), [Some(2), Some(1), None]);
-    assert_eq!(rt; copy.len(), 3);
-    assert_eq!(rt; items(copy, steps), [5, -2, 7]);
+}
+
+fn expect_measure<L: Ledger>(rt: &impl Abort, tree: &Tree<Amount>, steps: &mut Steps<L>) {
+    assert_eq!(rt; tree.len(), 3);
+    assert_eq!(rt; tree.measure(0, 2, steps).sum(), 3);
 }
 
 /// What a read from a place on writes over four nines, of which it may write the first `room`, and how many it says.
@@ -129,7 +130,10 @@ fn answers<L: Ledger>(rt: &impl Abort, alloc: Global, blank: Blank)
     let mut steps = Steps::<L>::new(blank);
     let mut tree = five_and_seven(rt, alloc, &mut steps);
     let copy = tree.copy(&mut steps).expect(rt, "memory");
-    asked(rt, &tree, &copy, &mut steps);
+    expect_items(rt, &tree, &mut steps);
+    expect_items(rt, &copy, &mut steps);
+    expect_searches(rt, &tree, &mut steps);
+    expect_measure(rt, &tree, &mut steps);
     reads(rt, &tree, &mut steps);
     edited(rt, &mut tree, &mut steps);
 }
@@ -177,23 +181,25 @@ fn count_below<L: Ledger>(tree: &Tree<Piece>, limit: u32, steps: &mut Steps<L>) 
 }
 
 // The prefixes of 3, 0, 4 have the sums 0, 3, 3, 7.
+fn three_pieces<L: Ledger>(rt: &impl Abort, alloc: Global, steps: &mut Steps<L>) -> Tree<Piece> {
+    let mut tree = Tree::new(alloc);
+    assert_eq!(rt; count_below(&tree, 9, steps), 0);
+    for size in [4, 0, 3] {
+        if tree.len() < 3 {
+            tree.insert(0, Piece { size }, steps).expect(rt, "memory");
+        }
+    }
+    tree
+}
+
 fn reaching<L: Ledger>(rt: &impl Abort, alloc: Global, blank: Blank)
     requires counter { OpensCounter blank.name L.name blank.parts L.parts }
 {
     let mut steps = Steps::<L>::new(blank);
-    let mut tree = Tree::new(alloc);
-    assert_eq!(rt; count_below(&tree, 9, &mut steps), 0);
-    for size in [4, 0, 3] {
-        if tree.len() < 3 {
-            tree.insert(0, Piece { size }, &mut steps)
-                .expect(rt, "memory");
-        }
+    let tree = three_pieces(rt, alloc, &mut steps);
+    for (goal, pieces) in [(0, Some(0)), (3, Some(1)), (4, Some(3)), (8, None)] {
+        assert_eq!(rt; first_reaching(&tree, goal, &mut steps), pieces);
     }
-    assert_eq!(rt; tree.len(), 3);
-    assert_eq!(rt; first_reaching(&tree, 0, &mut steps), Some(0));
-    assert_eq!(rt; first_reaching(&tree, 3, &mut steps), Some(1));
-    assert_eq!(rt; first_reaching(&tree, 4, &mut steps), Some(3));
-    assert_eq!(rt; first_reaching(&tree, 8, &mut steps), None);
 }
 
 #[test]
@@ -237,18 +243,24 @@ fn first_three<L: Ledger>(rt: &impl Abort, tree: &Tree<Amount>, steps: &mut Step
     tree.measure(0, 3, steps).sum()
 }
 
+/// One more amount comes in, and a copy keeps what it has.
+fn expect_copy<L: Ledger>(rt: &impl Abort, tree: &mut Tree<Amount>, steps: &mut Steps<L>) {
+    let copy = tree.copy(steps).expect(rt, "memory");
+    assert_eq!(rt; tree.len(), 2000);
+    insert_first(rt, tree, 7, steps);
+    assert_eq!(rt; (copy.len(), tree.len()), (2000, 2001));
+    assert_eq!(rt; first_three(rt, tree, steps), 4004);
+    assert_eq!(rt; first_three(rt, &copy, steps), 5994);
+}
+
 fn two_thousand<L: Ledger>(rt: &impl Abort, alloc: Global, blank: Blank)
     requires counter { OpensCounter blank.name L.name blank.parts L.parts }
 {
     let mut steps = Steps::<L>::new(blank);
     let mut tree = Tree::new(alloc);
     fill(rt, &mut tree, &mut steps);
-    let copy = tree.copy(&mut steps).expect(rt, "memory");
-    assert_eq!(rt; count_large(&copy, &mut steps), 500);
-    insert_first(rt, &mut tree, 7, &mut steps);
-    assert_eq!(rt; (copy.len(), tree.len()), (2000, 2001));
-    assert_eq!(rt; first_three(rt, &tree, &mut steps), 4004);
-    assert_eq!(rt; first_three(rt, &copy, &mut steps), 5994);
+    assert_eq!(rt; count_large(&tree, &mut steps), 500);
+    expect_copy(rt, &mut tree, &mut steps);
 }
 
 #[test]
