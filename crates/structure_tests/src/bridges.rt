@@ -1,23 +1,134 @@
 ghost use Rattle.std.specs.Prelude.{◌<◌};
 ghost use Rattle.retro_base.specs.Visits.{OpensCounter};
 
-mod compared;
-
-use super::listings::expect_same;
-use compared::Compared;
-use retro_base::{Change, Entry, Item, Kind, Op, Partial, Steps};
+use super::listings::expect_values;
+use bridge_pq::BridgeQueue;
+use retro_base::{Answer, Change, Entry, MAX_NEXT, MAX_ROWS, Op, Partial, Question, Row, Steps};
 use std::alloc::Global;
-use std::marker::Brand;
+use std::marker::{Brand, Model};
 use std::process::Abort;
 use std::sync::ledger::{Blank, Ledger};
 
-/// One edit, with what must come of it.
-#[derive(Clone, Copy)]
-enum Edit {
-    Add { place: u32, op: Op, change: Change },
-    AddFails { place: u32, index: Option<u32> },
-    CutFails { place: u32, index: Option<u32> },
+/// A queue by bridges, with the number of the next row. Each call sees first that it may be made.
+#[derive(Drop)]
+struct Bridges {
+    queue: BridgeQueue,
+    next: u32,
 }
+
+impl Model for Bridges {
+    ghost use Rattle.std.specs.Prelude.{◌<◌, List};
+    ghost use Rattle.std.specs.List.{AllByRecursion};
+    ghost use Rattle.retro_base.specs.declared.row.Row.{Row};
+
+    ghost Value = { List Row };
+
+    ghost view = { λ bridges. bridges.queue };
+
+    ghost invariant = { λ bridges. AllByRecursion (λ row. row.number < bridges.next) bridges.queue };
+}
+
+impl Bridges {
+    fn new(alloc: Global) -> Bridges {
+        Bridges {
+            queue: BridgeQueue::new(alloc),
+            next: 1,
+        }
+    }
+
+    fn queue(&self) -> &BridgeQueue {
+        &self.queue
+    }
+
+    /// The row that fails once a row of the operation is put in.
+    fn failing_with<L: Ledger>(
+        &self,
+        rt: &impl Abort,
+        place: u32,
+        op: Op,
+        steps: &mut Steps<L>,
+    ) -> Option<u32> {
+        assert!(rt; place <= self.queue.len());
+        assert!(rt; op.kind() == self.queue.kind());
+        self.queue.failure_after_insert(place, op, steps)
+    }
+
+    /// The row that fails once the row at the place is taken out.
+    fn failing_without<L: Ledger>(
+        &self,
+        rt: &impl Abort,
+        place: u32,
+        steps: &mut Steps<L>,
+    ) -> Option<u32> {
+        assert!(rt; place < self.queue.len());
+        self.queue.failure_after_remove(place, steps)
+    }
+
+    /// Puts a row in that can be performed.
+    fn put<L: Ledger>(
+        &mut self,
+        rt: &impl Abort,
+        place: u32,
+        op: Op,
+        steps: &mut Steps<L>,
+    ) -> Change {
+        let number = self.next;
+        assert!(rt; self.queue.len() < MAX_ROWS && number < MAX_NEXT);
+        assert!(rt; place <= self.queue.len());
+        assert!(rt; op.kind() == self.queue.kind());
+        assert_eq!(rt; self.queue.failure_after_insert(place, op, steps), None);
+        let row = Row {
+            number,
+            time: 0,
+            op,
+        };
+        let change = self.queue.insert(place, row, steps).expect(rt, "memory");
+        self.next = number + 1;
+        change
+    }
+
+    /// Takes a row out without which the others can be performed.
+    fn cut<L: Ledger>(
+        &mut self,
+        rt: &impl Abort,
+        place: u32,
+        steps: &mut Steps<L>,
+    ) -> (Row, Change) {
+        assert!(rt; place < self.queue.len());
+        assert_eq!(rt; self.queue.failure_after_remove(place, steps), None);
+        self.queue.remove(place, steps)
+    }
+
+    /// The answer about the present.
+    fn ask_now<L: Ledger>(
+        &self,
+        rt: &impl Abort,
+        question: Question,
+        steps: &mut Steps<L>,
+    ) -> Answer {
+        assert!(rt; question.suits(self.queue.kind()));
+        self.queue.ask_now(question, steps)
+    }
+}
+
+/// Sees that the rows are these.
+fn expect_rows<L: Ledger>(
+    rt: &impl Abort,
+    queue: &BridgeQueue,
+    rows: &[(u32, Op)],
+    steps: &mut Steps<L>,
+) {
+    assert_eq!(rt; queue.len() as usize, rows.len());
+    for (place, (number, op)) in rows.iter().enumerate() {
+        assert!(rt; place < queue.len() as usize);
+        let row = queue.row_at(place as u32, steps);
+        assert_eq!(rt; (row.number, row.op), (*number, *op));
+    }
+}
+
+const TWO: Op = Op::Ins { key: 2 };
+
+const FOUR: Op = Op::Ins { key: 4 };
 
 fn gain(bridge: u32, number: u32, key: i64) -> Change {
     Change::Gain {
@@ -33,147 +144,67 @@ fn lose(bridge: u32, number: u32, key: i64) -> Change {
     }
 }
 
-/// Follows an edit; a row that may fail is one that takes.
-fn follow<L: Ledger>(rt: &impl Abort, both: &mut Compared, edit: Edit, steps: &mut Steps<L>) {
-    match edit {
-        Edit::Add { place, op, change } => {
-            assert!(rt; place <= both.len());
-            assert!(rt; op.kind() == Kind::Pq);
-            assert_eq!(rt; both.add(rt, place, op, steps), change);
-        }
-        Edit::AddFails { place, index } => {
-            assert!(rt; place <= both.len());
-            assert_eq!(rt; both.failure_with(rt, place, Op::DelMin, steps), index);
-        }
-        Edit::CutFails { place, index } => {
-            assert!(rt; place < both.len());
-            assert_eq!(rt; both.failure_without(rt, place, steps), index);
-        }
-    }
-    both.compare(rt, steps);
+/// Sees that the present has entries of these keys.
+fn expect_content(rt: &impl Abort, queue: &BridgeQueue, keys: &[i64]) {
+    expect_values(rt, &queue.all_now().expect(rt, "memory"), keys);
 }
 
-fn follow_all<L: Ledger>(
-    rt: &impl Abort,
-    both: &mut Compared,
-    edits: &[Edit],
-    steps: &mut Steps<L>,
-) {
-    for edit in edits {
-        follow(rt, both, *edit, steps);
+/// The history `ins 4`, `delmin`, into which `ins 2` comes first.
+fn three_rows<L: Ledger>(rt: &impl Abort, alloc: Global, steps: &mut Steps<L>) -> Bridges {
+    let mut bridges = Bridges::new(alloc);
+    for (place, op, change) in [
+        (0, FOUR, gain(0, 1, 4)),
+        (1, Op::DelMin, lose(1, 1, 4)),
+        (0, TWO, gain(0, 1, 4)),
+    ] {
+        assert_eq!(rt; bridges.put(rt, place, op, steps), change);
+    }
+    bridges
+}
+
+fn expect_failures<L: Ledger>(rt: &impl Abort, bridges: &Bridges, steps: &mut Steps<L>) {
+    for (place, index) in [(0, Some(0)), (1, None), (2, None), (3, None)] {
+        let failing = bridges.failing_with(rt, place, Op::DelMin, steps);
+        assert_eq!(rt; failing, index);
+    }
+    for (place, index) in [(0, None), (1, None), (2, None)] {
+        assert_eq!(rt; bridges.failing_without(rt, place, steps), index);
     }
 }
 
-/// The history `ins 4` at 10, `delmin` at 20, into which `ins 2` comes at 5.
-fn three_rows<L: Ledger>(rt: &impl Abort, both: &mut Compared, steps: &mut Steps<L>) {
-    let edits = [
-        Edit::Add {
-            place: 0,
-            op: Op::Ins { key: 4 },
-            change: gain(0, 1, 4),
-        },
-        Edit::Add {
-            place: 1,
-            op: Op::DelMin,
-            change: lose(1, 1, 4),
-        },
-        Edit::AddFails {
-            place: 1,
-            index: Some(2),
-        },
-        Edit::CutFails {
-            place: 0,
-            index: Some(0),
-        },
-        Edit::AddFails {
-            place: 2,
-            index: Some(2),
-        },
-        Edit::Add {
-            place: 0,
-            op: Op::Ins { key: 2 },
-            change: gain(0, 1, 4),
-        },
-        Edit::AddFails {
-            place: 0,
-            index: Some(0),
-        },
-        Edit::CutFails {
-            place: 1,
-            index: None,
-        },
-    ];
-    follow_all(rt, both, &edits, steps);
+fn expect_present<L: Ledger>(rt: &impl Abort, bridges: &Bridges, steps: &mut Steps<L>) {
+    for (question, answer) in [
+        (Question::Size, Answer::Number { value: 1 }),
+        (Question::Min, Answer::Number { value: 4 }),
+        (Question::Nth { index: 1 }, Answer::Nothing),
+    ] {
+        assert_eq!(rt; bridges.ask_now(rt, question, steps), answer);
+    }
+    expect_content(rt, bridges.queue(), &[4]);
+}
+
+/// A copy keeps the rows, whatever is taken out.
+fn expect_copy<L: Ledger>(rt: &impl Abort, bridges: &mut Bridges, steps: &mut Steps<L>) {
+    let copy = bridges.queue().copy().expect(rt, "memory");
+    let (row, change) = bridges.cut(rt, 0, steps);
+    assert_eq!(rt; (row.number, row.op, change), (3, TWO, lose(3, 1, 4)));
+    expect_content(rt, bridges.queue(), &[]);
+    expect_rows(rt, bridges.queue(), &[(1, FOUR), (2, Op::DelMin)], steps);
+    expect_content(rt, &copy, &[4]);
+    expect_rows(rt, &copy, &[(3, TWO), (1, FOUR), (2, Op::DelMin)], steps);
 }
 
 fn worked<L: Ledger>(rt: &impl Abort, alloc: Global, blank: Blank)
     requires counter { OpensCounter blank.name L.name blank.parts L.parts }
 {
     let mut steps = Steps::<L>::new(blank);
-    let mut both = Compared::new(alloc);
-    three_rows(rt, &mut both, &mut steps);
-    let queue = both.into_queue();
-    let copy = queue.copy().expect(rt, "memory");
-    let present = queue.all_now().expect(rt, "memory");
-    assert_eq!(rt; (queue.kind(), queue.len()), (Kind::Pq, 3));
-    assert_eq!(rt; present.len(), 1);
-    assert_eq!(rt; present.item(0), Item::Single { value: 4 });
-    expect_same(rt, &copy.all_now().expect(rt, "memory"), &present);
-    let rows = [
-        (3, Op::Ins { key: 2 }),
-        (1, Op::Ins { key: 4 }),
-        (2, Op::DelMin),
-    ];
-    assert_eq!(rt; copy.len(), 3);
-    for (place, (number, op)) in rows.iter().enumerate() {
-        assert!(rt; place < 3);
-        let row = queue.row_at(place as u32, &mut steps);
-        assert_eq!(rt; (row.number, row.op), (*number, *op));
-        assert_eq!(rt; copy.row_at(place as u32, &mut steps), row);
-    }
+    let mut bridges = three_rows(rt, alloc, &mut steps);
+    expect_failures(rt, &bridges, &mut steps);
+    expect_present(rt, &bridges, &mut steps);
+    expect_copy(rt, &mut bridges, &mut steps);
 }
 
 #[test]
 fn a_row_comes_in_before_the_others(rt: HostRuntime) {
     worked::<Brand>(&rt, rt.alloc(), Blank::new(1));
-}
-
-/// One edit of a drawn history: most often a row that adds, and where one cannot be, none.
-fn drawn_edit<L: Ledger>(rt: &impl Abort, both: &mut Compared, draw: u32, steps: &mut Steps<L>) {
-    let len = both.len();
-    let place = draw / 8 % (len + 1);
-    let op = if draw % 8 < 4 {
-        Op::Ins {
-            key: i64::from(draw / 64 % 20),
-        }
-    } else {
-        Op::DelMin
-    };
-    if draw % 8 < 7 {
-        if both.failure_with(rt, place, op, steps).is_none() {
-            both.add(rt, place, op, steps);
-        }
-    } else if place < len && both.failure_without(rt, place, steps).is_none() {
-        both.cut(rt, place, steps);
-    }
-    both.compare(rt, steps);
-}
-
-/// A few hundred edits, drawn by a linear congruence.
-fn drawn_history<L: Ledger>(rt: &impl Abort, alloc: Global, blank: Blank)
-    requires counter { OpensCounter blank.name L.name blank.parts L.parts }
-{
-    let mut steps = Steps::<L>::new(blank);
-    let mut both = Compared::new(alloc);
-    let mut state = 1u32;
-    for _ in 0..400u32 {
-        state = state.wrapping_mul(1_664_525).wrapping_add(1_013_904_223);
-        drawn_edit(rt, &mut both, state >> 8, &mut steps);
-    }
-    assert!(rt; both.len() > 100);
-}
-
-#[test]
-fn drawn_edits_are_those_of_the_plain_list(rt: HostRuntime) {
-    drawn_history::<Brand>(&rt, rt.alloc(), Blank::new(1));
 }

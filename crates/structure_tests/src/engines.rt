@@ -1,9 +1,7 @@
-ghost use Rattle.std.specs.Prelude.{◌≡◌, []};
-ghost use Rattle.engine.specs.Engine.{rows_inside};
-
 use super::history::History;
 use engine::Engine;
 use retro_base::{Answer, Item, Kind, Op, Question, Retro};
+use std::alloc::Global;
 use std::process::Abort;
 
 /// A first row of a kind, a question that it answers, and the item that it leaves.
@@ -15,21 +13,40 @@ struct First {
     item: Item,
 }
 
-fn perform_first(rt: &impl Abort, engine: Engine, first: First)
-    requires { rows_inside engine ≡ [] }
-{
-    assert_eq!(rt; engine.kind(), first.kind);
-    let mut history = History::new(engine);
+type Engines = History<Engine>;
+
+fn of_kind(alloc: Global, kind: Kind) -> Engines {
+    History::new(Engine::new(alloc, kind))
+}
+
+fn fused(alloc: Global) -> Engines {
+    History::new(Engine::fused(alloc))
+}
+
+fn perform_first(rt: &impl Abort, history: &mut Engines, first: First) {
+    assert_eq!(rt; history.structure().kind(), first.kind);
     history.put(rt, 0, 5, first.op);
-    assert_eq!(rt; history.len(), 1);
     let seven = Answer::Number { value: 7 };
     assert_eq!(rt; history.ask_now(rt, first.question), seven);
     assert_eq!(rt; history.ask(rt, 0, first.question), Answer::Nothing);
+}
+
+fn expect_item(rt: &impl Abort, history: &mut Engines, item: Item) {
     let listing = history.all(rt, 1);
     assert_eq!(rt; listing.len(), 1);
-    assert_eq!(rt; listing.item(0), first.item);
+    assert_eq!(rt; listing.item(0), item);
+}
+
+fn cut_first(rt: &impl Abort, history: &mut Engines, op: Op) {
     let (taken, _) = history.cut(rt, 0);
-    assert_eq!(rt; (taken.number, taken.time, taken.op), (1, 5, first.op));
+    assert_eq!(rt; (taken.number, taken.time, taken.op), (1, 5, op));
+}
+
+/// The one place where an engine is dropped, which is dear to prove.
+fn follow(rt: &impl Abort, mut history: Engines, first: First) {
+    perform_first(rt, &mut history, first);
+    expect_item(rt, &mut history, first.item);
+    cut_first(rt, &mut history, first.op);
 }
 
 #[test]
@@ -69,7 +86,7 @@ fn each_kind_performs_its_first_row(rt: HostRuntime) {
         },
     ];
     for first in firsts {
-        perform_first(&rt, Engine::new(rt.alloc(), first.kind), first);
+        follow(&rt, of_kind(rt.alloc(), first.kind), first);
     }
 }
 
@@ -81,7 +98,7 @@ fn a_fused_queue_performs_its_first_row(rt: HostRuntime) {
         question: Question::Min,
         item: Item::Single { value: 7 },
     };
-    let engine = Engine::fused(rt.alloc());
-    assert!(&rt; matches!(&engine, Engine::Fused { .. }));
-    perform_first(&rt, engine, first);
+    let history = fused(rt.alloc());
+    assert!(&rt; matches!(history.structure(), Engine::Fused { .. }));
+    follow(&rt, history, first);
 }

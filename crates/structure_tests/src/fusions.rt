@@ -1,8 +1,8 @@
-use super::compared::Compared;
 use super::history::History;
 use super::listings::expect_values;
 use pq_fusion::{FusedQueue, Piece};
 use retro_base::{Answer, Change, Entry, Op, Question, Retro, Row};
+use std::alloc::Global;
 use std::process::Abort;
 
 const TWO: Op = Op::Ins { key: 2 };
@@ -10,10 +10,12 @@ const TWO: Op = Op::Ins { key: 2 };
 const FOUR: Op = Op::Ins { key: 4 };
 
 /// The history `ins 4`, `delmin`, into which `ins 2` comes first.
-fn three_rows(rt: &impl Abort, both: &mut Compared<FusedQueue>) {
+fn three_rows(rt: &impl Abort, alloc: Global) -> History<FusedQueue> {
+    let mut queue = History::new(FusedQueue::new(alloc));
     for (place, op) in [(0, FOUR), (1, Op::DelMin), (0, TWO)] {
-        both.put(rt, place, op);
+        queue.put(rt, place, 0, op);
     }
+    queue
 }
 
 /// What a piece is to have.
@@ -85,13 +87,11 @@ fn cut_first(rt: &impl Abort, queue: &mut History<FusedQueue>) {
 
 #[test]
 fn three_rows_are_one_product(rt: HostRuntime) {
-    let mut both = Compared::new(rt.alloc(), FusedQueue::new(rt.alloc()));
-    three_rows(&rt, &mut both);
-    let queue = both.queue();
+    let mut queue = three_rows(&rt, rt.alloc());
     assert!(&rt; queue.structure().stored() <= 27);
     expect_pieces(&rt, queue.structure());
-    expect_past(&rt, queue);
-    cut_first(&rt, queue);
+    expect_past(&rt, &mut queue);
+    cut_first(&rt, &mut queue);
 }
 
 /// Two pieces of a few entries, fused.
@@ -127,39 +127,4 @@ fn a_taking_removes_what_was_put_in(rt: HostRuntime) {
     let nothing = Piece::empty(rt.alloc());
     let same = fuse_small(&rt, &nothing, &fused);
     expect_piece(&rt, &same, wanted);
-}
-
-/// One edit of a drawn history: most often a row that adds, and where one cannot be, none.
-fn drawn_edit(rt: &impl Abort, both: &mut Compared<FusedQueue>, draw: u32) {
-    let len = both.len();
-    let place = draw / 8 % (len + 1);
-    let op = if draw % 8 < 4 {
-        Op::Ins {
-            key: i64::from(draw / 64 % 20),
-        }
-    } else {
-        Op::DelMin
-    };
-    if draw % 8 < 7 {
-        if both.failing_with(rt, place, op).is_none() {
-            both.put(rt, place, op);
-        }
-    } else if place < len && both.failing_without(rt, place).is_none() {
-        both.cut(rt, place);
-    }
-    let asked = draw / 16 % (both.len() + 1);
-    both.compare(rt, asked);
-}
-
-#[test]
-fn drawn_edits_are_those_of_the_plain_list(rt: HostRuntime) {
-    let mut both = Compared::new(rt.alloc(), FusedQueue::new(rt.alloc()));
-    let mut state = 1u32;
-    for _ in 0..400u32 {
-        state = state.wrapping_mul(1_664_525).wrapping_add(1_013_904_223);
-        drawn_edit(&rt, &mut both, state >> 8);
-    }
-    let (rows, stored) = (u64::from(both.len()), both.queue().structure().stored());
-    assert!(&rt; rows > 100);
-    assert!(&rt; stored <= 27 * rows);
 }

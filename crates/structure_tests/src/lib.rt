@@ -2,16 +2,15 @@
 //! crates anew.
 //!
 //! One file for each crate: `queues`, `stacks`, `deques` and `dictionaries` of the four fully retroactive structures, `bridges`
-//! of `bridge_pq` and `fusions` of `pq_fusion`, which are compared with a plain list, `checkpoints` of `checkpoint_full` over the
-//! first, and `engines` of `engine`. Most are tested through one `history`, which numbers the rows, and two `compared`.
+//! of `bridge_pq`, `fusions` of `pq_fusion`, `checkpoints` of `checkpoint_full` over the first, and `engines` of `engine`. Most are tested
+//! through one `history`, which numbers the rows. Long histories and drawn ones are tried on the built program (`tests/limits.py`,
+//! `tests/drawn.py`).
 #![tactic(auto)]
 
 #[cfg(test)]
 mod bridges;
 #[cfg(test)]
 mod checkpoints;
-#[cfg(test)]
-mod compared;
 #[cfg(test)]
 mod deques;
 #[cfg(test)]

@@ -9,11 +9,3 @@ pub(crate) fn expect_values(rt: &impl Abort, listing: &Listing, values: &[i64]) 
         assert_eq!(rt; listing.item(index as u32), Item::Single { value: *value });
     }
 }
-
-/// Sees that two listings have the same items.
-pub(crate) fn expect_same(rt: &impl Abort, listing: &Listing, wanted: &Listing) {
-    assert_eq!(rt; listing.len(), wanted.len());
-    for index in 0..listing.len() {
-        assert_eq!(rt; listing.item(index), wanted.item(index));
-    }
-}
