@@ -1,9 +1,9 @@
-ghost use Rattle.std.specs.Prelude.{◌≡◌, [], ◌+◌, ◌-◌, ◌<◌, ◌↔◌, ◌≤◌, false, true, IsTrue, IfOk, IfErr, Ok, OnErr, OnOk, IsErrOf, is_err, length, map, option_map};
+ghost use Rattle.std.specs.Prelude.{◌≡◌, [], ◌+◌, ◌-◌, ◌<◌, ◌↔◌, ◌≤◌, false, true, IsTrue, IfOk, IfErr, OnErr, OnOk, IsErrOf, length, map, option_map};
 ghost use Rattle.retro_base.specs.Limits.{longest_line, most_bytes};
 ghost use Rattle.retro_io.specs.Faults.{CountsFaults, last_count};
 ghost use Rattle.retro_io.specs.Sink.{Appends, AppendsProperPrefix};
 ghost use Rattle.retro_io.specs.Flushes.{EndsWithFailedSend, EndsWithFailedWrite, StaysUnflushed};
-ghost use Rattle.retro_io.specs.LineReader.{GivesLine, KeepsSource, MovesOn, ShowsErrors, StopsAt, TookForLine, given, has_ended, has_failed, held, limit_of, rest_of, source_of, taken};
+ghost use Rattle.retro_io.specs.LineReader.{GivesLine, KeepsSource, MovesOn, ShowsErrors, StopsAt, TookForLine, given, has_failed, held, limit_of, rest_of, source_of, taken};
 ghost use Rattle.retro_io.specs.Lines.{has_line_feed};
 ghost use Rattle.retro_io.specs.Marks.{is_fault};
 ghost use Rattle.retro_cli.specs.Ends.{Answers, Stands};

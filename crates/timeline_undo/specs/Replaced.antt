@@ -13,7 +13,7 @@ abbrev pub replacement_of : List Row → Target → ℕ → ℕ → Row → Repl
 replacement_of rows target number index old =
     record { index = index; old = old; before = place_for target index rows; new = replacing target number old }
 
--- the old row stands at its index, and the new one is of the kind
+-- the old row stands at its index, and the new one comes at a place among the rows and is of the kind
 pub record Replaces (kind : Kind) (rows : List Row) (r : Replacement) : Type 0 where
   pub there : slice_get rows r.index ≡ Some r.old
   pub within : r.before ≤ length rows

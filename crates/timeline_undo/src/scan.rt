@@ -15,8 +15,8 @@ use retro_base::{Op, Retro, Row};
 /// How many rows are read at a time.
 const WINDOW: usize = 64;
 
-/// The first row that could not be performed, were the row replaced; none where all rows could. One search of the structure finds most
-/// replacements that leave none, and a walk over the rows judges the others.
+/// The first row that could not be performed, were the row replaced; none where all rows could. One search of the structure shows of
+/// most replacements that no row fails, and a walk over the rows judges the others.
 pub(crate) fn failing_after<R: Retro>(
     timeline: &Timeline,
     structure: &R,

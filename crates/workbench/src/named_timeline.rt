@@ -406,7 +406,7 @@ impl NamedTimeline {
     }
 }
 
-/// The session over a structure without rows that has these rows put in, with their evidence.
+/// A session over a structure without rows, with these rows put in; their evidence is noted.
 fn session_of<R: Retro + Drop>(
     alloc: Global,
     name: Name,
