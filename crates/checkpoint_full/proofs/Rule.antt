@@ -8,7 +8,8 @@ use Rattle.retro_base.specs.declared.row.Row.{Row}
 use Rattle.retro_base.specs.Edits.{add, cut}
 use Rattle.retro_base.specs.Timeline.{Structure}
 use Rattle.checkpoint_full.specs.Checkpoints.{Checkpointed, after, first_of, place_of, places_of, seen, with_row, without_row, KeepsCheckpoints}
-use Rattle.checkpoint_full.specs.Rule.{between, latest_first, one_earlier, one_further, places_after_insertion, places_after_removal, rising, width_after_insertion, width_after_removal, with_room, with_row_less, with_row_more}
+use Rattle.checkpoint_full.specs.Rule.{between, latest_first, one_earlier, one_further, places_after_insertion, places_after_removal}
+use Rattle.checkpoint_full.specs.Rule.{rising, width_after_insertion, width_after_removal, with_room, with_row_less, with_row_more}
 use Rattle.checkpoint_full.specs.Widths.{most_checkpoints, settled, settled_width, thinned, AreClose}
 use Rattle.checkpoint_full.proofs.Between.{below_of, StandsBetween}
 use Rattle.checkpoint_full.proofs.FirstRows.{place_of-first_of}

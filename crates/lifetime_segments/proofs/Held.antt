@@ -67,7 +67,8 @@ module _ {A : Type 0} {before : A → A → Bool} (order : IsOrder before) {M : 
     is_of = takes (without (stands_earlier before) life held) (of_without order 40 life held root are.ordered there are.is_of);
   }
 
-  pub held_moved : (life : Lifetime A) (next : ℕ) (held : List (Lifetime A)) (root after : Trie A M) → IsInRange (ending next life) → length held < most_items → is_in (stands_earlier before) life held ≡ true → AreHeld before held root
+  pub held_moved : (life : Lifetime A) (next : ℕ) (held : List (Lifetime A)) (root after : Trie A M) → IsInRange (ending next life) → length held < most_items
+      → is_in (stands_earlier before) life held ≡ true → AreHeld before held root
       → Moves before 40 life next root after → AreHeld before (without (stands_earlier before) life (put_in (stands_earlier before) (ending next life) held)) after
   held_moved life next held root after range room there are moves =
       let earlier = stands_earlier before in

@@ -8,7 +8,8 @@ use Rattle.lifetime_segments.specs.declared.lifetime.Lifetime.{Lifetime}
 use Rattle.lifetime_segments.specs.declared.trie.Trie.{Trie}
 use Rattle.lifetime_segments.specs.declared.trie.Node.{Node}
 use Rattle.lifetime_segments.specs.Ordered.{IsOrder, put_in, in_order}
-use Rattle.lifetime_segments.specs.Tries.{IsOf, IsOfNode, Moves, NodeAdds, NodeTakes, NodeMoves, MovesFirst, TakesSecond, AddsSecond, TakesFirst, HasOne, SecondHasOne, is_whole, wholes, in_first, in_second, seen_from, ending, left_of, right_of}
+use Rattle.lifetime_segments.specs.Tries.{IsOf, IsOfNode, Moves, NodeAdds, NodeTakes, NodeMoves, MovesFirst, TakesSecond, AddsSecond, TakesFirst}
+use Rattle.lifetime_segments.specs.Tries.{HasOne, SecondHasOne, is_whole, wholes, in_first, in_second, seen_from, ending, left_of, right_of}
 use Rattle.lifetime_segments.proofs.Spans.{double}
 use Rattle.lifetime_segments.proofs.Moved.{node_swapped}
 use Rattle.lifetime_segments.proofs.Nodes.{wholes-broken, wholes-whole, first-whole, second-whole}
@@ -39,7 +40,8 @@ second-broken {A = A} level life lives broken b ends =
       | false ↦ refl
     ])
 
-second-in : {A : Type 0} (level : ℕ) (life : Lifetime A) (lives : List (Lifetime A)) → is_whole (suc level) life ≡ false → 2 ^ level < life.to → in_second level (life ∷ lives) ≡ seen_from (2 ^ level) life ∷ in_second level lives
+second-in : {A : Type 0} (level : ℕ) (life : Lifetime A) (lives : List (Lifetime A)) → is_whole (suc level) life ≡ false → 2 ^ level < life.to
+    → in_second level (life ∷ lives) ≡ seen_from (2 ^ level) life ∷ in_second level lives
 second-in level life lives broken ends = second-broken level life lives broken true (grind (arith, nat_tests))
 
 second-out : {A : Type 0} (level : ℕ) (life : Lifetime A) (lives : List (Lifetime A)) → is_whole (suc level) life ≡ false → life.to ≤ 2 ^ level → in_second level (life ∷ lives) ≡ in_second level lives
@@ -152,7 +154,8 @@ module _ {A M : Type 0} (before : A → A → Bool) (level next : ℕ) (life : L
   node_lengthened node after broken next_broken items ends left right = halves_moved node after broken next_broken items left (second_entered node.right after.right broken ends right)
 
 -- whole in the span with either end, it lies there as before
-pub node_still_whole : {A M : Type 0} (before : A → A → Bool) (level next : ℕ) (life : Lifetime A) (node : Node A M) → is_whole level life ≡ true → is_whole level (ending next life) ≡ true → NodeMoves before level life next node node
+pub node_still_whole : {A M : Type 0} (before : A → A → Bool) (level next : ℕ) (life : Lifetime A) (node : Node A M) → is_whole level life ≡ true → is_whole level (ending next life) ≡ true
+    → NodeMoves before level life next node node
 unfolding IsOfNode
 node_still_whole before zero next life node whole next_whole lives is_of = is_of ∙ ap (in_order before) (wholes-whole zero life lives whole ∙ sym (wholes-whole zero (ending next life) lives next_whole))
 node_still_whole before (suc level) next life node whole next_whole lives is_of = (

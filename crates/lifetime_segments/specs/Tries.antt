@@ -155,7 +155,7 @@ abbrev pub NodeAnswersAt : {A M Q P : Type 0} → (A → A → Bool) → (List A
 NodeAnswersAt {A} before answer level label query node result =
     (lives : List (Lifetime A)) → IsOfNode before (suc level) lives node → length lives ≤ most_items → result ≡ answer (in_order before (items_below level label lives)) query
 
--- whatever lifetimes it has, the items that are there at a label were appended to others, in any order
+-- whatever lifetimes it has, the items that are there at a label were added to others, all of them in any order
 abbrev pub CollectsAt : {A M : Type 0} → (A → A → Bool) → ℕ → ℕ → Trie A M → List A → List A → Type 0
 CollectsAt {A} before level label trie old new =
     (lives : List (Lifetime A)) → IsOf before level lives trie → in_order before new ≡ in_order before (old ++ items_at label lives)

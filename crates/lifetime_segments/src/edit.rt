@@ -1,5 +1,6 @@
 ghost use Rattle.std.specs.Prelude.{◌≡◌, ◌<◌, ◌≤◌, ◌^◌, true, false, suc, OnOk, OnErr};
-ghost use Rattle.lifetime_segments.specs.Tries.{Has, NodeHas, HasOne, NodeHasOne, FirstHasOne, SecondHasOne, Keeps, Adds, Takes, NodeKeeps, NodeAdds, NodeTakes, AddsFirst, AddsSecond, TakesFirst, TakesSecond, Moves, NodeMoves, MovesFirst, ending, is_whole};
+ghost use Rattle.lifetime_segments.specs.Tries.{Has, NodeHas, HasOne, NodeHasOne, FirstHasOne, SecondHasOne, Keeps, Adds, Takes, NodeKeeps, NodeAdds};
+ghost use Rattle.lifetime_segments.specs.Tries.{NodeTakes, AddsFirst, AddsSecond, TakesFirst, TakesSecond, Moves, NodeMoves, MovesFirst, ending, is_whole};
 
 use crate::decomposable::Decomposable;
 use crate::lifetime::{Lifetime, labels};

@@ -8,7 +8,7 @@
 //!
 //! `SignedRows` keeps the rows of a queue, a stack or a deque beside their signs: a row adds an item to a line,
 //! or takes one. A row finds nothing to take exactly where the sum of the signs falls below 0, which decides on
-//! every edit by one search. An item keeps its position in the line while it is there; the row that wrote it is
+//! every edit by one search, and by none where the edit lowers no sum. An item keeps its position in the line while it is there; the row that wrote it is
 //! the last one before which the position was not yet reached (specs/PositionLaws.antt).
 //!
 //! A `RetroLine` is a queue, a stack or a deque whose past can be edited. What differs between the three is a `Sequence`:

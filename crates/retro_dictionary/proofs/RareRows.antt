@@ -146,7 +146,8 @@ module _ (k since : ℕ) (fits : suc k + since ≤ least_insertions) where
   first apart =
       let distance = 2 ^ k in
       let room : 4 * distance ≤ label_limit = omega (arith, wide k [] apart) in
-      let beside = beside-apart since label_limit 0 label_limit label_limit distance (omega arith) (omega (arith, room)) (beside-least k since label_limit label_limit label_limit (omega (arith, room)) (owed-least k since fits)) in
+      let beside = beside-apart since label_limit 0 label_limit label_limit distance (omega arith) (omega (arith, room))
+      (beside-least k since label_limit label_limit label_limit (omega (arith, room)) (owed-least k since fits)) in
       let within : 2 * unit_beside since label_limit label_limit label_limit ≤ label_limit = beside-within since label_limit label_limit label_limit (omega arith) in
       (label_beside since label_limit 0 label_limit label_limit, refl, (beside.0, omega (arith, within, room)))
 

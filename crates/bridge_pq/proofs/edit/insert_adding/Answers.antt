@@ -70,14 +70,16 @@ returns-then-flip-place-clause-visits g c =
 pub flip_marks-requires-clause-within : goal.flip_marks-requires-clause-within
 flip_marks-requires-clause-within g c = flip_marks-within (insert (rows_of c.args.rows.now) c.args.place c.args.row)
     (survivors (rows_of c.args.rows.now)) c.put_row_with_entry-2.new.rows c.put_row_with_entry-2.new.entries
-    (put-adding c.args.rows.now c.args.entries.now c.requires.bridged c.args.place c.args.row c.requires.within c.requires.replayable c.args.new c.requires.adds c.put_row_with_entry-2.new.rows c.put_row_with_entry-2.new.entries
+    (put-adding c.args.rows.now c.args.entries.now c.requires.bridged c.args.place c.args.row c.requires.within c.requires.replayable c.args.new c.requires.adds
+    c.put_row_with_entry-2.new.rows c.put_row_with_entry-2.new.entries
     c.in_ok-put_row_with_entry-2.ensures.rows c.in_ok-put_row_with_entry-2.ensures.entries) c.gained_with-flip.result.place c.gained_with-flip.result.entry
     c.gained_with-flip.ensures.flips.there
 
 pub flip_marks-requires-clause-few : goal.flip_marks-requires-clause-few
 flip_marks-requires-clause-few g c = flip_marks-few (insert (rows_of c.args.rows.now) c.args.place c.args.row)
     (survivors (rows_of c.args.rows.now)) c.put_row_with_entry-2.new.rows c.put_row_with_entry-2.new.entries
-    (put-adding c.args.rows.now c.args.entries.now c.requires.bridged c.args.place c.args.row c.requires.within c.requires.replayable c.args.new c.requires.adds c.put_row_with_entry-2.new.rows c.put_row_with_entry-2.new.entries
+    (put-adding c.args.rows.now c.args.entries.now c.requires.bridged c.args.place c.args.row c.requires.within c.requires.replayable c.args.new c.requires.adds
+    c.put_row_with_entry-2.new.rows c.put_row_with_entry-2.new.entries
     c.in_ok-put_row_with_entry-2.ensures.rows c.in_ok-put_row_with_entry-2.ensures.entries) c.gained_with-flip.result.place c.gained_with-flip.result.entry
     c.gained_with-flip.ensures.flips.there
 
@@ -89,14 +91,16 @@ flip_marks-requires-clause-rise g c = (put-adding c.args.rows.now c.args.entries
 pub flip_marks-requires-clause-among : goal.flip_marks-requires-clause-among
 flip_marks-requires-clause-among g c = flip_marks-among (insert (rows_of c.args.rows.now) c.args.place c.args.row)
     (survivors (rows_of c.args.rows.now)) c.put_row_with_entry-2.new.rows c.put_row_with_entry-2.new.entries
-    (put-adding c.args.rows.now c.args.entries.now c.requires.bridged c.args.place c.args.row c.requires.within c.requires.replayable c.args.new c.requires.adds c.put_row_with_entry-2.new.rows c.put_row_with_entry-2.new.entries
+    (put-adding c.args.rows.now c.args.entries.now c.requires.bridged c.args.place c.args.row c.requires.within c.requires.replayable c.args.new c.requires.adds
+    c.put_row_with_entry-2.new.rows c.put_row_with_entry-2.new.entries
     c.in_ok-put_row_with_entry-2.ensures.rows c.in_ok-put_row_with_entry-2.ensures.entries) c.gained_with-flip.result.place c.gained_with-flip.result.entry
     c.gained_with-flip.ensures.flips.there
 
 pub returns-clause-bridged : goal.returns-clause-bridged
 returns-clause-bridged g c = (flip_marks-done (insert (rows_of c.args.rows.now) c.args.place c.args.row)
     (survivors (rows_of c.args.rows.now)) c.put_row_with_entry-2.new.rows c.put_row_with_entry-2.new.entries
-    (put-adding c.args.rows.now c.args.entries.now c.requires.bridged c.args.place c.args.row c.requires.within c.requires.replayable c.args.new c.requires.adds c.put_row_with_entry-2.new.rows c.put_row_with_entry-2.new.entries
+    (put-adding c.args.rows.now c.args.entries.now c.requires.bridged c.args.place c.args.row c.requires.within c.requires.replayable c.args.new c.requires.adds
+    c.put_row_with_entry-2.new.rows c.put_row_with_entry-2.new.entries
     c.in_ok-put_row_with_entry-2.ensures.rows c.in_ok-put_row_with_entry-2.ensures.entries) c.gained_with-flip.result.place c.gained_with-flip.result.entry
     c.gained_with-flip.ensures.flips.there c.gained_with-flip.result.survives c.gained_with-flip.ensures.flips.marks c.flip_marks.new.rows
     c.flip_marks.new.entries c.flip_marks.ensures.rows c.flip_marks.ensures.entries).0
@@ -104,7 +108,8 @@ returns-clause-bridged g c = (flip_marks-done (insert (rows_of c.args.rows.now) 
 pub returns-clause-rows : goal.returns-clause-rows
 returns-clause-rows g c = (flip_marks-done (insert (rows_of c.args.rows.now) c.args.place c.args.row)
     (survivors (rows_of c.args.rows.now)) c.put_row_with_entry-2.new.rows c.put_row_with_entry-2.new.entries
-    (put-adding c.args.rows.now c.args.entries.now c.requires.bridged c.args.place c.args.row c.requires.within c.requires.replayable c.args.new c.requires.adds c.put_row_with_entry-2.new.rows c.put_row_with_entry-2.new.entries
+    (put-adding c.args.rows.now c.args.entries.now c.requires.bridged c.args.place c.args.row c.requires.within c.requires.replayable c.args.new c.requires.adds
+    c.put_row_with_entry-2.new.rows c.put_row_with_entry-2.new.entries
     c.in_ok-put_row_with_entry-2.ensures.rows c.in_ok-put_row_with_entry-2.ensures.entries) c.gained_with-flip.result.place c.gained_with-flip.result.entry
     c.gained_with-flip.ensures.flips.there c.gained_with-flip.result.survives c.gained_with-flip.ensures.flips.marks c.flip_marks.new.rows
     c.flip_marks.new.entries c.flip_marks.ensures.rows c.flip_marks.ensures.entries).1

@@ -24,32 +24,37 @@ returns-in_err-insert-clause-visits g c =
 pub flip_marks-requires-clause-within : goal.flip_marks-requires-clause-within
 flip_marks-requires-clause-within g c = flip_marks-within (insert (rows_of c.args.rows.now) c.args.place c.args.row)
     (survivors (rows_of c.args.rows.now)) c.insert.new.self c.args.entries.now
-    (put-taking c.args.rows.now c.args.entries.now c.requires.bridged c.args.place c.args.row c.requires.within c.requires.replayable c.requires.takes c.insert.new.self c.in_ok-insert.ensures.ok) c.lost_with-flip.result.place
+    (put-taking c.args.rows.now c.args.entries.now c.requires.bridged c.args.place c.args.row c.requires.within c.requires.replayable c.requires.takes c.insert.new.self
+    c.in_ok-insert.ensures.ok) c.lost_with-flip.result.place
     c.lost_with-flip.result.entry c.lost_with-flip.ensures.flips.there
 
 pub flip_marks-requires-clause-few : goal.flip_marks-requires-clause-few
 flip_marks-requires-clause-few g c = flip_marks-few (insert (rows_of c.args.rows.now) c.args.place c.args.row)
     (survivors (rows_of c.args.rows.now)) c.insert.new.self c.args.entries.now
-    (put-taking c.args.rows.now c.args.entries.now c.requires.bridged c.args.place c.args.row c.requires.within c.requires.replayable c.requires.takes c.insert.new.self c.in_ok-insert.ensures.ok) c.lost_with-flip.result.place
+    (put-taking c.args.rows.now c.args.entries.now c.requires.bridged c.args.place c.args.row c.requires.within c.requires.replayable c.requires.takes c.insert.new.self
+    c.in_ok-insert.ensures.ok) c.lost_with-flip.result.place
     c.lost_with-flip.result.entry c.lost_with-flip.ensures.flips.there
 
 pub flip_marks-requires-clause-among : goal.flip_marks-requires-clause-among
 flip_marks-requires-clause-among g c = flip_marks-among (insert (rows_of c.args.rows.now) c.args.place c.args.row)
     (survivors (rows_of c.args.rows.now)) c.insert.new.self c.args.entries.now
-    (put-taking c.args.rows.now c.args.entries.now c.requires.bridged c.args.place c.args.row c.requires.within c.requires.replayable c.requires.takes c.insert.new.self c.in_ok-insert.ensures.ok) c.lost_with-flip.result.place
+    (put-taking c.args.rows.now c.args.entries.now c.requires.bridged c.args.place c.args.row c.requires.within c.requires.replayable c.requires.takes c.insert.new.self
+    c.in_ok-insert.ensures.ok) c.lost_with-flip.result.place
     c.lost_with-flip.result.entry c.lost_with-flip.ensures.flips.there
 
 pub returns-clause-bridged : goal.returns-clause-bridged
 returns-clause-bridged g c = (flip_marks-done (insert (rows_of c.args.rows.now) c.args.place c.args.row)
     (survivors (rows_of c.args.rows.now)) c.insert.new.self c.args.entries.now
-    (put-taking c.args.rows.now c.args.entries.now c.requires.bridged c.args.place c.args.row c.requires.within c.requires.replayable c.requires.takes c.insert.new.self c.in_ok-insert.ensures.ok) c.lost_with-flip.result.place
+    (put-taking c.args.rows.now c.args.entries.now c.requires.bridged c.args.place c.args.row c.requires.within c.requires.replayable c.requires.takes c.insert.new.self
+    c.in_ok-insert.ensures.ok) c.lost_with-flip.result.place
     c.lost_with-flip.result.entry c.lost_with-flip.ensures.flips.there c.lost_with-flip.result.survives c.lost_with-flip.ensures.flips.marks
     c.flip_marks.new.rows c.flip_marks.new.entries c.flip_marks.ensures.rows c.flip_marks.ensures.entries).0
 
 pub returns-clause-rows : goal.returns-clause-rows
 returns-clause-rows g c = (flip_marks-done (insert (rows_of c.args.rows.now) c.args.place c.args.row)
     (survivors (rows_of c.args.rows.now)) c.insert.new.self c.args.entries.now
-    (put-taking c.args.rows.now c.args.entries.now c.requires.bridged c.args.place c.args.row c.requires.within c.requires.replayable c.requires.takes c.insert.new.self c.in_ok-insert.ensures.ok) c.lost_with-flip.result.place
+    (put-taking c.args.rows.now c.args.entries.now c.requires.bridged c.args.place c.args.row c.requires.within c.requires.replayable c.requires.takes c.insert.new.self
+    c.in_ok-insert.ensures.ok) c.lost_with-flip.result.place
     c.lost_with-flip.result.entry c.lost_with-flip.ensures.flips.there c.lost_with-flip.result.survives c.lost_with-flip.ensures.flips.marks
     c.flip_marks.new.rows c.flip_marks.new.entries c.flip_marks.ensures.rows c.flip_marks.ensures.entries).1
 

@@ -59,7 +59,8 @@ add_to_halves-take_first-requires-clause-has g t c = record {
 pub add_to_halves-returns-then-is_err-clause-err : goal.add_to_halves-returns-then-is_err-clause-err
 add_to_halves-returns-then-is_err-clause-err g t c =
     err_weaker c.add_second-added.result
-    (λ keeps. node_kept g.D.Decomposable.stands_before c.args.level c.args.node.now _ refl (λ lives is_of. c.take_first.ensures lives (c.in_ok-add_first.ensures.ok lives is_of)) (λ lives. keeps (in_second c.args.level lives)))
+    (λ keeps. node_kept g.D.Decomposable.stands_before c.args.level c.args.node.now _ refl
+    (λ lives is_of. c.take_first.ensures lives (c.in_ok-add_first.ensures.ok lives is_of)) (λ lives. keeps (in_second c.args.level lives)))
     c.add_second-added.ensures.err
 
 pub add_to_halves-returns-else-is_err-clause-ok : goal.add_to_halves-returns-else-is_err-clause-ok

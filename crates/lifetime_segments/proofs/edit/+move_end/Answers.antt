@@ -41,31 +41,37 @@ move_end-returns-clause-err g t c =
 
 pub move_in_node-returns-then-is_whole-2-clause-ok : goal.move_in_node-returns-then-is_whole-2-clause-ok
 move_in_node-returns-then-is_whole-2-clause-ok g t c =
-    node_still_whole g.D.Decomposable.stands_before c.args.level c.args.next c.args.life c.args.node.now (sym c.is_whole.ensures ∙ c.if-is_whole.true) (sym (c.is_whole-then-is_whole.ensures ∙ ap (is_whole c.args.level) c.ending.ensures) ∙ c.if-is_whole-2.true)
+    node_still_whole g.D.Decomposable.stands_before c.args.level c.args.next c.args.life c.args.node.now (sym c.is_whole.ensures ∙ c.if-is_whole.true)
+    (sym (c.is_whole-then-is_whole.ensures ∙ ap (is_whole c.args.level) c.ending.ensures) ∙ c.if-is_whole-2.true)
 
 pub move_in_node-break_up-requires-clause-whole : goal.move_in_node-break_up-requires-clause-whole
 move_in_node-break_up-requires-clause-whole g t c =
-    let below : c.args.level ≡ suc (c.args.level - 1) = below_level c.args.level (ending c.args.next c.args.life) (sym (c.is_whole-then-is_whole.ensures ∙ ap (is_whole c.args.level) c.ending.ensures) ∙ c.if-is_whole-2.false) c.requires.begins c.requires.next in
+    let below : c.args.level ≡ suc (c.args.level - 1) = below_level c.args.level (ending c.args.next c.args.life)
+    (sym (c.is_whole-then-is_whole.ensures ∙ ap (is_whole c.args.level) c.ending.ensures) ∙ c.if-is_whole-2.false) c.requires.begins c.requires.next in
     subst (λ n. is_whole n c.args.life ≡ true) below (sym c.is_whole.ensures ∙ c.if-is_whole.true)
 
 pub move_in_node-break_up-requires-clause-has : goal.move_in_node-break_up-requires-clause-has
 move_in_node-break_up-requires-clause-has g t c =
-    let below : c.args.level ≡ suc (c.args.level - 1) = below_level c.args.level (ending c.args.next c.args.life) (sym (c.is_whole-then-is_whole.ensures ∙ ap (is_whole c.args.level) c.ending.ensures) ∙ c.if-is_whole-2.false) c.requires.begins c.requires.next in
+    let below : c.args.level ≡ suc (c.args.level - 1) = below_level c.args.level (ending c.args.next c.args.life)
+    (sym (c.is_whole-then-is_whole.ensures ∙ ap (is_whole c.args.level) c.ending.ensures) ∙ c.if-is_whole-2.false) c.requires.begins c.requires.next in
     subst (λ n. NodeHas g.D.Decomposable.stands_before n c.args.node.now) below c.requires.has
 
 pub move_in_node-break_up-requires-clause-there : goal.move_in_node-break_up-requires-clause-there
 move_in_node-break_up-requires-clause-there g t c =
-    let below : c.args.level ≡ suc (c.args.level - 1) = below_level c.args.level (ending c.args.next c.args.life) (sym (c.is_whole-then-is_whole.ensures ∙ ap (is_whole c.args.level) c.ending.ensures) ∙ c.if-is_whole-2.false) c.requires.begins c.requires.next in
+    let below : c.args.level ≡ suc (c.args.level - 1) = below_level c.args.level (ending c.args.next c.args.life)
+    (sym (c.is_whole-then-is_whole.ensures ∙ ap (is_whole c.args.level) c.ending.ensures) ∙ c.if-is_whole-2.false) c.requires.begins c.requires.next in
     subst (λ n. NodeHasOne g.D.Decomposable.stands_before n c.args.life c.args.node.now) below c.requires.there
 
 pub move_in_node-returns-then-is_whole-clause-ok : goal.move_in_node-returns-then-is_whole-clause-ok
 move_in_node-returns-then-is_whole-clause-ok g t c =
-    let below : c.args.level ≡ suc (c.args.level - 1) = below_level c.args.level (ending c.args.next c.args.life) (sym (c.is_whole-then-is_whole.ensures ∙ ap (is_whole c.args.level) c.ending.ensures) ∙ c.if-is_whole-2.false) c.requires.begins c.requires.next in
+    let below : c.args.level ≡ suc (c.args.level - 1) = below_level c.args.level (ending c.args.next c.args.life)
+    (sym (c.is_whole-then-is_whole.ensures ∙ ap (is_whole c.args.level) c.ending.ensures) ∙ c.if-is_whole-2.false) c.requires.begins c.requires.next in
     ok_weaker c.break_up.result (λ moves. subst (λ n. NodeMoves g.D.Decomposable.stands_before n c.args.life c.args.next c.args.node.now c.break_up.new.node) (sym below) moves) c.break_up.ensures.ok
 
 pub move_in_node-returns-then-is_whole-clause-err : goal.move_in_node-returns-then-is_whole-clause-err
 move_in_node-returns-then-is_whole-clause-err g t c =
-    let below : c.args.level ≡ suc (c.args.level - 1) = below_level c.args.level (ending c.args.next c.args.life) (sym (c.is_whole-then-is_whole.ensures ∙ ap (is_whole c.args.level) c.ending.ensures) ∙ c.if-is_whole-2.false) c.requires.begins c.requires.next in
+    let below : c.args.level ≡ suc (c.args.level - 1) = below_level c.args.level (ending c.args.next c.args.life)
+    (sym (c.is_whole-then-is_whole.ensures ∙ ap (is_whole c.args.level) c.ending.ensures) ∙ c.if-is_whole-2.false) c.requires.begins c.requires.next in
     err_weaker c.break_up.result (λ keeps. subst (λ n. NodeKeeps g.D.Decomposable.stands_before n c.args.node.now c.break_up.new.node) (sym below) keeps) c.break_up.ensures.err
 
 pub move_in_node-make_whole-requires-clause-whole : goal.move_in_node-make_whole-requires-clause-whole
@@ -97,10 +103,12 @@ pub move_in_node-move_in_halves-requires : goal.move_in_node-move_in_halves-requ
 move_in_node-move_in_halves-requires g t c κs within =
     let below : c.args.level ≡ suc (c.args.level - 1) = below_level c.args.level c.args.life (sym c.is_whole.ensures ∙ c.if-is_whole.false) c.requires.begins c.requires.ends in
     let broken : is_whole (suc (c.args.level - 1)) c.args.life ≡ false = subst (λ n. is_whole n c.args.life ≡ false) below (sym c.is_whole.ensures ∙ c.if-is_whole.false) in
-    let broken_next : is_whole (suc (c.args.level - 1)) (ending c.args.next c.args.life) ≡ false = subst (λ n. is_whole n (ending c.args.next c.args.life) ≡ false) below (sym (c.is_whole-2.ensures ∙ ap (is_whole c.args.level) c.ending-2.ensures) ∙ c.if-is_whole-3.false) in
+    let broken_next : is_whole (suc (c.args.level - 1)) (ending c.args.next c.args.life) ≡ false = subst (λ n. is_whole n (ending c.args.next c.args.life) ≡ false) below
+    (sym (c.is_whole-2.ensures ∙ ap (is_whole c.args.level) c.ending-2.ensures) ∙ c.if-is_whole-3.false) in
     let begins : c.args.life.from < 2 ^ suc (c.args.level - 1) = subst (λ n. c.args.life.from < 2 ^ n) below c.requires.begins in
     let has : NodeHas g.D.Decomposable.stands_before (suc (c.args.level - 1)) c.args.node.now = subst (λ n. NodeHas g.D.Decomposable.stands_before n c.args.node.now) below c.requires.has in
-    let there : NodeHasOne g.D.Decomposable.stands_before (suc (c.args.level - 1)) c.args.life c.args.node.now = subst (λ n. NodeHasOne g.D.Decomposable.stands_before n c.args.life c.args.node.now) below c.requires.there in
+    let there : NodeHasOne g.D.Decomposable.stands_before (suc (c.args.level - 1)) c.args.life c.args.node.now = subst
+    (λ n. NodeHasOne g.D.Decomposable.stands_before n c.args.life c.args.node.now) below c.requires.there in
     search rules
 
 pub move_in_node-returns-clause-ok : goal.move_in_node-returns-clause-ok
@@ -186,7 +194,8 @@ lengthen-take_second-requires-clause-has g t c =
 pub lengthen-returns-then-is_err-clause-err : goal.lengthen-returns-then-is_err-clause-err
 lengthen-returns-then-is_err-clause-err g t c =
     err_weaker c.move_first-moved.result
-    (λ keeps. node_kept g.D.Decomposable.stands_before c.args.level c.args.node.now _ refl (λ lives. keeps (in_first c.args.level lives)) (λ lives is_of. c.take_second.ensures lives (c.in_ok-add_second.ensures.ok lives is_of)))
+    (λ keeps. node_kept g.D.Decomposable.stands_before c.args.level c.args.node.now _ refl (λ lives. keeps (in_first c.args.level lives))
+    (λ lives is_of. c.take_second.ensures lives (c.in_ok-add_second.ensures.ok lives is_of)))
     c.move_first-moved.ensures.err
 
 pub lengthen-returns-else-is_err-clause-ok : goal.lengthen-returns-else-is_err-clause-ok

@@ -19,7 +19,8 @@ move_end-done-requires-clause-there g c = held_one g.met.D.Decomposable.order c.
 
 pub take_out-requires-clause-ordered : goal.take_out-requires-clause-ordered
 take_out-requires-clause-ordered g c =
-    subst (AreInOrder (stands_earlier g.D.Decomposable.stands_before)) (sym c.in_ok-put.ensures.ok) (put_in-ordered (earlier_order g.met.D.Decomposable.order) c.ending-moved.result c.args.held.now c.requires.held.ordered)
+    subst (AreInOrder (stands_earlier g.D.Decomposable.stands_before)) (sym c.in_ok-put.ensures.ok)
+    (put_in-ordered (earlier_order g.met.D.Decomposable.order) c.ending-moved.result c.args.held.now c.requires.held.ordered)
 
 pub take_out-requires-clause-there : goal.take_out-requires-clause-there
 take_out-requires-clause-there g c =
@@ -28,7 +29,8 @@ take_out-requires-clause-there g c =
     ap (is_in earlier c.if-is_err.gone) c.in_ok-put.ensures.ok
     ∙ elim c.if-is_err.branch [
       | then-is_err w ↦ ap (λ life. is_in earlier life (put_in earlier c.ending-moved.result c.args.held.now)) w.gone-is ∙ is_in-put_in (earlier_order order) c.ending-moved.result c.args.held.now
-      | else-is_err w ↦ ap (λ life. is_in earlier life (put_in earlier c.ending-moved.result c.args.held.now)) w.gone-is ∙ still_in (earlier_order order) c.args.life c.ending-moved.result c.args.held.now c.requires.held.ordered c.requires.there
+      | else-is_err w ↦ ap (λ life. is_in earlier life (put_in earlier c.ending-moved.result c.args.held.now)) w.gone-is ∙ still_in (earlier_order order) c.args.life
+          c.ending-moved.result c.args.held.now c.requires.held.ordered c.requires.there
     ]
 
 pub returns-clause-held : goal.returns-clause-held

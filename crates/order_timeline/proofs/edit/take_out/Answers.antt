@@ -32,5 +32,6 @@ returns-clause-kept g c =
     c.value-row.result c.rows-count.result c.requires.kept.in_runs c.requires.within c.requires.kept.ordered.own_numbers
     (c.remove.ensures.item ∙ ap Some (sym c.value-row.ensures)) c.run_of-run.ensures (c.get.ensures.item ∙ ap Some (sym c.rows-count.ensures)) c.forget.ensures in
     subst (λ rows. IsInRuns rows c.replace.new.self c.args.kept.now.names c.forget.new.numbers) (sym c.remove.ensures.items)
-    (subst (λ runs. IsInRuns (remove c.args.kept.now.rows c.args.place) runs c.args.kept.now.names c.forget.new.numbers) (sym (c.replace.ensures.items ∙ ap (slice_set c.args.kept.now.runs c.run_of-run.result) c.new.ensures)) stays)
+    (subst (λ runs. IsInRuns (remove c.args.kept.now.rows c.args.place) runs c.args.kept.now.names c.forget.new.numbers)
+    (sym (c.replace.ensures.items ∙ ap (slice_set c.args.kept.now.runs c.run_of-run.result) c.new.ensures)) stays)
     in record { ordered = ordered; in_runs = in_runs }

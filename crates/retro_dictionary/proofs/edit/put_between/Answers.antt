@@ -8,7 +8,8 @@ pub returns-then-is_err-clause-err : goal.returns-then-is_err-clause-err
 returns-then-is_err-clause-err g c =
     let rows_kept : c.insert.new.self ≡ c.args.kept.now.rows = search rules in
     let taken : c.remove.new.self ≡ remove (insert c.args.kept.now.labels c.args.place c.args.label) c.args.place = search rules in
-    all-same c.args.kept.now _ _ _ _ rows_kept (taken ∙ labels-back c.args.kept.now.rows c.args.kept.now.labels c.args.kept.now.index c.args.kept.now.segments c.requires.ready.all c.args.place c.args.label c.requires.ready.can.within) refl refl
+    all-same c.args.kept.now _ _ _ _ rows_kept (taken ∙ labels-back c.args.kept.now.rows c.args.kept.now.labels c.args.kept.now.index c.args.kept.now.segments
+    c.requires.ready.all c.args.place c.args.label c.requires.ready.can.within) refl refl
 
 pub put_labelled-requires-clause-fresh : goal.put_labelled-requires-clause-fresh
 put_labelled-requires-clause-fresh g c =
@@ -35,5 +36,6 @@ pub returns-clause-kept : goal.returns-clause-kept
 returns-clause-kept g c =
     let put : c.insert.new.self ≡ insert c.args.kept.now.rows c.args.place c.args.row = search rules in
     kept-as _ _ _ _ _ _ _ _
-    (kept-with c.args.kept.now.rows c.args.kept.now.labels c.args.kept.now.index c.args.kept.now.segments c.requires.ready.all c.args.place c.args.label c.args.row c.requires.ready.can.within c.requires.between c.requires.ready.can)
+    (kept-with c.args.kept.now.rows c.args.kept.now.labels c.args.kept.now.index c.args.kept.now.segments c.requires.ready.all c.args.place c.args.label c.args.row
+    c.requires.ready.can.within c.requires.between c.requires.ready.can)
     put (search rules) (search rules) (search rules)

@@ -29,7 +29,8 @@ indexed g c =
     c.in_ok-fresh.ensures c.len-count.ensures c.new_label-label.ensures c.args.row
 
 -- or the new one is taken out again
-without-new : (g : Over) (c : After-remove g) → CanRelabel c.in_ok-former.former c.in_ok-fresh.fresh c.new_label-label.result c.args.kept.now.index → c.remove.new.self ≡ relabelled c.in_ok-former.former c.in_ok-fresh.fresh c.args.kept.now.index
+without-new : (g : Over) (c : After-remove g) → CanRelabel c.in_ok-former.former c.in_ok-fresh.fresh c.new_label-label.result c.args.kept.now.index
+    → c.remove.new.self ≡ relabelled c.in_ok-former.former c.in_ok-fresh.fresh c.args.kept.now.index
 without-new g c can =
     let same : c.put_indexed.new.kept ≡ record c.args.kept.now { index = c.relabel_with.new.index } = search rules in
     taken-out _ _ _ _ _ _ _ can c.in_ok-relabel_with.ensures.ok (c.remove.ensures.rows ∙ ap (λ kept. without c.new_label-label.result kept.index) same)
