@@ -1,10 +1,12 @@
 -- How many insertions lie between two relabellings, where a rule of labels knows how many came since the last one.
-use Rattle.std.specs.Prelude.{ℕ, ◌+◌, ◌≤◌, min, List, [], ◌∷◌}
+use Rattle.std.specs.Prelude.{ℕ, ◌+◌, ◌≤◌, min, map, List, [], ◌∷◌}
 use Rattle.std.specs.Option.{option_map_or}
 use Rattle.order_labels.specs.LabelLaws.{LabelEdit, IsAccepted, KeepsLabels, Relabels, edited, insertions, least_insertions}
 use Rattle.order_labels.specs.LabelLaws.LabelEdit.{Insert, Remove}
 use Rattle.order_labels.specs.Labels.{LabelRule, spread}
 use Rattle.retro_base.specs.Limits.{most_rows}
+use Rattle.retro_dictionary.specs.declared.lately.Lately.{Lately}
+use Rattle.retro_dictionary.specs.declared.lately.Lately.TheVariants.{Neither}
 
 -- for each number of insertions a rule
 abbrev pub CountingRule : Type 0
@@ -23,11 +25,30 @@ abbrev pub counted : CountingRule → ℕ → List ℕ → LabelEdit → ℕ
 counted rule since labels (Insert place) = counted_by rule since labels place
 counted rule since labels (Remove place) = since
 
--- these edits are made one after another and relabel nothing, and then comes one that relabels
-abbrev pub EndInRelabelling : CountingRule → ℕ → List ℕ → List LabelEdit → LabelEdit → Type 0
-EndInRelabelling rule since labels [] last = IsAccepted labels last × Relabels (rule since) labels last
-EndInRelabelling rule since labels (edit ∷ edits) last = KeepsLabels (rule since) labels edit × EndInRelabelling rule (counted rule since labels edit) (edited (rule since) labels edit) edits last
+-- an insertion, with what came in lately beside its place, or a removal
+pub data RowEdit : Type 0 where
+  PutIn : Lately → ℕ → RowEdit
+  TakeOut : ℕ → RowEdit
 
--- at least so many insertions come between labels that are spread and the next relabelling
-abbrev pub RelabellingIsRare : CountingRule → Type 0
-RelabellingIsRare rule = (count : ℕ) (edits : List LabelEdit) (last : LabelEdit) → count ≤ most_rows → EndInRelabelling rule 0 (spread count) edits last → least_insertions ≤ insertions edits
+-- the edit of the labels
+abbrev pub label_edit : RowEdit → LabelEdit
+label_edit (PutIn lately place) = Insert place
+label_edit (TakeOut place) = Remove place
+
+-- and the rule for it
+abbrev pub rule_for : (Lately → CountingRule) → RowEdit → CountingRule
+rule_for rule (PutIn lately place) = rule lately
+rule_for rule (TakeOut place) = rule Neither
+
+-- these edits are made one after another and relabel nothing, and then comes one that relabels
+abbrev pub EndInRelabelling : (Lately → CountingRule) → ℕ → List ℕ → List RowEdit → RowEdit → Type 0
+EndInRelabelling rule since labels [] last = IsAccepted labels (label_edit last) × Relabels (rule_for rule last since) labels (label_edit last)
+EndInRelabelling rule since labels (edit ∷ edits) last =
+    KeepsLabels (rule_for rule edit since) labels (label_edit edit)
+    × EndInRelabelling rule (counted (rule_for rule edit) since labels (label_edit edit)) (edited (rule_for rule edit since) labels (label_edit edit)) edits last
+
+-- at least so many insertions come between labels that are spread and the next relabelling, whatever came in lately where
+abbrev pub RelabellingIsRare : (Lately → CountingRule) → Type 0
+RelabellingIsRare rule =
+    (count : ℕ) (edits : List RowEdit) (last : RowEdit) → count ≤ most_rows → EndInRelabelling rule 0 (spread count) edits last
+    → least_insertions ≤ insertions (map label_edit edits)

@@ -1,9 +1,14 @@
--- The rule by which a row of a dictionary gets its label, which knows how many rows were put in since all were relabelled.
-use Rattle.std.specs.Prelude.{ℕ, ◌+◌, ◌-◌, ◌/◌, ◌^◌, Bool, ◌&&◌, max, min, nat_eq, nat_le, nat_lt, Some, None, List, length, if◌then◌else◌}
+-- The rule by which a row of a dictionary gets its label, which knows how many rows were put in since all were relabelled, and what came in lately beside
+-- its place.
+use Rattle.std.specs.Prelude.{ℕ, ◌+◌, ◌-◌, ◌/◌, ◌^◌, Bool, false, ◌&&◌, max, min, nat_eq, nat_le, nat_lt, Option, Some, None, List, length, slice_get, if◌then◌else◌}
 use Rattle.std.specs.Int.{next_multiple_of}
 use Rattle.order_labels.specs.LabelLaws.{least_insertions}
 use Rattle.order_labels.specs.Labels.{label_limit, label_before, label_after as label_later, has_room, exponent}
+use Rattle.std.specs.Option.{option_map_or}
+use Rattle.retro_base.specs.declared.row.Row.{Row}
 use Rattle.retro_base.specs.Limits.{most_rows}
+use Rattle.retro_dictionary.specs.declared.lately.Lately.{Lately}
+use Rattle.retro_dictionary.specs.declared.lately.Lately.TheVariants.{Before, After, Neither}
 use Rattle.retro_dictionary.specs.RelabellingLaw.{CountingRule}
 
 -- the greatest power of two up to a distance: lifetimes between round labels are made up of few spans
@@ -41,29 +46,47 @@ gap_before labels place = if nat_lt 0 place then label_before 0 labels place - l
 abbrev pub gap_after : List ℕ → ℕ → ℕ
 gap_after labels place = if nat_lt place (length labels) then label_later label_limit labels (place + 1) - label_later label_limit labels place else label_limit
 
--- how far a row may come from the label beside which the lesser gap lies: the row there came last, most likely, and the next ones come on
--- the other side of this one. So it is half that gap, but a quarter of the gap at the place at the most, and a part of it at the least.
--- The middle, where both gaps are the same
-abbrev pub distance_beside : ℕ → ℕ → ℕ → ℕ
-distance_beside left gap right = if nat_eq left right then gap / 2 else max (gap / 4096) (min (min left right / 2) (gap / 4))
+-- a row came in lately before another one: its number is less, by 8 at the most
+abbrev pub came_lately : ℕ → ℕ → Bool
+came_lately number next = nat_lt number next && nat_le next (number + 8)
+
+abbrev pub is_lately : Option Row → ℕ → Bool
+is_lately found next = option_map_or (λ (row : Row). came_lately row.number next) found false
+
+-- what came in lately beside a place, before the row with a number: the row before it, the one after it, or neither
+abbrev pub lately_beside : List Row → ℕ → ℕ → Lately
+lately_beside rows place next =
+    if nat_lt 0 place && is_lately (slice_get rows (place - 1)) next then Before else if is_lately (slice_get rows place) next then After else Neither
+
+-- how far a row comes from one that came in lately, with this gap beyond that one: the next ones come on the other side of it, most
+-- likely. So it is half that gap, but a quarter of the gap at the place at the most, and a part of it at the least
+abbrev pub distance_beside : ℕ → ℕ → ℕ
+distance_beside near gap = max (gap / 4096) (min (near / 2) (gap / 4))
+
+-- and the middle where neither came in lately
+abbrev pub distance_by : Lately → ℕ → ℕ → ℕ → ℕ
+distance_by Before left gap right = distance_beside left gap
+distance_by After left gap right = distance_beside right gap
+distance_by Neither left gap right = gap / 2
 
 -- as far as is owed too, but half the gap at the place at the most
-abbrev pub unit_beside : ℕ → ℕ → ℕ → ℕ → ℕ
-unit_beside since left gap right = rounded (min (gap / 2) (max (owed since) (distance_beside left gap right)))
+abbrev pub unit_beside : Lately → ℕ → ℕ → ℕ → ℕ → ℕ
+unit_beside lately since left gap right = rounded (min (gap / 2) (max (owed since) (distance_by lately left gap right)))
 
 -- the label of a row before others, by the labels beside it and the gaps beyond them
-abbrev pub label_beside : ℕ → ℕ → ℕ → ℕ → ℕ → ℕ
-label_beside since left before after right =
-    if nat_le left right then before + unit_beside since left (after - before) right else after - unit_beside since left (after - before) right
+abbrev pub label_beside : Lately → ℕ → ℕ → ℕ → ℕ → ℕ → ℕ
+label_beside Before since left before after right = before + unit_beside Before since left (after - before) right
+label_beside After since left before after right = after - unit_beside After since left (after - before) right
+label_beside Neither since left before after right = before + unit_beside Neither since left (after - before) right
 
 -- the label of a row at a place
-abbrev pub row_label : ℕ → List ℕ → ℕ → ℕ
-row_label since labels place =
+abbrev pub row_label : Lately → ℕ → List ℕ → ℕ → ℕ
+row_label lately since labels place =
     if is_after_all labels place then
     label_after (label_before 0 labels (place - 1)) (label_before 0 labels place)
     else
-    label_beside since (gap_before labels place) (label_before 0 labels place) (label_later label_limit labels place) (gap_after labels place)
+    label_beside lately since (gap_before labels place) (label_before 0 labels place) (label_later label_limit labels place) (gap_after labels place)
 
 -- it gets this label where a number lies between those beside the place
-abbrev pub row_rule : CountingRule
-row_rule since labels place = if has_room labels place then Some (row_label since labels place) else None
+abbrev pub row_rule : Lately → CountingRule
+row_rule lately since labels place = if has_room labels place then Some (row_label lately since labels place) else None

@@ -2,8 +2,9 @@ ghost use Rattle.std.specs.Prelude.{◌≡◌, ◌+◌, ◌-◌, ◌<◌, ◌≤
 ghost use Rattle.order_labels.specs.Labels.{AreLabels, label_before, label_after as label_later, label_limit, has_room};
 ghost use Rattle.retro_dictionary.specs.Edited.{IsBetween};
 ghost use Rattle.retro_dictionary.specs.RelabellingLaw.{one_more};
-ghost use Rattle.retro_dictionary.specs.RowLabels.{distance_beside, gap_after, gap_before, label_after, label_beside, owed, rounded, row_rule, unit_after, unit_beside};
+ghost use Rattle.retro_dictionary.specs.RowLabels.{distance_beside, distance_by, gap_after, gap_before, label_after, label_beside, owed, rounded, row_rule, unit_after, unit_beside};
 
+use crate::lately::Lately;
 use crate::lifetimes::END;
 use order_labels::{Labels, greatest_power};
 use retro_base::MAX_ROWS;
@@ -64,13 +65,13 @@ fn gap_after(labels: &Labels, place: u32) -> u64
 /// The label that a row gets at a place, where one is left and so many rows were put in since all were relabelled: that of the
 /// rule in specs/RowLabels.antt.
 ///
-/// Rows come in one after another, most likely, at the end or at some other place. So a row leaves most of the gap on the side
-/// away from the one that came last, which lies where the gaps are narrow: a full dictionary can be put in row by row, and
-/// thousands of rows at one place, and none is relabelled.
-pub(crate) fn free_label(labels: &Labels, since: u32, place: u32) -> Option<u64>
+/// Rows come in one after another, at the end or at some other place, or each at a place of its own. So a row beside one that came
+/// in lately leaves most of the gap on its other side, and any other one halves it: a full dictionary can be put in row by row, and
+/// thousands of rows at one place, or at random, and none is relabelled.
+pub(crate) fn free_label(labels: &Labels, lately: Lately, since: u32, place: u32) -> Option<u64>
     requires within { place ≤ length labels.now }
     requires labels { AreLabels labels.now }
-    ensures rule { result ≡ row_rule since labels.now place }
+    ensures rule { result ≡ row_rule lately since labels.now place }
     ensures between { IfSome result (λ label. IsBetween labels.now place label) }
     ensures full { IfNone result (has_room labels.now place ≡ false) }
 {
@@ -82,7 +83,7 @@ pub(crate) fn free_label(labels: &Labels, since: u32, place: u32) -> Option<u64>
     if place != labels.len() || place == 0 {
         let left = gap_before(labels, place);
         let right = gap_after(labels, place);
-        return Some(label_beside(since, left, before, after, right));
+        return Some(label_beside(lately, since, left, before, after, right));
     }
     Some(label_after(label_before(labels, place - 1), before))
 }
@@ -95,24 +96,23 @@ pub(crate) fn one_more(since: u32) -> u32
 }
 
 /// The label of a row before others, by the labels beside it and the gaps beyond them.
-fn label_beside(since: u32, left: u64, before: u64, after: u64, right: u64) -> u64
+fn label_beside(lately: Lately, since: u32, left: u64, before: u64, after: u64, right: u64) -> u64
     requires room { before + 2 ≤ after }
     requires within { after ≤ label_limit }
-    ensures { result ≡ label_beside since left before after right }
+    ensures { result ≡ label_beside lately since left before after right }
 {
-    let unit = unit_beside(since, left, after - before, right);
-    if left <= right {
-        before + unit
-    } else {
-        after - unit
+    let unit = unit_beside(lately, since, left, after - before, right);
+    match lately {
+        Lately::Before | Lately::Neither => before + unit,
+        Lately::After => after - unit,
     }
 }
 
 /// How far it comes from one of these labels, with this gap between them.
-fn unit_beside(since: u32, left: u64, gap: u64, right: u64) -> u64
-    ensures { result ≡ unit_beside since left gap right }
+fn unit_beside(lately: Lately, since: u32, left: u64, gap: u64, right: u64) -> u64
+    ensures { result ≡ unit_beside lately since left gap right }
 {
-    let distance = owed(since).max(distance_beside(left, gap, right));
+    let distance = owed(since).max(distance_by(lately, left, gap, right));
     rounded((gap / 2).min(distance))
 }
 
@@ -123,14 +123,21 @@ fn owed(since: u32) -> u64
     1 << (LEAST_INSERTIONS - 1).saturating_sub(since)
 }
 
-/// And so far as leaves room for rows that come on its other side.
-fn distance_beside(left: u64, gap: u64, right: u64) -> u64
-    ensures { result ≡ distance_beside left gap right }
+/// And so far as leaves room for rows that come on its other side, where one beside it came in lately.
+fn distance_by(lately: Lately, left: u64, gap: u64, right: u64) -> u64
+    ensures { result ≡ distance_by lately left gap right }
 {
-    if left == right {
-        return gap / 2;
+    match lately {
+        Lately::Before => distance_beside(left, gap),
+        Lately::After => distance_beside(right, gap),
+        Lately::Neither => gap / 2,
     }
-    let near = left.min(right);
+}
+
+/// The same from a row beyond which there is this gap.
+fn distance_beside(near: u64, gap: u64) -> u64
+    ensures { result ≡ distance_beside near gap }
+{
     (gap / PARTS).max((near / 2).min(gap / 4))
 }
 

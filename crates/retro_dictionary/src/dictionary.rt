@@ -8,6 +8,7 @@ use crate::beside::label_before;
 use crate::edit::{put, take_out};
 use crate::failing::{place_of_bad, place_of_bad_label};
 use crate::kept::Kept;
+use crate::lately::lately_beside;
 use crate::listed::list_at;
 use retro_base::{Answer, Change, Kind, Listing, NoMemory, Op, Question, Retro, Row};
 use std::alloc::Global;
@@ -105,7 +106,8 @@ impl Retro for RetroDictionary {
     }
 
     fn insert(&mut self, place: u32, row: Row) -> Result<Change, NoMemory> {
-        put::<Brand>(&mut self.kept, place, row, Blank::new(1))?;
+        let lately = lately_beside::<Brand>(&self.kept.rows, place, row.number, Blank::new(1));
+        put::<Brand>(&mut self.kept, place, row, lately, Blank::new(1))?;
         Ok(Change::Plain)
     }
 

@@ -12,6 +12,7 @@ ghost use Rattle.retro_dictionary.specs.RowLabels.{row_rule};
 
 use crate::beside::{free_label, one_more};
 use crate::kept::Kept;
+use crate::lately::Lately;
 use crate::lifetimes::{cut, join, key_of, left_before, next_label, put_by};
 use crate::relabel::put_relabelled;
 use crate::search::PairSearch;
@@ -113,17 +114,18 @@ pub(crate) fn put<L: Ledger>(
     kept: &mut Kept,
     place: u32,
     row: Row,
+    lately: Lately,
     blank: Blank,
 ) -> Result<(), NoMemory>
     requires counter { OpensCounter blank.name L.name blank.parts L.parts }
     requires ready { IsReadyFor kept.old place row }
     ensures rows { OnOk result (kept.new.rows ≡ insert kept.old.rows place row) }
-    ensures labels { OnOk result (kept.new.labels ≡ inserted_by (row_rule kept.old.since) kept.old.labels place) }
-    ensures since { OnOk result (kept.new.since ≡ counted_by row_rule kept.old.since kept.old.labels place) }
+    ensures labels { OnOk result (kept.new.labels ≡ inserted_by (row_rule lately kept.old.since) kept.old.labels place) }
+    ensures since { OnOk result (kept.new.since ≡ counted_by (row_rule lately) kept.old.since kept.old.labels place) }
     ensures kept { OnOk result (IsKept kept.new) }
     ensures err { OnErr result (kept.new ≡ kept.old) }
 {
-    match free_label(&kept.labels, kept.since, place) {
+    match free_label(&kept.labels, lately, kept.since, place) {
         Some(label) => put_between::<L>(kept, place, label, row, blank),
         None => put_relabelled::<L>(kept, place, row, blank),
     }

@@ -16,7 +16,7 @@ label_beside-requires-clause-within c =
 
 pub returns-then-place-len-clause-between : goal.returns-then-place-len-clause-between
 returns-then-place-len-clause-between c =
-    beside-between c.args.since c.gap_before-left.result c.label_before-before.result c.label_later-after.result c.gap_after-right.result c.label_beside.result
+    beside-between c.args.lately c.args.since c.gap_before-left.result c.label_before-before.result c.label_later-after.result c.gap_after-right.result c.label_beside.result
     c.args.labels.now c.args.place c.label_before-before.ensures c.label_later-after.ensures (omega arith) c.label_beside.ensures
 
 pub label_after-requires-clause-order : goal.label_after-requires-clause-order
