@@ -37,8 +37,8 @@ REASONS = {
              "column keeps one tree, with 64 rows to a leaf. One tree with all measures, and one way down it, would change it.",
     "trie": "A dictionary keeps each lifetime in up to some dozens of spans of a trie over labels, each a tree of its own: an edit puts one lifetime "
             "in or takes one out, and moves the end of another, in each span that changes. The program of the last column keeps a list of rows for each key, which has no bound for `succ`, "
-            "`count` and `sum` where few of many keys are there. Where rows come in at random times near the end, labels run out now and then (twice in 20,000 "
-            "edits of 65,536 rows), and then all lifetimes are made anew, which takes a seventh of a second and more than all the other edits measured here. Spans that share their trees, a wider trie, or a relabelling of a neighbourhood would change it.",
+            "`count` and `sum` where few of many keys are there. Spans that share their trees, or a wider trie, would "
+            "change it.",
     "checkpoints": "A question about the past of a priority queue rolls the nearest checkpoint to its place and back, row by row, up to a width of rows, "
                    "and each of these rows is an edit of two trees. An edit goes to every checkpoint after its place. One product of pieces would "
                    "change it, as crates/pq_fusion has it.",

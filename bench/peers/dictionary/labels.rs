@@ -22,6 +22,14 @@ pub fn spread(index: u32, count: u32) -> u64 {
     (u64::from(index) + 1) * gap
 }
 
+/// Which of the rows beside a place came in lately.
+#[derive(Clone, Copy)]
+pub enum Lately {
+    Before,
+    After,
+    Neither,
+}
+
 /// So many insertions lie between two relabellings at the least.
 const LEAST_INSERTIONS: u32 = 22;
 
@@ -75,43 +83,34 @@ impl Labels {
         last.next_multiple_of(unit) + unit
     }
 
-    /// The label of a row before others: near the neighbour beyond which the gap is the narrower one.
-    fn beside(&self, place: u32) -> u64 {
+    /// The label of a row before others: near the one beside it that came in lately, or half the way.
+    fn beside(&self, place: u32, lately: Lately) -> u64 {
         let (before, behind) = (self.before(place), self.behind(place));
-        let left = if place == 0 {
-            END
-        } else {
-            before - self.before(place - 1)
-        };
-        let is_last = place == self.rows.len();
-        let right = if is_last {
-            END
-        } else {
-            self.behind(place + 1) - behind
-        };
         let gap = behind - before;
-        let distance = if left == right {
-            gap / 2
-        } else {
-            (gap / PARTS).max((left.min(right) / 2).min(gap / 4))
+        let near = |beyond: u64| (gap / PARTS).max((beyond / 2).min(gap / 4));
+        let distance = match lately {
+            Lately::Before if place == 0 => near(END),
+            Lately::Before => near(before - self.before(place - 1)),
+            Lately::After if place == self.rows.len() => near(END),
+            Lately::After => near(self.behind(place + 1) - behind),
+            Lately::Neither => gap / 2,
         };
         let owed = 1 << (LEAST_INSERTIONS - 1).saturating_sub(self.since);
         let unit = rounded((gap / 2).min(distance.max(owed)));
-        if left <= right {
-            before + unit
-        } else {
-            behind - unit
+        match lately {
+            Lately::Before | Lately::Neither => before + unit,
+            Lately::After => behind - unit,
         }
     }
 
     /// The label of a new row, or all rows are relabelled.
-    pub fn insert(&mut self, place: u32) -> u64 {
+    pub fn insert(&mut self, place: u32, lately: Lately) -> u64 {
         if self.has_room(place) {
             let is_after_all = 0 < place && place == self.rows.len();
             let label = if is_after_all {
                 self.after_all(place)
             } else {
-                self.beside(place)
+                self.beside(place, lately)
             };
             self.rows.insert(place, Label(label));
             self.since = (self.since + 1).min(LEAST_INSERTIONS);

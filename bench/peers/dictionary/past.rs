@@ -1,7 +1,7 @@
 //! A dictionary whose past can be edited and asked, as crates/retro_dictionary has it.
 
 use crate::index::{Bad, KeyIndex, Op};
-use crate::labels::{END, Labels, spread};
+use crate::labels::{END, Labels, Lately, spread};
 use crate::spans::{Found, KeyPair, Lifetime, Segments};
 use crate::weighted::{Item, Tree};
 
@@ -104,8 +104,20 @@ impl Dictionary {
         (left, self.next(key, label))
     }
 
+    /// Which of the rows beside a place came in lately before one with this number.
+    fn lately(&self, place: u32, number: u32) -> Lately {
+        let is_lately = |other: u32| other < number && number - other <= 8;
+        if place > 0 && is_lately(self.rows.get(place - 1).number) {
+            Lately::Before
+        } else if place < self.len() && is_lately(self.rows.get(place).number) {
+            Lately::After
+        } else {
+            Lately::Neither
+        }
+    }
+
     fn insert_between(&mut self, place: u32, row: Row) {
-        let label = self.labels.insert(place);
+        let label = self.labels.insert(place, self.lately(place, row.number));
         self.rows.insert(place, row);
         let (left, next) = self.beside(row.op.key(), label);
         self.index.insert(label, row.op);
@@ -129,7 +141,7 @@ impl Dictionary {
             let next = self.next(op.key(), label);
             add(&mut segments, placed(label, op), next);
         }
-        self.labels.insert(place);
+        self.labels.insert(place, Lately::Neither);
         self.segments = segments;
     }
 
