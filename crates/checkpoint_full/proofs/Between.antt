@@ -5,7 +5,7 @@ use Rattle.std.proofs.lemmas.List.Quantifiers.{position-Some}
 use Rattle.std.proofs.Math.Seq.{take-length}
 use Rattle.retro_base.specs.OrderLaws.{all_with}
 use Rattle.retro_base.specs.Timeline.{Structure}
-use Rattle.checkpoint_full.specs.Checkpoints.{first_of, place_of, were_made, AreCheckpoints, HasRoom, HoldsFirstRows, KeepsCheckpoints}
+use Rattle.checkpoint_full.specs.Checkpoints.{first_of, place_of, were_made, AreCheckpoints, FitsBetween, HoldsFirstRows, KeepsCheckpoints}
 use Rattle.checkpoint_full.specs.Widths.{AreClose}
 use Rattle.checkpoint_full.proofs.FirstRows.{first_rows_of, first_of-first_of, place_of-first_of, not_after_now, same_structure}
 use Rattle.checkpoint_full.proofs.Mapped.{all_of}
@@ -41,7 +41,7 @@ below_of now checkpoints place index earlier later between = position-Some (is_u
 
 -- where they are near enough one more row fits in
 pub room_left : (most : ℕ) (now : Structure) (checkpoints : List Structure) (place index : ℕ) (earlier later : Structure) → StandsBetween now checkpoints place index earlier later
-    → place_of later < place_of earlier + most → HasRoom most place (place_of now) (map place_of checkpoints)
+    → place_of later < place_of earlier + most → FitsBetween most place (place_of now) (map place_of checkpoints)
 room_left most now checkpoints place index earlier later between near =
     let below = below_of now checkpoints place index earlier later between in
     let near_there : place_of (get_or (now ∷ checkpoints) index earlier) < place_of (get_or checkpoints index earlier) + most =
@@ -105,7 +105,7 @@ nearest_below checkpoints found nearest place index d search of_all one =
 pub between_kept : (most : ℕ) (now : Structure) (checkpoints after : List Structure) (place index count : ℕ) (earlier later between : Structure)
     → StandsBetween now checkpoints place index earlier later → KeepsCheckpoints most now checkpoints → place_of earlier < count → count ≤ place_of later
     → (count ≡ place_of later → place ≡ place_of later) → between ≡ first_of count later → after ≡ insert checkpoints index between
-    → AreCheckpoints most now after × HasRoom most place (place_of now) (map place_of after)
+    → AreCheckpoints most now after × FitsBetween most place (place_of now) (map place_of after)
 between_kept most now checkpoints after place index count earlier later between stands keeps above within end made put =
     let below = below_of now checkpoints place index earlier later stands in
     let are = keeps (one_is_there checkpoints index below.0) in
@@ -117,7 +117,7 @@ between_kept most now checkpoints after place index count earlier later between 
     let at_end : place_of between ≡ place_of (get_or (now ∷ checkpoints) index earlier) → place ≡ place_of (get_or (now ∷ checkpoints) index earlier) =
     subst (λ s. place_of between ≡ place_of s → place ≡ place_of s) stands.later_is (λ same. end (sym holds.1 ∙ same)) in
     let close = close_between most now checkpoints index between earlier are.close below.0 (omega (arith, above_earlier)) up_to_later in
-    subst (λ cs. AreCheckpoints most now cs × HasRoom most place (place_of now) (map place_of cs)) (sym put) (
+    subst (λ cs. AreCheckpoints most now cs × FitsBetween most place (place_of now) (map place_of cs)) (sym put) (
       record { first_rows = all_with (HoldsFirstRows now) checkpoints index between are.first_rows holds.0; close = close },
       room_between most place now checkpoints index between earlier are.close below.0 below.2 below.1 above_earlier up_to_later at_end,
     )

@@ -5,7 +5,7 @@ use Rattle.std.proofs.lemmas.List.Edits.{length-insert, length-remove}
 use Rattle.retro_base.specs.declared.row.Row.{Row}
 use Rattle.retro_base.specs.Edits.{add, cut}
 use Rattle.retro_base.specs.Timeline.{Structure}
-use Rattle.checkpoint_full.specs.Checkpoints.{after, place_of, were_made, with_row, without_row, HasRoom, HoldsFirstRows, KeepsCheckpoints}
+use Rattle.checkpoint_full.specs.Checkpoints.{after, place_of, were_made, with_row, without_row, FitsBetween, HoldsFirstRows, KeepsCheckpoints}
 use Rattle.checkpoint_full.proofs.Followed.{all_first_with, all_first_without}
 use Rattle.checkpoint_full.proofs.Places.{close_with, close_without}
 
@@ -14,7 +14,7 @@ made_as_before f [] changed same = rw same refl
 made_as_before f (checkpoint ∷ checkpoints) changed same = rw same refl
 
 pub kept_with : (most : ℕ) (now later : Structure) (checkpoints changed : List Structure) (place : ℕ) (row : Row) → KeepsCheckpoints most now checkpoints → place ≤ place_of now
-    → HasRoom most place (place_of now) (map place_of checkpoints) → later ≡ after now (add place row) → changed ≡ map (with_row place row) checkpoints
+    → FitsBetween most place (place_of now) (map place_of checkpoints) → later ≡ after now (add place row) → changed ≡ map (with_row place row) checkpoints
     → KeepsCheckpoints most later changed
 kept_with most now later [] changed place row keeps within room put each = rw each (λ made. absurd (cc))
 kept_with most now later (checkpoint ∷ checkpoints) changed place row keeps within room put each =

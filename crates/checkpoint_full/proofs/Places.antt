@@ -6,7 +6,7 @@ use Rattle.std.proofs.lemmas.Bool.{leb-true, leb-false, le-leb, lt-ltb, cases_lt
 use Rattle.std.proofs.lemmas.List.Quantifiers.{position-Some}
 use Rattle.retro_base.specs.declared.row.Row.{Row}
 use Rattle.retro_base.specs.Timeline.{Structure}
-use Rattle.checkpoint_full.specs.Checkpoints.{place_of, with_row, without_row, AreCheckpoints, HasRoom, HoldsFirstRows, were_made}
+use Rattle.checkpoint_full.specs.Checkpoints.{place_of, with_row, without_row, AreCheckpoints, FitsBetween, HoldsFirstRows, were_made}
 use Rattle.checkpoint_full.specs.Widths.{AreClose}
 use Rattle.checkpoint_full.proofs.Mapped.{all_of}
 use Rattle.checkpoint_full.proofs.Followed.{longer, shorter, row_stays_out, row_was_out}
@@ -96,7 +96,7 @@ without_earlier most later place (checkpoint ∷ checkpoints) close less =
 
 -- neighbours with room between them are close after a row comes
 pub close_with : (most later more place : ℕ) (row : Row) (checkpoint : Structure) (checkpoints : List Structure) → more ≡ later + 1
-    → AreClose most later (map place_of (checkpoint ∷ checkpoints)) 0 → HasRoom most place later (map place_of (checkpoint ∷ checkpoints))
+    → AreClose most later (map place_of (checkpoint ∷ checkpoints)) 0 → FitsBetween most place later (map place_of (checkpoint ∷ checkpoints))
     → AreClose most more (map place_of (map (with_row place row) (checkpoint ∷ checkpoints))) 0
 close_with most later more place row checkpoint [] one close room = elim (cases_lt place (place_of checkpoint)) [
   | inr less ↦ rw (row_stays_out place row checkpoint less) (omega (arith, close.0), omega (arith, room.1 less), close.2)
@@ -149,7 +149,7 @@ pub room_between : (most place : ℕ) (now : Structure) (checkpoints : List Stru
     → index < length checkpoints → ((k : ℕ) → k < index → is_up_to place (get_or checkpoints k d) ≡ false) → is_up_to place (get_or checkpoints index d) ≡ true
     → place_of (get_or checkpoints index d) < place_of between → place_of between ≤ place_of (get_or (now ∷ checkpoints) index d)
     → (place_of between ≡ place_of (get_or (now ∷ checkpoints) index d) → place ≡ place_of (get_or (now ∷ checkpoints) index d))
-    → HasRoom most place (place_of now) (map place_of (insert checkpoints index between))
+    → FitsBetween most place (place_of now) (map place_of (insert checkpoints index between))
 room_between most place now [] index between d close below others here earlier later end = absurd (omega arith)
 room_between most place now (checkpoint ∷ checkpoints) zero between d close below others here earlier later end =
     let not_after : place_of between ≤ place_of now = later in
@@ -172,7 +172,7 @@ room_between most place now (checkpoint ∷ checkpoints) (suc index) between d c
 pub room_there : (most place : ℕ) (now : Structure) (checkpoints : List Structure) (index : ℕ) (d : Structure)
     → index < length checkpoints → ((k : ℕ) → k < index → is_up_to place (get_or checkpoints k d) ≡ false) → is_up_to place (get_or checkpoints index d) ≡ true
     → place_of (get_or (now ∷ checkpoints) index d) < place_of (get_or checkpoints index d) + most
-    → HasRoom most place (place_of now) (map place_of checkpoints)
+    → FitsBetween most place (place_of now) (map place_of checkpoints)
 room_there most place now [] index d below others here near = absurd (omega arith)
 room_there most place now (checkpoint ∷ checkpoints) zero d below others here near = (λ less. absurd (omega (arith, less, leb-true _ _ here)), λ _. near)
 room_there most place now (checkpoint ∷ checkpoints) (suc index) d below others here near = (

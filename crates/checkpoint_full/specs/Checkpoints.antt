@@ -83,9 +83,9 @@ without_row place checkpoint =
     if nat_lt place (place_of checkpoint) then record { kind = checkpoint.kind; rows = remove checkpoint.rows place } else checkpoint
 
 -- one more row fits between the neighbours of the place
-abbrev pub HasRoom : ℕ → ℕ → ℕ → List ℕ → Type 0
-HasRoom width place later [] = Unit {0}
-HasRoom width place later (earlier ∷ places) = (place < earlier → HasRoom width place earlier places) × (earlier ≤ place → later < earlier + width)
+abbrev pub FitsBetween : ℕ → ℕ → ℕ → List ℕ → Type 0
+FitsBetween width place later [] = Unit {0}
+FitsBetween width place later (earlier ∷ places) = (place < earlier → FitsBetween width place earlier places) × (earlier ≤ place → later < earlier + width)
 
 -- a checkpoint can follow an insertion, and be taken back from it
 abbrev pub CanFollow : ℕ → Row → Structure → Type 0

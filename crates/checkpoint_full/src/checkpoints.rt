@@ -1,6 +1,6 @@
 //! The checkpoints of a timeline, the latest first: how they are made, and which is nearest to a place.
 ghost use Rattle.std.specs.Prelude.{◌≡◌, ◌+◌, ◌-◌, ◌*◌, ◌/◌, ◌<◌, ◌≤◌, ◌∷◌, nat_le, length, get_or, map, position, true, IfOk, IfSome, OnOk, OnErr};
-ghost use Rattle.checkpoint_full.specs.Checkpoints.{place_of, places_of, were_made, without_made, AreCheckpoints, AreSettled, HasRoom, KeepsCheckpoints};
+ghost use Rattle.checkpoint_full.specs.Checkpoints.{place_of, places_of, were_made, without_made, AreCheckpoints, AreSettled, FitsBetween, KeepsCheckpoints};
 ghost use Rattle.checkpoint_full.specs.Rule.{between, with_room};
 ghost use Rattle.checkpoint_full.specs.Widths.{made_places, most_checkpoints, multiples_below, IsWidth};
 
@@ -99,7 +99,7 @@ pub(crate) fn make_room<P: Partial + Drop, L: Ledger>(
     requires keeps { KeepsCheckpoints width present.now checkpoints.old.items }
     ensures keeps { OnOk result (KeepsCheckpoints width present.now checkpoints.new.items) }
     ensures places { OnOk result (map place_of checkpoints.new.items ≡ with_room width place (place_of present.now) (map place_of checkpoints.old.items)) }
-    ensures room { OnOk result (HasRoom width place (place_of present.now) (map place_of checkpoints.new.items)) }
+    ensures room { OnOk result (FitsBetween width place (place_of present.now) (map place_of checkpoints.new.items)) }
     ensures made { OnOk result (were_made checkpoints.new.items ≡ were_made checkpoints.old.items) }
     ensures one { OnOk result (length checkpoints.new.items ≤ 1 + length checkpoints.old.items) }
     ensures back { IfOk result (λ split. without_made split checkpoints.new.items ≡ checkpoints.old.items) }

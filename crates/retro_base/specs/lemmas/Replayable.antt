@@ -1,4 +1,4 @@
--- A history stays one when a row is put in or taken out that leaves it valid.
+-- No rows replay, and a history stays one when a row is taken out that leaves it valid.
 use Rattle.std.proofs.Common.{◌≡◌, ◌≢◌, ℕ, zero, suc, List, [], ◌∷◌, take, refl, sym, ap, lit≤}
 use Rattle.std.specs.List.{remove, AllByRecursion}
 use Rattle.retro_base.specs.declared.kind.Kind.{Kind}
