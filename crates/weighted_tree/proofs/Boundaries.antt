@@ -27,7 +27,7 @@ module _ (holds : ℕ → Bool) (place : ℕ) where
     not_before = λ before is. subst (λ k. holds k ≡ false) (let same : place ≡ before = omega arith in same) fails;
   }
 
-  boundary_later : (count : ℕ) → holds place ≡ false → IsBoundary (λ k. holds (place + k)) count → IsBoundary holds (place + count)
+  pub boundary_later : (count : ℕ) → holds place ≡ false → IsBoundary (λ k. holds (place + k)) count → IsBoundary holds (place + count)
   boundary_later zero fails boundary = absurd (cc (ap holds (let same : place + 0 ≡ place = omega arith in same), fails, boundary.holds_there))
   boundary_later (suc count) fails boundary = record {
     holds_there = boundary.holds_there;

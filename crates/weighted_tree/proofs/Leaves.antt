@@ -35,15 +35,20 @@ module _ {A M : Type 0} {count : M → ℕ} {unit : M} {join : M → M → M} (l
       ∙ ap (λ m. join before (join (measure_of unit join measured xs) m)) (laws.right_unit (measured x))
       ∙ sym (laws.assoc before (measure_of unit join measured xs) (measured x))
 
+  -- the measure of a list that is one item longer
+  pub measure_next : (xs : List A) (x : A) → measure_of unit join measured (xs ++ x ∷ []) ≡ join (measure_of unit join measured xs) (measured x)
+  measure_next xs x =
+      sym (laws.left_unit (measure_of unit join measured (xs ++ x ∷ [])))
+      ∙ join_next unit xs x
+      ∙ ap (λ m. join m (measured x)) (laws.left_unit (measure_of unit join measured xs))
+
   -- the measure of a range that is one item longer
   pub range_next : (xs : List A) (from end : ℕ) (x : A) → from ≤ end → end < length xs → get_or xs end x ≡ x
       → measure_of unit join measured (slice_range xs from (end + 1)) ≡ join (measure_of unit join measured (slice_range xs from end)) (measured x)
   range_next xs from end x order within is =
       ap (λ n. measure_of unit join measured (take n (drop from xs))) (let more : end + 1 - from ≡ end - from + 1 = omega arith in more)
       ∙ ap (measure_of unit join measured) (take_next xs from (end - from) x x (omega arith) (ap (λ n. get_or xs n x) (let same : from + (end - from) ≡ end = omega arith in same) ∙ is))
-      ∙ sym (laws.left_unit (measure_of unit join measured (slice_range xs from end ++ x ∷ [])))
-      ∙ join_next unit (slice_range xs from end) x
-      ∙ ap (λ m. join m (measured x)) (laws.left_unit (measure_of unit join measured (slice_range xs from end)))
+      ∙ measure_next (slice_range xs from end) x
 
 -- so many items were passed, and where they end the test fails
 pub record HasPassed {A M F : Type 0} (count : M → ℕ) (unit : M) (join : M → M → M) (measured : A → M) (calls : Shared F (Bor M × Unit {0}) Bool) (test : F)

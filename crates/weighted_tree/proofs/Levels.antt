@@ -9,7 +9,7 @@ use Rattle.weighted_tree.specs.declared.subtree.Node.{Node}
 use Rattle.retro_base.specs.Digits.{digits}
 use Rattle.retro_base.specs.Visits.{VisitsWithin}
 use Rattle.retro_base.specs.VisitsLaws.{below-digits, digits-monotone}
-use Rattle.weighted_tree.specs.Levels.{IsWithinLevels, OneALevel, FourALevel, TwoALevel}
+use Rattle.weighted_tree.specs.Levels.{IsWithinLevels, OneALevel, FourALevel, FourALevelOfBoth, TwoALevel}
 use Rattle.weighted_tree.specs.SearchSteps.{VisitsOfSearch}
 use Rattle.weighted_tree.specs.declared.node.Side.{Side}
 use Rattle.weighted_tree.specs.declared.search.Search.{Search}
@@ -34,12 +34,27 @@ three_levels (suc digits) whole below = λ first a second b third c. three_level
 pub levels-of_digits : (whole fewer : ℕ) → digits whole ≡ suc fewer → IsWithinLevels whole (3 * fewer)
 levels-of_digits whole fewer is = subst (IsWithinLevels whole) (triple-is fewer) (three_levels fewer whole (subst (λ d. whole < 2 ^ d) is (below-digits whole)))
 
--- four visits a level, and four at the end, are no more than twelve a digit
-pub few-by_levels : (whole length before after : ℕ) → 1 ≤ whole → whole ≤ length + 1 → before ≤ after → FourALevel whole before after → VisitsWithin 12 length before after
-few-by_levels whole length before after some light none_lost visits = record { none_lost = none_lost; few = by_digits (digits whole) refl } where
+-- four visits a level, and twelve at the end, are no more than twelve a digit
+pub few_beside : (whole length before after : ℕ) → 1 ≤ whole → whole ≤ length + 1 → before ≤ after → ((levels : ℕ) → IsWithinLevels whole levels → after ≤ before + 4 * levels + 12) → VisitsWithin 12 length before after
+few_beside whole length before after some light none_lost visits = record { none_lost = none_lost; few = by_digits (digits whole) refl } where
   by_digits : (count : ℕ) → digits whole ≡ count → after ≤ before + 12 * digits (length + 1)
   by_digits zero is = absurd (omega (arith, subst (λ d. whole < 2 ^ d) is (below-digits whole)))
   by_digits (suc fewer) is = omega (arith, visits (3 * fewer) (levels-of_digits whole fewer is), digits-monotone whole (length + 1) light, is)
+
+-- four visits a level, and four at the end
+pub few-by_levels : (whole length before after : ℕ) → 1 ≤ whole → whole ≤ length + 1 → before ≤ after → FourALevel whole before after → VisitsWithin 12 length before after
+few-by_levels whole length before after some light none_lost visits = few_beside whole length before after some light none_lost (λ levels within. omega (arith, visits levels within))
+
+-- beside a subtree without nodes
+pub few_by_root : (whole leaf length before after : ℕ) → 1 ≤ whole → whole ≤ length + 1 → leaf ≤ 1 → before ≤ after → FourALevelOfBoth whole leaf before after → VisitsWithin 12 length before after
+few_by_root whole leaf length before after some light none none_lost visits = few_beside whole length before after some light none_lost (λ levels within. omega (arith, visits levels 0 within none))
+
+pub few_after_leaf : (leaf whole length before after : ℕ) → 1 ≤ whole → whole ≤ length + 1 → leaf ≤ 1 → before ≤ after → FourALevelOfBoth leaf whole before after → VisitsWithin 12 length before after
+few_after_leaf leaf whole length before after some light none none_lost visits = few_beside whole length before after some light none_lost (λ levels within. omega (arith, visits 0 levels none within))
+
+-- a few visits of a leaf alone
+pub few_in_leaf : (length before after : ℕ) → before ≤ after → after ≤ before + 12 → VisitsWithin 12 length before after
+few_in_leaf length before after none_lost few = few_beside 1 length before after (omega arith) (omega arith) none_lost (λ levels within. omega arith)
 
 -- a level more: the node is visited on the way down and on the way back, where a rotation visits two more
 pub level_more : (whole side start visited middle end : ℕ) → visited ≡ start + 1 → 2 ≤ whole → 4 * side ≤ 3 * whole → FourALevel side visited middle → end ≤ middle + 3 → FourALevel whole start end
@@ -143,6 +158,22 @@ module _ {A M : Type 0} {side : Side} {part near far : Part A} {node : Node A M}
 -- one visit a level is no more than four
 pub few_of_one : (whole before after : ℕ) → OneALevel whole before after → FourALevel whole before after
 few_of_one whole before after visits levels within = omega (arith, visits levels within)
+
+-- whatever a search answers
+pub few_of_search : {M : Type 0} (whole before after : ℕ) (answer : Search M) → VisitsOfSearch whole before after answer → FourALevel whole before after
+few_of_search whole before after (Found count) visits = visits
+few_of_search whole before after (Open measure) visits = few_of_one whole before after visits
+
+-- a search of one of two trees, or of both
+module _ (near far before after : ℕ) where
+  pub in_near : FourALevel near before after → FourALevelOfBoth near far before after
+  in_near visits near_levels far_levels near_within far_within = omega (arith, visits near_levels near_within)
+
+  pub in_far : FourALevel far before after → FourALevelOfBoth near far before after
+  in_far visits near_levels far_levels near_within far_within = omega (arith, visits far_levels far_within)
+
+  pub in_both : (middle : ℕ) → OneALevel near before middle → OneALevel far middle after → FourALevelOfBoth near far before after
+  in_both middle first second near_levels far_levels near_within far_within = omega (arith, first near_levels near_within, second far_levels far_within)
 
 -- a visit of the root, and then one visit a level
 pub once_more : (whole start visited end : ℕ) → visited ≡ start + 1 → 2 ≤ whole → OneALevel whole visited end → FourALevel whole start end

@@ -1,3 +1,5 @@
+pub mod Appended
+pub mod BothBoundaries
 pub mod Descents
 pub mod FoundPlaces
 pub mod InPlace

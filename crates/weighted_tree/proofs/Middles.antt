@@ -48,7 +48,7 @@ module _ {A : Type 0} (before after : List A) (middle : A) where
       ∙ ap (λ k. before ++ slice_set (middle ∷ after) k item) (one_less place beyond)
 
 -- what is at a place
-get_shift : {A : Type 0} (before rest : List A) (k : ℕ) → slice_get (before ++ rest) (length before + k) ≡ slice_get rest k
+pub get_shift : {A : Type 0} (before rest : List A) (k : ℕ) → slice_get (before ++ rest) (length before + k) ≡ slice_get rest k
 get_shift [] rest k = ap (slice_get rest) (omega arith)
 get_shift (x ∷ before) rest k = ap (slice_get (x ∷ (before ++ rest))) (let s : length (x ∷ before) + k ≡ suc (length before + k) = omega arith in s) ∙ get_shift before rest k
 

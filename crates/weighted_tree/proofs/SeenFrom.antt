@@ -41,6 +41,16 @@ pub length-seen : {A : Type 0} (side : Side) (xs : List A) → length (seen_from
 length-seen Left xs = refl
 length-seen Right xs = length-reverse xs
 
+-- two parts of a list, the first of them first from the left and last from the right
+module _ {A : Type 0} (first last items : List A) (both : first ++ last ≡ items) where
+  pub seen_left : (side : Side) → side ≡ Left → seen_from side items ≡ seen_from side first ++ seen_from side last
+  seen_left Left is = sym both
+  seen_left Right is = cc is
+
+  pub seen_right : (side : Side) → side ≡ Right → seen_from side items ≡ seen_from side last ++ seen_from side first
+  seen_right Left is = cc is
+  seen_right Right is = ap reverse (sym both) ∙ reverse-append first last
+
 module _ {A M : Type 0} (part : Part A) (node : Node A M) (root : IsRoot part node) where
   sizes : length part.items ≡ length node.left.items + 1 + length node.right.items
   sizes = omega (arith, ap length root.items_are, length-append node.left.items (node.item ∷ node.right.items))

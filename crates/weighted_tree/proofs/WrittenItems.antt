@@ -8,7 +8,7 @@ use Rattle.weighted_tree.specs.Nodes.{IsRoot}
 use Rattle.weighted_tree.specs.Reads.{overwritten, edge, VisitsOfRead}
 use Rattle.weighted_tree.specs.declared.subtree.Node.{Node}
 use Rattle.retro_base.specs.Visits.{VisitsWithin}
-use Rattle.weighted_tree.proofs.Levels.{few-by_levels}
+use Rattle.weighted_tree.proofs.Levels.{few-by_levels, few_beside, few_in_leaf}
 use Rattle.weighted_tree.proofs.Ranges.{drop-before, drop-after}
 
 module _ {A : Type 0} (former : List A) where
@@ -118,3 +118,16 @@ module _ {A M : Type 0} (part : Part A) (node : Node A M) (start visited : ℕ) 
 pub few_by_read : (whole length from rest before after : ℕ) → 1 ≤ whole → whole ≤ length + 1 → before ≤ after → VisitsOfRead whole from rest before after → VisitsWithin 12 length before after
 few_by_read whole length from rest before after some light none_lost visits =
     few-by_levels whole length before after some light none_lost (λ levels within. omega (arith, visits levels within, edge_within from levels, edge_within rest levels))
+
+-- beside one visit an item, none in a leaf
+pub few_by_leaf : (leaf length from rest start before after : ℕ) → start ≡ before → leaf ≤ 1 → before ≤ after → VisitsOfRead leaf from rest start after → VisitsWithin 12 length before after
+few_by_leaf leaf length from rest start before after same none none_lost visits =
+    few_in_leaf length before after none_lost (omega (arith, visits 0 none, edge_within from 0, edge_within rest 0))
+
+-- in a root, and then in a leaf
+pub few_by_both : (whole leaf length from rest after_leaf none start middle before after : ℕ) → 1 ≤ whole → whole ≤ length + 1 → leaf ≤ 1 → before ≤ after
+    → (first second : ℕ) → before ≡ start + first + second → VisitsOfRead whole from rest (start + first) middle → VisitsOfRead leaf none after_leaf (middle + second) after
+    → VisitsWithin 12 length before after
+few_by_both whole leaf length from rest after_leaf none start middle before after some light small none_lost first second before_is visits more =
+    few_beside whole length before after some light none_lost
+    (λ levels within. omega (arith, visits levels within, more 0 small, edge_within from levels, edge_within rest levels, edge_within none 0, edge_within after_leaf 0))

@@ -10,5 +10,6 @@ pub mod Reads
 pub mod Search
 pub mod SearchSteps
 pub mod Sides
+pub mod Tails
 pub use Rattle.monoid_laws.specs.Measure
 pub use Rattle.retro_base.specs.Visits

@@ -1,9 +1,9 @@
-ghost use Rattle.std.specs.Prelude.{◌≡◌, ◌+◌, length};
+ghost use Rattle.std.specs.Prelude.{◌≡◌, ◌+◌, ◌++◌, ◌∷◌, [], length, OnOk, OnErr};
 ghost use Rattle.std.specs.Borrow.{sem};
 
 use crate::subtree::Node;
 use monoid_laws::Measured;
-use retro_base::Steps;
+use retro_base::{NoMemory, Steps};
 use std::sync::ledger::Ledger;
 
 /// A node as its link holds it. No other module sees it: each way to open it is a visit, and steps the
@@ -88,6 +88,20 @@ impl<T: Copy> ClosedItems<T> {
     {
         steps.tick();
         self.items.as_slice()
+    }
+
+    /// Visits the leaf, and puts an item in at its end.
+    #[inline(always)]
+    pub(crate) fn push<L: Ledger>(&mut self, item: T, steps: &mut Steps<L>) -> Result<(), NoMemory>
+        ensures ok { OnOk result (self.new.items.items ≡ self.old.items.items ++ item ∷ []) }
+        ensures err { OnErr result (self.new.items.items ≡ self.old.items.items) }
+        ensures visit { steps.new ≡ steps.old + 1 }
+    {
+        steps.tick();
+        match self.items.push(item) {
+            Ok(()) => Ok(()),
+            Err(_) => Err(NoMemory),
+        }
     }
 
     /// Visits the leaf, and takes its items out of the link.

@@ -27,8 +27,9 @@ impl<T: Measured> Subtree<T> {
         let copy = Box::new(alloc, Node { left, item, right })?;
         Ok(Subtree::of_root(copy))
     }
+
     /// The same where there is no node: each item counts as a visit.
-    fn copy_leaf<L: Ledger>(
+    pub(crate) fn copy_leaf<L: Ledger>(
         &self,
         alloc: Global,
         steps: &mut Steps<L>,

@@ -1,12 +1,12 @@
-ghost use Rattle.std.specs.Prelude.{◌≡◌, ◌+◌, ◌^◌, ◌<◌, ◌≤◌, length, slice_get, slice_set, Some, OnOk, OnErr};
+ghost use Rattle.std.specs.Prelude.{◌≡◌, ◌+◌, ◌^◌, ◌<◌, ◌≤◌, ◌++◌, ◌∷◌, length, slice_get, slice_set, Some, OnOk, OnErr};
 ghost use Rattle.std.specs.List.{insert, remove};
 ghost use Rattle.weighted_tree.specs.Balance.{weight, IsUpToOneMore};
 ghost use Rattle.weighted_tree.specs.Levels.{TwoALevel, FourALevel};
 
 use crate::leaf::{FULL, divide};
 use crate::node::Side;
-use crate::subtree::{Link, Subtree};
-use monoid_laws::Measured;
+use crate::subtree::{Link, Node, Subtree};
+use monoid_laws::{Measured, Monoid};
 use retro_base::{NoMemory, Steps};
 use std::alloc::Global;
 use std::mem;
@@ -49,7 +49,7 @@ impl<T: Measured> Subtree<T> {
     }
 
     /// The same where there is no node: a full leaf is divided below a new one.
-    fn insert_in_leaf<L: Ledger>(
+    pub(crate) fn insert_in_leaf<L: Ledger>(
         &mut self,
         place: u32,
         item: T,
@@ -61,12 +61,16 @@ impl<T: Measured> Subtree<T> {
         requires fits { length self.old.items + 1 < 2 ^ 32 }
         ensures ok { OnOk result (self.new.items ≡ insert self.old.items place item) }
         ensures grows { OnOk result (IsUpToOneMore self.old.nodes self.new.nodes) }
+        ensures leaf { length self.old.items < 32 → self.new.nodes ≡ 0 }
         ensures err { OnErr result (self.new ≡ self.old) }
         ensures none_lost { steps.old ≤ steps.new }
         ensures some { OnOk result (0 < length self.old.items → steps.old + 1 ≤ steps.new) }
         ensures none { OnErr result (length self.old.items ≡ 0 → steps.new ≡ steps.old) }
         ensures visits { steps.new ≤ steps.old + 1 }
     {
+        if place > 0 && place == self.len() && place < FULL as u32 {
+            return self.push_in_leaf(item, steps);
+        }
         let mut items = self.take_or_new(alloc, steps);
         let place = place as usize;
         if items.len() < FULL {
@@ -88,6 +92,45 @@ impl<T: Measured> Subtree<T> {
                 Err(failed)
             }
         }
+    }
+
+    /// Puts an item in at the end of a leaf: its measure is joined with that of the others, none of which is read.
+    #[inline(always)]
+    fn push_in_leaf<L: Ledger>(&mut self, item: T, steps: &mut Steps<L>) -> Result<(), NoMemory>
+        requires leaf { self.old.nodes ≡ 0 }
+        requires some { 0 < length self.old.items }
+        requires fits { length self.old.items + 1 < 2 ^ 32 }
+        ensures ok { OnOk result (self.new.items ≡ insert self.old.items (length self.old.items) item) }
+        ensures leaf { self.new.nodes ≡ 0 }
+        ensures err { OnErr result (self.new ≡ self.old) }
+        ensures visit { steps.new ≡ steps.old + 1 }
+    {
+        let Link::Leaf { items, measure } = &mut self.link else {
+            unreachable!()
+        };
+        items.push(item, steps)?;
+        *measure = measure.join(item.measure());
+        Ok(())
+    }
+
+    /// Puts a node after all items, with what stands on its right.
+    pub(crate) fn append_below<L: Ledger>(&mut self, mut node: Box<Node<T>>, steps: &mut Steps<L>)
+        requires right { node.value.right.nodes ≡ 0 }
+        requires fits { length self.old.items + 1 + length node.value.right.items < 2 ^ 32 }
+        ensures items { self.new.items ≡ self.old.items ++ node.value.item ∷ node.value.right.items }
+        ensures nodes { self.new.nodes ≡ self.old.nodes + 1 }
+        ensures few { self.old.nodes ≤ length self.old.items }
+        ensures none_lost { steps.old ≤ steps.new }
+        ensures visits { FourALevel (weight self.old) steps.old steps.new }
+    {
+        let Link::Full { node: closed, .. } = &mut self.link else {
+            node.left = mem::replace(self, Subtree::new());
+            *self = Subtree::of_root(node);
+            return;
+        };
+        let root = &mut **closed.open_mut(steps);
+        root.right.append_below(node, steps);
+        self.link.settle(steps);
     }
 
     /// Visits the leaf where there are items, and takes them out.
@@ -142,7 +185,7 @@ impl<T: Measured> Subtree<T> {
     }
 
     /// The same where there is no node.
-    fn remove_in_leaf<L: Ledger>(&mut self, place: u32, steps: &mut Steps<L>) -> T
+    pub(crate) fn remove_in_leaf<L: Ledger>(&mut self, place: u32, steps: &mut Steps<L>) -> T
         requires leaf { self.old.nodes ≡ 0 }
         requires within { place < length self.old.items }
         ensures item { slice_get self.old.items place ≡ Some result }
@@ -196,7 +239,12 @@ impl<T: Measured> Subtree<T> {
     }
 
     /// The same where there is no node.
-    fn replace_in_leaf<L: Ledger>(&mut self, place: u32, item: T, steps: &mut Steps<L>) -> T
+    pub(crate) fn replace_in_leaf<L: Ledger>(
+        &mut self,
+        place: u32,
+        item: T,
+        steps: &mut Steps<L>,
+    ) -> T
         requires leaf { self.old.nodes ≡ 0 }
         requires within { place < length self.old.items }
         ensures item { slice_get self.old.items place ≡ Some result }

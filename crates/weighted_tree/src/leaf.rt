@@ -168,6 +168,22 @@ fn divide_left<T: Copy>(items: &mut Vec<T>, cut: usize, place: usize, item: T)
     };
 }
 
+/// Puts one more item in at a place, and takes the first one out.
+pub(crate) fn shift_in<T: Copy>(items: &mut Vec<T>, place: usize, item: T) -> T
+    requires some { 0 < length items.old.items }
+    requires within { place ≤ length items.old.items }
+    ensures { result ∷ items.new.items ≡ insert items.old.items place item }
+{
+    if place == 0 {
+        return item;
+    }
+    let first = items.remove(0);
+    let Ok(()) = items.insert(place - 1, item) else {
+        unreachable!()
+    };
+    first
+}
+
 /// Where a full leaf is divided: at an end where the new item comes there, so that leaves that are filled in order stay full,
 /// and else in the middle.
 fn cut_at(count: usize, place: usize) -> usize

@@ -74,7 +74,7 @@ impl<T: Measured> Subtree<T> {
 
     /// The measure of the items before `to`.
     #[inline(always)]
-    fn prefix<L: Ledger>(&self, to: u32, steps: &mut Steps<L>) -> T::Measure
+    pub(crate) fn prefix<L: Ledger>(&self, to: u32, steps: &mut Steps<L>) -> T::Measure
         requires within { to ≤ length self.now.items }
         ensures value { result ≡ measure_in T.Measured T.Measure.Monoid (take to self.now.items) }
         ensures items { T.Measure.items_of result ≡ to }

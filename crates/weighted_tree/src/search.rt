@@ -1,7 +1,7 @@
-ghost use Rattle.std.specs.Prelude.{◌≡◌, ◌+◌, ◌-◌, ◌^◌, ◌<◌, ◌≤◌, drop, length};
+ghost use Rattle.std.specs.Prelude.{◌≡◌, ◌+◌, ◌-◌, ◌^◌, ◌<◌, ◌≤◌, ◌++◌, drop, length};
 ghost use Rattle.std.specs.Fn.{FnReturnsAt};
 ghost use Rattle.weighted_tree.specs.Balance.{weight};
-ghost use Rattle.weighted_tree.specs.Levels.{OneALevel};
+ghost use Rattle.weighted_tree.specs.Levels.{OneALevel, FourALevelOfBoth};
 ghost use Rattle.weighted_tree.specs.Measures.{passing};
 ghost use Rattle.weighted_tree.specs.Search.{FindsPartition};
 ghost use Rattle.weighted_tree.specs.SearchSteps.{IsSought, IsBoundaryWithin, VisitsOfSearch, joined_after};
@@ -172,6 +172,44 @@ impl<T: Measured> Subtree<T> {
             Some(items) => end - items.len() as u32 + partition_in(items, test) as u32,
             None => end,
         }
+    }
+}
+
+/// The same of the items of two subtrees, of which `far` stands beyond `near`, seen from `side`.
+pub(crate) fn boundary_in_both<T: Measured, F: Fn(&T::Measure) -> bool, L: Ledger>(
+    side: Side,
+    near: &Subtree<T>,
+    far: &Subtree<T>,
+    from: u32,
+    test: &F,
+    steps: &mut Steps<L>,
+) -> Search<T::Measure>
+    requires within { from ≤ length near.now.items + length far.now.items }
+    requires fits { length near.now.items + length far.now.items < 2 ^ 32 }
+    requires callable { F.IsAlwaysCallable test.now }
+    ensures sought { IsSought F.Fn test.now T.Measure.items_of
+        (passing side T.Measured T.Measure.Monoid T.Measure.unit_value (drop from (seen_from side near.now.items ++ seen_from side far.now.items)))
+        (length near.now.items + length far.now.items - from) result }
+    ensures near_few { near.now.nodes ≤ length near.now.items }
+    ensures far_few { far.now.nodes ≤ length far.now.items }
+    ensures none_lost { steps.old ≤ steps.new }
+    ensures some { from < length near.now.items + length far.now.items → steps.old + 1 ≤ steps.new }
+    ensures visits { FourALevelOfBoth (weight near.now) (weight far.now) steps.old steps.new }
+{
+    prove!(from <= near.len() + far.len());
+    let count = near.len();
+    if from >= count {
+        return far.boundary_from(side, from - count, test, steps);
+    }
+    let through = match near.boundary_from(side, from, test, steps) {
+        Search::Found(place) => return Search::Found(place),
+        Search::Open(through) => through,
+    };
+    let all = far.passed(side, through);
+    if passes(test, &all) {
+        Search::Found(count - from + far.boundary_within(side, through, test, steps))
+    } else {
+        Search::Open(all)
     }
 }
 

@@ -1,14 +1,18 @@
 ghost use Rattle.std.specs.Prelude.{◌≡◌, ◌+◌, ◌-◌, ◌^◌, ◌<◌, ◌≤◌, [], min, length, take, drop, slice_get, slice_set, Some, IfSome, IfOk, OnOk, OnErr};
 ghost use Rattle.std.specs.List.{insert, remove, slice_range};
-ghost use Rattle.weighted_tree.specs.Measures.{measure_in, from_place, up_to_place};
+ghost use Rattle.weighted_tree.specs.Measures.{measure_in, from_place, up_to_place, passing};
 ghost use Rattle.retro_base.specs.Visits.{VisitsWithin};
 ghost use Rattle.weighted_tree.specs.Reads.{Writes};
 ghost use Rattle.weighted_tree.specs.Search.{FindsFirst, FindsLast, FindsPartition};
+ghost use Rattle.weighted_tree.specs.SearchSteps.{IsSought};
+ghost use Rattle.weighted_tree.specs.Sides.{seen_from};
 
+use crate::leaf::FULL;
 use crate::node::Side;
-use crate::search::Search;
+use crate::search::{Search, boundary_in_both, passes};
 use crate::subtree::Subtree;
-use monoid_laws::Measured;
+use crate::tail::Tail;
+use monoid_laws::{Measured, Monoid};
 use retro_base::{NoMemory, Steps};
 use std::alloc::Global;
 use std::marker::Model;
@@ -18,15 +22,18 @@ use std::sync::ledger::Ledger;
 #[derive(Drop)]
 pub struct Tree<T: Measured> {
     root: Subtree<T>,
+    tail: Tail<T>,
     alloc: Global,
 }
 
 impl<T: Measured> Model for Tree<T> {
-    ghost use Rattle.std.specs.Prelude.{List};
+    ghost use Rattle.std.specs.Prelude.{List, ◌++◌, ◌+◌, ◌^◌, ◌<◌, length};
 
     ghost Value = { List T };
 
-    ghost view = { λ t. t.root.items };
+    ghost view = { λ t. t.root.items ++ t.tail };
+
+    ghost invariant = { λ t. length t.root.items + length t.tail < 2 ^ 32 };
 }
 
 impl<T: Measured> Tree<T> {
@@ -36,6 +43,7 @@ impl<T: Measured> Tree<T> {
     {
         Tree {
             root: Subtree::new(),
+            tail: Tail::new(),
             alloc,
         }
     }
@@ -44,7 +52,7 @@ impl<T: Measured> Tree<T> {
     pub fn len(&self) -> u32
         ensures { result ≡ length self.now }
     {
-        self.root.len()
+        self.root.len() + self.tail.len()
     }
 
     /// Where the nodes take their memory.
@@ -59,7 +67,12 @@ impl<T: Measured> Tree<T> {
         ensures some { steps.old + 1 ≤ steps.new }
         ensures visits { VisitsWithin 12 (length self.now) steps.old steps.new }
     {
-        *self.root.item_at(place, steps)
+        let before = self.root.len();
+        if place < before {
+            *self.root.item_at(place, steps)
+        } else {
+            *self.tail.item_at(place - before, steps)
+        }
     }
 
     /// Writes what `shown` makes of the items from a place on into a slice, as many as fit or are there, and gives their number.
@@ -76,7 +89,16 @@ impl<T: Measured> Tree<T> {
         ensures items { Writes F.Fn shown (take result (drop from self.now)) 0 items.old items.new }
         ensures visits { VisitsWithin 12 (length self.now) (steps.old + result) steps.new }
     {
-        self.root.read(from, &shown, items, 0, steps)
+        let count = self.tail.len();
+        if count == 0 {
+            return self.root.read(from, &shown, items, 0, steps);
+        }
+        let (before, tail) = (self.root.len(), self.tail.leaf());
+        if from >= before {
+            return tail.read(from - before, &shown, items, 0, steps);
+        }
+        let end = self.root.read(from, &shown, items, 0, steps);
+        tail.read(0, &shown, items, end, steps)
     }
 
     /// Puts an item in at a place; those from there on move one place on.
@@ -94,7 +116,18 @@ impl<T: Measured> Tree<T> {
         ensures none { OnErr result (length self.old ≡ 0 → steps.new ≡ steps.old) }
         ensures visits { VisitsWithin 12 (length self.new) steps.old steps.new }
     {
-        self.root.insert_below(place, item, self.alloc, steps)
+        let (before, count) = (self.root.len(), self.tail.len());
+        let full = FULL as u32;
+        if place < before || (before < full && count == 0) {
+            return self.root.insert_below(place, item, self.alloc, steps);
+        }
+        let place = place - before;
+        if count < full {
+            return self.tail.insert(place, item, self.alloc, steps);
+        }
+        let node = self.tail.take_node(place, item, self.alloc, steps)?;
+        self.root.append_below(node, steps);
+        Ok(())
     }
 
     /// Removes the item at a place, and gives it; those after it move one place back.
@@ -105,7 +138,12 @@ impl<T: Measured> Tree<T> {
         ensures some { steps.old + 1 ≤ steps.new }
         ensures visits { VisitsWithin 12 (length self.old) steps.old steps.new }
     {
-        self.root.remove_below(place, steps)
+        let before = self.root.len();
+        if place < before {
+            self.root.remove_below(place, steps)
+        } else {
+            self.tail.remove(place - before, steps)
+        }
     }
 
     /// Puts another item at a place, and gives the one that was there.
@@ -116,7 +154,12 @@ impl<T: Measured> Tree<T> {
         ensures some { steps.old + 1 ≤ steps.new }
         ensures visits { VisitsWithin 12 (length self.old) steps.old steps.new }
     {
-        self.root.replace_below(place, item, steps)
+        let before = self.root.len();
+        if place < before {
+            self.root.replace_below(place, item, steps)
+        } else {
+            self.tail.replace(place - before, item, steps)
+        }
     }
 
     /// The measure of the items from `from` to before `to`.
@@ -128,7 +171,16 @@ impl<T: Measured> Tree<T> {
         ensures some { from < to → steps.old + 1 ≤ steps.new }
         ensures visits { VisitsWithin 12 (length self.now) steps.old steps.new }
     {
-        self.root.between(from, to, steps)
+        let before = self.root.len();
+        if to <= before {
+            return self.root.between(from, to, steps);
+        }
+        let tail = self.tail.leaf();
+        if from >= before {
+            return tail.between(from - before, to - before, steps);
+        }
+        let left = self.root.between(from, before, steps);
+        left.join(tail.prefix(to - before, steps))
     }
 
     /// The least place q, not before `from`, such that the test holds of the measure from `from` to q.
@@ -146,7 +198,7 @@ impl<T: Measured> Tree<T> {
         ensures some { from < length self.now → steps.old + 1 ≤ steps.new }
         ensures visits { VisitsWithin 12 (length self.now) steps.old steps.new }
     {
-        match self.root.boundary_from(Side::Left, from, &test, steps) {
+        match self.boundary_from(Side::Left, from, &test, steps) {
             Search::Found(count) => Some(from + count),
             Search::Open(_) => None,
         }
@@ -168,9 +220,38 @@ impl<T: Measured> Tree<T> {
         ensures visits { VisitsWithin 12 (length self.now) steps.old steps.new }
     {
         let from = self.len() - to;
-        match self.root.boundary_from(Side::Right, from, &test, steps) {
+        match self.boundary_from(Side::Right, from, &test, steps) {
             Search::Found(count) => Some(to - count),
             Search::Open(_) => None,
+        }
+    }
+
+    /// How many items after the place `from`, seen from `side`, a test turns true of their measure.
+    #[inline(always)]
+    fn boundary_from<F: Fn(&T::Measure) -> bool, L: Ledger>(
+        &self,
+        side: Side,
+        from: u32,
+        test: &F,
+        steps: &mut Steps<L>,
+    ) -> Search<T::Measure>
+        requires within { from ≤ length self.now }
+        requires callable { F.IsAlwaysCallable test.now }
+        ensures sought { IsSought F.Fn test.now T.Measure.items_of
+            (passing side T.Measured T.Measure.Monoid T.Measure.unit_value (drop from (seen_from side self.now)))
+            (length self.now - from) result }
+        ensures fits { length self.now < 2 ^ 32 }
+        ensures some { from < length self.now → steps.old + 1 ≤ steps.new }
+        ensures visits { VisitsWithin 12 (length self.now) steps.old steps.new }
+    {
+        let count = self.tail.len();
+        if count == 0 {
+            return self.root.boundary_from(side, from, test, steps);
+        }
+        let tail = self.tail.leaf();
+        match side {
+            Side::Left => boundary_in_both(side, &self.root, tail, from, test, steps),
+            Side::Right => boundary_in_both(side, tail, &self.root, from, test, steps),
         }
     }
 
@@ -186,6 +267,13 @@ impl<T: Measured> Tree<T> {
         ensures some { 0 < length self.now → steps.old + 1 ≤ steps.new }
         ensures visits { VisitsWithin 12 (length self.now) steps.old steps.new }
     {
+        let count = self.tail.len();
+        if count == 0 {
+            return self.root.partition_point(&test, steps);
+        }
+        if passes(&test, self.tail.item_at(0, steps)) {
+            return self.root.len() + self.tail.leaf().partition_point(&test, steps);
+        }
         self.root.partition_point(&test, steps)
     }
 
@@ -197,8 +285,10 @@ impl<T: Measured> Tree<T> {
         ensures err_visits { OnErr result (steps.new ≤ steps.old + length self.now) }
     {
         let root = self.root.copy(self.alloc, steps)?;
+        let tail = self.tail.copy(self.alloc, steps)?;
         Ok(Tree {
             root,
+            tail,
             alloc: self.alloc,
         })
     }

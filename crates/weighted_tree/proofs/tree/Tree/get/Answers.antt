@@ -1,8 +1,27 @@
-use Rattle.std.proofs.Common.{arith, ap, length}
-use Rattle.weighted_tree.proofs.Levels.{few-by_levels}
+use Rattle.std.proofs.Common.{◌-◌, ap, sym, ◌∙◌, arith, length, length-append}
+use Rattle.std.specs.Prelude.{slice_get}
+use Rattle.weighted_tree.proofs.Appended.{get_beyond}
+use Rattle.weighted_tree.proofs.Levels.{few-by_levels, few_in_leaf}
+use Rattle.weighted_tree.proofs.Middles.{get-before}
 use Rattle.weighted_tree.proofs.tree.Tree.get.Goals as goal
 
-pub returns-clause-visits : goal.returns-clause-visits
-returns-clause-visits g c =
+pub returns-then-place-before-clause-item : goal.returns-then-place-before-clause-item
+returns-then-place-before-clause-item g c =
+    ap (λ xs. slice_get xs c.args.place) (sym c.self.view_is)
+    ∙ get-before c.self.inside.root.items c.self.inside.tail c.args.place (omega arith)
+    ∙ c.item_at.ensures.item
+
+pub returns-then-place-before-clause-visits : goal.returns-then-place-before-clause-visits
+returns-then-place-before-clause-visits g c =
     let same = ap length c.self.view_is in
-    few-by_levels _ _ _ _ (omega arith) (omega arith) (omega arith) c.item_at.ensures.visits
+    few-by_levels _ _ _ _ (omega arith) (omega (arith, length-append c.self.inside.root.items c.self.inside.tail)) (omega arith) c.item_at.ensures.visits
+
+pub returns-else-place-before-clause-item : goal.returns-else-place-before-clause-item
+returns-else-place-before-clause-item g c =
+    ap (λ xs. slice_get xs c.args.place) (sym c.self.view_is)
+    ∙ get_beyond c.self.inside.root.items c.self.inside.tail c.args.place (omega arith)
+    ∙ ap (λ n. slice_get c.self.inside.tail (c.args.place - n)) (sym c.len-before.ensures.count)
+    ∙ c.item_at-else-place-before.ensures.item
+
+pub returns-else-place-before-clause-visits : goal.returns-else-place-before-clause-visits
+returns-else-place-before-clause-visits g c = few_in_leaf _ _ _ (omega arith) (omega arith)
