@@ -5,7 +5,7 @@ use Rattle.std.specs.List.Sorted.{IsPartitionPoint}
 use Rattle.retro_base.specs.OrderLaws.{all_weaker}
 use Rattle.weighted_tree.specs.Partitioned.{IsPartitioned}
 use Rattle.lifetime_segments.specs.Ordered.{IsOrder, AreInOrder, put_in, is_in, without, place_in}
-use Rattle.lifetime_segments.specs.OrderedLaws.{after}
+use Rattle.lifetime_segments.specs.OrderedLaws.{not_before-chains}
 
 -- the place of an element is where it is put in, and where it is taken out
 pub insert-place : {A : Type 0} (before : A → A → Bool) (x : A) (xs : List A) → insert xs (place_in before x xs) x ≡ put_in before x xs
@@ -69,4 +69,4 @@ module _ {A : Type 0} {before : A → A → Bool} (order : IsOrder before) where
   pub place-parted : (x : A) (xs : List A) → AreInOrder before xs → IsPartitioned (λ y. before y x) xs
   place-parted x [] ordered = tt
   place-parted x (y ∷ ys) ordered =
-      (λ here. all_weaker (λ z. before z y ≡ false) (λ z. before z x ≡ false) ys (λ z later. after order x y z here later) ordered.0, place-parted x ys ordered.1)
+      (λ here. all_weaker (λ z. before z y ≡ false) (λ z. before z x ≡ false) ys (λ z later. not_before-chains order x y z here later) ordered.0, place-parted x ys ordered.1)

@@ -156,9 +156,9 @@ module _ {A : Type 0} {before : A → A → Bool} (order : IsOrder before) where
     | false ↦ λ here. ap (without before x) (put_in-here x y ys here) ∙ here_without x (y ∷ ys)
   ] refl
 
-  -- what is not before, seen through an element between
-  pub after : (x y z : A) → before y x ≡ false → before z y ≡ false → before z x ≡ false
-  after x y z first second = elim (before z x) as (λ b. before z x ≡ b → b ≡ false) [
+  -- not to stand before is transitive
+  pub not_before-chains : (x y z : A) → before y x ≡ false → before z y ≡ false → before z x ≡ false
+  not_before-chains x y z first second = elim (before z x) as (λ b. before z x ≡ b → b ≡ false) [
     | true ↦ λ near. sym (between x y z near second) ∙ first
     | false ↦ λ _. refl
   ] refl
@@ -167,7 +167,7 @@ module _ {A : Type 0} {before : A → A → Bool} (order : IsOrder before) where
   put_in-ordered x [] ordered = (tt, tt)
   put_in-ordered x (y ∷ ys) ordered = elim (before y x) as (λ b. before y x ≡ b → AreInOrder before (cond b (y ∷ put_in before x ys) (x ∷ y ∷ ys))) [
     | true ↦ λ past. (all-put_in (λ later. before later y ≡ false) before x ys (not_both y x past) ordered.0, put_in-ordered x ys ordered.1)
-    | false ↦ λ here. ((here, all_weaker (λ later. before later y ≡ false) (λ later. before later x ≡ false) ys (λ later far. after x y later here far) ordered.0), ordered)
+    | false ↦ λ here. ((here, all_weaker (λ later. before later y ≡ false) (λ later. before later x ≡ false) ys (λ later far. not_before-chains x y later here far) ordered.0), ordered)
   ] refl
 
   pub in_order-ordered : (xs : List A) → AreInOrder before (in_order before xs)

@@ -5,7 +5,7 @@ use Rattle.std.specs.Ordering.{int_cmp, ordering_then, is_lt}
 use Rattle.std.proofs.lemmas.Int.{ints}
 use Rattle.std.proofs.lemmas.List.Sorted.{sum_by-IsPermutation}
 use Rattle.lifetime_segments.specs.Ordered.{IsOrder, AreInOrder, in_order}
-use Rattle.lifetime_segments.specs.OrderedLaws.{after, in_order-kept}
+use Rattle.lifetime_segments.specs.OrderedLaws.{not_before-chains, in_order-kept}
 use Rattle.retro_base.specs.OrderLaws.{all_weaker}
 use Rattle.retro_dictionary.specs.PairSearch.{pair_before}
 use Rattle.retro_dictionary.specs.PairSearchLaws.{pair_order}
@@ -22,7 +22,7 @@ all_ordered order (x ∷ []) sorted = (tt, tt)
 all_ordered {before = before} order (x ∷ y ∷ ys) sorted =
     let here : before y x ≡ false = sorted 0 x (omega arith) in
     let rest : AreInOrder before (y ∷ ys) = all_ordered order (y ∷ ys) (λ k d more. sorted (suc k) d (omega arith)) in
-    ((here, all_weaker (λ z. before z y ≡ false) (λ z. before z x ≡ false) ys (λ z far. after order x y z here far) rest.0), rest)
+    ((here, all_weaker (λ z. before z y ≡ false) (λ z. before z x ≡ false) ys (λ z far. not_before-chains order x y z here far) rest.0), rest)
 
 -- by the key, and then by the value
 abbrev pair_cmp : ℤ × ℤ → ℤ × ℤ → Ordering
