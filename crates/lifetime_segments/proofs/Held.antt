@@ -1,14 +1,15 @@
 -- The lifetimes that are held, and the trie of their items, through an edit.
-use Rattle.std.proofs.Common.{◌≡◌, ℕ, zero, suc, ◌<◌, Bool, true, List, [], length, sym, subst, ap, ◌∙◌, arith}
+use Rattle.std.proofs.Common.{◌≡◌, ℕ, zero, suc, ◌<◌, Some, Bool, true, List, [], length, slice_set, sym, subst, ap, ◌∙◌, arith}
 use Rattle.lifetime_segments.specs.declared.lifetime.Lifetime.{Lifetime}
 use Rattle.lifetime_segments.specs.declared.trie.Trie.{Trie, Empty}
 use Rattle.lifetime_segments.specs.Lawful.{most_items}
-use Rattle.lifetime_segments.specs.Ordered.{IsOrder, AreInOrder, put_in, is_in, without}
+use Rattle.lifetime_segments.specs.Ordered.{IsOrder, AreInOrder, put_in, is_in, without, position_in}
 use Rattle.lifetime_segments.specs.OrderedLaws.{length-put_in, length-without, all-put_in, all-without, put_in-ordered, without-ordered, is_in-all, put_in-without, put_in-swap, is_in-put_in, without-put_in}
 use Rattle.lifetime_segments.specs.Lifetimes.{IsInRange, stands_earlier}
 use Rattle.lifetime_segments.specs.LifetimeLaws.{earlier_order}
 use Rattle.lifetime_segments.specs.Tries.{items_of, left_of, right_of, IsOf, HasOne, Keeps, Adds, Takes, Moves, ending, AreHeld}
 use Rattle.lifetime_segments.proofs.Moved.{of_put_in, of_without}
+use Rattle.lifetime_segments.proofs.Places.{position-some, replaced}
 
 of_none : {A M : Type 0} (before : A → A → Bool) (level : ℕ) (trie : Trie A M) → trie ≡ Empty → IsOf before level [] trie
 unfolding IsOf
@@ -41,6 +42,14 @@ module _ {A : Type 0} {before : A → A → Bool} (order : IsOrder before) (x y 
 
   without-beside : without before x (put_in before y xs) ≡ put_in before y (without before x xs)
   without-beside = ap (without before x) put_in-beside ∙ without-put_in order x (put_in before y (without before x xs))
+
+-- an element that is replaced where it stands
+pub replaced_at : {A : Type 0} {before : A → A → Bool} (order : IsOrder before) (x y : A) (xs : List A) (place : ℕ) → AreInOrder before xs → position_in before x xs ≡ Some place
+    → AreInOrder before (slice_set xs place y) → slice_set xs place y ≡ without before x (put_in before y xs)
+replaced_at {before = before} order x y xs place ordered there still =
+    let found = position-some before x xs place there in
+    subst (λ n. AreInOrder before (slice_set xs n y) → slice_set xs n y ≡ without before x (put_in before y xs)) found.1
+    (λ still. replaced order x y xs ordered found.0 still ∙ sym (without-beside order x y xs ordered found.0)) still
 
 module _ {A : Type 0} {before : A → A → Bool} (order : IsOrder before) {M : Type 0} where
   pub held_with : (life : Lifetime A) (held : List (Lifetime A)) (root after : Trie A M) → IsInRange life → length held < most_items → AreHeld before held root → Adds before 40 life root after

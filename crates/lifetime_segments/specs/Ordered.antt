@@ -1,5 +1,5 @@
 -- Lists that stand in an order.
-use Rattle.std.specs.Prelude.{◌≡◌, Bool, true, false, cond, not, ℕ, suc, List, [], ◌∷◌}
+use Rattle.std.specs.Prelude.{◌≡◌, Bool, true, false, cond, not, ℕ, suc, List, [], ◌∷◌, Option, Some, None}
 use Rattle.std.specs.List.{AllByRecursion}
 
 -- a strict total order
@@ -37,3 +37,7 @@ without before x (y ∷ ys) = cond (before y x) (y ∷ without before x ys) (con
 abbrev pub place_in : {A : Type 0} → (A → A → Bool) → A → List A → ℕ
 place_in before x [] = 0
 place_in before x (y ∷ ys) = cond (before y x) (suc (place_in before x ys)) 0
+
+-- its place, if it is there
+abbrev pub position_in : {A : Type 0} → (A → A → Bool) → A → List A → Option ℕ
+position_in before x xs = cond (is_in before x xs) (Some (place_in before x xs)) None

@@ -11,6 +11,9 @@
 //! lifetime that holds the label lies in exactly one of them; so their answers are combined. A node keeps its items in a
 //! tree in their order, and one with nothing is dropped.
 //!
+//! Beside it all lifetimes stand in one tree, by where they begin. One whose end moves mostly keeps its place there, and is
+//! replaced; only where it goes past another that begins at the same label is it put in and taken out.
+//!
 //! | Call | Cost, with n lifetimes |
 //! |---|---|
 //! | `new` | constant |

@@ -1,15 +1,15 @@
-ghost use Rattle.std.specs.Prelude.{◌≡◌, ◌<◌, ◌≤◌, true, [], length, IfOk, OnOk, OnErr};
+ghost use Rattle.std.specs.Prelude.{◌≡◌, ◌<◌, ◌≤◌, true, [], length, Some, IfOk, OnOk, OnErr};
 ghost use Rattle.std.specs.List.{AllByRecursion};
 ghost use Rattle.retro_base.specs.Visits.{OpensCounter};
 ghost use Rattle.lifetime_segments.specs.Lawful.{most_items};
 ghost use Rattle.lifetime_segments.specs.Lifetimes.{label_end, lifetime, IsInRange, items_at, stands_earlier};
-ghost use Rattle.lifetime_segments.specs.Ordered.{AreInOrder, put_in, in_order, is_in, without};
+ghost use Rattle.lifetime_segments.specs.Ordered.{AreInOrder, put_in, in_order, is_in, without, position_in};
 ghost use Rattle.lifetime_segments.specs.Tries.{AreHeld, ending};
 
 use crate::collect::collected;
 use crate::decomposable::Decomposable;
 use crate::lifetime::Lifetime;
-use crate::sorted::{ByStart, holds, put, take_out};
+use crate::sorted::{ByStart, fits_at, position, put, take_out};
 use crate::trie::Trie;
 use crate::{edit, search};
 use retro_base::{NoMemory, Steps};
@@ -75,8 +75,15 @@ impl<D: Decomposable> Segments<D> {
         ensures err { OnErr result (self.new ≡ self.old) }
     {
         let life = Lifetime { from, to, item };
-        if is_held::<D, Brand>(&self.held, life, Blank::new(1)) {
-            return move_held::<D, Brand>(&mut self.held, &mut self.root, life, next, Blank::new(1));
+        if let Some(place) = place_held::<D, Brand>(&self.held, life, Blank::new(1)) {
+            return move_held::<D, Brand>(
+                &mut self.held,
+                &mut self.root,
+                place,
+                life,
+                next,
+                Blank::new(1),
+            );
         }
         self.add(from, next, item)?;
         self.take(from, to, item);
@@ -149,35 +156,64 @@ fn take_held<D: Decomposable, L: Ledger>(
     ensures rest { held.new ≡ without (stands_earlier D.stands_before) life held.old }
 {
     let mut steps = Steps::<L>::new(blank);
-    if !holds::<ByStart<D>, L>(held, life, &mut steps) {
+    let Some(place) = position::<ByStart<D>, L>(held, &life, &mut steps) else {
         return false;
-    }
-    take_out::<ByStart<D>, L>(held, life, &mut steps);
+    };
+    held.remove(place, &mut steps);
     edit::take::<D, L>(root, LEVELS, life, &mut steps);
     true
 }
 
-fn is_held<D: Decomposable, L: Ledger>(
+/// The place of a lifetime among those that are held, if it is there.
+fn place_held<D: Decomposable, L: Ledger>(
     held: &Tree<Lifetime<D::Item>>,
     life: Lifetime<D::Item>,
     blank: Blank,
-) -> bool
+) -> Option<u32>
     requires counter { OpensCounter blank.name L.name blank.parts L.parts }
     requires ordered { AreInOrder (stands_earlier D.stands_before) held.now }
-    ensures { result ≡ is_in (stands_earlier D.stands_before) life held.now }
+    ensures { result ≡ position_in (stands_earlier D.stands_before) life held.now }
 {
     let mut steps = Steps::<L>::new(blank);
-    holds::<ByStart<D>, L>(held, life, &mut steps)
+    position::<ByStart<D>, L>(held, &life, &mut steps)
 }
 
+/// Moves where a lifetime ends. Lifetimes stand by where they begin, so it mostly stays where it stands, and is replaced.
 fn move_held<D: Decomposable, L: Ledger>(
     held: &mut Tree<Lifetime<D::Item>>,
     root: &mut Trie<D::Item>,
+    place: u32,
     life: Lifetime<D::Item>,
     next: u64,
     blank: Blank,
 ) -> Result<(), NoMemory>
     requires counter { OpensCounter blank.name L.name blank.parts L.parts }
+    requires range { IsInRange (ending next life) }
+    requires room { length held.old < most_items }
+    requires place { position_in (stands_earlier D.stands_before) life held.old ≡ Some place }
+    requires held { AreHeld D.stands_before held.old root.old }
+    ensures held { AreHeld D.stands_before held.new root.new }
+    ensures ok { OnOk result (held.new ≡ without (stands_earlier D.stands_before) life (put_in (stands_earlier D.stands_before) (ending next life) held.old)) }
+    ensures err { OnErr result (held.new ≡ held.old) }
+{
+    let mut steps = Steps::<L>::new(blank);
+    let moved = life.ending(next);
+    if fits_at::<ByStart<D>, L>(held, place, &life, &moved, &mut steps) {
+        edit::move_end::<D, L>(root, LEVELS, life, next, held.alloc(), &mut steps)?;
+        held.replace(place, moved, &mut steps);
+        return Ok(());
+    }
+    move_away::<D, L>(held, root, life, next, &mut steps)
+}
+
+/// Moves where a lifetime ends that goes past others.
+fn move_away<D: Decomposable, L: Ledger>(
+    held: &mut Tree<Lifetime<D::Item>>,
+    root: &mut Trie<D::Item>,
+    life: Lifetime<D::Item>,
+    next: u64,
+    steps: &mut Steps<L>,
+) -> Result<(), NoMemory>
     requires range { IsInRange (ending next life) }
     requires room { length held.old < most_items }
     requires there { is_in (stands_earlier D.stands_before) life held.old ≡ true }
@@ -186,11 +222,10 @@ fn move_held<D: Decomposable, L: Ledger>(
     ensures ok { OnOk result (held.new ≡ without (stands_earlier D.stands_before) life (put_in (stands_earlier D.stands_before) (ending next life) held.old)) }
     ensures err { OnErr result (held.new ≡ held.old) }
 {
-    let mut steps = Steps::<L>::new(blank);
     let moved = life.ending(next);
-    put::<ByStart<D>, L>(held, moved, &mut steps)?;
-    let done = edit::move_end::<D, L>(root, LEVELS, life, next, held.alloc(), &mut steps);
+    put::<ByStart<D>, L>(held, moved, steps)?;
+    let done = edit::move_end::<D, L>(root, LEVELS, life, next, held.alloc(), steps);
     let gone = if done.is_err() { moved } else { life };
-    take_out::<ByStart<D>, L>(held, gone, &mut steps);
+    take_out::<ByStart<D>, L>(held, gone, steps);
     done
 }

@@ -1,5 +1,5 @@
-ghost use Rattle.std.specs.Prelude.{◌≡◌, ◌<◌, ◌^◌, Bool, true, length, OnOk, OnErr};
-ghost use Rattle.lifetime_segments.specs.Ordered.{IsOrder, AreInOrder, put_in, is_in, without, place_in};
+ghost use Rattle.std.specs.Prelude.{◌≡◌, ◌<◌, ◌^◌, Bool, true, length, slice_get, slice_set, Some, OnOk, OnErr};
+ghost use Rattle.lifetime_segments.specs.Ordered.{IsOrder, AreInOrder, put_in, is_in, without, place_in, position_in};
 ghost use Rattle.lifetime_segments.specs.Lifetimes.{stands_earlier};
 ghost use Rattle.lifetime_segments.specs.LifetimeLaws.{earlier_order};
 
@@ -87,17 +87,40 @@ pub(crate) fn put<O: Order, L: Ledger>(
     items.insert(place, item, steps)
 }
 
-/// Whether an item is there.
-pub(crate) fn holds<O: Order, L: Ledger>(
+/// The place of an item, if it is there.
+pub(crate) fn position<O: Order, L: Ledger>(
     items: &Tree<O::Item>,
-    item: O::Item,
+    item: &O::Item,
+    steps: &mut Steps<L>,
+) -> Option<u32>
+    requires ordered { AreInOrder O.stands_before items.now }
+    ensures { result ≡ position_in O.stands_before item.now items.now }
+{
+    let place = place_of::<O, L>(items, item, steps);
+    if place < items.len() && !O::before(item, &items.get(place, steps)) {
+        Some(place)
+    } else {
+        None
+    }
+}
+
+/// Whether another item stands in order in the place of one: the neighbour on the side to which it goes decides.
+pub(crate) fn fits_at<O: Order, L: Ledger>(
+    items: &Tree<O::Item>,
+    place: u32,
+    item: &O::Item,
+    other: &O::Item,
     steps: &mut Steps<L>,
 ) -> bool
     requires ordered { AreInOrder O.stands_before items.now }
-    ensures { result ≡ is_in O.stands_before item items.now }
+    requires there { slice_get items.now place ≡ Some item.now }
+    ensures { result ≡ true → AreInOrder O.stands_before (slice_set items.now place other.now) }
 {
-    let place = place_of::<O, L>(items, &item, steps);
-    place < items.len() && !O::before(&item, &items.get(place, steps))
+    if O::before(other, item) {
+        place == 0 || !O::before(other, &items.get(place - 1, steps))
+    } else {
+        place == items.len() - 1 || !O::before(&items.get(place + 1, steps), other)
+    }
 }
 
 /// Takes an item out that is there.

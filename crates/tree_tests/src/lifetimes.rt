@@ -198,11 +198,14 @@ fn takes_what_is_held(rt: HostRuntime) {
 fn moves_an_end(rt: HostRuntime) {
     let mut segments = Segments::<Totals>::new(rt.alloc());
     add(&rt, &mut segments, 2, 8, 10);
+    add(&rt, &mut segments, 2, 12, 20);
     let item = Amount { value: 10 };
     segments.move_end(2, 8, 5, item).expect(&rt, "memory");
-    assert_eq!(rt; segments.ask(4, ()), Total { count: 1, sum: 10 });
-    assert_eq!(rt; segments.ask(5, ()), Total { count: 0, sum: 0 });
+    assert_eq!(rt; segments.ask(4, ()), Total { count: 2, sum: 30 });
+    assert_eq!(rt; segments.ask(5, ()), Total { count: 1, sum: 20 });
     segments.move_end(2, 5, END, item).expect(&rt, "memory");
-    assert_eq!(rt; segments.ask(5, ()), Total { count: 1, sum: 10 });
+    assert_eq!(rt; segments.ask(5, ()), Total { count: 2, sum: 30 });
     assert_eq!(rt; segments.ask(END - 1, ()), Total { count: 1, sum: 10 });
+    assert!(rt; segments.take(2, 12, Amount { value: 20 }));
+    assert!(rt; segments.take(2, END, item));
 }
