@@ -1,4 +1,4 @@
-pub mod MeasuredSigns
+pub mod MeasuredRows
 pub mod FoundPlaces
 pub mod RowFailures
 pub mod LineAnswers

@@ -1,5 +1,5 @@
--- From a search in the signs of rows to the first row that finds nothing to take.
-use Rattle.std.proofs.Common.{◌≡◌, ℕ, ◌+◌, ◌-◌, ◌<◌, ◌≤◌, ℤ, pos, negsuc, ◌-ℤ◌, Bool, true, List, length, Option, Some, None, sym, ap, ◌∙◌, arith, subst}
+-- From a search among the sizes of a line to the first row that finds nothing to take.
+use Rattle.std.proofs.Common.{◌≡◌, ℕ, ◌+◌, ◌-◌, ◌<◌, ◌≤◌, ℤ, pos, negsuc, ◌-ℤ◌, true, List, length, Option, None, Some, sym, ap, ◌∙◌, arith, subst}
 use Rattle.std.specs.Int.Signed.{le_z}
 use Rattle.std.specs.Prelude.{slice_get}
 use Rattle.std.specs.List.{insert, remove}
@@ -9,15 +9,7 @@ use Rattle.retro_base.specs.declared.row.Row.{Row}
 use Rattle.prefix_trees.specs.Growth.{sign_of}
 use Rattle.prefix_trees.specs.Falls.{NeverFalls, FallsFirst}
 use Rattle.prefix_trees.specs.Prefixes.{FindsFirstAtMost, IsFirstAtMost, NoneAtMost}
-use Rattle.prefix_trees.specs.EditLaws.{signs_and_marks, falls-insert, falls-later, falls-remove-none, falls-remove-some, never-falls-insert, never-falls-remove}
-
--- a search with these arguments is one with those
-searched : (signs signs' : List (ℤ × Bool)) (from end end' : ℕ) (value value' : ℤ) (answer : Option ℕ) → signs ≡ signs' → end ≡ end' → value ≡ value'
-    → FindsFirstAtMost signs from end value answer → FindsFirstAtMost signs' from end' value' answer
-searched signs signs' from end end' value value' answer same_signs same_end same_value found =
-    subst (λ s. FindsFirstAtMost s from end' value' answer) same_signs
-    (subst (λ n. FindsFirstAtMost signs from n value' answer) same_end
-    (subst (λ v. FindsFirstAtMost signs from end v answer) same_value found))
+use Rattle.prefix_trees.specs.EditLaws.{falls-insert, falls-later, falls-remove-none, falls-remove-some, never-falls-insert, never-falls-remove}
 
 -- a row that takes nothing, or one that adds nothing and is taken out, stops no other
 pub with_none : (rows : List Row) (place : ℕ) (op : Op) (sign : ℤ) → NeverFalls rows → place ≤ length rows → sign ≡ sign_of op → le_z (pos 0) sign ≡ true
@@ -29,28 +21,24 @@ pub without_nothing : (rows : List Row) (place : ℕ) (row : Row) (sign : ℤ) �
     → sign ≡ sign_of row.op → le_z sign (pos 0) ≡ true → FallsFirst (remove rows place) None
 without_nothing rows place row sign never at inside is adds_none = never-falls-remove rows place never row at inside (le_true (sign_of row.op) (pos 0) (subst (λ s. le_z s (pos 0) ≡ true) is adds_none))
 
-module _ (rows : List Row) (signs : List (ℤ × Bool)) (signs_are : signs ≡ signs_and_marks rows) (never : NeverFalls rows) (place end : ℕ) (end_is : end ≡ length rows) (value : ℤ) where
-  pub with_row : (op : Op) (answer : Option ℕ) → value ≡ negsuc 0 -ℤ sign_of op → place ≤ length rows → FindsFirstAtMost signs place end value answer
+module _ (rows : List Row) (never : NeverFalls rows) (place : ℕ) (value : ℤ) where
+  pub with_row : (op : Op) (answer : Option ℕ) → value ≡ negsuc 0 -ℤ sign_of op → place ≤ length rows → FindsFirstAtMost sign_of rows place value answer
       → (row : Row) → row.op ≡ op → FallsFirst (insert rows place row) answer
   with_row op answer value_is within found row same =
-      falls-insert rows place never row within answer
-      (searched signs (signs_and_marks rows) place end (length rows) value (negsuc 0 -ℤ sign_of row.op) answer signs_are end_is (value_is ∙ ap (λ o. negsuc 0 -ℤ sign_of o) (sym same)) found)
+      falls-insert rows place never row within answer (subst (λ v. FindsFirstAtMost sign_of rows place v answer) (value_is ∙ ap (λ o. negsuc 0 -ℤ sign_of o) (sym same)) found)
 
   module _ (row : Row) (at : slice_get rows place ≡ Some row) (inside : place < length rows) (value_is : value ≡ sign_of row.op -ℤ pos 1) where
-    pub without_none : NoneAtMost signs (place + 1) end value → FallsFirst (remove rows place) None
-    without_none found =
-        falls-remove-none rows place never row at inside
-        (searched signs (signs_and_marks rows) (place + 1) end (length rows) value (sign_of row.op -ℤ pos 1) None signs_are end_is value_is found)
+    pub without_none : NoneAtMost sign_of rows (place + 1) (length rows) value → FallsFirst (remove rows place) None
+    without_none found = falls-remove-none rows place never row at inside (subst (λ v. FindsFirstAtMost sign_of rows (place + 1) v None) value_is found)
 
-    without_first : (later : ℕ) → IsFirstAtMost signs (place + 1) end value later → IsFirstAtMost (signs_and_marks rows) (place + 1) (length rows) (sign_of row.op -ℤ pos 1) later
-    without_first later found = searched signs (signs_and_marks rows) (place + 1) end (length rows) value (sign_of row.op -ℤ pos 1) (Some later) signs_are end_is value_is found
+    without_first : (later : ℕ) → IsFirstAtMost sign_of rows (place + 1) value later → IsFirstAtMost sign_of rows (place + 1) (sign_of row.op -ℤ pos 1) later
+    without_first later found = subst (λ v. IsFirstAtMost sign_of rows (place + 1) v later) value_is found
 
-    pub without_some : (later : ℕ) → IsFirstAtMost signs (place + 1) end value later → FallsFirst (remove rows place) (Some (later - 2))
+    pub without_some : (later : ℕ) → IsFirstAtMost sign_of rows (place + 1) value later → FallsFirst (remove rows place) (Some (later - 2))
     without_some later found = falls-remove-some rows place never row at inside later (without_first later found)
 
-    pub two_on : (later : ℕ) → IsFirstAtMost signs (place + 1) end value later → 2 ≤ later
+    pub two_on : (later : ℕ) → IsFirstAtMost sign_of rows (place + 1) value later → 2 ≤ later
     two_on later found = omega (arith, falls-later rows place never row at inside later (without_first later found))
 
-    pub within_rest : (later : ℕ) → IsFirstAtMost signs (place + 1) end value later → later - 2 + 1 < length rows
-    within_rest later found =
-        omega (arith, two_on later found, found.within, end_is)
+    pub within_rest : (later : ℕ) → IsFirstAtMost sign_of rows (place + 1) value later → later - 2 + 1 < length rows
+    within_rest later found = omega (arith, two_on later found, found.within)

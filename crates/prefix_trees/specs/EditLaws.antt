@@ -1,33 +1,16 @@
 -- Where the sum of the signs falls first, were a row put in or taken out: the sums after the place rise or fall
 -- by the row's sign, and those before it stay.
-use Rattle.std.proofs.Common.{◌≡◌, ℕ, zero, suc, ◌+◌, ◌-◌, ◌<◌, ◌≤◌, ℤ, pos, negsuc, ◌+ℤ◌, ◌-ℤ◌, ◌≤ℤ◌, ◌<ℤ◌, Bool, List, [], ◌∷◌, take, map, length, Option, Some, None, refl, ap, ◌∙◌, arith, inl, inr, subst}
+use Rattle.std.proofs.Common.{◌≡◌, ℕ, zero, suc, ◌+◌, ◌-◌, ◌<◌, ◌≤◌, ℤ, pos, negsuc, ◌+ℤ◌, ◌-ℤ◌, ◌≤ℤ◌, ◌<ℤ◌, List, [], ◌∷◌, length, Option, Some, None, refl, ap, ◌∙◌, arith, inl, inr, subst}
 use Rattle.std.specs.Prelude.{slice_get}
 use Rattle.std.specs.List.{insert, remove}
 use Rattle.std.proofs.lemmas.Bool.{cases_lt}
 use Rattle.std.proofs.lemmas.Int.{ints}
 use Rattle.std.proofs.lemmas.List.Edits.{length-insert}
-use Rattle.monoid_laws.specs.Summed.{sum_of}
 use Rattle.retro_base.specs.declared.op.Op.{Op}
 use Rattle.retro_base.specs.declared.row.Row.{Row}
-use Rattle.prefix_trees.specs.Growth.{sign_of, grown, sign_and_mark}
+use Rattle.prefix_trees.specs.Growth.{sign_of, grown}
 use Rattle.prefix_trees.specs.Falls.{NeverFalls, FallsFirst, FallsAtFrom}
-use Rattle.prefix_trees.specs.Prefixes.{signs_of, prefix, IsFirstAtMost, FindsFirstAtMost}
-
--- the signs and marks of rows
-abbrev pub signs_and_marks : List Row → List (ℤ × Bool)
-signs_and_marks rows = map sign_and_mark rows
-
-signs-are : (rows : List Row) → signs_of (signs_and_marks rows) ≡ map (λ row. sign_of row.op) rows
-signs-are [] = refl
-signs-are (row ∷ rows) = ap (λ xs. sign_of row.op ∷ xs) (signs-are rows)
-
-pub length-signs : (rows : List Row) → length (signs_and_marks rows) ≡ length rows
-length-signs [] = refl
-length-signs (row ∷ rows) = ap suc (length-signs rows)
-
--- their prefix sums are the growth of the line
-pub prefix-grown : (rows : List Row) (place : ℕ) → prefix (signs_and_marks rows) place ≡ grown sign_of rows place
-prefix-grown rows place = ap (λ xs. sum_of (take place xs)) (signs-are rows)
+use Rattle.prefix_trees.specs.Prefixes.{IsFirstAtMost, FindsFirstAtMost}
 
 module _ (growth : Op → ℤ) where
   pub grown-insert-before : (rows : List Row) (place : ℕ) (row : Row) (k : ℕ) → k ≤ place → place ≤ length rows → grown growth (insert rows place row) k ≡ grown growth rows k
@@ -69,20 +52,6 @@ module _ (growth : Op → ℤ) where
   grown-remove-after (r ∷ rows) (suc place) row (suc k) after at =
       ap (λ s. growth r.op +ℤ s) (grown-remove-after rows place row k (omega arith) at) ∙ first_and_next (growth r.op) (grown growth (remove rows place) k) (growth row.op)
 
--- how the signs change where a row is put in or taken out
-pub signs-insert : (rows : List Row) (place : ℕ) (row : Row) → insert (signs_and_marks rows) place (sign_and_mark row) ≡ signs_and_marks (insert rows place row)
-signs-insert rows zero row = refl
-signs-insert [] (suc place) row = refl
-signs-insert (r ∷ rows) (suc place) row = ap (λ xs. sign_and_mark r ∷ xs) (signs-insert rows place row)
-
-pub signs-remove : (rows : List Row) (place : ℕ) → remove (signs_and_marks rows) place ≡ signs_and_marks (remove rows place)
-signs-remove rows zero = first_out rows where
-  first_out : (rows : List Row) → remove (signs_and_marks rows) 0 ≡ signs_and_marks (remove rows 0)
-  first_out [] = refl
-  first_out (r ∷ rows) = refl
-signs-remove [] (suc place) = refl
-signs-remove (r ∷ rows) (suc place) = ap (λ xs. sign_and_mark r ∷ xs) (signs-remove rows place)
-
 module _ (rows : List Row) (place : ℕ) (never : NeverFalls rows) where
   enough : (k : ℕ) → k ≤ length rows → pos 0 ≤ℤ grown sign_of rows k
   enough k within = omega (arith, ints, never k within)
@@ -99,13 +68,13 @@ module _ (rows : List Row) (place : ℕ) (never : NeverFalls rows) where
       | inr after ↦ omega (arith, ints, grown-insert-after sign_of rows place row k after within, above k after (omega arith))
     ]
 
-    falls_with : (answer : Option ℕ) → FindsFirstAtMost (signs_and_marks rows) place (length rows) (negsuc 0 -ℤ sign_of row.op) answer → FallsFirst with_row answer
+    falls_with : (answer : Option ℕ) → FindsFirstAtMost sign_of rows place (negsuc 0 -ℤ sign_of row.op) answer → FallsFirst with_row answer
     falls_with None none = λ k small.
-        enough_with k (λ earlier after below. omega (arith, ints, none earlier after (omega (arith, length-insert rows place row within)), prefix-grown rows earlier)) (omega (arith, length-insert rows place row within))
+        enough_with k (λ earlier after below. omega (arith, ints, none earlier after (omega (arith, length-insert rows place row within)))) (omega (arith, length-insert rows place row within))
     falls_with (Some index) first = record {
       within = omega (arith, first.within, length-insert rows place row within);
-      falls = omega (arith, ints, grown-insert-after sign_of rows place row index first.above within, first.reached, prefix-grown rows index);
-      not_before = λ k before. enough_with k (λ earlier after below. omega (arith, ints, first.not_before earlier after (omega arith), prefix-grown rows earlier)) (omega (arith, first.within));
+      falls = omega (arith, ints, grown-insert-after sign_of rows place row index first.above within, first.reached);
+      not_before = λ k before. enough_with k (λ earlier after below. omega (arith, ints, first.not_before earlier after (omega arith))) (omega (arith, first.within));
     }
 
     -- a row that takes nothing lowers no sum
@@ -114,7 +83,7 @@ module _ (rows : List Row) (place : ℕ) (never : NeverFalls rows) where
         enough_with k (λ earlier after below. omega (arith, ints, takes_none, enough earlier (omega (arith, length-insert rows place row within))))
         (omega (arith, length-insert rows place row within))
 
-    pub falls-insert : (answer : Option ℕ) → FindsFirstAtMost (signs_and_marks rows) place (length rows) (negsuc 0 -ℤ sign_of row.op) answer → FallsFirst (insert rows place row) answer
+    pub falls-insert : (answer : Option ℕ) → FindsFirstAtMost sign_of rows place (negsuc 0 -ℤ sign_of row.op) answer → FallsFirst (insert rows place row) answer
     falls-insert answer found = falls_with answer found
 
   -- the row at the place is taken out
@@ -126,7 +95,7 @@ module _ (rows : List Row) (place : ℕ) (never : NeverFalls rows) where
     ]
 
     -- the sum falls no earlier than after the row that follows
-    pub falls-later : (later : ℕ) → IsFirstAtMost (signs_and_marks rows) (place + 1) (length rows) (sign_of row.op -ℤ pos 1) later → place + 2 ≤ later
+    pub falls-later : (later : ℕ) → IsFirstAtMost sign_of rows (place + 1) (sign_of row.op -ℤ pos 1) later → place + 2 ≤ later
     falls-later later first = elim (cases_lt (place + 1) later) [
       | inl far ↦ omega arith
       | inr near ↦
@@ -135,7 +104,6 @@ module _ (rows : List Row) (place : ℕ) (never : NeverFalls rows) where
             arith,
             ints,
             first.reached,
-            prefix-grown rows later,
             ap (grown sign_of rows) same,
             grown-remove-after sign_of rows place row place (omega arith) at,
             grown-remove-before sign_of rows place place (omega arith),
@@ -155,18 +123,18 @@ module _ (rows : List Row) (place : ℕ) (never : NeverFalls rows) where
     never-falls-remove adds_none k small =
         enough_without k (λ later after below. omega (arith, ints, adds_none, enough later (omega (arith, length_without)))) (omega (arith, length_without))
 
-    pub falls-remove-none : FindsFirstAtMost (signs_and_marks rows) (place + 1) (length rows) (sign_of row.op -ℤ pos 1) None → FallsFirst (remove rows place) None
+    pub falls-remove-none : FindsFirstAtMost sign_of rows (place + 1) (sign_of row.op -ℤ pos 1) None → FallsFirst (remove rows place) None
     falls-remove-none none k small =
-        enough_without k (λ later after below. omega (arith, ints, none later (omega arith) (omega (arith, length_without)), prefix-grown rows later)) (omega (arith, length_without))
+        enough_without k (λ later after below. omega (arith, ints, none later (omega arith) (omega (arith, length_without)))) (omega (arith, length_without))
 
-    falls_at : (index : ℕ) → IsFirstAtMost (signs_and_marks rows) (place + 1) (length rows) (sign_of row.op -ℤ pos 1) (suc (suc index)) → place ≤ index → FallsAtFrom (pos 0) (remove rows place) index
+    falls_at : (index : ℕ) → IsFirstAtMost sign_of rows (place + 1) (sign_of row.op -ℤ pos 1) (suc (suc index)) → place ≤ index → FallsAtFrom (pos 0) (remove rows place) index
     falls_at index first far = record {
       within = omega (arith, first.within, length_without);
-      falls = omega (arith, ints, grown-remove-after sign_of rows place row (suc index) (omega arith) at, first.reached, prefix-grown rows (suc (suc index)));
-      not_before = λ k before. enough_without k (λ later after below. omega (arith, ints, first.not_before later (omega arith) (omega arith), prefix-grown rows later)) (omega (arith, first.within));
+      falls = omega (arith, ints, grown-remove-after sign_of rows place row (suc index) (omega arith) at, first.reached);
+      not_before = λ k before. enough_without k (λ later after below. omega (arith, ints, first.not_before later (omega arith) (omega arith))) (omega (arith, first.within));
     }
 
-    pub falls-remove-some : (later : ℕ) → IsFirstAtMost (signs_and_marks rows) (place + 1) (length rows) (sign_of row.op -ℤ pos 1) later → FallsFirst (remove rows place) (Some (later - 2))
+    pub falls-remove-some : (later : ℕ) → IsFirstAtMost sign_of rows (place + 1) (sign_of row.op -ℤ pos 1) later → FallsFirst (remove rows place) (Some (later - 2))
     falls-remove-some later first =
         let far = falls-later later first in
-        falls_at (later - 2) (subst (IsFirstAtMost (signs_and_marks rows) (place + 1) (length rows) (sign_of row.op -ℤ pos 1)) (let same : later ≡ suc (suc (later - 2)) = omega arith in same) first) (omega arith)
+        falls_at (later - 2) (subst (IsFirstAtMost sign_of rows (place + 1) (sign_of row.op -ℤ pos 1)) (let same : later ≡ suc (suc (later - 2)) = omega arith in same) first) (omega arith)

@@ -1,13 +1,15 @@
 -- A queue, a stack or a deque is a line of items, and each row lets it grow or shrink by one at one end.
 -- A queue and a deque are seen from the left, a stack has its top there.
-use Rattle.std.specs.Prelude.{ℕ, ℤ, pos, negsuc, Bool, true, false, List, map, take}
+use Rattle.std.specs.Prelude.{ℕ, ℤ, pos, negsuc, List, map}
 use Rattle.std.specs.Prelude.{Option, Some, None}
-use Rattle.monoid_laws.specs.Summed.{sum_of}
+use Rattle.monoid_laws.specs.Summed.{sum_to}
 use Rattle.retro_base.specs.declared.kind.Kind.{Kind}
 use Rattle.retro_base.specs.declared.kind.Kind.TheVariants.{Queue, Stack, Deque, Dict, Pq}
 use Rattle.retro_base.specs.declared.op.Op.{Op}
 use Rattle.retro_base.specs.declared.op.Op.TheVariants.{Enq, Deq, Push, Pop, PushL, PushR, PopL, PopR}
 use Rattle.retro_base.specs.declared.row.Row.{Row}
+use Rattle.prefix_trees.specs.declared.growth.Growth.{Growth}
+use Rattle.prefix_trees.specs.declared.growth.Growth.TheVariants.{Whole, Left, Right}
 
 -- the kinds whose state is a line of items
 abbrev pub IsLine : Kind → Type 0
@@ -45,13 +47,11 @@ sign_of PopL = negsuc 0
 sign_of PopR = negsuc 0
 sign_of op = pos 0
 
--- it adds an item
-abbrev pub adds : Op → Bool
-adds (Enq value) = true
-adds (Push value) = true
-adds (PushL value) = true
-adds (PushR value) = true
-adds op = false
+-- one of the three
+abbrev pub growth_of : Growth → Op → ℤ
+growth_of Whole = sign_of
+growth_of Left = left_growth
+growth_of Right = right_growth
 
 -- the item that it adds
 abbrev pub value_of : Op → Option ℤ
@@ -61,10 +61,10 @@ value_of (PushL value) = Some value
 value_of (PushR value) = Some value
 value_of op = None
 
--- by how much the first so many rows let the line grow
-abbrev pub grown : (Op → ℤ) → List Row → ℕ → ℤ
-grown growth rows place = sum_of (take place (map (λ row. growth row.op) rows))
+-- by how much each row lets the line grow
+abbrev pub growths : (Op → ℤ) → List Row → List ℤ
+growths growth rows = map (λ row. growth row.op) rows
 
--- a row's sign, with a mark where it adds
-abbrev pub sign_and_mark : Row → ℤ × Bool
-sign_and_mark row = (sign_of row.op, adds row.op)
+-- by how much the first so many rows do
+abbrev pub grown : (Op → ℤ) → List Row → ℕ → ℤ
+grown growth rows place = sum_to (growths growth rows) place

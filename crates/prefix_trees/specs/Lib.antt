@@ -1,7 +1,6 @@
+pub mod Growth
 pub mod Prefixes
 pub mod Walks
-pub mod MarkLaws
-pub mod Growth
 pub mod RunLaws
 pub mod LineLaws
 pub mod PositionLaws

@@ -1,5 +1,5 @@
 -- How many items a line has is a number, and no greater than the number of rows before the place.
-use Rattle.std.proofs.Common.{◌≡◌, ℕ, zero, suc, ◌≤◌, ℤ, pos, negsuc, ◌≤ℤ◌, List, [], ◌∷◌, length, refl, ap, arith}
+use Rattle.std.proofs.Common.{◌≡◌, ℕ, zero, suc, ◌≤◌, ℤ, pos, negsuc, ◌+ℤ◌, ◌≤ℤ◌, List, [], ◌∷◌, length, refl, ap, arith}
 use Rattle.std.specs.Result.{result_err}
 use Rattle.std.proofs.lemmas.Int.{ints}
 use Rattle.retro_base.specs.Limits.{most_rows}
@@ -9,7 +9,7 @@ use Rattle.retro_base.specs.declared.op.Op.TheVariants.{Enq, Deq, Push, Pop, Pus
 use Rattle.retro_base.specs.declared.row.Row.{Row}
 use Rattle.retro_base.specs.State.{empty}
 use Rattle.retro_base.specs.Timeline.{IsReplayable}
-use Rattle.prefix_trees.specs.Growth.{IsLine, sign_of, grown}
+use Rattle.prefix_trees.specs.Growth.{IsLine, sign_of, left_growth, grown}
 use Rattle.prefix_trees.specs.RunLaws.{run-empty}
 use Rattle.prefix_trees.specs.FailureLaws.{never-falls}
 
@@ -32,6 +32,29 @@ pub grown-le : (rows : List Row) (place : ℕ) → grown sign_of rows place ≤�
 grown-le rows zero = omega (arith, ints)
 grown-le [] (suc place) = omega (arith, ints)
 grown-le (row ∷ rows) (suc place) = omega (arith, ints, sign-le row.op, grown-le rows place)
+
+one_at_most : (op : Op) → (left_growth op ≤ℤ pos 1) × (negsuc 0 ≤ℤ left_growth op)
+one_at_most (Enq v) = (omega (arith, ints), omega (arith, ints))
+one_at_most Deq = (omega (arith, ints), omega (arith, ints))
+one_at_most (Push v) = (omega (arith, ints), omega (arith, ints))
+one_at_most Pop = (omega (arith, ints), omega (arith, ints))
+one_at_most (PushL v) = (omega (arith, ints), omega (arith, ints))
+one_at_most (PushR v) = (omega (arith, ints), omega (arith, ints))
+one_at_most PopL = (omega (arith, ints), omega (arith, ints))
+one_at_most PopR = (omega (arith, ints), omega (arith, ints))
+one_at_most (Put k v) = (omega (arith, ints), omega (arith, ints))
+one_at_most (Del k) = (omega (arith, ints), omega (arith, ints))
+one_at_most (Ins k) = (omega (arith, ints), omega (arith, ints))
+one_at_most DelMin = (omega (arith, ints), omega (arith, ints))
+
+-- so many rows let the left end grow by so much at most
+pub left-bounded : (rows : List Row) (place : ℕ) → (grown left_growth rows place ≤ℤ pos place) × (pos 0 ≤ℤ (grown left_growth rows place +ℤ pos place))
+left-bounded rows zero = (omega (arith, ints), omega (arith, ints))
+left-bounded [] (suc place) = (omega (arith, ints), omega (arith, ints))
+left-bounded (row ∷ rows) (suc place) =
+    let one = one_at_most row.op in
+    let rest = left-bounded rows place in
+    (omega (arith, ints, one.0, rest.0), omega (arith, ints, one.1, rest.1))
 
 pub natural : (z : ℤ) → pos 0 ≤ℤ z → (n : ℕ) × (z ≡ pos n)
 natural (pos n) h = (n, refl)

@@ -1,8 +1,19 @@
 ghost use Rattle.std.specs.Prelude.{◌≡◌};
 ghost use Rattle.monoid_laws.specs.Walk.{IsSign};
-ghost use Rattle.prefix_trees.specs.Growth.{sign_of, adds, value_of, left_growth, right_growth};
+ghost use Rattle.prefix_trees.specs.Growth.{sign_of, value_of, left_growth, right_growth};
 
 use retro_base::Op;
+
+/// Which growth of a line is asked for.
+#[derive(Clone, Copy)]
+pub enum Growth {
+    /// That of the whole line.
+    Whole,
+    /// That at its left end.
+    Left,
+    /// That at its right end.
+    Right,
+}
 
 /// By how much an operation lets a line of items grow: 1, 0 or -1.
 pub fn sign_of(op: Op) -> i8
@@ -39,17 +50,6 @@ pub fn right_growth(op: Op) -> i8
         Op::PopR => -1,
         Op::Deq | Op::Push { .. } | Op::Pop | Op::PushL { .. } | Op::PopL => 0,
         Op::Put { .. } | Op::Del { .. } | Op::Ins { .. } | Op::DelMin => 0,
-    }
-}
-
-/// Whether the operation adds an item.
-pub fn adds(op: Op) -> bool
-    ensures { result ≡ adds op }
-{
-    match op {
-        Op::Enq { .. } | Op::Push { .. } | Op::PushL { .. } | Op::PushR { .. } => true,
-        Op::Deq | Op::Pop | Op::PopL | Op::PopR => false,
-        Op::Put { .. } | Op::Del { .. } | Op::Ins { .. } | Op::DelMin => false,
     }
 }
 

@@ -12,14 +12,14 @@ ghost use Rattle.prefix_trees.specs.FailureLaws.{LineAt};
 ghost use Rattle.prefix_trees.specs.FoundLaws.{FindsWriter};
 
 use crate::asked::{Asked, asked_of};
-use crate::signed_rows::SignedRows;
+use crate::line_rows::LineRows;
 use retro_base::{Answer, Item, Kind, Listing, NoMemory, Question, Row, Steps};
 use std::alloc::Global;
 use std::marker::Brand;
 use std::sync::ledger::{Blank, Ledger};
 
-/// The rows of a structure whose state is a line of items, with what is kept beside them to find the row that wrote an
-/// item. All else that is asked of such a structure follows: see `RetroLine`.
+/// The rows of a structure whose state is a line of items, and how the row that wrote an item is found among them. All else
+/// that is asked of such a structure follows: see `RetroLine`.
 pub trait Sequence: Sized + Drop {
     /// The kind of the structure.
     ghost kind: { Kind };
@@ -35,8 +35,8 @@ pub trait Sequence: Sized + Drop {
     fn kind(&self) -> Kind
         ensures { result ≡ kind };
 
-    /// The rows with their signs.
-    fn rows(&self) -> &SignedRows
+    /// The rows, as they are kept.
+    fn rows(&self) -> &LineRows
         ensures { result.now ≡ rows self.now };
 
     /// The place of the row that wrote the item at an index from the left, after the first so many

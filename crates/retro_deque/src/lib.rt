@@ -10,10 +10,10 @@
 //! and `Retro` of `retro_base`; each call of `Partial` that takes a counter, and `ask_past`, visits at most 144 nodes for
 //! each binary digit of one more than the number of rows, and only `insert`, `copy` and the listings take memory.
 //!
-//! - `RetroDeque`. What each row does to the two ends: `ends.rt`.
+//! - `RetroDeque`.
 #![tactic(auto)]
 
 mod deque;
-mod ends;
+mod later;
 
 pub use deque::RetroDeque;

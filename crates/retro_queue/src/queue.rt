@@ -1,10 +1,4 @@
-ghost use Rattle.std.specs.Prelude.{◌≡◌, ◌+◌, ◌≤◌, pos, ◌+ℤ◌, length};
-ghost use Rattle.retro_base.specs.declared.kind.Kind.TheVariants.{Queue};
-ghost use Rattle.retro_base.specs.Timeline.{IsReplayable};
-ghost use Rattle.retro_base.specs.Visits.{VisitsWithin};
-ghost use Rattle.prefix_trees.specs.Growth.{left_growth, grown};
-
-use prefix_trees::{RetroLine, Sequence, SignedRows};
+use prefix_trees::{Growth, LineRows, RetroLine, Sequence};
 use retro_base::{Kind, NoMemory, Row, Steps};
 use std::alloc::Global;
 use std::sync::ledger::Ledger;
@@ -15,7 +9,7 @@ pub type RetroQueue = RetroLine<QueueRows>;
 /// The rows of a queue.
 #[derive(Drop)]
 pub struct QueueRows {
-    rows: SignedRows,
+    rows: LineRows,
 }
 
 impl Sequence for QueueRows {
@@ -29,7 +23,7 @@ impl Sequence for QueueRows {
 
     fn new(alloc: Global) -> QueueRows {
         QueueRows {
-            rows: SignedRows::new(alloc),
+            rows: LineRows::new(alloc),
         }
     }
 
@@ -37,14 +31,14 @@ impl Sequence for QueueRows {
         Kind::Queue
     }
 
-    fn rows(&self) -> &SignedRows {
+    fn rows(&self) -> &LineRows {
         &self.rows
     }
 
     fn written_by<L: Ledger>(&self, place: u32, index: u32, steps: &mut Steps<L>) -> Option<u32> {
-        let signs = self.rows.signs();
-        let number = taken_before(&self.rows, place, steps) + index;
-        signs.kth_marked(number, steps)
+        let rows = &self.rows;
+        let position = rows.position_of(place, index, steps);
+        rows.last_at_most(Growth::Right, place, position, steps)
     }
 
     fn insert<L: Ledger>(
@@ -64,15 +58,4 @@ impl Sequence for QueueRows {
         let rows = self.rows.copy(steps)?;
         Ok(QueueRows { rows })
     }
-}
-
-/// How many rows before the place take an item.
-fn taken_before<L: Ledger>(rows: &SignedRows, place: u32, steps: &mut Steps<L>) -> u32
-    requires replayable { IsReplayable Queue rows.now }
-    requires within { place ≤ length rows.now }
-    ensures taken { (grown left_growth rows.now place +ℤ pos result) ≡ pos 0 }
-    ensures visits { VisitsWithin 12 (length rows.now) steps.old steps.new }
-{
-    let size = rows.size_at(place, steps) as u32;
-    (place - size) / 2
 }

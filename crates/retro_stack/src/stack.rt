@@ -1,4 +1,4 @@
-use prefix_trees::{RetroLine, Sequence, SignedRows};
+use prefix_trees::{Growth, LineRows, RetroLine, Sequence};
 use retro_base::{Kind, NoMemory, Row, Steps};
 use std::alloc::Global;
 use std::sync::ledger::Ledger;
@@ -9,7 +9,7 @@ pub type RetroStack = RetroLine<StackRows>;
 /// The rows of a stack.
 #[derive(Drop)]
 pub struct StackRows {
-    rows: SignedRows,
+    rows: LineRows,
 }
 
 impl Sequence for StackRows {
@@ -23,7 +23,7 @@ impl Sequence for StackRows {
 
     fn new(alloc: Global) -> StackRows {
         StackRows {
-            rows: SignedRows::new(alloc),
+            rows: LineRows::new(alloc),
         }
     }
 
@@ -31,14 +31,13 @@ impl Sequence for StackRows {
         Kind::Stack
     }
 
-    fn rows(&self) -> &SignedRows {
+    fn rows(&self) -> &LineRows {
         &self.rows
     }
 
     fn written_by<L: Ledger>(&self, place: u32, index: u32, steps: &mut Steps<L>) -> Option<u32> {
-        let signs = self.rows.signs();
         let depth = self.rows.size_at(place, steps) - 1 - i64::from(index);
-        signs.last_at_most(0, place, depth, steps)
+        self.rows.last_at_most(Growth::Whole, place, depth, steps)
     }
 
     fn insert<L: Ledger>(

@@ -1,81 +1,94 @@
-ghost use Rattle.std.specs.Prelude.{◌<◌};
-ghost use Rattle.monoid_laws.specs.Walk.{IsSign};
 ghost use Rattle.retro_base.specs.Visits.{OpensCounter};
 
-use prefix_trees::SignTree;
-use retro_base::Steps;
+use prefix_trees::{Growth, LineRows};
+use retro_base::{Op, Row, Steps};
 use std::alloc::Global;
 use std::marker::Brand;
 use std::process::Abort;
 use std::sync::ledger::{Blank, Ledger};
 
-/// Appends a sign, which is marked where it is 1.
-fn append<L: Ledger>(rt: &impl Abort, tree: &mut SignTree, sign: i8, steps: &mut Steps<L>)
-    requires { IsSign sign }
-{
-    assert!(rt; tree.len() < 4);
-    let end = tree.len();
-    tree.insert(end, sign, sign == 1, steps)
-        .expect(rt, "memory");
+/// A row with this operation; its number and its time are those of its place.
+fn row(place: u32, op: Op) -> Row {
+    Row {
+        number: place,
+        time: u64::from(place),
+        op,
+    }
 }
 
-/// The signs 1, 1, -1, 1, those of sign 1 marked.
-fn four_signs<L: Ledger>(rt: &impl Abort, alloc: Global, steps: &mut Steps<L>) -> SignTree {
-    let mut tree = SignTree::new(alloc);
-    append(rt, &mut tree, 1, steps);
-    append(rt, &mut tree, 1, steps);
-    append(rt, &mut tree, -1, steps);
-    append(rt, &mut tree, 1, steps);
-    tree
+/// Appends a row with this operation.
+fn append<L: Ledger>(rt: &impl Abort, rows: &mut LineRows, op: Op, steps: &mut Steps<L>) {
+    assert!(rt; rows.len() < 4);
+    let end = rows.len();
+    rows.insert(end, row(end, op), steps).expect(rt, "memory");
 }
 
-fn expect_sums<L: Ledger>(rt: &impl Abort, tree: &SignTree, sums: &[i64], steps: &mut Steps<L>) {
-    assert_eq!(rt; tree.len() as usize + 1, sums.len());
+/// An item at the right, one at the left, that at the right taken, and another put there.
+fn four_rows<L: Ledger>(rt: &impl Abort, alloc: Global, steps: &mut Steps<L>) -> LineRows {
+    let mut rows = LineRows::new(alloc);
+    append(rt, &mut rows, Op::PushR { value: 1 }, steps);
+    append(rt, &mut rows, Op::PushL { value: 2 }, steps);
+    append(rt, &mut rows, Op::PopR, steps);
+    append(rt, &mut rows, Op::PushR { value: 3 }, steps);
+    rows
+}
+
+fn expect_grown<L: Ledger>(
+    rt: &impl Abort,
+    rows: &LineRows,
+    growth: Growth,
+    sums: &[i64],
+    steps: &mut Steps<L>,
+) {
+    assert_eq!(rt; rows.len() as usize + 1, sums.len());
     for (place, sum) in sums.iter().enumerate() {
-        assert!(rt; place <= tree.len() as usize);
-        assert_eq!(rt; tree.prefix(place as u32, steps), *sum);
+        assert!(rt; place <= rows.len() as usize);
+        assert_eq!(rt; rows.grown_at(growth, place as u32, steps), *sum);
     }
 }
 
-fn expect_first<L: Ledger>(rt: &impl Abort, tree: &SignTree, steps: &mut Steps<L>) {
-    for (from, sum, place) in [(1, 1, Some(1)), (0, -1, None)] {
-        assert!(rt; from <= 4 && tree.len() == 4);
-        assert_eq!(rt; tree.first_at_most(from, 4, sum, steps), place);
+fn expect_last<L: Ledger>(rt: &impl Abort, rows: &LineRows, steps: &mut Steps<L>) {
+    for (growth, to, value, place) in [
+        (Growth::Whole, 4, 1, Some(3)),
+        (Growth::Left, 4, 0, Some(1)),
+        (Growth::Right, 4, 0, Some(3)),
+        (Growth::Right, 2, 0, Some(0)),
+        (Growth::Right, 4, -1, None),
+    ] {
+        assert!(rt; to <= 4 && rows.len() == 4);
+        assert_eq!(rt; rows.last_at_most(growth, to, value, steps), place);
     }
 }
 
-fn expect_last<L: Ledger>(rt: &impl Abort, tree: &SignTree, steps: &mut Steps<L>) {
-    assert_eq!(rt; tree.len(), 4);
-    assert_eq!(rt; tree.last_at_most(0, 3, 1, steps), Some(3));
-}
-
-fn expect_marked<L: Ledger>(rt: &impl Abort, tree: &SignTree, steps: &mut Steps<L>) {
-    for (index, place) in [(2, Some(3)), (3, None)] {
-        assert_eq!(rt; tree.kth_marked(index, steps), place);
+fn expect_positions<L: Ledger>(rt: &impl Abort, rows: &LineRows, steps: &mut Steps<L>) {
+    for (place, index, position) in [(1, 0, 0), (4, 0, -1), (4, 1, 0)] {
+        assert!(rt; place <= 4 && rows.len() == 4);
+        assert_eq!(rt; rows.position_of(place, index, steps), position);
     }
 }
 
-/// A copy keeps its signs, whatever is taken out of the tree.
-fn expect_copy<L: Ledger>(rt: &impl Abort, tree: &mut SignTree, steps: &mut Steps<L>) {
-    let copy = tree.copy(steps).expect(rt, "memory");
-    assert_eq!(rt; tree.len(), 4);
-    assert_eq!(rt; tree.remove(2, steps), (-1, false));
-    expect_sums(rt, tree, &[0, 1, 2, 3], steps);
-    expect_sums(rt, &copy, &[0, 1, 2, 1, 2], steps);
+/// A copy keeps its rows, whatever is taken out of the others.
+fn expect_copy<L: Ledger>(rt: &impl Abort, rows: &mut LineRows, steps: &mut Steps<L>) {
+    let copy = rows.copy(steps).expect(rt, "memory");
+    assert_eq!(rt; rows.len(), 4);
+    assert_eq!(rt; rows.remove(2, steps), row(2, Op::PopR));
+    expect_grown(rt, rows, Growth::Whole, &[0, 1, 2, 3], steps);
+    expect_grown(rt, &copy, Growth::Whole, &[0, 1, 2, 1, 2], steps);
 }
 
 fn answers<L: Ledger>(rt: &impl Abort, alloc: Global, blank: Blank)
     requires counter { OpensCounter blank.name L.name blank.parts L.parts }
 {
     let mut steps = Steps::<L>::new(blank);
-    let mut tree = four_signs(rt, alloc, &mut steps);
-    expect_first(rt, &tree, &mut steps);
-    expect_last(rt, &tree, &mut steps);
-    expect_marked(rt, &tree, &mut steps);
-    expect_copy(rt, &mut tree, &mut steps);
+    let mut rows = four_rows(rt, alloc, &mut steps);
+    expect_grown(rt, &rows, Growth::Left, &[0, 0, 1, 1, 1], &mut steps);
+    expect_grown(rt, &rows, Growth::Right, &[0, 1, 1, 0, 1], &mut steps);
+    expect_last(rt, &rows, &mut steps);
+    expect_positions(rt, &rows, &mut steps);
+    expect_copy(rt, &mut rows, &mut steps);
 }
 
 #[test]
-fn prefixes_are_searched(rt: HostRuntime) {
+fn growth_is_searched(rt: HostRuntime) {
     answers::<Brand>(&rt, rt.alloc(), Blank::new(1));
 }

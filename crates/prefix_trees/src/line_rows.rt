@@ -1,0 +1,225 @@
+ghost use Rattle.std.specs.Prelude.{◌≡◌, ℕ, ℤ, List, pos, negsuc, ◌-ℤ◌, ◌+◌, ◌^◌, ◌<◌, ◌≤◌, [], length, slice_get, Some, OnOk, OnErr, IfOk, IfSome};
+ghost use Rattle.std.specs.List.{insert, remove};
+ghost use Rattle.retro_base.specs.declared.row.Row.{Row};
+ghost use Rattle.retro_base.specs.Visits.{VisitsWithin};
+ghost use Rattle.prefix_trees.specs.Growth.{grown, growth_of, left_growth, sign_of};
+ghost use Rattle.prefix_trees.specs.Prefixes.{FindsFirstAtMost, FindsLastAtMost};
+ghost use Rattle.prefix_trees.specs.Falls.{NeverFalls, FallsFirst};
+ghost use Rattle.prefix_trees.specs.WriterLaws.{IsWrittenAt};
+
+use crate::growth::{Growth, sign_of, value_of};
+use crate::line_row::{LineRow, Walks, height, lowest, walk_in};
+use retro_base::{NoMemory, Op, Row, Steps};
+use std::alloc::Global;
+use std::marker::Model;
+use std::sync::ledger::Ledger;
+use weighted_tree::Tree;
+
+/// A list of rows, by each of which a line of items grows or shrinks. By how much the first rows let it grow, as a whole or
+/// at an end, is read and searched in a few visits.
+#[derive(Drop)]
+pub struct LineRows {
+    rows: Tree<LineRow>,
+}
+
+impl Model for LineRows {
+    ghost use Rattle.std.specs.Prelude.{List};
+    ghost use Rattle.retro_base.specs.declared.row.Row.{Row};
+
+    ghost Value = { List Row };
+
+    ghost view = { λ t. t.rows };
+}
+
+impl LineRows {
+    /// No rows; their memory will be that of `alloc`.
+    pub fn new(alloc: Global) -> LineRows
+        ensures { result ≡ [] }
+    {
+        LineRows {
+            rows: Tree::new(alloc),
+        }
+    }
+
+    /// Where the memory comes from.
+    pub fn alloc(&self) -> Global {
+        self.rows.alloc()
+    }
+
+    /// How many rows there are.
+    pub fn len(&self) -> u32
+        ensures { result ≡ length self.now }
+    {
+        self.rows.len()
+    }
+
+    /// The row at a place.
+    pub fn row_at<L: Ledger>(&self, place: u32, steps: &mut Steps<L>) -> Row
+        requires { place < length self.now }
+        ensures row { slice_get self.now place ≡ Some result }
+        ensures visits { VisitsWithin 12 (length self.now) steps.old steps.new }
+    {
+        self.rows.get(place, steps).row()
+    }
+
+    /// The item that the row at a place wrote.
+    pub fn value_at<L: Ledger>(&self, place: u32, steps: &mut Steps<L>) -> i64
+        requires { (items : List ℤ) × ((index : ℕ) × IsWrittenAt self.now items index place) }
+        ensures value { (items : List ℤ) (index : ℕ)
+            → IsWrittenAt self.now items index place → slice_get items index ≡ Some result }
+        ensures visits { VisitsWithin 12 (length self.now) steps.old steps.new }
+    {
+        value_of(self.row_at(place, steps).op).unwrap()
+    }
+
+    /// By how much the first so many rows let the line grow.
+    pub fn grown_at<L: Ledger>(&self, growth: Growth, place: u32, steps: &mut Steps<L>) -> i64
+        requires { place ≤ length self.now }
+        ensures sum { result ≡ grown (growth_of growth) self.now place }
+        ensures visits { VisitsWithin 12 (length self.now) steps.old steps.new }
+    {
+        walk_in(&self.rows.measure(0, place, steps), growth).sum()
+    }
+
+    /// How many items there are after the first so many rows.
+    pub fn size_at<L: Ledger>(&self, place: u32, steps: &mut Steps<L>) -> i64
+        requires { place ≤ length self.now }
+        ensures size { result ≡ grown sign_of self.now place }
+        ensures visits { VisitsWithin 12 (length self.now) steps.old steps.new }
+    {
+        self.grown_at(Growth::Whole, place, steps)
+    }
+
+    /// The position of the item at an index from the left, after the first so many rows. It stays the same while the item is there.
+    pub fn position_of<L: Ledger>(&self, place: u32, index: u32, steps: &mut Steps<L>) -> i64
+        requires { place ≤ length self.now }
+        ensures position { result ≡ pos index -ℤ grown left_growth self.now place }
+        ensures visits { VisitsWithin 12 (length self.now) steps.old steps.new }
+    {
+        i64::from(index) - self.grown_at(Growth::Left, place, steps)
+    }
+
+    /// The greatest place up to `to` before which the rows let the line grow by no more than the value.
+    pub fn last_at_most<L: Ledger>(
+        &self,
+        growth: Growth,
+        to: u32,
+        value: i64,
+        steps: &mut Steps<L>,
+    ) -> Option<u32>
+        requires { to ≤ length self.now }
+        ensures last { FindsLastAtMost (growth_of growth) self.now to value result }
+        ensures visits { VisitsWithin 24 (length self.now) steps.old steps.new }
+    {
+        let end = i128::from(self.grown_at(growth, to, steps));
+        let goal = i128::from(value);
+        self.rows.last_place(
+            to,
+            |range: &Walks| end - i128::from(height(range, growth)) <= goal,
+            steps,
+        )
+    }
+
+    /// The least place from `from` on before which there are no more items than the value.
+    fn first_at_most<L: Ledger>(&self, from: u32, value: i64, steps: &mut Steps<L>) -> Option<u32>
+        requires { from ≤ length self.now }
+        ensures first { FindsFirstAtMost sign_of self.now from value result }
+        ensures visits { VisitsWithin 24 (length self.now) steps.old steps.new }
+    {
+        let start = i128::from(self.size_at(from, steps));
+        let goal = i128::from(value);
+        self.rows.first_place(
+            from,
+            |range: &Walks| start + i128::from(lowest(range)) <= goal,
+            steps,
+        )
+    }
+
+    /// The index of the first row that finds nothing to take, were a row with this operation put in at
+    /// the place; none where each finds something, as where the row takes nothing itself.
+    pub fn failure_after_insert<L: Ledger>(
+        &self,
+        place: u32,
+        op: Op,
+        steps: &mut Steps<L>,
+    ) -> Option<u32>
+        requires within { place ≤ length self.now }
+        requires never { NeverFalls self.now }
+        ensures first { (row : Row) → row.op ≡ op → FallsFirst (insert self.now place row) result }
+        ensures index { IfSome result (λ index. index ≤ length self.now) }
+        ensures visits { VisitsWithin 24 (length self.now) steps.old steps.new }
+    {
+        if sign_of(op) >= 0 {
+            return None;
+        }
+        self.first_at_most(place, deepest_with(op), steps)
+    }
+
+    /// The index of the first row that finds nothing to take, were the row at the place taken out; none
+    /// where each finds something, as where the row adds nothing.
+    pub fn failure_after_remove<L: Ledger>(&self, place: u32, steps: &mut Steps<L>) -> Option<u32>
+        requires within { place < length self.now }
+        requires never { NeverFalls self.now }
+        ensures first { FallsFirst (remove self.now place) result }
+        ensures index { IfSome result (λ index. index + 1 < length self.now) }
+        ensures visits { VisitsWithin 36 (length self.now) steps.old steps.new }
+    {
+        let row = self.row_at(place, steps);
+        if sign_of(row.op) <= 0 {
+            return None;
+        }
+        prove!(place < self.len());
+        let later = self.first_at_most(place + 1, deepest_without(row.op), steps)?;
+        Some(later - 2)
+    }
+
+    /// Puts a row in at a place; those from there on move one place on.
+    pub fn insert<L: Ledger>(
+        &mut self,
+        place: u32,
+        row: Row,
+        steps: &mut Steps<L>,
+    ) -> Result<(), NoMemory>
+        requires within { place ≤ length self.old }
+        requires room { length self.old < 2 ^ 31 }
+        ensures ok { OnOk result (self.new ≡ insert self.old place row) }
+        ensures err { OnErr result (self.new ≡ self.old) }
+        ensures visits { VisitsWithin 12 (length self.new) steps.old steps.new }
+    {
+        self.rows.insert(place, LineRow::new(row), steps)
+    }
+
+    /// Takes the row at a place out, and gives it; those after it move one place back.
+    pub fn remove<L: Ledger>(&mut self, place: u32, steps: &mut Steps<L>) -> Row
+        requires { place < length self.old }
+        ensures row { slice_get self.old place ≡ Some result }
+        ensures rows { self.new ≡ remove self.old place }
+        ensures visits { VisitsWithin 12 (length self.old) steps.old steps.new }
+    {
+        self.rows.remove(place, steps).row()
+    }
+
+    /// The same rows once more.
+    pub fn copy<L: Ledger>(&self, steps: &mut Steps<L>) -> Result<LineRows, NoMemory>
+        ensures rows { IfOk result (λ copy. copy ≡ self.now) }
+        ensures none_lost { steps.old ≤ steps.new }
+        ensures visits { steps.new ≤ steps.old + length self.now }
+    {
+        let rows = self.rows.copy(steps)?;
+        Ok(LineRows { rows })
+    }
+}
+
+/// A size that falls to this does so below 0 where a row with this operation is put in before it.
+fn deepest_with(op: Op) -> i64
+    ensures { result ≡ negsuc 0 -ℤ sign_of op }
+{
+    -1 - i64::from(sign_of(op))
+}
+
+/// A size that falls to this does so below 0 where a row with this operation is taken out before it.
+fn deepest_without(op: Op) -> i64
+    ensures { result ≡ sign_of op -ℤ pos 1 }
+{
+    i64::from(sign_of(op)) - 1
+}
