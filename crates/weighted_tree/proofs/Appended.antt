@@ -25,9 +25,6 @@ module _ {A : Type 0} (root tail : List A) where
   pub drop_beyond : (from : ℕ) → length root ≤ from → drop from (root ++ tail) ≡ drop (from - length root) tail
   drop_beyond from beyond = ap (λ n. drop n (root ++ tail)) (beyond_is from beyond) ∙ drop-append-add root tail (from - length root)
 
-  pub take_beyond : (to : ℕ) → length root ≤ to → take to (root ++ tail) ≡ root ++ take (to - length root) tail
-  take_beyond to beyond = ap (λ n. take n (root ++ tail)) (beyond_is to beyond) ∙ take-append-add root tail (to - length root)
-
   -- without a tail the root is all
   pub alone : length tail ≡ 0 → (items : List A) → root ++ tail ≡ items → root ≡ items
   alone none items items_are = sym (append-nil root) ∙ ap (λ xs. root ++ xs) (sym (is_none tail none)) ∙ items_are where
@@ -49,12 +46,7 @@ module _ {A : Type 0} (root tail : List A) where
   inserted_beyond (Ok value) new items place inner item items_are beyond inner_is new_is = ap (λ xs. root ++ xs) new_is ∙ insert_beyond items place inner item items_are beyond inner_is
   inserted_beyond (Err error) new items place inner item items_are beyond inner_is new_is = new_is
 
-  -- a range in one part or in the other, or in both
-  pub range_in_root : (from to : ℕ) → from ≤ to → to ≤ length root → slice_range (root ++ tail) from to ≡ slice_range root from to
-  range_in_root from to order within =
-      ap (take (to - from)) (drop-append-le from root tail (omega arith))
-      ∙ take-append-le (to - from) (drop from root) tail (omega (arith, length-drop from root))
-
+  -- a range in the tail, or in both parts
   pub range_in_tail : (from to : ℕ) → length root ≤ from → from ≤ to → slice_range (root ++ tail) from to ≡ slice_range tail (from - length root) (to - length root)
   range_in_tail from to beyond order =
       ap (take (to - from)) (drop_beyond from beyond)

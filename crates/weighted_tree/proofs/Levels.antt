@@ -164,17 +164,6 @@ pub few_of_search : {M : Type 0} (whole before after : ℕ) (answer : Search M) 
 few_of_search whole before after (Found count) visits = visits
 few_of_search whole before after (Open measure) visits = few_of_one whole before after visits
 
--- a search of one of two trees, or of both
-module _ (near far before after : ℕ) where
-  pub in_near : FourALevel near before after → FourALevelOfBoth near far before after
-  in_near visits near_levels far_levels near_within far_within = omega (arith, visits near_levels near_within)
-
-  pub in_far : FourALevel far before after → FourALevelOfBoth near far before after
-  in_far visits near_levels far_levels near_within far_within = omega (arith, visits far_levels far_within)
-
-  pub in_both : (middle : ℕ) → OneALevel near before middle → OneALevel far middle after → FourALevelOfBoth near far before after
-  in_both middle first second near_levels far_levels near_within far_within = omega (arith, first near_levels near_within, second far_levels far_within)
-
 -- a visit of the root, and then one visit a level
 pub once_more : (whole start visited end : ℕ) → visited ≡ start + 1 → 2 ≤ whole → OneALevel whole visited end → FourALevel whole start end
 once_more whole start visited end visit some below zero within = absurd (omega arith)

@@ -115,8 +115,9 @@ module _ {A M : Type 0} (part : Part A) (node : Node A M) (start visited : ℕ) 
       )
 
 -- beside one visit an item, two nodes a level are no more than twelve a digit
-pub few_by_read : (whole length from rest before after : ℕ) → 1 ≤ whole → whole ≤ length + 1 → before ≤ after → VisitsOfRead whole from rest before after → VisitsWithin 12 length before after
-few_by_read whole length from rest before after some light none_lost visits =
+pub few_by_read : (whole length from rest start before after : ℕ) → start ≡ before → 1 ≤ whole → whole ≤ length + 1 → before ≤ after → VisitsOfRead whole from rest start after
+    → VisitsWithin 12 length before after
+few_by_read whole length from rest start before after same some light none_lost visits =
     few-by_levels whole length before after some light none_lost (λ levels within. omega (arith, visits levels within, edge_within from levels, edge_within rest levels))
 
 -- beside one visit an item, none in a leaf

@@ -10,7 +10,8 @@ use std::alloc::Global;
 use std::marker::Model;
 use std::sync::ledger::Ledger;
 
-/// The last items of a tree, in a leaf of their own. There is none until the first of them comes in.
+/// The last items of a tree, in a leaf of their own. There is none until the first of them comes in, so that a tree without
+/// a tail has one word more and no memory more.
 #[derive(Drop)]
 pub(crate) struct Tail<T: Measured> {
     leaf: Option<Box<Subtree<T>>>,
@@ -72,7 +73,8 @@ impl<T: Measured> Tail<T> {
         &items[place as usize]
     }
 
-    /// Puts an item in at a place, where there is room; those from there on move one place on.
+    /// Puts an item in at a place, where there is room; those from there on move one place on. The tail is a visit, also where
+    /// it has no items yet, and its leaf is another.
     #[inline(always)]
     pub(crate) fn insert<L: Ledger>(
         &mut self,
@@ -98,7 +100,8 @@ impl<T: Measured> Tail<T> {
         leaf.insert_in_leaf(place, item, alloc, steps)
     }
 
-    /// Takes all items out, with one more at a place: the first of them as a node, and the others in the leaf on its right.
+    /// Takes all items out, with one more at a place: the first of them as a node, and the others in the leaf on its right. The
+    /// tail is empty then. Where there is no memory for the node it is as before.
     pub(crate) fn take_node<L: Ledger>(
         &mut self,
         place: u32,

@@ -18,7 +18,7 @@ use std::alloc::Global;
 use std::marker::Model;
 use std::sync::ledger::Ledger;
 
-/// A list whose ranges are measured.
+/// A list whose ranges are measured: the items of the root, and then those of the tail.
 #[derive(Drop)]
 pub struct Tree<T: Measured> {
     root: Subtree<T>,
