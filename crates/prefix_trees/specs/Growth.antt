@@ -8,8 +8,8 @@ use Rattle.retro_base.specs.declared.kind.Kind.TheVariants.{Queue, Stack, Deque,
 use Rattle.retro_base.specs.declared.op.Op.{Op}
 use Rattle.retro_base.specs.declared.op.Op.TheVariants.{Enq, Deq, Push, Pop, PushL, PushR, PopL, PopR}
 use Rattle.retro_base.specs.declared.row.Row.{Row}
-use Rattle.prefix_trees.specs.declared.growth.Growth.{Growth}
-use Rattle.prefix_trees.specs.declared.growth.Growth.TheVariants.{Whole, Left, Right}
+use Rattle.prefix_trees.specs.declared.growth.End.{End}
+use Rattle.prefix_trees.specs.declared.growth.End.TheVariants.{Left, Right}
 
 -- the kinds whose state is a line of items
 abbrev pub IsLine : Kind → Type 0
@@ -35,6 +35,11 @@ right_growth (PushR value) = pos 1
 right_growth PopR = negsuc 0
 right_growth op = pos 0
 
+-- at either end
+abbrev pub growth_at : End → Op → ℤ
+growth_at Left = left_growth
+growth_at Right = right_growth
+
 -- and as a whole
 abbrev pub sign_of : Op → ℤ
 sign_of (Enq value) = pos 1
@@ -46,12 +51,6 @@ sign_of (PushR value) = pos 1
 sign_of PopL = negsuc 0
 sign_of PopR = negsuc 0
 sign_of op = pos 0
-
--- one of the three
-abbrev pub growth_of : Growth → Op → ℤ
-growth_of Whole = sign_of
-growth_of Left = left_growth
-growth_of Right = right_growth
 
 -- the item that it adds
 abbrev pub value_of : Op → Option ℤ

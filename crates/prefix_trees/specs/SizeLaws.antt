@@ -9,8 +9,9 @@ use Rattle.retro_base.specs.declared.op.Op.TheVariants.{Enq, Deq, Push, Pop, Pus
 use Rattle.retro_base.specs.declared.row.Row.{Row}
 use Rattle.retro_base.specs.State.{empty}
 use Rattle.retro_base.specs.Timeline.{IsReplayable}
-use Rattle.prefix_trees.specs.Growth.{IsLine, sign_of, left_growth, grown}
+use Rattle.prefix_trees.specs.Growth.{IsLine, sign_of, left_growth, right_growth, grown}
 use Rattle.prefix_trees.specs.RunLaws.{run-empty}
+use Rattle.prefix_trees.specs.LineLaws.{growth_is}
 use Rattle.prefix_trees.specs.FailureLaws.{never-falls}
 
 sign-le : (op : Op) → sign_of op ≤ℤ pos 1
@@ -33,28 +34,11 @@ grown-le rows zero = omega (arith, ints)
 grown-le [] (suc place) = omega (arith, ints)
 grown-le (row ∷ rows) (suc place) = omega (arith, ints, sign-le row.op, grown-le rows place)
 
-one_at_most : (op : Op) → (left_growth op ≤ℤ pos 1) × (negsuc 0 ≤ℤ left_growth op)
-one_at_most (Enq v) = (omega (arith, ints), omega (arith, ints))
-one_at_most Deq = (omega (arith, ints), omega (arith, ints))
-one_at_most (Push v) = (omega (arith, ints), omega (arith, ints))
-one_at_most Pop = (omega (arith, ints), omega (arith, ints))
-one_at_most (PushL v) = (omega (arith, ints), omega (arith, ints))
-one_at_most (PushR v) = (omega (arith, ints), omega (arith, ints))
-one_at_most PopL = (omega (arith, ints), omega (arith, ints))
-one_at_most PopR = (omega (arith, ints), omega (arith, ints))
-one_at_most (Put k v) = (omega (arith, ints), omega (arith, ints))
-one_at_most (Del k) = (omega (arith, ints), omega (arith, ints))
-one_at_most (Ins k) = (omega (arith, ints), omega (arith, ints))
-one_at_most DelMin = (omega (arith, ints), omega (arith, ints))
-
--- so many rows let the left end grow by so much at most
-pub left-bounded : (rows : List Row) (place : ℕ) → (grown left_growth rows place ≤ℤ pos place) × (pos 0 ≤ℤ (grown left_growth rows place +ℤ pos place))
-left-bounded rows zero = (omega (arith, ints), omega (arith, ints))
-left-bounded [] (suc place) = (omega (arith, ints), omega (arith, ints))
-left-bounded (row ∷ rows) (suc place) =
-    let one = one_at_most row.op in
-    let rest = left-bounded rows place in
-    (omega (arith, ints, one.0, rest.0), omega (arith, ints, one.1, rest.1))
+-- both ends together grow as the whole line does
+pub both-ends : (rows : List Row) (place : ℕ) → (grown left_growth rows place +ℤ grown right_growth rows place) ≡ grown sign_of rows place
+both-ends rows zero = refl
+both-ends [] (suc place) = refl
+both-ends (row ∷ rows) (suc place) = omega (arith, ints, growth_is row.op, both-ends rows place)
 
 pub natural : (z : ℤ) → pos 0 ≤ℤ z → (n : ℕ) × (z ≡ pos n)
 natural (pos n) h = (n, refl)

@@ -2,8 +2,8 @@
 use Rattle.std.specs.Prelude.{◌≡◌, ℤ, pos, negsuc, refl}
 use Rattle.retro_base.specs.declared.row.Row.{Row}
 use Rattle.monoid_laws.specs.Walk.{Walk, one_step}
-use Rattle.prefix_trees.specs.declared.growth.Growth.{Growth}
-use Rattle.prefix_trees.specs.declared.growth.Growth.TheVariants.{Whole, Left, Right}
+use Rattle.prefix_trees.specs.declared.growth.End.{End}
+use Rattle.prefix_trees.specs.declared.growth.End.TheVariants.{Left, Right}
 use Rattle.prefix_trees.specs.Growth.{sign_of, left_growth, right_growth}
 
 -- one row
@@ -17,8 +17,7 @@ one_step-items (negsuc n) = refl
 pub row_walks-items : (row : Row) → (row_walks row).0.items ≡ 1
 row_walks-items row = one_step-items (sign_of row.op)
 
--- the walk of one growth
-abbrev pub walk_in : Growth → Walk × (Walk × Walk) → Walk
-walk_in Whole walks = walks.0
-walk_in Left walks = walks.1.0
-walk_in Right walks = walks.1.1
+-- the walk of the growth at an end
+abbrev pub walk_at : End → Walk × (Walk × Walk) → Walk
+walk_at Left walks = walks.1.0
+walk_at Right walks = walks.1.1

@@ -4,14 +4,10 @@ ghost use Rattle.prefix_trees.specs.Growth.{sign_of, value_of, left_growth, righ
 
 use retro_base::Op;
 
-/// Which growth of a line is asked for.
+/// An end of a line of items.
 #[derive(Clone, Copy)]
-pub enum Growth {
-    /// That of the whole line.
-    Whole,
-    /// That at its left end.
+pub enum End {
     Left,
-    /// That at its right end.
     Right,
 }
 

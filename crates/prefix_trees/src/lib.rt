@@ -1,11 +1,12 @@
 //! Histories of a line of items, and the rows that they are kept by.
 //!
 //! A row of a queue, a stack or a deque adds an item at an end of a line, or takes one there. `LineRows` is a list of such rows,
-//! in one tree of `weighted_tree`. It tells by how much the first rows let the line grow, as a whole or at either end, and the
-//! last place up to another before which that growth is at most a value. The tree measures three walks of each range, one for each
-//! `Growth`: how deep it falls below its start, and how high it ends above its lowest point. So the first place where
-//! a growth falls to a value is where the depth of the walk comes to reach it, and the last such place where its height
-//! does, seen from the other end.
+//! in one tree of `weighted_tree`. It tells how many items there are after the first so many rows, which row would find nothing
+//! to take were another put in or taken out, and the last row from which on an end grew by so many items. The tree measures three
+//! walks of each range, of the growth of the whole line, at its left end and at its right end: how deep a walk falls below its start,
+//! and how high it ends above its lowest point. So the first place where the size falls to a value is where the depth of the
+//! one walk comes to reach it, and the last place from which on an end grew so far is where the height of another does,
+//! seen from the other end.
 //!
 //! A row finds nothing to take exactly where the size of the line would fall below 0, which decides on every edit by one
 //! search, and by none where the edit lowers no size. An item keeps its position in the line while it is there; the row
@@ -17,8 +18,8 @@
 //!
 //! | Call | Nodes visited, d being the digits of one more than the length |
 //! |---|---|
-//! | `row_at`, `value_at`, `size_at`, `grown_at`, `insert`, `remove` of `LineRows` | at most 12 d |
-//! | `last_at_most`, `failure_after_insert` of `LineRows` | at most 24 d |
+//! | `row_at`, `value_at`, `size_at`, `last_growing`, `insert`, `remove` of `LineRows` | at most 12 d |
+//! | `failure_after_insert` of `LineRows` | at most 24 d |
 //! | `failure_after_remove` of `LineRows` | at most 36 d |
 //! | `copy` of `LineRows` | at most one for each row |
 //! | `ask_past` and the calls of `Partial` of `RetroLine` that take a counter | at most 144 d |
@@ -26,7 +27,7 @@
 //! What the layer above may rely on: the clauses of these types, in the words of lists; specs/Prefixes.antt for
 //! the searches; specs/Growth.antt and the laws beside it on the rows of a line.
 //!
-//! - Rows: `LineRows`, `Growth`. What an operation does to a line: `sign_of`, `left_growth`, `right_growth`, `value_of`.
+//! - Rows: `LineRows`, `End`. What an operation does to a line: `sign_of`, `left_growth`, `right_growth`, `value_of`.
 //! - Lines: `Sequence`, `RetroLine`.
 #![tactic(auto)]
 
@@ -37,7 +38,7 @@ mod line_row;
 mod line_rows;
 mod sequence;
 
-pub use growth::{Growth, left_growth, right_growth, sign_of, value_of};
+pub use growth::{End, left_growth, right_growth, sign_of, value_of};
 pub use line::RetroLine;
 pub use line_rows::LineRows;
 pub use sequence::Sequence;

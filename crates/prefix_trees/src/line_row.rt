@@ -1,8 +1,8 @@
 ghost use Rattle.std.specs.Prelude.{◌≡◌};
-ghost use Rattle.monoid_laws.specs.Walk.{lowest_of, height_of};
-ghost use Rattle.prefix_trees.specs.Walks.{walk_in};
+ghost use Rattle.monoid_laws.specs.Walk.{end_of, lowest_of, height_of};
+ghost use Rattle.prefix_trees.specs.Walks.{walk_at};
 
-use crate::growth::{Growth, left_growth, right_growth, sign_of};
+use crate::growth::{End, left_growth, right_growth, sign_of};
 use monoid_laws::{Both, LeastPrefix, Measured};
 use retro_base::Row;
 use std::marker::Model;
@@ -59,15 +59,11 @@ impl Measured for LineRow {
     }
 }
 
-/// The walk of one growth.
-pub(crate) fn walk_in(range: &Walks, growth: Growth) -> LeastPrefix
-    ensures { result ≡ walk_in growth range.now }
+/// By how much the whole line grows.
+pub(crate) fn growth(range: &Walks) -> i64
+    ensures { result ≡ end_of range.now.0 }
 {
-    match growth {
-        Growth::Whole => range.first(),
-        Growth::Left => range.second().first(),
-        Growth::Right => range.second().second(),
-    }
+    range.first().sum()
 }
 
 /// How far the whole line falls below its start.
@@ -77,10 +73,21 @@ pub(crate) fn lowest(range: &Walks) -> i64
     range.first().least()
 }
 
-/// How far a growth ends above its lowest point.
-pub(crate) fn height(range: &Walks, growth: Growth) -> i64
-    ensures { result ≡ height_of (walk_in growth range.now) }
+/// How far the growth at an end ends above its lowest point.
+pub(crate) fn height(range: &Walks, end: End) -> i64
+    ensures { result ≡ height_of (walk_at end range.now) }
 {
-    let walk = walk_in(range, growth);
+    let walk = walk_at(range, end);
     walk.sum() - walk.least()
+}
+
+/// The walk of the growth at an end.
+fn walk_at(range: &Walks, end: End) -> LeastPrefix
+    ensures { result ≡ walk_at end range.now }
+{
+    let ends = range.second();
+    match end {
+        End::Left => ends.first(),
+        End::Right => ends.second(),
+    }
 }

@@ -2,21 +2,21 @@ ghost use Rattle.std.specs.Prelude.{◌≡◌, ℕ, ℤ, List, pos, negsuc, ◌-
 ghost use Rattle.std.specs.List.{insert, remove};
 ghost use Rattle.retro_base.specs.declared.row.Row.{Row};
 ghost use Rattle.retro_base.specs.Visits.{VisitsWithin};
-ghost use Rattle.prefix_trees.specs.Growth.{grown, growth_of, left_growth, sign_of};
+ghost use Rattle.prefix_trees.specs.Growth.{grown, growth_at, sign_of};
 ghost use Rattle.prefix_trees.specs.Prefixes.{FindsFirstAtMost, FindsLastAtMost};
 ghost use Rattle.prefix_trees.specs.Falls.{NeverFalls, FallsFirst};
 ghost use Rattle.prefix_trees.specs.WriterLaws.{IsWrittenAt};
 
-use crate::growth::{Growth, sign_of, value_of};
-use crate::line_row::{LineRow, Walks, height, lowest, walk_in};
+use crate::growth::{End, sign_of, value_of};
+use crate::line_row::{LineRow, Walks, growth, height, lowest};
 use retro_base::{NoMemory, Op, Row, Steps};
 use std::alloc::Global;
 use std::marker::Model;
 use std::sync::ledger::Ledger;
 use weighted_tree::Tree;
 
-/// A list of rows, by each of which a line of items grows or shrinks. By how much the first rows let it grow, as a whole or
-/// at an end, is read and searched in a few visits.
+/// A list of rows, by each of which a line of items grows or shrinks at an end. By how much a range of them lets it grow is
+/// read and searched in a few visits.
 #[derive(Drop)]
 pub struct LineRows {
     rows: Tree<LineRow>,
@@ -72,52 +72,30 @@ impl LineRows {
         value_of(self.row_at(place, steps).op).unwrap()
     }
 
-    /// By how much the first so many rows let the line grow.
-    pub fn grown_at<L: Ledger>(&self, growth: Growth, place: u32, steps: &mut Steps<L>) -> i64
-        requires { place ≤ length self.now }
-        ensures sum { result ≡ grown (growth_of growth) self.now place }
-        ensures visits { VisitsWithin 12 (length self.now) steps.old steps.new }
-    {
-        walk_in(&self.rows.measure(0, place, steps), growth).sum()
-    }
-
     /// How many items there are after the first so many rows.
     pub fn size_at<L: Ledger>(&self, place: u32, steps: &mut Steps<L>) -> i64
         requires { place ≤ length self.now }
         ensures size { result ≡ grown sign_of self.now place }
         ensures visits { VisitsWithin 12 (length self.now) steps.old steps.new }
     {
-        self.grown_at(Growth::Whole, place, steps)
+        growth(&self.rows.measure(0, place, steps))
     }
 
-    /// The position of the item at an index from the left, after the first so many rows. It stays the same while the item is there.
-    pub fn position_of<L: Ledger>(&self, place: u32, index: u32, steps: &mut Steps<L>) -> i64
-        requires { place ≤ length self.now }
-        ensures position { result ≡ pos index -ℤ grown left_growth self.now place }
-        ensures visits { VisitsWithin 12 (length self.now) steps.old steps.new }
-    {
-        i64::from(index) - self.grown_at(Growth::Left, place, steps)
-    }
-
-    /// The greatest place up to `to` before which the rows let the line grow by no more than the value.
-    pub fn last_at_most<L: Ledger>(
+    /// The greatest place up to `to` from which on the rows before `to` let the line grow at an end by so many items at least.
+    pub fn last_growing<L: Ledger>(
         &self,
-        growth: Growth,
+        end: End,
         to: u32,
-        value: i64,
+        count: i64,
         steps: &mut Steps<L>,
     ) -> Option<u32>
         requires { to ≤ length self.now }
-        ensures last { FindsLastAtMost (growth_of growth) self.now to value result }
-        ensures visits { VisitsWithin 24 (length self.now) steps.old steps.new }
+        ensures last { FindsLastAtMost (growth_at end)
+            self.now to (grown (growth_at end) self.now to -ℤ count) result }
+        ensures visits { VisitsWithin 12 (length self.now) steps.old steps.new }
     {
-        let end = i128::from(self.grown_at(growth, to, steps));
-        let goal = i128::from(value);
-        self.rows.last_place(
-            to,
-            |range: &Walks| end - i128::from(height(range, growth)) <= goal,
-            steps,
-        )
+        self.rows
+            .last_place(to, |range: &Walks| height(range, end) >= count, steps)
     }
 
     /// The least place from `from` on before which there are no more items than the value.

@@ -5,7 +5,7 @@
 --     rows       a at the right, b at the left, c at the right, b taken, d at the left
 --     positions  a 0             b -1           c 1             -1       d -1
 --     position -1 now: the right end always reached it; the left end last did not before d was put there
-use Rattle.std.proofs.Common.{◌≡◌, ℕ, ◌<◌, ◌≤◌, max, ℤ, pos, negsuc, ◌-ℤ◌, ◌≤ℤ◌, ◌<ℤ◌, List, length, Option, Some, None, arith, inl, inr, subst}
+use Rattle.std.proofs.Common.{◌≡◌, ℕ, ◌<◌, ◌≤◌, max, ℤ, pos, negsuc, ◌+ℤ◌, ◌-ℤ◌, ◌≤ℤ◌, ◌<ℤ◌, List, length, Option, Some, None, refl, arith, inl, inr, subst}
 use Rattle.std.specs.Prelude.{MatchOption}
 use Rattle.std.proofs.lemmas.Bool.{cases_lt}
 use Rattle.std.proofs.lemmas.Int.{ints}
@@ -15,6 +15,7 @@ use Rattle.retro_base.specs.Timeline.{AreOfKind}
 use Rattle.prefix_trees.specs.Growth.{left_growth, right_growth, sign_of, grown}
 use Rattle.prefix_trees.specs.Prefixes.{FindsLastAtMost}
 use Rattle.prefix_trees.specs.FailureLaws.{LineAt}
+use Rattle.prefix_trees.specs.SizeLaws.{both-ends}
 use Rattle.prefix_trees.specs.FoundLaws.{FindsWriter}
 use Rattle.prefix_trees.specs.WriterLaws.{IsWrittenAt, InsideAfter, written-at}
 use Rattle.retro_deque.specs.Later.{later}
@@ -57,10 +58,15 @@ module _ (rows : List Row) (place index : ℕ) (position : ℤ) (items : List �
         (λ later after below. inside later (left.not_after later after below) (right.not_after later (omega arith) below)))
   ]
 
--- the item at an index was written by the later of two rows
-pub found-by_ends : (rows : List Row) (place index : ℕ) (position beside : ℤ) (by_left by_right : Option ℕ) → AreOfKind Deque rows → place ≤ length rows → pos index <ℤ grown sign_of rows place
-    → position ≡ pos index -ℤ grown left_growth rows place → beside ≡ negsuc 0 -ℤ position
-    → FindsLastAtMost left_growth rows place beside by_left → FindsLastAtMost right_growth rows place position by_right → FindsWriter Deque rows place index (later by_left by_right)
-found-by_ends rows place index position beside by_left by_right all within there position_is beside_is left right items at =
-    found rows place index position items all within at (omega (arith, ints, at.size, there)) position_is by_left by_right
-    (subst (λ b. FindsLastAtMost left_growth rows place b by_left) beside_is left) right
+-- the item at an index was written by the later of two rows, the last one from which on the left end grew over the item and
+-- those on its left, and the last one from which on the right end grew over the item and those on its right
+pub found-by_ends : (rows : List Row) (place index : ℕ) (from_left from_right : ℤ) (by_left by_right : Option ℕ) → AreOfKind Deque rows → place ≤ length rows → pos index <ℤ grown sign_of rows place
+    → from_left ≡ pos index +ℤ pos 1 → from_right ≡ grown sign_of rows place -ℤ pos index
+    → FindsLastAtMost left_growth rows place (grown left_growth rows place -ℤ from_left) by_left
+    → FindsLastAtMost right_growth rows place (grown right_growth rows place -ℤ from_right) by_right → FindsWriter Deque rows place index (later by_left by_right)
+found-by_ends rows place index from_left from_right by_left by_right all within there left_is right_is left right items at =
+    let position = pos index -ℤ grown left_growth rows place in
+    let beside : grown left_growth rows place -ℤ from_left ≡ negsuc 0 -ℤ position = omega (arith, ints, left_is) in
+    let above : grown right_growth rows place -ℤ from_right ≡ position = omega (arith, ints, right_is, both-ends rows place) in
+    found rows place index position items all within at (omega (arith, ints, at.size, there)) refl by_left by_right
+    (subst (λ v. FindsLastAtMost left_growth rows place v by_left) beside left) (subst (λ v. FindsLastAtMost right_growth rows place v by_right) above right)

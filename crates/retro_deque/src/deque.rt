@@ -1,5 +1,5 @@
 use crate::later::later;
-use prefix_trees::{Growth, LineRows, RetroLine, Sequence};
+use prefix_trees::{End, LineRows, RetroLine, Sequence};
 use retro_base::{Kind, NoMemory, Row, Steps};
 use std::alloc::Global;
 use std::sync::ledger::Ledger;
@@ -38,9 +38,10 @@ impl Sequence for DequeRows {
 
     fn written_by<L: Ledger>(&self, place: u32, index: u32, steps: &mut Steps<L>) -> Option<u32> {
         let rows = &self.rows;
-        let position = rows.position_of(place, index, steps);
-        let by_left = rows.last_at_most(Growth::Left, place, -1 - position, steps);
-        let by_right = rows.last_at_most(Growth::Right, place, position, steps);
+        let from_left = i64::from(index) + 1;
+        let from_right = rows.size_at(place, steps) - i64::from(index);
+        let by_left = rows.last_growing(End::Left, place, from_left, steps);
+        let by_right = rows.last_growing(End::Right, place, from_right, steps);
         later(by_left, by_right)
     }
 

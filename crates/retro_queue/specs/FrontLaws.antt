@@ -4,8 +4,9 @@
 --     rows     + + - + + - +        three of the items a b c d e are left: d = 2
 --     items    a b   c d   e
 --     taken        a     b
---     left                 c d e    the item at index i is that of the row that puts in number d + i, from 0: the last
---                                   row before which no more than d + i were put in
+--     left                 c d e    the item at index i is that of the row that puts in number d + i, from 0
+--
+-- As many items were put in from that row on as lie from the item at index i to the back.
 use Rattle.std.proofs.Common.{◌≡◌, ℕ, zero, suc, ◌<◌, ◌≤◌, ℤ, pos, ◌-ℤ◌, ◌≤ℤ◌, ◌<ℤ◌, List, [], ◌∷◌, length, Option, Some, None, arith}
 use Rattle.std.specs.Prelude.{MatchOption}
 use Rattle.std.proofs.lemmas.Int.{ints}
@@ -18,6 +19,7 @@ use Rattle.retro_base.specs.Timeline.{AreOfKind}
 use Rattle.prefix_trees.specs.Growth.{left_growth, right_growth, sign_of, grown}
 use Rattle.prefix_trees.specs.Prefixes.{FindsLastAtMost}
 use Rattle.prefix_trees.specs.FailureLaws.{LineAt}
+use Rattle.prefix_trees.specs.SizeLaws.{both-ends}
 use Rattle.prefix_trees.specs.FoundLaws.{FindsWriter}
 use Rattle.prefix_trees.specs.WriterLaws.{IsWrittenAt, written-at}
 
@@ -45,19 +47,20 @@ left_falls rows (suc place) zero all order = absurd (omega arith)
 left_falls [] (suc place) (suc later) all order = omega (arith, ints)
 left_falls (row ∷ rows) (suc place) (suc later) all order = omega (arith, ints, left_falls rows place later all.1 (omega arith))
 
-module _ (rows : List Row) (place index : ℕ) (position : ℤ) (items : List ℤ) (all : AreOfKind Queue rows) (within : place ≤ length rows)
-    (at : LineAt Queue rows place items) (there : index < length items) (position_is : position ≡ pos index -ℤ grown left_growth rows place) where
-  found : (answer : Option ℕ) → FindsLastAtMost right_growth rows place position answer → MatchOption answer ⊥ (IsWrittenAt rows items index)
-  found None none = absurd (omega (arith, ints, none 0 (omega arith) (omega arith), left_falls rows 0 place all (omega arith), position_is))
+module _ (rows : List Row) (place index : ℕ) (items : List ℤ) (all : AreOfKind Queue rows) (within : place ≤ length rows)
+    (at : LineAt Queue rows place items) (there : index < length items) (number : ℤ) (number_is : number ≡ pos index -ℤ grown left_growth rows place) where
+  found : (answer : Option ℕ) → FindsLastAtMost right_growth rows place number answer → MatchOption answer ⊥ (IsWrittenAt rows items index)
+  found None none = absurd (omega (arith, ints, none 0 (omega arith) (omega arith), left_falls rows 0 place all (omega arith), number_is))
   found (Some written) last =
       written-at Queue tt rows place index items all within at there written last.within
-      (λ inside. omega (arith, ints, inside.to_right, last.reached, position_is))
+      (λ inside. omega (arith, ints, inside.to_right, last.reached, number_is))
       (λ later after below. record {
-        from_left = omega (arith, ints, left_falls rows later place all below, position_is);
-        to_right = omega (arith, ints, last.not_after later after below, position_is);
+        from_left = omega (arith, ints, left_falls rows later place all below, number_is);
+        to_right = omega (arith, ints, last.not_after later after below, number_is);
       })
 
--- the item at an index was put in by the last row before which no more were put in than the index and the number of those that were taken
-pub found-by_counts : (rows : List Row) (place index : ℕ) (position : ℤ) (answer : Option ℕ) → AreOfKind Queue rows → place ≤ length rows → pos index <ℤ grown sign_of rows place
-    → position ≡ pos index -ℤ grown left_growth rows place → FindsLastAtMost right_growth rows place position answer → FindsWriter Queue rows place index answer
-found-by_counts rows place index position answer all within there position_is last items at = found rows place index position items all within at (omega (arith, ints, at.size, there)) position_is answer last
+-- the item at an index was put in by the last row from which on so many were put in as lie from that item on
+pub found-by_counts : (rows : List Row) (place index : ℕ) (count : ℤ) (answer : Option ℕ) → AreOfKind Queue rows → place ≤ length rows → pos index <ℤ grown sign_of rows place
+    → count ≡ grown sign_of rows place -ℤ pos index → FindsLastAtMost right_growth rows place (grown right_growth rows place -ℤ count) answer → FindsWriter Queue rows place index answer
+found-by_counts rows place index count answer all within there count_is last items at =
+    found rows place index items all within at (omega (arith, ints, at.size, there)) (grown right_growth rows place -ℤ count) (omega (arith, ints, count_is, both-ends rows place)) answer last

@@ -1,10 +1,10 @@
 //! A queue whose past can be edited, and which answers at any place of it.
 //!
 //! Rows take items in the order in which rows put them in. So with d rows that take before a place, the front
-//! there is the item of the row that puts in number d, from 0, and the item at index i that of number d + i: the
-//! last row before which no more than d + i were put in. That is one search among prefix sums, however long the history is
-//! (Demaine, Iacono and Langerman, "Retroactive Data Structures", section 5). specs/FrontLaws.antt says why, over
-//! lists of rows alone.
+//! there is the item of the row that puts in number d, from 0, and the item at index i that of number d + i. It is
+//! the last row from which on as many were put in as lie from that item to the back: one search among prefix sums,
+//! however long the history is (Demaine, Iacono and Langerman, "Retroactive Data Structures", section 5).
+//! specs/FrontLaws.antt says why, over lists of rows alone.
 //!
 //! `RetroQueue` is seen as its rows. It is a `RetroLine` of `prefix_trees` over the rows of a queue: so it implements `Partial`
 //! and `Retro` of `retro_base`; each call of `Partial` that takes a counter, and `ask_past`, visits at most 144 nodes for

@@ -1,4 +1,4 @@
-use prefix_trees::{Growth, LineRows, RetroLine, Sequence};
+use prefix_trees::{End, LineRows, RetroLine, Sequence};
 use retro_base::{Kind, NoMemory, Row, Steps};
 use std::alloc::Global;
 use std::sync::ledger::Ledger;
@@ -37,8 +37,8 @@ impl Sequence for QueueRows {
 
     fn written_by<L: Ledger>(&self, place: u32, index: u32, steps: &mut Steps<L>) -> Option<u32> {
         let rows = &self.rows;
-        let position = rows.position_of(place, index, steps);
-        rows.last_at_most(Growth::Right, place, position, steps)
+        let count = rows.size_at(place, steps) - i64::from(index);
+        rows.last_growing(End::Right, place, count, steps)
     }
 
     fn insert<L: Ledger>(

@@ -4,7 +4,7 @@
 --     rows     + + + - + - - +        the depths before the rows and after the last: 0 1 2 3 2 3 2 1 2
 --     items    a b c   d     e        on top is e, and below it a
 --     depth    0 1 2   2     1        the last place of depth at most 1 is that of e; of depth 0, that of a
-use Rattle.std.proofs.Common.{◌≡◌, ℕ, zero, suc, ◌<◌, ◌≤◌, ℤ, pos, ◌-ℤ◌, ◌<ℤ◌, List, [], ◌∷◌, length, Option, Some, None, refl, arith}
+use Rattle.std.proofs.Common.{◌≡◌, ℕ, zero, suc, ◌<◌, ◌≤◌, ℤ, pos, ◌+ℤ◌, ◌-ℤ◌, ◌<ℤ◌, List, [], ◌∷◌, length, Option, Some, None, refl, arith}
 use Rattle.std.specs.Prelude.{MatchOption}
 use Rattle.std.proofs.lemmas.Int.{ints}
 use Rattle.retro_base.specs.declared.kind.Kind.TheVariants.{Stack}
@@ -14,7 +14,7 @@ use Rattle.retro_base.specs.declared.row.Row.{Row}
 use Rattle.retro_base.specs.Kind.{kind_of}
 use Rattle.retro_base.specs.Timeline.{AreOfKind}
 use Rattle.prefix_trees.specs.Growth.{left_growth, right_growth, sign_of, grown}
-use Rattle.prefix_trees.specs.Prefixes.{IsLastAtMost, FindsLastAtMost}
+use Rattle.prefix_trees.specs.Prefixes.{FindsLastAtMost}
 use Rattle.prefix_trees.specs.FailureLaws.{LineAt}
 use Rattle.prefix_trees.specs.FoundLaws.{FindsWriter}
 use Rattle.prefix_trees.specs.WriterLaws.{IsWrittenAt, written-at}
@@ -48,22 +48,20 @@ right_is rows zero all = refl
 right_is [] (suc place) all = refl
 right_is (row ∷ rows) (suc place) all = omega (arith, ints, (at_top row.op all.0).right, right_is rows place all.1)
 
-module _ (rows : List Row) (place index : ℕ) (depth : ℤ) (items : List ℤ) (all : AreOfKind Stack rows) (within : place ≤ length rows)
-    (at : LineAt Stack rows place items) (there : index < length items) (depth_is : depth ≡ (grown sign_of rows place -ℤ pos 1) -ℤ pos index) where
-  found_at : (written : ℕ) → IsLastAtMost sign_of rows place depth written → IsWrittenAt rows items index written
-  found_at written last =
+module _ (rows : List Row) (place index : ℕ) (items : List ℤ) (all : AreOfKind Stack rows) (within : place ≤ length rows)
+    (at : LineAt Stack rows place items) (there : index < length items) (depth : ℤ) (depth_is : depth ≡ (grown left_growth rows place -ℤ pos 1) -ℤ pos index) where
+  found : (answer : Option ℕ) → FindsLastAtMost left_growth rows place depth answer → MatchOption answer ⊥ (IsWrittenAt rows items index)
+  found None none = absurd (omega (arith, ints, none 0 (omega arith) (omega arith), depth_is, left_is rows place all, at.size, there))
+  found (Some written) last =
       written-at Stack tt rows place index items all within at there written last.within
-      (λ inside. omega (arith, ints, inside.from_left, last.reached, left_is rows written all, left_is rows place all, depth_is))
+      (λ inside. omega (arith, ints, inside.from_left, last.reached, depth_is))
       (λ later after below. record {
-        from_left = omega (arith, ints, last.not_after later after below, left_is rows later all, left_is rows place all, depth_is);
+        from_left = omega (arith, ints, last.not_after later after below, depth_is);
         to_right = omega (arith, ints, right_is rows later all, left_is rows place all, at.size, there);
       })
 
-  found : (answer : Option ℕ) → FindsLastAtMost sign_of rows place depth answer → MatchOption answer ⊥ (IsWrittenAt rows items index)
-  found None none = absurd (omega (arith, ints, none 0 (omega arith) (omega arith), depth_is, at.size, there))
-  found (Some written) last = found_at written last
-
--- the item at an index was put on by the row at the last place of the depth at which it lies, or less
-pub found-by_depth : (rows : List Row) (place index : ℕ) (depth : ℤ) (answer : Option ℕ) → AreOfKind Stack rows → place ≤ length rows → pos index <ℤ grown sign_of rows place
-    → depth ≡ (grown sign_of rows place -ℤ pos 1) -ℤ pos index → FindsLastAtMost sign_of rows place depth answer → FindsWriter Stack rows place index answer
-found-by_depth rows place index depth answer all within there depth_is last items at = found rows place index depth items all within at (omega (arith, ints, at.size, there)) depth_is answer last
+-- the item at an index was put on by the last row from which on the stack grew by that item and those that lie on it
+pub found-by_depth : (rows : List Row) (place index : ℕ) (count : ℤ) (answer : Option ℕ) → AreOfKind Stack rows → place ≤ length rows → pos index <ℤ grown sign_of rows place
+    → count ≡ pos index +ℤ pos 1 → FindsLastAtMost left_growth rows place (grown left_growth rows place -ℤ count) answer → FindsWriter Stack rows place index answer
+found-by_depth rows place index count answer all within there count_is last items at =
+    found rows place index items all within at (omega (arith, ints, at.size, there)) (grown left_growth rows place -ℤ count) (omega (arith, ints, count_is)) answer last

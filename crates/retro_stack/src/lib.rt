@@ -1,9 +1,9 @@
 //! A stack whose past can be edited, and which answers at any place of it.
 //!
-//! The item that lies on d others came when the stack had d items, and has stayed since. So at a place where the
-//! stack has h items, the item at index i from the top is that of the row at the last place before it whose
-//! depth is at most h - 1 - i: one search among prefix sums, however long the history is (Demaine, Iacono and
-//! Langerman, "Retroactive Data Structures", section 5). specs/TopLaws.antt says why, over lists of rows alone.
+//! The item that lies on d others came when the stack had d items, and has stayed since. So the item at index i from
+//! the top is that of the last row before the place from which on the stack grew by i + 1 items: one search among prefix
+//! sums, however long the history is (Demaine, Iacono and Langerman, "Retroactive Data Structures", section 5).
+//! specs/TopLaws.antt says why, over lists of rows alone.
 //!
 //! `RetroStack` is seen as its rows. It is a `RetroLine` of `prefix_trees` over the rows of a stack: so it implements `Partial`
 //! and `Retro` of `retro_base`; each call of `Partial` that takes a counter, and `ask_past`, visits at most 144 nodes for

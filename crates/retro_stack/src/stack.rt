@@ -1,4 +1,4 @@
-use prefix_trees::{Growth, LineRows, RetroLine, Sequence};
+use prefix_trees::{End, LineRows, RetroLine, Sequence};
 use retro_base::{Kind, NoMemory, Row, Steps};
 use std::alloc::Global;
 use std::sync::ledger::Ledger;
@@ -36,8 +36,8 @@ impl Sequence for StackRows {
     }
 
     fn written_by<L: Ledger>(&self, place: u32, index: u32, steps: &mut Steps<L>) -> Option<u32> {
-        let depth = self.rows.size_at(place, steps) - 1 - i64::from(index);
-        self.rows.last_at_most(Growth::Whole, place, depth, steps)
+        let count = i64::from(index) + 1;
+        self.rows.last_growing(End::Left, place, count, steps)
     }
 
     fn insert<L: Ledger>(

@@ -1,6 +1,6 @@
 ghost use Rattle.retro_base.specs.Visits.{OpensCounter};
 
-use prefix_trees::{Growth, LineRows};
+use prefix_trees::{End, LineRows};
 use retro_base::{Op, Row, Steps};
 use std::alloc::Global;
 use std::marker::Brand;
@@ -33,37 +33,25 @@ fn four_rows<L: Ledger>(rt: &impl Abort, alloc: Global, steps: &mut Steps<L>) ->
     rows
 }
 
-fn expect_grown<L: Ledger>(
-    rt: &impl Abort,
-    rows: &LineRows,
-    growth: Growth,
-    sums: &[i64],
-    steps: &mut Steps<L>,
-) {
-    assert_eq!(rt; rows.len() as usize + 1, sums.len());
-    for (place, sum) in sums.iter().enumerate() {
+fn expect_sizes<L: Ledger>(rt: &impl Abort, rows: &LineRows, sizes: &[i64], steps: &mut Steps<L>) {
+    assert_eq!(rt; rows.len() as usize + 1, sizes.len());
+    for (place, size) in sizes.iter().enumerate() {
         assert!(rt; place <= rows.len() as usize);
-        assert_eq!(rt; rows.grown_at(growth, place as u32, steps), *sum);
+        assert_eq!(rt; rows.size_at(place as u32, steps), *size);
     }
 }
 
 fn expect_last<L: Ledger>(rt: &impl Abort, rows: &LineRows, steps: &mut Steps<L>) {
-    for (growth, to, value, place) in [
-        (Growth::Whole, 4, 1, Some(3)),
-        (Growth::Left, 4, 0, Some(1)),
-        (Growth::Right, 4, 0, Some(3)),
-        (Growth::Right, 2, 0, Some(0)),
-        (Growth::Right, 4, -1, None),
+    for (end, to, count, place) in [
+        (End::Left, 4, 1, Some(1)),
+        (End::Left, 4, 2, None),
+        (End::Right, 4, 1, Some(3)),
+        (End::Right, 4, 2, None),
+        (End::Right, 2, 1, Some(0)),
+        (End::Right, 3, 0, Some(3)),
     ] {
         assert!(rt; to <= 4 && rows.len() == 4);
-        assert_eq!(rt; rows.last_at_most(growth, to, value, steps), place);
-    }
-}
-
-fn expect_positions<L: Ledger>(rt: &impl Abort, rows: &LineRows, steps: &mut Steps<L>) {
-    for (place, index, position) in [(1, 0, 0), (4, 0, -1), (4, 1, 0)] {
-        assert!(rt; place <= 4 && rows.len() == 4);
-        assert_eq!(rt; rows.position_of(place, index, steps), position);
+        assert_eq!(rt; rows.last_growing(end, to, count, steps), place);
     }
 }
 
@@ -72,8 +60,8 @@ fn expect_copy<L: Ledger>(rt: &impl Abort, rows: &mut LineRows, steps: &mut Step
     let copy = rows.copy(steps).expect(rt, "memory");
     assert_eq!(rt; rows.len(), 4);
     assert_eq!(rt; rows.remove(2, steps), row(2, Op::PopR));
-    expect_grown(rt, rows, Growth::Whole, &[0, 1, 2, 3], steps);
-    expect_grown(rt, &copy, Growth::Whole, &[0, 1, 2, 1, 2], steps);
+    expect_sizes(rt, rows, &[0, 1, 2, 3], steps);
+    expect_sizes(rt, &copy, &[0, 1, 2, 1, 2], steps);
 }
 
 fn answers<L: Ledger>(rt: &impl Abort, alloc: Global, blank: Blank)
@@ -81,10 +69,7 @@ fn answers<L: Ledger>(rt: &impl Abort, alloc: Global, blank: Blank)
 {
     let mut steps = Steps::<L>::new(blank);
     let mut rows = four_rows(rt, alloc, &mut steps);
-    expect_grown(rt, &rows, Growth::Left, &[0, 0, 1, 1, 1], &mut steps);
-    expect_grown(rt, &rows, Growth::Right, &[0, 1, 1, 0, 1], &mut steps);
     expect_last(rt, &rows, &mut steps);
-    expect_positions(rt, &rows, &mut steps);
     expect_copy(rt, &mut rows, &mut steps);
 }
 

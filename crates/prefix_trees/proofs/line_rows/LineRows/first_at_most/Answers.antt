@@ -3,9 +3,8 @@ use Rattle.std.specs.List.{slice_range}
 use Rattle.std.specs.Int.Signed.{le_z}
 use Rattle.monoid_laws.specs.PrefixSumLaws.{reaches, reaches-rises}
 use Rattle.monoid_laws.specs.Walk.{lowest_of}
-use Rattle.prefix_trees.specs.declared.growth.Growth.TheVariants.{Whole}
 use Rattle.prefix_trees.specs.Growth.{grown, growths, sign_of}
-use Rattle.prefix_trees.proofs.MeasuredRows.{walks_of, range-walk}
+use Rattle.prefix_trees.proofs.MeasuredRows.{walks_of, range-whole}
 use Rattle.prefix_trees.proofs.FoundPlaces.{finds-first}
 use Rattle.prefix_trees.proofs.line_rows.LineRows.first_at_most.Goals as goal
 
@@ -21,5 +20,5 @@ returns-clause-first g c =
     let reported : answer ≡ le_z (c.size_at.result +ℤ lowest_of (walks_of (slice_range rows from place)).0) value = search rules in
     reported
     ∙ ap (λ s. le_z (s +ℤ lowest_of (walks_of (slice_range rows from place)).0) value) start
-    ∙ ap (λ w. le_z (grown sign_of rows from +ℤ lowest_of w) value) (range-walk Whole rows from place))
+    ∙ ap (λ w. le_z (grown sign_of rows from +ℤ lowest_of w) value) (range-whole rows from place))
     (λ place later above order within holds. reaches-rises sums from value place later above order holds)))

@@ -7,5 +7,5 @@ use Rattle.retro_deque.proofs.deque.DequeRowsSequence.written_by.Goals as goal
 pub returns-clause-writer : goal.returns-clause-writer
 returns-clause-writer g c =
     subst (FindsWriter Deque c.args.self.now.rows c.args.place c.args.index) (sym c.later.ensures)
-    (found-by_ends c.args.self.now.rows c.args.place c.args.index _ _ c.last_at_most-by_left.result c.last_at_most-by_right.result
-    c.requires.replayable.of_kind c.requires.within c.requires.there (search rules) (search rules) c.last_at_most-by_left.ensures.last c.last_at_most-by_right.ensures.last)
+    (found-by_ends c.args.self.now.rows c.args.place c.args.index _ _ c.last_growing-by_left.result c.last_growing-by_right.result
+    c.requires.replayable.of_kind c.requires.within c.requires.there (search rules) (search rules) c.last_growing-by_left.ensures.last c.last_growing-by_right.ensures.last)

@@ -4,5 +4,5 @@ use Rattle.retro_queue.proofs.queue.QueueRowsSequence.written_by.Goals as goal
 
 pub returns-clause-writer : goal.returns-clause-writer
 returns-clause-writer g c =
-    found-by_counts c.args.self.now.rows c.args.place c.args.index _ c.last_at_most.result
-    c.requires.replayable.of_kind c.requires.within c.requires.there (search rules) c.last_at_most.ensures.last
+    found-by_counts c.args.self.now.rows c.args.place c.args.index _ c.last_growing.result
+    c.requires.replayable.of_kind c.requires.within c.requires.there (search rules) c.last_growing.ensures.last
