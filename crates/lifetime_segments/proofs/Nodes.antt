@@ -4,15 +4,15 @@ use Rattle.std.specs.Prelude.{◌^◌, ◌&&◌, nat_lt, map}
 use Rattle.std.specs.List.{filter}
 use Rattle.std.proofs.lemmas.Bool.Decides.{nat_tests}
 use Rattle.lifetime_segments.specs.declared.lifetime.Lifetime.{Lifetime}
-use Rattle.lifetime_segments.specs.declared.trie.Trie.{Trie, Empty, Full'}
+use Rattle.lifetime_segments.specs.declared.trie.Trie.{Trie, Empty}
 use Rattle.lifetime_segments.specs.declared.trie.Node.{Node}
 use Rattle.lifetime_segments.specs.Lawful.{most_items, AreLawful}
 use Rattle.lifetime_segments.specs.Ordered.{IsOrder, AreInOrder, put_in, in_order, is_in, without}
 use Rattle.lifetime_segments.specs.OrderedLaws.{in_order-absorbs, in_order-ordered, in_order-kept, length-in_order, is_in-put_in, without-put_in}
 use Rattle.lifetime_segments.specs.Lifetimes.{holds, items_at}
-use Rattle.lifetime_segments.specs.Tries.{Has, NodeHas, HasOne, NodeHasOne, FirstHasOne, SecondHasOne, IsOf, IsOfNode, IsOpened, Takes, Keeps}
+use Rattle.lifetime_segments.specs.Tries.{Has, NodeHas, HasOne, NodeHasOne, FirstHasOne, SecondHasOne, IsOf, IsOfNode, IsOpened}
 use Rattle.lifetime_segments.specs.Tries.{NodeKeeps, NodeAdds, NodeTakes, AddsFirst, AddsSecond, TakesFirst, TakesSecond, is_whole, wholes}
-use Rattle.lifetime_segments.specs.Tries.{in_first, in_second, seen_from, is_empty, items_of, left_of, right_of, items_below}
+use Rattle.lifetime_segments.specs.Tries.{in_first, in_second, seen_from, items_of, left_of, right_of, items_below}
 use Rattle.lifetime_segments.proofs.Spans.{double, first-in_order, second-in_order}
 
 -- what holds of a trie holds of the node that it leads to, and the other way round
@@ -138,7 +138,8 @@ fewer_items {A = A} before level life lives none =
     ] refl
 
 -- where there is no node, nothing can be taken
-empty_without : {A M : Type 0} (before : A → A → Bool) (level : ℕ) (life : Lifetime A) (lives : List (Lifetime A)) (trie : Trie A M) → trie ≡ Empty → IsOf before level (life ∷ lives) trie → IsOf before level lives trie
+pub empty_without : {A M : Type 0} (before : A → A → Bool) (level : ℕ) (life : Lifetime A) (lives : List (Lifetime A)) (trie : Trie A M) → trie ≡ Empty → IsOf before level (life ∷ lives) trie
+    → IsOf before level lives trie
 unfolding IsOf
 empty_without before zero life lives trie none is_of = ap items_of none ∙ fewer_items before zero life lives (sym (ap items_of none) ∙ is_of)
 empty_without {A = A} before (suc level) life lives trie none is_of =
@@ -155,17 +156,6 @@ empty_without {A = A} before (suc level) life lives trie none is_of =
         | false ↦ λ below. below
       ]) is_of.2,
     )
-
-pub empty_takes : {A M : Type 0} (before : A → A → Bool) (level : ℕ) (life : Lifetime A) (old new : Trie A M) → old ≡ Empty → new ≡ Empty → Takes before level life old new
-empty_takes before level life old new none none_left lives is_of =
-    subst (IsOf before level lives) (none ∙ sym none_left) (empty_without before level life lives old none is_of)
-
-empty_is : {A M : Type 0} (trie : Trie A M) → is_empty trie ≡ true → trie ≡ Empty
-empty_is Empty none = refl
-empty_is (Full' p items left right) none = absurd (cc)
-
-pub empty_keeps : {A M : Type 0} (before : A → A → Bool) (level : ℕ) (old new : Trie A M) → is_empty old ≡ true → new ≡ Empty → Keeps before level old new
-empty_keeps before level old new none none_left lives is_of = subst (IsOf before level lives) (empty_is old none ∙ sym none_left) is_of
 
 -- parts of a lifetime are put into the halves
 pub node_with_parts : {A M : Type 0} (before : A → A → Bool) (level : ℕ) (life : Lifetime A) (node after : Node A M) → is_whole (suc level) life ≡ false → after.items ≡ node.items

@@ -74,6 +74,12 @@ pub record IsOpened {A M : Type 0} (trie : Trie A M) (node : Node A M) : Type 0 
   pub left_is : node.left ≡ left_of trie
   pub right_is : node.right ≡ right_of trie
 
+-- two tries lead to nodes that are alike; no trie is a node with nothing
+pub record LeadAlike {A M : Type 0} (first second : Trie A M) : Type 0 where
+  pub items_are : items_of first ≡ items_of second
+  pub left_is : left_of first ≡ left_of second
+  pub right_is : right_of first ≡ right_of second
+
 -- it has some lifetimes, and not too many
 pub record Has {A M : Type 0} (before : A → A → Bool) (level : ℕ) (trie : Trie A M) : Type 0 where
   pub lives : List (Lifetime A)

@@ -8,7 +8,6 @@ use crate::sorted::{ByItem, put, take_out};
 use crate::trie::{Node, Trie};
 use retro_base::{NoMemory, Steps};
 use std::alloc::Global;
-use std::mem;
 use std::sync::ledger::Ledger;
 
 /// Puts the item of a lifetime into the spans that make it up.
@@ -27,7 +26,10 @@ pub(crate) fn add<D: Decomposable, L: Ledger>(
     ensures ok { OnOk result (Adds D.stands_before level life trie.old trie.new) }
     ensures err { OnErr result (Keeps D.stands_before level trie.old trie.new) }
 {
-    let mut node = mem::replace(trie, Trie::Empty).opened(alloc)?;
+    if let Trie::Full(node) = trie {
+        return add_to_node::<D, L>(node, level, life, alloc, steps);
+    }
+    let mut node = Node::boxed(alloc)?;
     let added = add_to_node::<D, L>(&mut node, level, life, alloc, steps);
     *trie = Trie::closed(node);
     added
@@ -138,11 +140,11 @@ pub(crate) fn take<D: Decomposable, L: Ledger>(
     requires has { HasOne D.stands_before level life trie.old }
     ensures { Takes D.stands_before level life trie.old trie.new }
 {
-    let Trie::Full(mut node) = mem::replace(trie, Trie::Empty) else {
+    let Trie::Full(node) = trie else {
         return;
     };
-    take_from_node::<D, L>(&mut node, level, life, steps);
-    *trie = Trie::closed(node);
+    take_from_node::<D, L>(node, level, life, steps);
+    trie.prune();
 }
 
 #[cycle(take)]
@@ -221,10 +223,10 @@ pub(crate) fn move_end<D: Decomposable, L: Ledger>(
     ensures ok { OnOk result (Moves D.stands_before level life next trie.old trie.new) }
     ensures err { OnErr result (Keeps D.stands_before level trie.old trie.new) }
 {
-    let mut node = mem::replace(trie, Trie::Empty).opened(alloc)?;
-    let moved = move_in_node::<D, L>(&mut node, level, life, next, alloc, steps);
-    *trie = Trie::closed(node);
-    moved
+    if let Trie::Full(node) = trie {
+        return move_in_node::<D, L>(node, level, life, next, alloc, steps);
+    }
+    add::<D, L>(trie, level, life.ending(next), alloc, steps)
 }
 
 #[cycle(move_end)]

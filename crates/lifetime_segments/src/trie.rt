@@ -1,5 +1,5 @@
-ghost use Rattle.std.specs.Prelude.{◌≡◌, true, IfOk, OnErr};
-ghost use Rattle.lifetime_segments.specs.Tries.{IsOpened, is_empty};
+ghost use Rattle.std.specs.Prelude.{◌≡◌, true, IfOk};
+ghost use Rattle.lifetime_segments.specs.Tries.{IsOpened, LeadAlike, is_empty};
 
 use monoid_laws::Measured;
 use retro_base::NoMemory;
@@ -31,21 +31,22 @@ impl<T: Measured> Trie<T> {
         matches!(self, Trie::Empty)
     }
 
-    /// The node that it leads to, or one with nothing.
-    pub(crate) fn opened(self, alloc: Global) -> Result<Box<Node<T>>, NoMemory>
-        ensures ok { IfOk result (λ node. IsOpened self node.value) }
-        ensures err { OnErr result (is_empty self ≡ true) }
+    /// Whether it leads to nothing: to no node, or to one with nothing.
+    fn leads_to_nothing(&self) -> bool
+        ensures { result ≡ true → LeadAlike Trie.Empty self.now }
     {
         match self {
-            Trie::Empty => {
-                let node = Node {
-                    items: Tree::new(alloc),
-                    left: Trie::Empty,
-                    right: Trie::Empty,
-                };
-                Ok(Box::new(alloc, node)?)
-            }
-            Trie::Full(node) => Ok(node),
+            Trie::Empty => true,
+            Trie::Full(node) => node.is_empty(),
+        }
+    }
+
+    /// Drops a node with nothing.
+    pub(crate) fn prune(&mut self)
+        ensures { LeadAlike self.new self.old }
+    {
+        if self.leads_to_nothing() {
+            *self = Trie::Empty;
         }
     }
 
@@ -53,10 +54,31 @@ impl<T: Measured> Trie<T> {
     pub(crate) fn closed(node: Box<Node<T>>) -> Trie<T>
         ensures { IsOpened result node.value }
     {
-        if node.items.len() == 0 && node.left.is_empty() && node.right.is_empty() {
+        if node.is_empty() {
             Trie::Empty
         } else {
             Trie::Full(node)
         }
+    }
+}
+
+impl<T: Measured> Node<T> {
+    /// One with nothing.
+    pub(crate) fn boxed(alloc: Global) -> Result<Box<Node<T>>, NoMemory>
+        ensures { IfOk result (λ node. IsOpened Trie.Empty node.value) }
+    {
+        let node = Node {
+            items: Tree::new(alloc),
+            left: Trie::Empty,
+            right: Trie::Empty,
+        };
+        Ok(Box::new(alloc, node)?)
+    }
+
+    /// Whether it has nothing.
+    fn is_empty(&self) -> bool
+        ensures { result ≡ true → IsOpened Trie.Empty self.now }
+    {
+        self.items.len() == 0 && self.left.is_empty() && self.right.is_empty()
     }
 }

@@ -1,38 +1,60 @@
-use Rattle.std.proofs.Common.{◌≡◌, ◌<◌, ◌-◌, ◌^◌, suc, false, ◌∷◌, refl, sym, subst, ap, ◌∙◌, arith, rules}
-use Rattle.lifetime_segments.specs.Tries.{is_empty, IsOfNode, IsOpened, NodeAdds, NodeKeeps, Has, NodeHas, is_whole, in_first, in_second}
+use Rattle.std.proofs.Common.{◌≡◌, ◌<◌, ◌-◌, ◌^◌, suc, false, ◌∷◌, refl, sym, subst, ◌∙◌, arith, rules}
+use Rattle.lifetime_segments.specs.Tries.{IsOfNode, IsOpened, NodeAdds, NodeKeeps, Has, NodeHas, is_whole, in_first, in_second}
 use Rattle.lifetime_segments.proofs.Results.{ok_weaker, err_weaker, err_always}
-use Rattle.lifetime_segments.proofs.Nodes.{node_of, trie_of, node_has, left_has, right_has, node_left, node_ordered, node_few, node_with_whole, node_with_parts, node_kept, empty_keeps, below_level}
+use Rattle.lifetime_segments.proofs.Nodes.{node_of, trie_of, node_has, left_has, right_has, node_left, node_ordered, node_few, node_with_whole, node_with_parts, node_kept, below_level}
 use Rattle.lifetime_segments.proofs.edit.+add.Goals as goal
 
-pub add-returns-in_err-node-clause-err : goal.add-returns-in_err-node-clause-err
-add-returns-in_err-node-clause-err g t c =
-    err_always c.from_residual.result
-    (empty_keeps g.D.Decomposable.stands_before c.args.level c.args.trie.now c.replace.new.dest (ap is_empty (sym c.replace.ensures.value) ∙ c.in_err-node.ensures.err) c.replace.ensures.after)
+pub add-add_to_node-requires : goal.add-add_to_node-requires
+add-add_to_node-requires g t c κs within =
+    let opened : IsOpened c.args.trie.now c.in-Full.node.value = subst (λ trie. IsOpened trie c.in-Full.node.value) (sym c.in-Full.is) (record { items_are = refl; left_is = refl; right_is = refl }) in
+    let has : NodeHas g.D.Decomposable.stands_before c.args.level c.deref_mut.result.now = subst (NodeHas g.D.Decomposable.stands_before c.args.level) (sym c.deref_mut.ensures.value) (node_has opened c.requires.has) in
+    search rules
+
+pub add-returns-in-Full-clause-ok : goal.add-returns-in-Full-clause-ok
+add-returns-in-Full-clause-ok g t c =
+    let before = g.D.Decomposable.stands_before in
+    let opened : IsOpened c.args.trie.now c.in-Full.node.value = subst (λ trie. IsOpened trie c.in-Full.node.value) (sym c.in-Full.is) (record { items_are = refl; left_is = refl; right_is = refl }) in
+    ok_weaker c.add_to_node.result
+    (λ adds lives is_of.
+    trie_of before c.args.level (c.args.life ∷ lives) _ c.add_to_node.new.node (record { items_are = refl; left_is = refl; right_is = refl })
+    (adds lives (subst (IsOfNode before c.args.level lives) (sym c.deref_mut.ensures.value) (node_of before c.args.level lives c.args.trie.now c.in-Full.node.value opened is_of))))
+    c.add_to_node.ensures.ok
+
+pub add-returns-in-Full-clause-err : goal.add-returns-in-Full-clause-err
+add-returns-in-Full-clause-err g t c =
+    let before = g.D.Decomposable.stands_before in
+    let opened : IsOpened c.args.trie.now c.in-Full.node.value = subst (λ trie. IsOpened trie c.in-Full.node.value) (sym c.in-Full.is) (record { items_are = refl; left_is = refl; right_is = refl }) in
+    err_weaker c.add_to_node.result
+    (λ keeps lives is_of.
+    trie_of before c.args.level lives _ c.add_to_node.new.node (record { items_are = refl; left_is = refl; right_is = refl })
+    (keeps lives (subst (IsOfNode before c.args.level lives) (sym c.deref_mut.ensures.value) (node_of before c.args.level lives c.args.trie.now c.in-Full.node.value opened is_of))))
+    c.add_to_node.ensures.err
 
 pub add-add_to_node-added-requires : goal.add-add_to_node-added-requires
 add-add_to_node-added-requires g t c κs within =
-    let opened : IsOpened c.args.trie.now c.in_ok-node.node.value = subst (λ trie. IsOpened trie c.in_ok-node.node.value) c.replace.ensures.value c.in_ok-node.ensures.ok in
-    let has : NodeHas g.D.Decomposable.stands_before c.args.level c.deref_mut.result.now = subst (NodeHas g.D.Decomposable.stands_before c.args.level) (sym c.deref_mut.ensures.value) (node_has opened c.requires.has) in
+    let opened : IsOpened c.args.trie.now c.in_ok-node.node.value = subst (λ trie. IsOpened trie c.in_ok-node.node.value) (sym c.in_default.is) c.in_ok-node.ensures in
+    let has : NodeHas g.D.Decomposable.stands_before c.args.level c.deref_mut-2.result.now =
+    subst (NodeHas g.D.Decomposable.stands_before c.args.level) (sym c.deref_mut-2.ensures.value) (node_has opened c.requires.has) in
     search rules
 
 pub add-returns-clause-ok : goal.add-returns-clause-ok
 add-returns-clause-ok g t c =
     let before = g.D.Decomposable.stands_before in
-    let opened : IsOpened c.args.trie.now c.in_ok-node.node.value = subst (λ trie. IsOpened trie c.in_ok-node.node.value) c.replace.ensures.value c.in_ok-node.ensures.ok in
+    let opened : IsOpened c.args.trie.now c.in_ok-node.node.value = subst (λ trie. IsOpened trie c.in_ok-node.node.value) (sym c.in_default.is) c.in_ok-node.ensures in
     ok_weaker c.add_to_node-added.result
     (λ adds lives is_of.
     trie_of before c.args.level (c.args.life ∷ lives) c.closed.result c.add_to_node-added.new.node c.closed.ensures
-    (adds lives (subst (IsOfNode before c.args.level lives) (sym c.deref_mut.ensures.value) (node_of before c.args.level lives c.args.trie.now c.in_ok-node.node.value opened is_of))))
+    (adds lives (subst (IsOfNode before c.args.level lives) (sym c.deref_mut-2.ensures.value) (node_of before c.args.level lives c.args.trie.now c.in_ok-node.node.value opened is_of))))
     c.add_to_node-added.ensures.ok
 
 pub add-returns-clause-err : goal.add-returns-clause-err
 add-returns-clause-err g t c =
     let before = g.D.Decomposable.stands_before in
-    let opened : IsOpened c.args.trie.now c.in_ok-node.node.value = subst (λ trie. IsOpened trie c.in_ok-node.node.value) c.replace.ensures.value c.in_ok-node.ensures.ok in
+    let opened : IsOpened c.args.trie.now c.in_ok-node.node.value = subst (λ trie. IsOpened trie c.in_ok-node.node.value) (sym c.in_default.is) c.in_ok-node.ensures in
     err_weaker c.add_to_node-added.result
     (λ keeps lives is_of.
     trie_of before c.args.level lives c.closed.result c.add_to_node-added.new.node c.closed.ensures
-    (keeps lives (subst (IsOfNode before c.args.level lives) (sym c.deref_mut.ensures.value) (node_of before c.args.level lives c.args.trie.now c.in_ok-node.node.value opened is_of))))
+    (keeps lives (subst (IsOfNode before c.args.level lives) (sym c.deref_mut-2.ensures.value) (node_of before c.args.level lives c.args.trie.now c.in_ok-node.node.value opened is_of))))
     c.add_to_node-added.ensures.err
 
 pub add_to_halves-add_first-requires : goal.add_to_halves-add_first-requires

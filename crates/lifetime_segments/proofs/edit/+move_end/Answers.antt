@@ -1,43 +1,47 @@
 use Rattle.std.proofs.Common.{◌≡◌, ◌<◌, ◌-◌, ◌^◌, suc, true, false, ◌∷◌, refl, sym, subst, ap, ◌∙◌, arith, rules}
-use Rattle.lifetime_segments.specs.Tries.{is_empty, IsOfNode, IsOpened, NodeMoves, NodeKeeps, Moves, AddsSecond, Has, NodeHas, HasOne, NodeHasOne, FirstHasOne, is_whole, ending, in_first, in_second, seen_from}
+use Rattle.lifetime_segments.specs.Tries.{IsOf, IsOfNode, IsOpened, NodeMoves, NodeKeeps, Moves, AddsSecond, Has, NodeHas, HasOne, NodeHasOne, FirstHasOne, is_whole, ending, in_first, in_second, seen_from}
 use Rattle.lifetime_segments.proofs.Results.{ok_weaker, err_weaker, err_always}
-use Rattle.lifetime_segments.proofs.Nodes.{node_of, trie_of, node_has, node_has_one, left_has, right_has, left_has_one, right_has_one, node_right, node_kept, empty_keeps, below_level}
+use Rattle.lifetime_segments.proofs.Nodes.{node_of, trie_of, node_has, node_has_one, left_has, right_has, left_has_one, right_has_one, node_right, node_kept, empty_without, below_level}
 use Rattle.lifetime_segments.proofs.MovedEnds.{first_none, first_past, second_there, node_second_moved, node_shortened, node_lengthened, node_still_whole}
 use Rattle.lifetime_segments.proofs.Spans.{double}
 use Rattle.lifetime_segments.proofs.edit.+move_end.Goals as goal
 
-pub move_end-returns-in_err-node-clause-err : goal.move_end-returns-in_err-node-clause-err
-move_end-returns-in_err-node-clause-err g t c =
-    err_always c.from_residual.result
-    (empty_keeps g.D.Decomposable.stands_before c.args.level c.args.trie.now c.replace.new.dest (ap is_empty (sym c.replace.ensures.value) ∙ c.in_err-node.ensures.err) c.replace.ensures.after)
-
-pub move_end-move_in_node-moved-requires : goal.move_end-move_in_node-moved-requires
-move_end-move_in_node-moved-requires g t c κs within =
+pub move_end-move_in_node-requires : goal.move_end-move_in_node-requires
+move_end-move_in_node-requires g t c κs within =
     let before = g.D.Decomposable.stands_before in
-    let opened : IsOpened c.args.trie.now c.in_ok-node.node.value = subst (λ trie. IsOpened trie c.in_ok-node.node.value) c.replace.ensures.value c.in_ok-node.ensures.ok in
+    let opened : IsOpened c.args.trie.now c.in-Full.node.value = subst (λ trie. IsOpened trie c.in-Full.node.value) (sym c.in-Full.is) (record { items_are = refl; left_is = refl; right_is = refl }) in
     let has : NodeHas before c.args.level c.deref_mut.result.now = subst (NodeHas before c.args.level) (sym c.deref_mut.ensures.value) (node_has opened c.requires.has) in
     let there : NodeHasOne before c.args.level c.args.life c.deref_mut.result.now = subst (NodeHasOne before c.args.level c.args.life) (sym c.deref_mut.ensures.value) (node_has_one opened c.requires.there) in
     search rules
 
+pub move_end-returns-in-Full-clause-ok : goal.move_end-returns-in-Full-clause-ok
+move_end-returns-in-Full-clause-ok g t c =
+    let before = g.D.Decomposable.stands_before in
+    let opened : IsOpened c.args.trie.now c.in-Full.node.value = subst (λ trie. IsOpened trie c.in-Full.node.value) (sym c.in-Full.is) (record { items_are = refl; left_is = refl; right_is = refl }) in
+    ok_weaker c.move_in_node.result
+    (λ moves lives is_of.
+    trie_of before c.args.level (ending c.args.next c.args.life ∷ lives) _ c.move_in_node.new.node (record { items_are = refl; left_is = refl; right_is = refl })
+    (moves lives (subst (IsOfNode before c.args.level (c.args.life ∷ lives)) (sym c.deref_mut.ensures.value) (node_of before c.args.level (c.args.life ∷ lives) c.args.trie.now c.in-Full.node.value opened is_of))))
+    c.move_in_node.ensures.ok
+
+pub move_end-returns-in-Full-clause-err : goal.move_end-returns-in-Full-clause-err
+move_end-returns-in-Full-clause-err g t c =
+    let before = g.D.Decomposable.stands_before in
+    let opened : IsOpened c.args.trie.now c.in-Full.node.value = subst (λ trie. IsOpened trie c.in-Full.node.value) (sym c.in-Full.is) (record { items_are = refl; left_is = refl; right_is = refl }) in
+    err_weaker c.move_in_node.result
+    (λ keeps lives is_of.
+    trie_of before c.args.level lives _ c.move_in_node.new.node (record { items_are = refl; left_is = refl; right_is = refl })
+    (keeps lives (subst (IsOfNode before c.args.level lives) (sym c.deref_mut.ensures.value) (node_of before c.args.level lives c.args.trie.now c.in-Full.node.value opened is_of))))
+    c.move_in_node.ensures.err
+
 pub move_end-returns-clause-ok : goal.move_end-returns-clause-ok
 move_end-returns-clause-ok g t c =
     let before = g.D.Decomposable.stands_before in
-    let opened : IsOpened c.args.trie.now c.in_ok-node.node.value = subst (λ trie. IsOpened trie c.in_ok-node.node.value) c.replace.ensures.value c.in_ok-node.ensures.ok in
-    ok_weaker c.move_in_node-moved.result
-    (λ moves lives is_of.
-    trie_of before c.args.level (ending c.args.next c.args.life ∷ lives) c.closed.result c.move_in_node-moved.new.node c.closed.ensures
-    (moves lives (subst (IsOfNode before c.args.level (c.args.life ∷ lives)) (sym c.deref_mut.ensures.value) (node_of before c.args.level (c.args.life ∷ lives) c.args.trie.now c.in_ok-node.node.value opened is_of))))
-    c.move_in_node-moved.ensures.ok
-
-pub move_end-returns-clause-err : goal.move_end-returns-clause-err
-move_end-returns-clause-err g t c =
-    let before = g.D.Decomposable.stands_before in
-    let opened : IsOpened c.args.trie.now c.in_ok-node.node.value = subst (λ trie. IsOpened trie c.in_ok-node.node.value) c.replace.ensures.value c.in_ok-node.ensures.ok in
-    err_weaker c.move_in_node-moved.result
-    (λ keeps lives is_of.
-    trie_of before c.args.level lives c.closed.result c.move_in_node-moved.new.node c.closed.ensures
-    (keeps lives (subst (IsOfNode before c.args.level lives) (sym c.deref_mut.ensures.value) (node_of before c.args.level lives c.args.trie.now c.in_ok-node.node.value opened is_of))))
-    c.move_in_node-moved.ensures.err
+    ok_weaker c.add.result
+    (λ adds lives is_of.
+    subst (λ moved. IsOf before c.args.level (moved ∷ lives) c.add.new.trie) c.ending.ensures
+    (adds lives (empty_without before c.args.level c.args.life lives c.args.trie.now c.in_default.is is_of)))
+    c.add.ensures.ok
 
 pub move_in_node-returns-then-is_whole-2-clause-ok : goal.move_in_node-returns-then-is_whole-2-clause-ok
 move_in_node-returns-then-is_whole-2-clause-ok g t c =

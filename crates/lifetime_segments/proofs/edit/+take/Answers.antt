@@ -1,16 +1,14 @@
 use Rattle.std.proofs.Common.{◌≡◌, ◌<◌, ◌-◌, ◌^◌, suc, false, ◌∷◌, refl, sym, subst, ◌∙◌, rules}
 use Rattle.lifetime_segments.specs.Tries.{IsOfNode, IsOpened, NodeHasOne, FirstHasOne, SecondHasOne, is_whole}
-use Rattle.lifetime_segments.proofs.Nodes.{node_of, trie_of, node_has_one, left_has_one, right_has_one, node_ordered, node_is_in, node_without_whole, node_without_parts, empty_takes, below_level}
+use Rattle.lifetime_segments.proofs.Nodes.{node_of, trie_of, node_has_one, left_has_one, right_has_one, node_ordered, node_is_in, node_without_whole, node_without_parts, empty_without, below_level}
 use Rattle.lifetime_segments.proofs.edit.+take.Goals as goal
 
 pub take-returns-in_default : goal.take-returns-in_default
-take-returns-in_default g t c =
-    empty_takes g.D.Decomposable.stands_before c.args.level c.args.life c.args.trie.now c.replace.new.dest (sym c.replace.ensures.value ∙ c.in_default.is) c.replace.ensures.after
+take-returns-in_default g t c lives is_of = empty_without g.D.Decomposable.stands_before c.args.level c.args.life lives c.args.trie.now c.in_default.is is_of
 
 pub take-take_from_node-requires : goal.take-take_from_node-requires
 take-take_from_node-requires g t c κs within =
-    let opened : IsOpened c.args.trie.now c.in-Full.node.value =
-    subst (λ trie. IsOpened trie c.in-Full.node.value) (sym c.in-Full.is ∙ c.replace.ensures.value) (record { items_are = refl; left_is = refl; right_is = refl }) in
+    let opened : IsOpened c.args.trie.now c.in-Full.node.value = subst (λ trie. IsOpened trie c.in-Full.node.value) (sym c.in-Full.is) (record { items_are = refl; left_is = refl; right_is = refl }) in
     let has : NodeHasOne g.D.Decomposable.stands_before c.args.level c.args.life c.deref_mut.result.now =
     subst (NodeHasOne g.D.Decomposable.stands_before c.args.level c.args.life) (sym c.deref_mut.ensures.value) (node_has_one opened c.requires.has) in
     search rules
@@ -18,9 +16,8 @@ take-take_from_node-requires g t c κs within =
 pub take-returns : goal.take-returns
 take-returns g t c lives is_of =
     let before = g.D.Decomposable.stands_before in
-    let opened : IsOpened c.args.trie.now c.in-Full.node.value =
-    subst (λ trie. IsOpened trie c.in-Full.node.value) (sym c.in-Full.is ∙ c.replace.ensures.value) (record { items_are = refl; left_is = refl; right_is = refl }) in
-    trie_of before c.args.level lives c.closed.result c.take_from_node.new.node c.closed.ensures
+    let opened : IsOpened c.args.trie.now c.in-Full.node.value = subst (λ trie. IsOpened trie c.in-Full.node.value) (sym c.in-Full.is) (record { items_are = refl; left_is = refl; right_is = refl }) in
+    trie_of before c.args.level lives c.prune.new.self c.take_from_node.new.node (record { items_are = sym c.prune.ensures.items_are; left_is = sym c.prune.ensures.left_is; right_is = sym c.prune.ensures.right_is })
     (c.take_from_node.ensures lives
     (subst (IsOfNode before c.args.level (c.args.life ∷ lives)) (sym c.deref_mut.ensures.value) (node_of before c.args.level (c.args.life ∷ lives) c.args.trie.now c.in-Full.node.value opened is_of)))
 
