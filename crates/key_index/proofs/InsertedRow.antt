@@ -1,25 +1,21 @@
 -- Which row fails first once one is put in: the rows beside it on its key say so.
-use Rattle.std.proofs.Common.{◌≡◌, ℕ, ℤ, suc, ◌+◌, Bool, true, false, not, ◌&&◌, cond, Option, Some, None, List, ◌∷◌, ◌++◌, length, take, slice_get, refl, sym, ap, ◌∙◌}
+use Rattle.std.proofs.Common.{◌≡◌, ℕ, ℤ, suc, ◌+◌, Bool, true, false, not, ◌&&◌, cond, Option, Some, None, List, ◌∷◌, ◌++◌, length, slice_get, refl, sym, ap, ◌∙◌}
 use Rattle.std.specs.Prelude.{nat_le, nat_lt}
-use Rattle.std.specs.List.{AllByRecursion, filter}
+use Rattle.std.specs.List.{AllByRecursion}
 use Rattle.std.specs.Option.{option_map, option_and_then}
 use Rattle.std.specs.Ordering.{int_eq}
 use Rattle.std.proofs.lemmas.Bool.Decides.{Decides-int_eq}
-use Rattle.std.proofs.lemmas.List.{length-map, take-append-drop}
+use Rattle.std.proofs.lemmas.List.{length-map}
 use Rattle.retro_base.specs.declared.kind.Kind.TheVariants.{Dict}
 use Rattle.retro_base.specs.declared.op.Op.{Op}
 use Rattle.retro_base.specs.declared.op.Op.TheVariants.{Enq, Deq, Push, Pop, PushL, PushR, PopL, PopR, Put, Del, Ins, DelMin}
 use Rattle.retro_base.specs.Kind.{kind_of}
-use Rattle.weighted_tree.specs.PartitionLaws.{joined}
 use Rattle.key_index.specs.declared.key_index.Bad.{Bad}
 use Rattle.key_index.specs.declared.key_index.Bad.TheVariants.{Inserted, Present}
-use Rattle.key_index.specs.KeyRows.{KeyRow, LabelsRise, AreKeyRows, is_on, last_of, first_after, up_to, behind, with_row, named, bad_with, Replays}
-use Rattle.key_index.specs.Beside.{takes_out, is_there, taken_at}
-use Rattle.key_index.specs.Ordered.{reaches}
-use Rattle.key_index.specs.declared.search.Bound.TheVariants.{Label}
-use Rattle.key_index.proofs.InOrder.{label_falls}
-use Rattle.key_index.proofs.Neighbours.{lt_is_not_le}
-use Rattle.key_index.proofs.Lists.{filter_either, all-append, all_filter, filter-same, first_of, find_is}
+use Rattle.key_index.specs.KeyRows.{KeyRow, AreKeyRows, is_on, last_of, first_after, up_to, behind, with_row, named, bad_with, Replays}
+use Rattle.key_index.specs.Beside.{takes_out, is_there, taken_at, last_up_to}
+use Rattle.key_index.proofs.InOrder.{parted}
+use Rattle.key_index.proofs.Lists.{filter_either, all-append, all_filter, first_of, find_is}
 use Rattle.key_index.proofs.Replayed.{there_after, fails, nothing, failure_is}
 use Rattle.key_index.proofs.Failing.{with_more, first_taken, without_key, there_later, there_is, in_parts, front_goes, back_goes, taken_name, name_after}
 
@@ -85,16 +81,16 @@ module _ (label : ℕ) (rows : List KeyRow) (dict : AreDict rows) (whole : fails
   pub put_is_good : (k v : ℤ) → None ≡ bad_with label (Put k v) rows
   put_is_good k v = sym (ap (option_and_then (slice_get (named front ++ Inserted ∷ named back))) (failure_is (with_row label (Put k v) rows) (edited_dict (Put k v) refl) ∙ put_between front back label whole k v))
 
-  there_up_to : (k : ℤ) → there_later front nothing k ≡ is_there (last_of (filter (λ row. is_on k row && nat_le row.0 label) rows))
+  there_up_to : (k : ℤ) → there_later front nothing k ≡ is_there (last_up_to k label rows)
   there_up_to k = there_is front k ∙ ap (λ found. is_there (last_of found)) (sym (filter_either (is_on k) (λ row. nat_le row.0 label) rows))
 
-  pub del_is_bad : (k : ℤ) → is_there (last_of (filter (λ row. is_on k row && nat_le row.0 label) rows)) ≡ false → Some Inserted ≡ bad_with label (Del k) rows
+  pub del_is_bad : (k : ℤ) → is_there (last_up_to k label rows) ≡ false → Some Inserted ≡ bad_with label (Del k) rows
   del_is_bad k gone =
       sym (ap (option_and_then (slice_get (named front ++ Inserted ∷ named back))) (failure_is (with_row label (Del k) rows) (edited_dict (Del k) refl) ∙ stopped front back label whole k (there_up_to k ∙ gone))
       ∙ ap (λ n. slice_get (named front ++ Inserted ∷ named back) (n + 0)) (sym (length-map front (λ (row : KeyRow). Present row.0)))
       ∙ first_name (named front) (named back))
 
-  pub del_takes : (k : ℤ) → is_there (last_of (filter (λ row. is_on k row && nat_le row.0 label) rows)) ≡ true → option_map (λ l. Present l) (taken_at (first_after k label rows)) ≡ bad_with label (Del k) rows
+  pub del_takes : (k : ℤ) → is_there (last_up_to k label rows) ≡ true → option_map (λ l. Present l) (taken_at (first_after k label rows)) ≡ bad_with label (Del k) rows
   del_takes k here =
       sym (ap (option_and_then (slice_get (named front ++ Inserted ∷ named back))) (failure_is (with_row label (Del k) rows) (edited_dict (Del k) refl) ∙ del_between front back label whole k (there_up_to k ∙ here))
       ∙ ap (λ n. option_and_then (slice_get (named front ++ Inserted ∷ named back)) (option_map (λ i. n + i) (option_map suc (first_taken k back)))) (sym (length-map front (λ (row : KeyRow). Present row.0)))
@@ -117,12 +113,7 @@ module _ (label : ℕ) (rows : List KeyRow) (dict : AreDict rows) (whole : fails
   others_are_good (Ins k) dict_op stays = absurd (cc)
   others_are_good DelMin dict_op stays = absurd (cc)
 
--- rows in two parts are all rows
-pub parted : (label : ℕ) (rows : List KeyRow) → LabelsRise rows → up_to label rows ++ behind label rows ≡ rows
-parted label rows rise =
-    ap (λ back. up_to label rows ++ back) (filter-same (λ row. nat_lt label row.0) (λ row. not (nat_le row.0 label)) (λ row. lt_is_not_le label row.0) rows)
-    ∙ joined (reaches (Label label)) rows (label_falls label rows rise)
-
+-- all rows, in two parts
 pub replays_in_parts : (label : ℕ) (rows : List KeyRow) → AreKeyRows rows → Replays rows → fails nothing (up_to label rows ++ behind label rows) ≡ None
 replays_in_parts label rows keyed valid = ap (fails nothing) (parted label rows keyed.rising) ∙ sym (failure_is rows keyed.of_dict) ∙ valid
 

@@ -1,9 +1,9 @@
 pub mod Lists
 pub mod InOrder
 pub mod Neighbours
-pub mod Labelled
 pub mod PutIn
 pub mod TakenOut
+pub mod ByLabel
 pub mod Moved
 pub mod Replayed
 pub mod Failing

@@ -1,5 +1,5 @@
 -- Lists that are filtered, and their last elements.
-use Rattle.std.proofs.Common.{◌≡◌, ℕ, zero, suc, Bool, true, false, ◌&&◌, cond, Option, Some, None, List, [], ◌∷◌, ◌++◌, take, drop, map, slice_get, refl, sym, ap, ◌∙◌}
+use Rattle.std.proofs.Common.{◌≡◌, ℕ, zero, suc, ◌-◌, ◌<◌, ◌≤◌, Bool, true, false, ◌&&◌, cond, Option, Some, None, List, [], ◌∷◌, ◌++◌, length, take, drop, map, slice_get, refl, sym, ap, ◌∙◌, arith}
 use Rattle.std.specs.List.{AllByRecursion, filter, find}
 use Rattle.std.specs.Option.{option_or}
 use Rattle.key_index.specs.KeyRows.{last_of}
@@ -99,12 +99,33 @@ pub settled : {A : Type 0} (o : Option A) (y x : A) → option_or (option_or o (
 settled None y x = refl
 settled (Some z) y x = refl
 
-pub last_of_take : {A : Type 0} (xs : List A) (n : ℕ) (x : A) → slice_get xs n ≡ Some x → last_of (take (suc n) xs) ≡ Some x
-last_of_take [] n x there = absurd (cc)
-last_of_take (y ∷ ys) zero x there = there
-last_of_take (y ∷ ys) (suc n) x there = ap (λ o. option_or o (Some y)) (last_of_take ys n x there)
+-- all elements but the last
+abbrev pub all_but_last : {A : Type 0} → List A → List A
+all_but_last [] = []
+all_but_last (x ∷ []) = []
+all_but_last (x ∷ y ∷ ys) = x ∷ all_but_last (y ∷ ys)
 
-pub drop_from : {A : Type 0} (xs : List A) (n : ℕ) (x : A) → slice_get xs n ≡ Some x → drop n xs ≡ x ∷ drop (suc n) xs
-drop_from [] n x there = absurd (cc)
-drop_from (y ∷ ys) zero x there = let same : y ≡ x = cc in ap (λ z. z ∷ ys) same
-drop_from (y ∷ ys) (suc n) x there = drop_from ys n x there
+pub take_less : {A : Type 0} (xs : List A) (n : ℕ) → n ≤ length xs → take (n - 1) xs ≡ all_but_last (take n xs)
+take_less xs zero within = refl
+take_less [] (suc n) within = absurd (omega arith)
+take_less (x ∷ xs) (suc zero) within = refl
+take_less (x ∷ []) (suc (suc n)) within = absurd (omega arith)
+take_less (x ∷ y ∷ ys) (suc (suc n)) within =
+    let less : suc (suc n) - 1 ≡ suc n = omega arith in
+    let one_less : suc n - 1 ≡ n = omega arith in
+    ap (λ k. take k (x ∷ y ∷ ys)) less ∙ ap (λ zs. x ∷ zs) (ap (λ k. take k (y ∷ ys)) (sym one_less) ∙ take_less (y ∷ ys) (suc n) (omega arith))
+
+pub last_at : {A : Type 0} (xs : List A) (n : ℕ) (x : A) → 0 < n → slice_get xs (n - 1) ≡ Some x → last_of (take n xs) ≡ Some x
+last_at xs zero x some there = absurd (omega arith)
+last_at [] (suc n) x some there = absurd (cc)
+last_at (y ∷ ys) (suc zero) x some there = there
+last_at (y ∷ ys) (suc (suc n)) x some there =
+    let less : suc (suc n) - 1 ≡ suc n = omega arith in
+    let one_less : suc n - 1 ≡ n = omega arith in
+    ap (λ o. option_or o (Some y)) (last_at ys (suc n) x (omega arith) (ap (slice_get ys) one_less ∙ sym (ap (slice_get (y ∷ ys)) less) ∙ there))
+
+pub first_at : {A : Type 0} (xs : List A) (n : ℕ) → slice_get xs n ≡ first_of (drop n xs)
+first_at [] zero = refl
+first_at [] (suc n) = refl
+first_at (x ∷ xs) zero = refl
+first_at (x ∷ xs) (suc n) = first_at xs n

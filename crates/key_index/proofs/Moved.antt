@@ -140,7 +140,7 @@ module _ (former fresh : List ℕ) (rise : Rise former) (rise_fresh : Rise fresh
 
   pub relabelled_indexed : (rows by_key : List KeyRow) → IsIndexed rows by_key → HoldsLabels former rows → IsIndexed (relabelled former fresh rows) (relabelled former fresh by_key)
   relabelled_indexed rows by_key indexed all = record {
-    by_label = record { rising = rise_moved rows indexed.by_label.rising all; of_dict = dict_moved rows indexed.by_label.of_dict };
+    listed = record { rising = rise_moved rows indexed.listed.rising all; of_dict = dict_moved rows indexed.listed.of_dict };
     ordered = by_key_moved by_key indexed.ordered (holds_by_key former rows by_key indexed all);
     as_many = length-map by_key moved ∙ indexed.as_many ∙ sym (length-map rows moved);
     same = λ key. filter_moved key by_key ∙ ap (map moved) (indexed.same key) ∙ sym (filter_moved key rows);

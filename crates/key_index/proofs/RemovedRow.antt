@@ -17,7 +17,7 @@ use Rattle.key_index.specs.Beside.{is_there, taken_at}
 use Rattle.key_index.proofs.Lists.{filter_either, all-append, all_front, all_after, filter-no, none_pass, all_pass, first_of, find_is}
 use Rattle.key_index.proofs.Replayed.{there_after, fails, nothing, failure_is}
 use Rattle.key_index.proofs.Failing.{with_more, without_key, there_later, there_is, in_parts, front_goes, back_goes, row_goes, taken_name, name_after}
-use Rattle.key_index.proofs.TakenOut.{StandsByLabel, by_label, without_it}
+use Rattle.key_index.proofs.TakenOut.{StandsByLabel, stands_there, without_it}
 
 abbrev AreDict : List KeyRow → Type 0
 AreDict rows = AllByRecursion (λ (row : KeyRow). kind_of row.1 ≡ Dict) rows
@@ -76,7 +76,7 @@ only_del DelMin dict other = absurd (cc)
 
 module _ (label : ℕ) (op : Op) (rows : List KeyRow) (keyed : AreKeyRows rows) (valid : Replays rows) (found : op_at label rows ≡ Some op) where
   abbrev stands : StandsByLabel (label, op) rows
-  stands = by_label label op rows keyed.rising found
+  stands = stands_there label op rows keyed.rising found
 
   abbrev before : List KeyRow
   before = stands.front

@@ -1,8 +1,21 @@
--- What the rows beside an edit on its key say.
-use Rattle.std.specs.Prelude.{ℕ, Bool, true, false, Option, Some, None, if◌then◌else◌}
+-- The rows beside an edit on its key, and what they say.
+use Rattle.std.specs.Prelude.{ℕ, ℤ, Bool, true, false, ◌&&◌, nat_le, Option, Some, None, List, if◌then◌else◌}
+use Rattle.std.specs.List.{filter}
 use Rattle.retro_base.specs.declared.op.Op.{Op}
 use Rattle.retro_base.specs.declared.op.Op.TheVariants.{Put, Del}
-use Rattle.key_index.specs.KeyRows.{KeyRow}
+use Rattle.key_index.specs.declared.beside.Beside.{Beside}
+use Rattle.key_index.specs.KeyRows.{KeyRow, is_on, last_of, last_before, first_after}
+
+-- the rows on a key next to a label
+abbrev pub beside : ℤ → ℕ → List KeyRow → Beside
+beside key label rows = record { before = last_before key label rows; after = first_after key label rows }
+
+-- the last row on a key up to a label, and the rows next to a place after those up to the label
+abbrev pub last_up_to : ℤ → ℕ → List KeyRow → Option KeyRow
+last_up_to key label rows = last_of (filter (λ row. is_on key row && nat_le row.0 label) rows)
+
+abbrev pub around : ℤ → ℕ → List KeyRow → Beside
+around key label rows = record { before = last_up_to key label rows; after = first_after key label rows }
 
 -- the operation leaves its key there
 abbrev pub puts : Op → Bool

@@ -3,6 +3,15 @@ ghost use Rattle.key_index.specs.Beside.{is_there, taken_at};
 
 use retro_base::Op;
 
+/// The rows on a key next to a label.
+#[derive(Clone, Copy, Debug, PartialEq, Eq)]
+pub struct Beside {
+    /// The last one below the label.
+    pub before: Option<(u64, Op)>,
+    /// The first one above it.
+    pub after: Option<(u64, Op)>,
+}
+
 /// Whether a key is there after the last row on it.
 pub(crate) fn is_there(last: Option<(u64, Op)>) -> bool
     ensures { result ≡ is_there last }

@@ -1,13 +1,14 @@
-ghost use Rattle.std.specs.Prelude.{◌≡◌, [], length, Some, None, IfNone, IsSome, OnOk, OnErr};
+ghost use Rattle.std.specs.Prelude.{◌≡◌, [], length, Some, None, IfNone, IfOk, OnOk, OnErr};
 ghost use Rattle.retro_base.specs.declared.kind.Kind.TheVariants.{Dict};
 ghost use Rattle.retro_base.specs.Kind.{kind_of};
-ghost use Rattle.key_index.specs.KeyRows.{Replays, AreKeyRows, bad_label, bad_with, first_after, last_before, op_at, with_row, without};
+ghost use Rattle.key_index.specs.Beside.{beside};
+ghost use Rattle.key_index.specs.KeyRows.{Replays, bad_label, bad_with, first_after, key_of, op_at, with_row, without};
 ghost use Rattle.key_index.specs.Relabelled.{Rise, HoldsLabels, relabelled};
 
-use crate::beside::{is_there, taken_at};
+use crate::beside::{Beside, is_there, taken_at};
 use crate::labels::Labels2;
 use crate::row::KeyRow;
-use crate::trees::{first_later, last_up_to, op_at, put_in, relabel, take_out};
+use crate::tree::{around, beside, first_above, put_in, relabel, take_out};
 use retro_base::{NoMemory, Op};
 use std::alloc::Global;
 use std::marker::{Brand, Model};
@@ -17,20 +18,20 @@ use weighted_tree::Tree;
 /// The rows of a dictionary: a list of labels, which rise, and operations.
 #[derive(Drop)]
 pub struct KeyIndex {
-    rows: Tree<KeyRow>,
+    /// In the order of their keys, and of their labels on each key.
     by_key: Tree<KeyRow>,
 }
 
 impl Model for KeyIndex {
     ghost use Rattle.std.specs.Prelude.{List, ℕ};
     ghost use Rattle.retro_base.specs.declared.op.Op.{Op};
-    ghost use Rattle.key_index.specs.Ordered.{IsIndexed};
+    ghost use Rattle.key_index.specs.Ordered.{IsIndex, by_label};
 
     ghost Value = { List (ℕ × Op) };
 
-    ghost view = { λ index. index.rows };
+    ghost view = { λ index. by_label index.by_key };
 
-    ghost invariant = { λ index. IsIndexed index.rows index.by_key };
+    ghost invariant = { λ index. IsIndex index.by_key };
 }
 
 /// The first row that fails once a row is put in.
@@ -49,50 +50,44 @@ impl KeyIndex {
         ensures replays { Replays result }
     {
         KeyIndex {
-            rows: Tree::new(alloc),
             by_key: Tree::new(alloc),
         }
     }
 
-    /// Puts a row in at its label, which no row has. After `NoMemory` all is as before.
-    pub fn insert(&mut self, label: u64, op: Op) -> Result<(), NoMemory>
+    /// Puts a row in at its label, which no row has, and gives the rows beside it on its key. After `NoMemory` all is as before.
+    pub fn insert(&mut self, label: u64, op: Op) -> Result<Beside, NoMemory>
         requires fresh { op_at label self.old ≡ None }
         requires dict { kind_of op ≡ Dict }
         ensures ok { OnOk result (self.new ≡ with_row label op self.old) }
+        ensures beside { IfOk result (λ rows. rows ≡ beside (key_of op) label self.old) }
         ensures err { OnErr result (self.new ≡ self.old) }
     {
-        put_in::<Brand>(&mut self.rows, &mut self.by_key, label, op, Blank::new(1))
+        put_in::<Brand>(&mut self.by_key, label, op, Blank::new(1))
     }
 
-    /// Takes the row with a label out, and gives its operation, where there is one.
-    pub fn remove(&mut self, label: u64) -> Option<Op>
-        ensures found { result ≡ op_at label self.old }
-        ensures rows { self.new ≡ without label self.old }
-        ensures listed { AreKeyRows self.old }
+    /// Takes the row with a label out, where its operation is known.
+    pub fn remove(&mut self, label: u64, op: Op)
+        requires there { op_at label self.old ≡ Some op }
+        ensures { self.new ≡ without label self.old }
     {
-        let op = op_at::<Brand>(&self.rows, label, Blank::new(1))?;
-        take_out::<Brand>(&mut self.rows, &mut self.by_key, label, op, Blank::new(1));
-        Some(op)
+        take_out::<Brand>(&mut self.by_key, label, op, Blank::new(1));
     }
 
-    /// The last row on a key below a label.
-    pub fn before(&self, key: i64, label: u64) -> Option<(u64, Op)>
-        ensures { result ≡ last_before key label self.now }
+    /// The rows on a key next to a label.
+    pub fn beside(&self, key: i64, label: u64) -> Beside
+        ensures { result ≡ beside key label self.now }
     {
-        if label == 0 {
-            return None;
-        }
-        last_up_to::<Brand>(&self.by_key, key, label - 1, Blank::new(1))
+        beside::<Brand>(&self.by_key, key, label, Blank::new(1))
     }
 
-    /// The first row on a key above a label.
+    /// The first row on a key above a label, where the one below it is not asked for.
     pub fn after(&self, key: i64, label: u64) -> Option<(u64, Op)>
         ensures { result ≡ first_after key label self.now }
     {
-        first_later::<Brand>(&self.by_key, key, label, Blank::new(1))
+        first_above::<Brand>(&self.by_key, key, label, Blank::new(1))
     }
 
-    /// The first row that fails once a row is put in right after all rows whose label is at most `after`.
+    /// The first row that fails once a row is put in right after all rows whose label is at most `behind`.
     pub fn bad_after_insert(&self, behind: u64, op: Op) -> Option<Bad>
         requires replays { Replays self.now }
         requires dict { kind_of op ≡ Dict }
@@ -101,11 +96,11 @@ impl KeyIndex {
     {
         match op {
             Op::Del { key } => {
-                let last = last_up_to::<Brand>(&self.by_key, key, behind, Blank::new(1));
-                if !is_there(last) {
+                let rows = around::<Brand>(&self.by_key, key, behind, Blank::new(1));
+                if !is_there(rows.before) {
                     return Some(Bad::Inserted);
                 }
-                match taken_at(self.after(key, behind)) {
+                match taken_at(rows.after) {
                     Some(label) => Some(Bad::Present { label }),
                     None => None,
                 }
@@ -114,32 +109,20 @@ impl KeyIndex {
         }
     }
 
-    /// The label of the first row that fails once the row with this label is taken out.
-    pub fn bad_after_remove(&self, label: u64) -> Option<u64>
+    /// The label of the first row that fails once the row with this label is taken out, where its operation is known.
+    pub fn bad_after_remove(&self, label: u64, op: Op) -> Option<u64>
         requires replays { Replays self.now }
-        requires there { IsSome (op_at label self.now) }
+        requires there { op_at label self.now ≡ Some op }
         ensures bad { result ≡ bad_label (without label self.now) }
         ensures good { IfNone result (Replays (without label self.now)) }
     {
-        match op_at::<Brand>(&self.rows, label, Blank::new(1)) {
-            Some(op) => self.bad_without(label, op),
-            None => None,
-        }
-    }
-
-    /// The same, where the operation of the row is known.
-    fn bad_without(&self, label: u64, op: Op) -> Option<u64>
-        requires rows { AreKeyRows self.now }
-        requires replays { Replays self.now }
-        requires there { op_at label self.now ≡ Some op }
-        ensures { result ≡ bad_label (without label self.now) }
-    {
         match op {
             Op::Put { key, .. } => {
-                if is_there(self.before(key, label)) {
+                let rows = beside::<Brand>(&self.by_key, key, label, Blank::new(1));
+                if is_there(rows.before) {
                     return None;
                 }
-                taken_at(self.after(key, label))
+                taken_at(rows.after)
             }
             _ => None,
         }
@@ -153,7 +136,6 @@ impl KeyIndex {
         requires all { HoldsLabels former.now self.old }
         ensures { self.new ≡ relabelled former.now fresh.now self.old }
     {
-        relabel::<Brand>(&mut self.rows, former, fresh, Blank::new(1));
         relabel::<Brand>(&mut self.by_key, former, fresh, Blank::new(1));
     }
 }

@@ -6,22 +6,23 @@
 //! row fails first, and nothing is performed again.
 //!
 //! [`KeyIndex`] is a list of rows by their labels, which rise: numbers that say which row comes first, and leave room
-//! in between (`order_labels`). It keeps them in two trees, by label and by key and label, and finds a place in either
-//! by one way down.
+//! in between (`order_labels`). It keeps them in one tree, by key and then by label, so that the rows next to an edit on its
+//! key stand next to one another, and finds a place there by one way down. A caller that has the rows by label too knows the
+//! operation of each, and hands it on where a row is to be found by its label.
 //!
 //! | Call | Cost, with n rows |
 //! |---|---|
-//! | `insert`, `remove`, `before`, `after`, `bad_after_insert`, `bad_after_remove` | log n |
+//! | `insert`, `remove`, `beside`, `after`, `bad_after_insert`, `bad_after_remove` | log n: one search each |
 //! | `relabel` | n log n |
 //!
-//! `insert` takes memory for two nodes, and leaves all as it was where there is none; no other call of it takes any, so a
+//! `insert` takes memory for one node, and leaves all as it was where there is none; no other call of it takes any, so a
 //! relabelling can be written last, once the two lists of labels and whatever else it needs are there.
 //!
 //! What the layer above may rely on: the definitions of specs/KeyRows.antt, over plain lists.
 //!
 //! - `key_index`: the type and its calls. `labels`: the labels before and after a relabelling.
-//! - `row`: what stands in the trees. `search`: how many rows stand up to a bound.
-//! - `trees`: what the calls do to the trees. `beside`: what the rows beside an edit say.
+//! - `row`: what stands in the tree. `search`: how many rows stand up to a label on a key.
+//! - `tree`: what the calls do to the tree. `beside`: the rows beside an edit, and what they say.
 #![tactic(auto)]
 
 mod beside;
@@ -29,7 +30,8 @@ mod key_index;
 mod labels;
 mod row;
 mod search;
-mod trees;
+mod tree;
 
+pub use beside::Beside;
 pub use key_index::{Bad, KeyIndex};
 pub use labels::Labels2;

@@ -5,7 +5,7 @@ use monoid_laws::{Count, Measured};
 use retro_base::Op;
 use std::marker::Model;
 
-/// A row with its label, as it stands in the trees.
+/// A row with its label, as it stands in the tree.
 #[derive(Clone, Copy)]
 pub(crate) struct KeyRow {
     label: u64,

@@ -1,40 +1,31 @@
 ghost use Rattle.std.specs.Prelude.{◌≡◌, ◌≤◌, length, take, drop, not};
 ghost use Rattle.std.specs.List.{filter};
-ghost use Rattle.weighted_tree.specs.Partitioned.{IsPartitioned};
-ghost use Rattle.key_index.specs.Ordered.{reaches};
+ghost use Rattle.key_index.specs.Ordered.{AreByKey, reaches};
 
 use crate::row::{KeyRow, key_of};
-use retro_base::{Op, Steps};
+use retro_base::Steps;
 use std::sync::ledger::Ledger;
 use weighted_tree::Tree;
 
-/// Up to where rows are looked for.
-#[derive(Clone, Copy)]
-pub(crate) enum Bound {
-    /// Up to a label.
-    Label { label: u64 },
-    /// On lesser keys, and up to a label on this one.
-    Key { key: i64, label: u64 },
+/// Whether a row stands on a lesser key, or up to the label on this one.
+fn reaches(key: i64, label: u64, row: KeyRow) -> bool
+    ensures { result ≡ reaches key label row }
+{
+    let its_key = key_of(row.op());
+    its_key < key || (its_key == key && row.label() <= label)
 }
 
-/// Whether a row stands up to the bound.
-pub(crate) fn reaches(bound: Bound, label: u64, op: Op) -> bool
-    ensures { result ≡ reaches bound (label, op) }
+/// How many rows stand on lesser keys, and up to a label on this one.
+pub(crate) fn count_up_to<L: Ledger>(
+    by_key: &Tree<KeyRow>,
+    key: i64,
+    label: u64,
+    steps: &mut Steps<L>,
+) -> u32
+    requires { AreByKey by_key.now }
+    ensures front { take result by_key.now ≡ filter (reaches key label) by_key.now }
+    ensures back { drop result by_key.now ≡ filter (λ row. not (reaches key label row)) by_key.now }
+    ensures within { result ≤ length by_key.now }
 {
-    match bound {
-        Bound::Label { label: limit } => label <= limit,
-        Bound::Key { key, label: limit } => {
-            key_of(op) < key || (key_of(op) == key && label <= limit)
-        }
-    }
-}
-
-/// How many rows stand up to the bound, where they stand in its order.
-pub(crate) fn count_up_to<L: Ledger>(rows: &Tree<KeyRow>, bound: Bound, steps: &mut Steps<L>) -> u32
-    requires { IsPartitioned (reaches bound) rows.now }
-    ensures front { take result rows.now ≡ filter (reaches bound) rows.now }
-    ensures back { drop result rows.now ≡ filter (λ row. not (reaches bound row)) rows.now }
-    ensures within { result ≤ length rows.now }
-{
-    rows.partition_point(|row: &KeyRow| reaches(bound, row.label(), row.op()), steps)
+    by_key.partition_point(|row: &KeyRow| reaches(key, label, *row), steps)
 }

@@ -1,8 +1,11 @@
 -- The steps of an edit, and how they are taken back.
-use Rattle.std.proofs.Common.{◌≡◌, ℕ, zero, suc, ◌≤◌, ℤ, List, [], ◌∷◌, length, take, drop, refl, sym, ap, ◌∙◌, arith, subst}
-use Rattle.std.specs.List.{insert, remove}
+use Rattle.std.proofs.Common.{◌≡◌, ℕ, zero, suc, ◌≤◌, ℤ, Bool, true, false, cond, Some, None, List, [], ◌∷◌, ◌++◌, length, take, drop, refl, sym, ap, ◌∙◌, arith, subst}
+use Rattle.std.specs.List.{filter, insert, remove}
+use Rattle.std.specs.Prelude.{◌==◌, nat_le}
+use Rattle.std.proofs.lemmas.Bool.{eq-eqb}
+use Rattle.retro_base.specs.declared.op.Op.{Op}
 use Rattle.retro_base.specs.declared.row.Row.{Row}
-use Rattle.key_index.specs.KeyRows.{KeyRow, with_row, without}
+use Rattle.key_index.specs.KeyRows.{KeyRow, behind, op_at, with_row, without}
 use Rattle.lifetime_segments.specs.declared.lifetime.Lifetime.{Lifetime}
 use Rattle.order_labels.specs.Labels.{label_limit}
 use Rattle.retro_dictionary.specs.declared.kept.Kept.{Kept}
@@ -19,6 +22,20 @@ undone rows labels index lifetimes kept place label row between =
     ∙ ap (without label) (with_row-parts labels rows place kept.as_many kept.rising.rising label row.op (omega (arith, between.before)) between.after_it)
     ∙ without-parts label (labelled (take place labels) (take place rows)) (labelled (drop place labels) (drop place rows)) row.op (front-below label_limit 0 labels rows place label kept.rising.rising between.before)
     ∙ sym (kept.indexed ∙ in_two labels rows place kept.as_many)
+
+-- a row that is put in is found by its label
+pub op-put : (label : ℕ) (op : Op) (index : List KeyRow) → op_at label index ≡ None → op_at label (with_row label op index) ≡ Some op
+op-put label op index fresh = after (λ row. nat_le row.0 label) index fresh where
+  after : (test : KeyRow → Bool) (rows : List KeyRow) → op_at label rows ≡ None → op_at label (filter test rows ++ (label, op) ∷ behind label index) ≡ Some op
+  after test [] fresh = ap (λ b. cond b (Some op) (op_at label (behind label index))) (eq-eqb label label refl)
+  after test (row ∷ rows) fresh =
+      elim (row.0 == label) as (λ b. (row.0 == label) ≡ b → cond b (Some row.1) (op_at label rows) ≡ None → op_at label (filter test (row ∷ rows) ++ (label, op) ∷ behind label index) ≡ Some op) [
+        | true ↦ λ same none. absurd (cc)
+        | false ↦ λ other none. elim (test row) as (λ b. op_at label (cond b (row ∷ filter test rows) (filter test rows) ++ (label, op) ∷ behind label index) ≡ Some op) [
+          | true ↦ ap (λ b. cond b (Some row.1) (op_at label (filter test rows ++ (label, op) ∷ behind label index))) other ∙ after test rows none
+          | false ↦ after test rows none
+        ]
+      ] refl fresh
 
 -- what was put in at a place is taken out again
 pub remove-insert : {A : Type 0} (xs : List A) (place : ℕ) (x : A) → place ≤ length xs → remove (insert xs place x) place ≡ xs

@@ -2,9 +2,9 @@
 use Rattle.std.proofs.Common.{◌≡◌, ℕ, zero, suc, ◌+◌, ◌-◌, ◌<◌, ◌≤◌, ℤ, not, ◌==◌, cond, Option, Some, None, List, [], ◌∷◌, ◌++◌, map}
 use Rattle.std.proofs.Common.{length, take, drop, slice_get, position, refl, sym, ap, ◌∙◌, arith, inl, inr, subst, ltb}
 use Rattle.std.specs.List.{position_or_len, insert, remove}
-use Rattle.std.specs.Prelude.{IfNone, IfSome, IsSome, Result, Ok, Err}
+use Rattle.std.specs.Prelude.{IfNone, IfSome, Result, Ok, Err}
 use Rattle.std.specs.Result.{result_err}
-use Rattle.std.specs.Option.{is_some, option_and_then, option_map}
+use Rattle.std.specs.Option.{option_and_then, option_map}
 use Rattle.std.proofs.lemmas.Bool.{cases_lt, lt-ltb, le-ltb, eq-eqb, ne_eqb}
 use Rattle.std.proofs.lemmas.List.{length-drop}
 use Rattle.std.proofs.lemmas.Option.{slice_get_within}
@@ -229,10 +229,11 @@ module _ (rows : List Row) (labels : List ℕ) (index : List KeyRow) (lifetimes 
     place_within : place < length rows
     place_within = omega (arith, slice_get_within labels place label label_read, kept.as_many)
 
-    pub label-there : IsSome (op_at label index)
-    label-there =
+    pub label-there : (op : Op) → option_map (λ (row : Row). row.op) (slice_get rows place) ≡ Some op → op_at label index ≡ Some op
+    label-there op there =
         let at = row-at rows place place_within in
-        ap is_some (ap (op_at label) kept.indexed ∙ op-is labels rows place kept.as_many kept.rising.rising label at.0 label_read at.1)
+        ap (op_at label) kept.indexed ∙ op-is labels rows place kept.as_many kept.rising.rising label at.0 label_read at.1
+        ∙ sym (ap (option_map (λ (row : Row). row.op)) at.1) ∙ there
 
     pub fails-without : (bad : Option ℕ) → bad ≡ bad_label (without label index) → IfNone bad (Replays (without label index)) → place_of_bad_label labels place bad ≡ failure Dict (remove rows place)
     fails-without bad is good = let at = row-at rows place place_within in failing-without at.0 label label_read at.1 bad is good

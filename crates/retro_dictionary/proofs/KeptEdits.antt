@@ -20,7 +20,7 @@ use Rattle.retro_dictionary.specs.Lifetimes.{end_of, put_by, lifetimes_of}
 use Rattle.retro_dictionary.specs.Numbers.{IsOfNumbers}
 use Rattle.retro_dictionary.proofs.KeptLifetimes.{cut-is, joined-is, length-ordered}
 use Rattle.retro_dictionary.proofs.LabelledRows.{AllAbove, AllBelow, in_two, with-inserted, front-below, back-above, below-last, label_before-below, label-after, beside}
-use Rattle.retro_dictionary.proofs.LabelledRows.{with_row-is, fresh-is, last-is, next-is, at-parts, removed-parts, without-is, last-at, next-at, length-labelled}
+use Rattle.retro_dictionary.proofs.LabelledRows.{with_row-is, fresh-is, last-is, next-is, at-parts, removed-parts, without-is, last-at, next-at, op-is, length-labelled}
 
 -- the row that left a pair stands before a label
 placed_below : (label : ℕ) (row : KeyRow) → row.0 < label → (put : Option (ℤ × ℤ)) → IfSome (option_map (λ (pair : ℤ × ℤ). let placed : Placed = (row.0, pair) in placed) put) (λ (pair : Placed). pair.0 < label)
@@ -170,6 +170,9 @@ module _ (rows : List Row) (labels : List ℕ) (index : List KeyRow) (lifetimes 
     within = rw following-at (end_within (key_of row.op) later (below_all former ((label, row.op) ∷ later) all_rows).1);
     room = omega (arith, ap length kept.held, ap length kept.indexed, length-ordered index, length-labelled labels rows, kept.replayable.few);
   }
+
+  pub op-there : op_at label index ≡ Some row.op
+  op-there = ap (op_at label) kept.indexed ∙ op-is labels rows place kept.as_many rising_labels label row label_there row_there
 
   joined-held : joined_by label row.op index lifetimes ≡ ordered (lifetimes_of (without label index))
   unfolding former later

@@ -13,7 +13,7 @@ ghost use Rattle.retro_dictionary.specs.RowLabels.{row_rule};
 use crate::beside::{free_label, one_more};
 use crate::kept::Kept;
 use crate::lately::Lately;
-use crate::lifetimes::{cut, join, key_of, left_before, next_label, put_by};
+use crate::lifetimes::{cut, join, key_of, label_or_end, placed_by, put_by};
 use crate::relabel::put_relabelled;
 use crate::search::PairSearch;
 use key_index::KeyIndex;
@@ -38,13 +38,12 @@ fn put_labelled(
     ensures index_err { OnErr result (index.new ≡ index.old) }
     ensures segments_err { OnErr result (segments.new ≡ segments.old) }
 {
-    let key = key_of(op);
-    let left = left_before(index, key, label);
-    let next = next_label(index, key, label);
-    index.insert(label, op)?;
+    let beside = index.insert(label, op)?;
+    let left = placed_by(beside.before);
+    let next = label_or_end(beside.after);
     let put = put_by(op);
     if cut(segments, &left, label, &put, next).is_err() {
-        index.remove(label);
+        index.remove(label, op);
         return Err(NoMemory);
     }
     Ok(())
@@ -58,18 +57,19 @@ fn take_labelled(
     label: u64,
     op: Op,
 ) -> Result<(), NoMemory>
+    requires there { op_at label index.old ≡ Some op }
     requires can { CanPut (left_of index.old label op) (next_of index.old label op) segments.old }
     ensures index_ok { OnOk result (index.new ≡ without label index.old) }
     ensures segments_ok { OnOk result (segments.new ≡ joined_by label op index.old segments.old) }
     ensures index_err { OnErr result (index.new ≡ index.old) }
     ensures segments_err { OnErr result (segments.new ≡ segments.old) }
 {
-    let key = key_of(op);
-    let left = left_before(index, key, label);
-    let next = next_label(index, key, label);
+    let beside = index.beside(key_of(op), label);
+    let left = placed_by(beside.before);
+    let next = label_or_end(beside.after);
     let put = put_by(op);
     join(segments, &left, label, &put, next)?;
-    index.remove(label);
+    index.remove(label, op);
     Ok(())
 }
 

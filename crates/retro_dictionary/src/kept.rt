@@ -1,4 +1,6 @@
-ghost use Rattle.std.specs.Prelude.{◌≡◌, []};
+ghost use Rattle.std.specs.Prelude.{◌≡◌, ◌<◌, [], Some, length, slice_get};
+ghost use Rattle.std.specs.Option.{option_map};
+ghost use Rattle.retro_base.specs.Visits.{OpensCounter};
 ghost use Rattle.retro_dictionary.specs.Ready.{IsKept};
 
 use crate::search::PairSearch;
@@ -6,8 +8,9 @@ use key_index::KeyIndex;
 use lifetime_segments::Segments;
 use monoid_laws::Counted;
 use order_labels::Labels;
-use retro_base::Row;
+use retro_base::{Op, Row, Steps};
 use std::alloc::Global;
+use std::sync::ledger::{Blank, Ledger};
 use weighted_tree::Tree;
 
 /// What a dictionary keeps of its rows.
@@ -34,4 +37,14 @@ impl Kept {
             segments: Segments::new(alloc),
         }
     }
+}
+
+/// The operation of the row at a place.
+pub(crate) fn op_at<L: Ledger>(rows: &Tree<Counted<Row>>, place: u32, blank: Blank) -> Op
+    requires counter { OpensCounter blank.name L.name blank.parts L.parts }
+    requires within { place < length rows.now }
+    ensures { option_map (λ row. row.op) (slice_get rows.now place) ≡ Some result }
+{
+    let mut steps = Steps::<L>::new(blank);
+    rows.get(place, &mut steps).value().op
 }

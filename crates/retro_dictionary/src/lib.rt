@@ -7,14 +7,14 @@
 //! begins or takes one, however long the history is.
 //!
 //! [`RetroDictionary`] is seen as its rows, and implements `Retro` of `retro_base`. It keeps them by place, with a label for
-//! each, an index of them by key, which knows the row that fails first, and the lifetimes of all pairs. `PairSearch` is the
-//! search, as `lifetime_segments` asks for it: how many pairs have keys in a range, their sum, and the least and the
-//! greatest of them; it answers every question of a dictionary.
+//! each, an index of them by key, which knows the row that fails first and the rows beside an edit on its key, and the
+//! lifetimes of all pairs. `PairSearch` is the search, as `lifetime_segments` asks for it: how many pairs have keys in a range,
+//! their sum, and the least and the greatest of them; it answers every question of a dictionary.
 //!
 //! | Call | Cost, with n rows |
 //! |---|---|
-//! | `failure_after_insert`, `failure_after_remove` | log n |
-//! | `insert`, `remove` | log² n in each of at most 80 spans, for each of at most three lifetimes |
+//! | `failure_after_insert`, `failure_after_remove` | log n: one search of the rows by key |
+//! | `insert`, `remove` | one search of the rows by key, or two in a removal; log² n in each of at most 80 spans, for each of at most three lifetimes |
 //! | `insert`, where no label is left | as much for each row; at least 22 insertions lie between two of these |
 //! | `ask`, `ask_now` | log n in each of at most 41 spans |
 //! | `all` | a walk through at most 41 spans, and a sort of the k pairs that it gives: k log k |

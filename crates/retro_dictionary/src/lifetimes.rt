@@ -1,13 +1,12 @@
 ghost use Rattle.std.specs.Prelude.{◌≡◌, OnOk, OnErr};
 ghost use Rattle.std.specs.Option.{option_and_then};
-ghost use Rattle.key_index.specs.KeyRows.{key_of, first_after, last_before};
+ghost use Rattle.key_index.specs.KeyRows.{key_of};
 ghost use Rattle.retro_dictionary.specs.Changes.{placed_by, up_to_label};
 ghost use Rattle.retro_dictionary.specs.Edited.{CanPut, CanCut, label_or_end, placed_at, all_put, all_taken, cut_at, joined_at};
 ghost use Rattle.retro_dictionary.specs.Lifetimes.{put_by};
 
 use crate::pairs::KeyPair;
 use crate::search::PairSearch;
-use key_index::KeyIndex;
 use lifetime_segments::Segments;
 use retro_base::{NoMemory, Op};
 
@@ -35,22 +34,22 @@ pub(crate) fn put_by(op: Op) -> Option<KeyPair>
     }
 }
 
-/// The pair that the last row before a label on a key put, with the label of that row.
-pub(crate) fn left_before(index: &KeyIndex, key: i64, label: u64) -> Option<(u64, KeyPair)>
-    ensures { result ≡ option_and_then placed_by (last_before key label index.now) }
+/// The pair that the last row before a label put, with the label of that row.
+pub(crate) fn placed_by(last: Option<(u64, Op)>) -> Option<(u64, KeyPair)>
+    ensures { result ≡ option_and_then placed_by last }
 {
-    match index.before(key, label) {
+    match last {
         Some((from, Op::Put { key, value })) => Some((from, KeyPair { key, value })),
         _ => None,
     }
 }
 
-/// The label of the next row on a key, or the end of all labels.
-pub(crate) fn next_label(index: &KeyIndex, key: i64, label: u64) -> u64
-    ensures { result ≡ label_or_end (first_after key label index.now) }
+/// The label of the next row, or the end of all labels.
+pub(crate) fn label_or_end(next: Option<(u64, Op)>) -> u64
+    ensures { result ≡ label_or_end next }
 {
-    match index.after(key, label) {
-        Some((next, _)) => next,
+    match next {
+        Some((label, _)) => label,
         None => END,
     }
 }

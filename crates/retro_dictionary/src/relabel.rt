@@ -13,7 +13,7 @@ ghost use Rattle.retro_dictionary.specs.Ready.{IsKept, IsReadyFor};
 ghost use Rattle.retro_dictionary.specs.Relabelling.{CanRelabel, begun_by, labelled_anew, new_label, other_labels, relabelled_with, with_row_at};
 
 use crate::kept::Kept;
-use crate::lifetimes::{key_of, next_label, put_by};
+use crate::lifetimes::{key_of, label_or_end, put_by};
 use crate::search::PairSearch;
 use key_index::{KeyIndex, Labels2};
 use lifetime_segments::Segments;
@@ -111,7 +111,7 @@ fn begin(
     ensures err { OnErr result (segments.new ≡ segments.old) }
 {
     match put_by(op) {
-        Some(pair) => segments.add(label, next_label(index, key_of(op), label), pair),
+        Some(pair) => segments.add(label, label_or_end(index.after(key_of(op), label)), pair),
         None => Ok(()),
     }
 }
@@ -200,7 +200,7 @@ pub(crate) fn put_relabelled<L: Ledger>(
     let label = new_label(count, place);
     relabel_with(&mut kept.index, &former, &fresh, label, row.op)?;
     if put_indexed(kept, place, row, &mut steps).is_err() {
-        kept.index.remove(label);
+        kept.index.remove(label, row.op);
         kept.index.relabel(&fresh, &former);
         return Err(NoMemory);
     }

@@ -3,7 +3,7 @@ ghost use Rattle.retro_base.specs.declared.kind.Kind.TheVariants.{Dict};
 ghost use Rattle.retro_base.specs.Kind.{kind_of};
 ghost use Rattle.key_index.specs.KeyRows.{Replays, op_at, with_row};
 
-use key_index::{Bad, KeyIndex, Labels2};
+use key_index::{Bad, Beside, KeyIndex, Labels2};
 use retro_base::{Kind, Op};
 use std::alloc::Global;
 use std::process::Abort;
@@ -45,9 +45,9 @@ fn expect_removals(rt: &impl Abort, index: &KeyIndex)
     requires rows { index.now ≡ with_row 200 DEL (with_row 101 OTHER (with_row 100 PUT [])) }
     requires replays { Replays index.now }
 {
-    assert_eq!(rt; index.bad_after_remove(100), Some(200));
-    assert_eq!(rt; index.bad_after_remove(101), None);
-    assert_eq!(rt; index.bad_after_remove(200), None);
+    assert_eq!(rt; index.bad_after_remove(100, PUT), Some(200));
+    assert_eq!(rt; index.bad_after_remove(101, OTHER), None);
+    assert_eq!(rt; index.bad_after_remove(200, DEL), None);
 }
 
 fn expect_insertions(rt: &impl Abort, index: &KeyIndex)
@@ -77,43 +77,37 @@ fn rows_beside_an_edit_decide(rt: HostRuntime) {
     expect_insertions(&rt, &index);
 }
 
-fn expect_before(rt: &impl Abort, index: &KeyIndex) {
-    for (key, label, row) in [
-        (1, 200, Some((100, PUT))),
-        (1, u64::MAX, Some((200, DEL))),
-        (1, 100, None),
-        (1, 0, None),
-        (1, 101, Some((100, PUT))),
-        (0, 200, None),
-        (2, 101, None),
-        (2, 200, Some((101, OTHER))),
+fn expect_beside(rt: &impl Abort, index: &KeyIndex) {
+    for (key, label, before, after) in [
+        (1, 0, None, Some((100, PUT))),
+        (1, 100, None, Some((200, DEL))),
+        (1, 101, Some((100, PUT)), Some((200, DEL))),
+        (1, 200, Some((100, PUT)), None),
+        (1, u64::MAX, Some((200, DEL)), None),
+        (0, 200, None, None),
+        (2, 100, None, Some((101, OTHER))),
+        (2, 101, None, None),
+        (2, 200, Some((101, OTHER)), None),
     ] {
-        assert_eq!(rt; index.before(key, label), row);
-    }
-}
-
-fn expect_after(rt: &impl Abort, index: &KeyIndex) {
-    for (key, label, row) in [
-        (1, 0, Some((100, PUT))),
-        (1, 100, Some((200, DEL))),
-        (1, 200, None),
-        (1, u64::MAX, None),
-        (0, 100, None),
-        (2, 100, Some((101, OTHER))),
-        (2, 101, None),
-    ] {
-        assert_eq!(rt; index.after(key, label), row);
+        assert_eq!(rt; index.beside(key, label), Beside { before, after });
+        assert_eq!(rt; index.after(key, label), after);
     }
 }
 
 #[test]
 fn neighbours_are_those_on_the_key(rt: HostRuntime) {
     let mut index = three_rows(&rt, rt.alloc());
-    expect_before(&rt, &index);
-    expect_after(&rt, &index);
-    assert_eq!(rt; index.remove(150), None);
-    assert_eq!(rt; index.remove(100), Some(PUT));
-    assert_eq!(rt; index.before(1, 200), None);
+    expect_beside(&rt, &index);
+    index.remove(100, PUT);
+    assert_eq!(rt; index.beside(1, 200).before, None);
+}
+
+#[test]
+fn a_row_is_put_between_its_neighbours(rt: HostRuntime) {
+    let mut index = three_rows(&rt, rt.alloc());
+    let beside = index.insert(150, PUT).expect(&rt, "memory");
+    assert_eq!(rt; beside.before, Some((100, PUT)));
+    assert_eq!(rt; beside.after, Some((200, DEL)));
 }
 
 fn labels(rt: &impl Abort, alloc: Global, first: u64, second: u64, third: u64) -> Labels2
@@ -135,6 +129,6 @@ fn relabelled_rows_keep_their_order(rt: HostRuntime) {
     let fresh = labels(&rt, rt.alloc(), 1_000, 2_000, 3_000);
     assert_eq!(rt; former.len(), 3);
     index.relabel(&former, &fresh);
-    assert_eq!(rt; index.before(1, 3_000), Some((1_000, PUT)));
+    assert_eq!(rt; index.beside(1, 3_000).before, Some((1_000, PUT)));
     assert_eq!(rt; index.after(1, 1_000), Some((3_000, DEL)));
 }

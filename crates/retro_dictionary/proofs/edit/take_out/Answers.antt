@@ -1,12 +1,14 @@
 use Rattle.std.proofs.Common.{◌≡◌, Some, slice_get, rules}
 use Rattle.retro_dictionary.proofs.EditSteps.{kept-as}
-use Rattle.retro_dictionary.proofs.KeptEdits.{kept-without, can-join}
+use Rattle.retro_dictionary.proofs.KeptEdits.{kept-without, op-there, can-join}
 use Rattle.retro_dictionary.proofs.edit.take_out.Goals as goal
 
 pub take_labelled-requires : goal.take_labelled-requires
 take_labelled-requires g c =
     let there : slice_get c.args.kept.now.rows c.args.place ≡ Some c.value-row.result = search rules in
     record {
+      there = op-there c.args.kept.now.rows c.args.kept.now.labels c.args.kept.now.index c.args.kept.now.segments c.requires.kept c.args.place c.label_at-label.result
+          c.value-row.result c.label_at-label.ensures there;
       can = can-join c.args.kept.now.rows c.args.kept.now.labels c.args.kept.now.index c.args.kept.now.segments c.requires.kept c.args.place c.label_at-label.result
           c.value-row.result c.label_at-label.ensures there;
     }

@@ -1,6 +1,6 @@
-use Rattle.std.proofs.Common.{◌≡◌, ◌+◌, List, length, sym, ap, ◌∙◌, subst, refl, rules}
+use Rattle.std.proofs.Common.{◌≡◌, ◌+◌, Some, List, length, sym, ap, ◌∙◌, subst, refl, rules}
 use Rattle.std.specs.List.{insert}
-use Rattle.key_index.specs.KeyRows.{KeyRow, without}
+use Rattle.key_index.specs.KeyRows.{KeyRow, op_at, without}
 use Rattle.key_index.specs.Relabelled.{HoldsLabels, relabelled}
 use Rattle.order_labels.specs.Labels.{spread}
 use Rattle.retro_dictionary.specs.declared.kept.Kept.{Kept}
@@ -8,8 +8,8 @@ use Rattle.retro_dictionary.specs.Kept.{ordered}
 use Rattle.retro_dictionary.specs.Labelled.{labelled}
 use Rattle.retro_dictionary.specs.Lifetimes.{lifetimes_of}
 use Rattle.retro_dictionary.specs.Ready.{IsKept}
-use Rattle.retro_dictionary.specs.Relabelling.{CanRelabel, labelled_anew, with_row_at}
-use Rattle.retro_dictionary.proofs.EditSteps.{kept-as}
+use Rattle.retro_dictionary.specs.Relabelling.{CanRelabel, labelled_anew, relabelled_with, with_row_at}
+use Rattle.retro_dictionary.proofs.EditSteps.{kept-as, op-put}
 use Rattle.retro_dictionary.proofs.Relabelling.{can-relabel-listed, all-listed, kept-all, taken-out, inserted-full}
 use Rattle.retro_dictionary.proofs.relabel.put_relabelled.Given.{Over}
 use Rattle.retro_dictionary.proofs.relabel.put_relabelled.Goals as goal
@@ -33,13 +33,22 @@ without-new : (g : Over) (c : After-remove g) → CanRelabel c.in_ok-former.form
     → c.remove.new.self ≡ relabelled c.in_ok-former.former c.in_ok-fresh.fresh c.args.kept.now.index
 without-new g c can =
     let same : c.put_indexed.new.kept ≡ record c.args.kept.now { index = c.relabel_with.new.index } = search rules in
-    taken-out _ _ _ _ _ _ _ can c.in_ok-relabel_with.ensures.ok (c.remove.ensures.rows ∙ ap (λ kept. without c.new_label-label.result kept.index) same)
+    taken-out _ _ _ _ _ _ _ can c.in_ok-relabel_with.ensures.ok (c.remove.ensures ∙ ap (λ kept. without c.new_label-label.result kept.index) same)
 
 pub relabel_with-requires-clause-can : goal.relabel_with-requires-clause-can
 relabel_with-requires-clause-can g c = can g (goal.at.relabel_with-requires-clause-can g c).After-new_label-label
 
 pub put_indexed-requires-clause-indexed : goal.put_indexed-requires-clause-indexed
 put_indexed-requires-clause-indexed g c = indexed g (goal.at.put_indexed-requires-clause-indexed g c).In_ok-relabel_with
+
+pub remove-requires : goal.remove-requires
+remove-requires g c =
+    let can = can g (goal.at.remove-requires g c).After-new_label-label in
+    let label = c.new_label-label.result in
+    let former = c.in_ok-former.former in
+    let fresh = c.in_ok-fresh.fresh in
+    let same : c.put_indexed.new.kept.index ≡ relabelled_with former fresh label c.args.row.op c.args.kept.now.index = search rules in
+    record { there = subst (λ index. op_at label index ≡ Some c.args.row.op) (sym same) (op-put label c.args.row.op (relabelled former fresh c.args.kept.now.index) can.free) }
 
 pub relabel-requires : goal.relabel-requires
 relabel-requires g c =

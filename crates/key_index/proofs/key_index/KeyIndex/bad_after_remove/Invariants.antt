@@ -1,4 +1,4 @@
 use Rattle.key_index.proofs.key_index.KeyIndex.bad_after_remove.Given as goal
 
-abbrev pub ghosts-op_at : goal.ghosts-op_at
-ghosts-op_at a = record { name = a.blank.name; parts = a.blank.parts }
+abbrev pub ghosts-beside : goal.ghosts-beside
+ghosts-beside a = record { name = a.blank.name; parts = a.blank.parts }

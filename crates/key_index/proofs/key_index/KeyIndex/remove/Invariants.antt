@@ -1,7 +1,4 @@
 use Rattle.key_index.proofs.key_index.KeyIndex.remove.Given as goal
 
-abbrev pub ghosts-op_at : goal.ghosts-op_at
-ghosts-op_at a = record { name = a.blank.name; parts = a.blank.parts }
-
 abbrev pub ghosts-take_out : goal.ghosts-take_out
 ghosts-take_out a = record { name = a.blank.name; parts = a.blank.parts }

@@ -1,13 +1,13 @@
 use Rattle.std.proofs.Common.{◌≡◌, ◌<◌, refl, length, slice_get, set, Some, sym, ap, ◌∙◌, arith}
 use Rattle.key_index.specs.Relabelled.{counterpart}
 use Rattle.key_index.proofs.Moved.{partly, partly-get, partly-more}
-use Rattle.key_index.proofs.trees.relabel.Goals as goal
+use Rattle.key_index.proofs.tree.relabel.Goals as goal
 
 pub loop-place-preserved : goal.loop-place-preserved
 loop-place-preserved g c =
     let former = c.args.former.now in
     let fresh = c.args.fresh.now in
-    let rows = c.args.rows.now in
+    let rows = c.args.by_key.now in
     let place = c.loop-place.place in
     let row = c.get-row.result in
     let within : place < length rows = omega (arith, c.loop-place-test.true, c.len-place-end.ensures) in
