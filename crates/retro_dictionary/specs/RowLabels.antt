@@ -53,10 +53,10 @@ came_lately number next = nat_lt number next && nat_le next (number + 8)
 abbrev pub is_lately : Option Row → ℕ → Bool
 is_lately found next = option_map_or (λ (row : Row). came_lately row.number next) found false
 
--- what came in lately beside a place, before the row with a number: the row before it, the one after it, or neither
+-- what came in lately beside a place, before the row with a number: the row before it, the one after it, or neither; after all rows none is looked at
 abbrev pub lately_beside : List Row → ℕ → ℕ → Lately
 lately_beside rows place next =
-    if nat_lt 0 place && is_lately (slice_get rows (place - 1)) next then Before else if is_lately (slice_get rows place) next then After else Neither
+    if nat_eq place (length rows) then Neither else if nat_lt 0 place && is_lately (slice_get rows (place - 1)) next then Before else if is_lately (slice_get rows place) next then After else Neither
 
 -- how far a row comes from one that came in lately, with this gap beyond that one: the next ones come on the other side of it, most
 -- likely. So it is half that gap, but a quarter of the gap at the place at the most, and a part of it at the least

@@ -66,8 +66,9 @@ fn gap_after(labels: &Labels, place: u32) -> u64
 /// rule in specs/RowLabels.antt.
 ///
 /// Rows come in one after another, at the end or at some other place, or each at a place of its own. So a row beside one that came
-/// in lately leaves most of the gap on its other side, and any other one halves it: a full dictionary can be put in row by row, and
-/// thousands of rows at one place, or at random, and none is relabelled.
+/// in lately leaves most of the gap on its other side, and any other one halves it: in simulations a full dictionary was put in row
+/// by row, and thousands of rows at one place or at random, and none was relabelled. What is proved is that a relabelling is rare
+/// (specs/RelabellingLaw.antt).
 pub(crate) fn free_label(labels: &Labels, lately: Lately, since: u32, place: u32) -> Option<u64>
     requires within { place ≤ length labels.now }
     requires labels { AreLabels labels.now }

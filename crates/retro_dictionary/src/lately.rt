@@ -20,7 +20,8 @@ pub(crate) enum Lately {
 /// Numbers so near to one another are of rows that came in one after another, a few bursts at once among them.
 const LATEST: u32 = 8;
 
-/// Which of the rows beside a place came in lately, before a row with this number is put in there.
+/// Which of the rows beside a place came in lately, before a row with this number is put in there. After all rows the rule does not
+/// ask.
 pub(crate) fn lately_beside<L: Ledger>(
     rows: &Tree<Counted<Row>>,
     place: u32,
@@ -31,11 +32,14 @@ pub(crate) fn lately_beside<L: Ledger>(
     requires within { place ≤ length rows.now }
     ensures { result ≡ lately_beside rows.now place number }
 {
+    if place == rows.len() {
+        return Lately::Neither;
+    }
     let mut steps = Steps::<L>::new(blank);
     if place > 0 && came_lately(rows.get(place - 1, &mut steps).value().number, number) {
         return Lately::Before;
     }
-    if place < rows.len() && came_lately(rows.get(place, &mut steps).value().number, number) {
+    if came_lately(rows.get(place, &mut steps).value().number, number) {
         return Lately::After;
     }
     Lately::Neither
