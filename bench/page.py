@@ -32,9 +32,9 @@ MEANT = {
 PLOTS = [("end", "measured-end.svg"), ("edit", "measured-edit.svg"), ("past", "measured-past.svg"), ("mixed", "measured-mixed.svg")]
 
 REASONS = {
-    "trees": "A timeline keeps its rows in one tree and their runs in others, and the structure keeps the rows again, with their signs: an edit goes down "
+    "trees": "A timeline keeps its rows in one tree and their runs in others, and the structure keeps the rows again: an edit goes down "
              "each of these trees, once to be tested and once to be made, and looks through a leaf of up to 32 items where it ends. The program of the last "
-             "column keeps one tree, with 64 rows to a leaf. One tree with all measures, and one way down it, would change it.",
+             "column keeps one tree, with 64 rows to a leaf. One tree for both, and one way down it, would change it.",
     "trie": "A dictionary keeps each lifetime in up to some dozens of spans of a trie over labels, each a tree of its own: an edit puts one lifetime "
             "in or takes one out, and moves the end of another, in each span that changes. The program of the last column keeps a list of rows for each key, which has no bound for `succ`, "
             "`count` and `sum` where few of many keys are there. Spans that share their trees, or a wider trie, would "

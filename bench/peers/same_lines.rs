@@ -2,15 +2,29 @@
 
 use crate::rows::{Answer, Change, Kind, Op, Past, Question, Row};
 use crate::timeline::Timeline;
-use crate::tree::{Link, Signed, first_at_most, last_at_most, sum_to};
+use crate::tree::{Item, Tree, Walks, first_at_most, last_growing, sum_to};
 
 pub struct SameLines {
     kind: Kind,
     timeline: Timeline,
-    rows: Link<Row>,
-    signs: Link<Signed>,
-    lefts: Link<Signed>,
-    rights: Link<Signed>,
+    rows: Tree<LineRow>,
+}
+
+/// A row of a line, measured by how it lets the line grow.
+#[derive(Clone, Copy)]
+struct LineRow(Row);
+
+impl Item for LineRow {
+    type Measure = Walks;
+
+    fn measure(&self) -> Walks {
+        let (left, right) = growth(self.0.op);
+        Walks::of(left, right)
+    }
+
+    fn join(one: Walks, other: Walks) -> Walks {
+        Walks::join(one, other)
+    }
 }
 
 fn growth(op: Op) -> (i8, i8) {
@@ -27,31 +41,30 @@ impl SameLines {
         SameLines {
             kind,
             timeline: Timeline::new(),
-            rows: Link::empty(),
-            signs: Link::empty(),
-            lefts: Link::empty(),
-            rights: Link::empty(),
+            rows: Tree::empty(),
         }
     }
 
     fn item(&self, place: usize, index: i64) -> Option<i64> {
-        let size = sum_to(&self.signs, place);
+        let size = sum_to(&self.rows, |walks| walks.size, place);
         if !(0..size).contains(&index) {
             return None;
         }
+        let (from_left, from_right) = (index + 1, size - index);
         let written = match self.kind {
-            Kind::Queue => {
-                let number = ((place as i64 - size) / 2 + index) as u32;
-                self.signs.first_place(0, &|walk| walk.marks > number)? - 1
-            }
-            Kind::Stack => last_at_most(&self.signs, place, size - 1 - index)?,
+            Kind::Queue => last_growing(&self.rows, |walks| walks.right, place, from_right)?,
+            Kind::Stack => last_growing(&self.rows, |walks| walks.left, place, from_left)?,
             _ => {
-                let position = index - sum_to(&self.lefts, place);
-                let by_left = last_at_most(&self.lefts, place, -1 - position);
-                by_left.max(last_at_most(&self.rights, place, position))?
+                let by_left = last_growing(&self.rows, |walks| walks.left, place, from_left);
+                by_left.max(last_growing(
+                    &self.rows,
+                    |walks| walks.right,
+                    place,
+                    from_right,
+                ))?
             }
         };
-        match self.rows.get(written).op {
+        match self.rows.get(written).0.op {
             Op::AddLeft(value) | Op::AddRight(value) => Some(value),
             _ => None,
         }
@@ -81,60 +94,51 @@ impl Past for SameLines {
 
     fn failure_after_insert(&self, place: usize, op: Op) -> Option<usize> {
         let (left, right) = growth(op);
-        first_at_most(&self.signs, place, -1 - i64::from(left + right))
+        if left + right >= 0 {
+            return None;
+        }
+        first_at_most(
+            &self.rows,
+            |walks| walks.size,
+            place,
+            -1 - i64::from(left + right),
+        )
     }
 
     fn failure_after_remove(&self, place: usize) -> Option<usize> {
-        let (left, right) = growth(self.rows.get(place).op);
-        Some(first_at_most(&self.signs, place + 1, i64::from(left + right) - 1)? - 2)
+        let (left, right) = growth(self.rows.get(place).0.op);
+        if left + right <= 0 {
+            return None;
+        }
+        Some(
+            first_at_most(
+                &self.rows,
+                |walks| walks.size,
+                place + 1,
+                i64::from(left + right) - 1,
+            )? - 2,
+        )
     }
 
     fn insert(&mut self, place: usize, row: Row) -> Option<Change> {
-        let (left, right) = growth(row.op);
         self.timeline.insert(place, row);
-        self.rows.insert(place, row);
-        self.signs.insert(
-            place,
-            Signed {
-                sign: left + right,
-                marked: left + right > 0,
-            },
-        );
-        if self.kind == Kind::Deque {
-            self.lefts.insert(
-                place,
-                Signed {
-                    sign: left,
-                    marked: false,
-                },
-            );
-            self.rights.insert(
-                place,
-                Signed {
-                    sign: right,
-                    marked: false,
-                },
-            );
-        }
+        self.rows.insert(place, LineRow(row));
         None
     }
 
     fn remove(&mut self, place: usize) -> Option<Change> {
         self.timeline.remove(place);
         self.rows.remove(place);
-        self.signs.remove(place);
-        if self.kind == Kind::Deque {
-            self.lefts.remove(place);
-            self.rights.remove(place);
-        }
         None
     }
 
     fn ask(&mut self, place: usize, question: Question) -> Answer {
         let index = match question {
-            Question::Size => return Answer::Number(i128::from(sum_to(&self.signs, place))),
+            Question::Size => {
+                return Answer::Number(i128::from(sum_to(&self.rows, |walks| walks.size, place)));
+            }
             Question::Nth(index) => i64::try_from(index).unwrap_or(i64::MAX),
-            _ => sum_to(&self.signs, place) - 1,
+            _ => sum_to(&self.rows, |walks| walks.size, place) - 1,
         };
         Answer::of(self.item(place, index))
     }

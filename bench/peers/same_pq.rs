@@ -3,7 +3,7 @@
 
 use crate::rows::{Answer, Change, Entry, Op, Past, Question, Row};
 use crate::timeline::Timeline;
-use crate::tree::{Item, Link, Walk};
+use crate::tree::{Item, Tree, Walk};
 
 /// No entry, beside which each dead one is greater, and each survivor less.
 const NO_DEAD: Entry = (i64::MIN, 0);
@@ -44,7 +44,7 @@ impl Item for MarkedRow {
     fn measure(&self) -> RowMeasure {
         let one = RowMeasure {
             size: 1,
-            held: Walk::of(1, false),
+            held: Walk::of(1),
             ..RowMeasure::default()
         };
         match self.row.op {
@@ -53,13 +53,13 @@ impl Item for MarkedRow {
                 ..one
             },
             Op::Ins { key } => RowMeasure {
-                weights: Walk::of(1, false),
+                weights: Walk::of(1),
                 dead: ((key, self.row.number), 0),
                 ..one
             },
             _ => RowMeasure {
-                weights: Walk::of(-1, false),
-                held: Walk::of(-1, false),
+                weights: Walk::of(-1),
+                held: Walk::of(-1),
                 ..one
             },
         }
@@ -106,15 +106,15 @@ impl Item for MarkedEntry {
 
 #[derive(Clone)]
 struct Bridges {
-    rows: Link<MarkedRow>,
-    entries: Link<MarkedEntry>,
+    rows: Tree<MarkedRow>,
+    entries: Tree<MarkedEntry>,
 }
 
 impl Bridges {
     fn new() -> Bridges {
         Bridges {
-            rows: Link::empty(),
-            entries: Link::empty(),
+            rows: Tree::empty(),
+            entries: Tree::empty(),
         }
     }
 

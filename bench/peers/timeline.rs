@@ -2,7 +2,7 @@
 //! is looked up in pages of a table, which gives the name of a run; the run's label says where it stands.
 
 use crate::rows::Row;
-use crate::tree::{Item, Link};
+use crate::tree::{Item, Tree};
 
 impl Item for Row {
     type Measure = ();
@@ -42,9 +42,9 @@ const LIMIT: u64 = 1 << 40;
 const LONGEST_RUN: u32 = 32;
 
 pub struct Timeline {
-    rows: Link<Row>,
-    runs: Link<Run>,
-    labels: Link<Label>,
+    rows: Tree<Row>,
+    runs: Tree<Run>,
+    labels: Tree<Label>,
     /// The label of each name.
     table: Vec<u64>,
     numbers: Numbers,
@@ -86,9 +86,9 @@ impl Numbers {
 impl Timeline {
     pub fn new() -> Timeline {
         let mut timeline = Timeline {
-            rows: Link::empty(),
-            runs: Link::empty(),
-            labels: Link::empty(),
+            rows: Tree::empty(),
+            runs: Tree::empty(),
+            labels: Tree::empty(),
             table: Vec::new(),
             numbers: Numbers(Vec::new()),
         };
@@ -169,7 +169,11 @@ impl Timeline {
         self.runs.change(at, |run| run.rows += 1);
         if run.rows >= LONGEST_RUN {
             let all = run.rows + 1;
-            let kept = if at + 1 == self.runs.len() { all - 1 } else { all / 2 };
+            let kept = if at + 1 == self.runs.len() {
+                all - 1
+            } else {
+                all / 2
+            };
             self.runs.change(at, |run| run.rows = kept);
             let name = self.add_run(at + 1, all - kept);
             let start = self.runs.prefix(at + 1) as usize;

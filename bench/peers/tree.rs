@@ -1,4 +1,5 @@
-//! A list kept in a weight-balanced tree whose leaves hold up to 32 items, as crates/weighted_tree has it.
+//! A list kept in a weight-balanced tree whose leaves hold up to 32 items, the last of them beside the root, as
+//! crates/weighted_tree has it.
 
 /// An item, and what a range of items amounts to.
 pub trait Item: Copy {
@@ -24,7 +25,7 @@ enum Part<T: Item> {
 }
 
 #[derive(Clone)]
-pub struct Link<T: Item> {
+struct Link<T: Item> {
     part: Part<T>,
     size: u32,
     nodes: u32,
@@ -32,13 +33,13 @@ pub struct Link<T: Item> {
 }
 
 fn measured<T: Item>(items: &[T]) -> T::Measure {
-    items
-        .iter()
-        .fold(T::Measure::default(), |seen, item| T::join(seen, item.measure()))
+    items.iter().fold(T::Measure::default(), |seen, item| {
+        T::join(seen, item.measure())
+    })
 }
 
 impl<T: Item> Link<T> {
-    pub fn empty() -> Link<T> {
+    fn empty() -> Link<T> {
         Link {
             part: Part::Leaf(Vec::new()),
             size: 0,
@@ -47,7 +48,7 @@ impl<T: Item> Link<T> {
         }
     }
 
-    pub fn len(&self) -> usize {
+    fn len(&self) -> usize {
         self.size as usize
     }
 
@@ -142,16 +143,24 @@ impl<T: Item> Link<T> {
         })
     }
 
-    pub fn insert(&mut self, place: usize, item: T) {
-        let mut node = match self.take().part {
-            Part::Leaf(mut items) if items.len() < FULL => {
-                if items.capacity() == 0 {
-                    items.reserve_exact(FULL);
-                }
-                items.insert(place, item);
-                *self = Link::leaf(items);
-                return;
+    fn insert(&mut self, place: usize, item: T) {
+        if let Part::Leaf(items) = &mut self.part
+            && items.len() < FULL
+        {
+            if items.capacity() == 0 {
+                items.reserve_exact(FULL);
             }
+            self.measure = if place == items.len() {
+                items.push(item);
+                T::join(self.measure, item.measure())
+            } else {
+                items.insert(place, item);
+                measured(items)
+            };
+            self.size += 1;
+            return;
+        }
+        let mut node = match self.take().part {
             Part::Leaf(items) => Link::divided(items),
             Part::Node(node) => node,
         };
@@ -162,6 +171,23 @@ impl<T: Item> Link<T> {
             node.right.insert(place - before - 1, item);
         }
         *self = Link::balanced(node);
+    }
+
+    /// Puts a node and what is on its right after all items. It has nothing on its left.
+    fn append(&mut self, mut node: Box<Node<T>>) {
+        *self = match self.take() {
+            Link {
+                part: Part::Node(mut root),
+                ..
+            } => {
+                root.right.append(node);
+                Link::balanced(root)
+            }
+            leaf => {
+                node.left = leaf;
+                Link::of(node)
+            }
+        };
     }
 
     fn take_first(self) -> (T, Link<T>) {
@@ -182,7 +208,7 @@ impl<T: Item> Link<T> {
         }
     }
 
-    pub fn remove(&mut self, place: usize) {
+    fn remove(&mut self, place: usize) {
         let mut node = match self.take().part {
             Part::Leaf(mut items) => {
                 items.remove(place);
@@ -208,7 +234,7 @@ impl<T: Item> Link<T> {
         };
     }
 
-    pub fn change(&mut self, place: usize, change: impl FnOnce(&mut T)) {
+    fn change(&mut self, place: usize, change: impl FnOnce(&mut T)) {
         let mut node = match self.take().part {
             Part::Leaf(mut items) => {
                 change(&mut items[place]);
@@ -228,7 +254,7 @@ impl<T: Item> Link<T> {
         *self = Link::of(node);
     }
 
-    pub fn get(&self, mut place: usize) -> T {
+    fn get(&self, mut place: usize) -> T {
         let mut link = self;
         loop {
             let node = match &link.part {
@@ -248,7 +274,7 @@ impl<T: Item> Link<T> {
     }
 
     /// Visits the items in their order.
-    pub fn each(&self, visit: &mut impl FnMut(T)) {
+    fn each(&self, visit: &mut impl FnMut(T)) {
         match &self.part {
             Part::Leaf(items) => items.iter().for_each(|item| visit(*item)),
             Part::Node(node) => {
@@ -260,7 +286,7 @@ impl<T: Item> Link<T> {
     }
 
     /// The first place from one to before another whose item passes a test.
-    pub fn find(&self, from: usize, to: usize, test: &impl Fn(&T) -> bool) -> Option<usize> {
+    fn find(&self, from: usize, to: usize, test: &impl Fn(&T) -> bool) -> Option<usize> {
         if to <= from {
             return None;
         }
@@ -277,7 +303,10 @@ impl<T: Item> Link<T> {
                 if from <= before && before < to && test(&node.item) {
                     return Some(before);
                 }
-                let (from, to) = (from.saturating_sub(before + 1), to.saturating_sub(before + 1));
+                let (from, to) = (
+                    from.saturating_sub(before + 1),
+                    to.saturating_sub(before + 1),
+                );
                 let place = node.right.find(from, to, test)?;
                 Some(place + before + 1)
             }
@@ -285,7 +314,7 @@ impl<T: Item> Link<T> {
     }
 
     /// How many first items pass a test, which no item after one that fails it passes.
-    pub fn partition_point(&self, test: impl Fn(&T) -> bool) -> usize {
+    fn partition_point(&self, test: impl Fn(&T) -> bool) -> usize {
         let (mut link, mut passed) = (self, 0);
         loop {
             match &link.part {
@@ -300,7 +329,7 @@ impl<T: Item> Link<T> {
     }
 
     /// The measure of the items before a place.
-    pub fn prefix(&self, mut place: usize) -> T::Measure {
+    fn prefix(&self, mut place: usize) -> T::Measure {
         let (mut link, mut seen) = (self, T::Measure::default());
         while place > 0 {
             if place >= link.len() {
@@ -323,7 +352,7 @@ impl<T: Item> Link<T> {
     }
 
     /// The measure of the items from a place on.
-    pub fn suffix(&self, place: usize) -> T::Measure {
+    fn suffix(&self, place: usize) -> T::Measure {
         if place == 0 {
             return self.measure;
         }
@@ -339,16 +368,6 @@ impl<T: Item> Link<T> {
             T::join(node.left.suffix(place), node.item.measure()),
             node.right.measure,
         )
-    }
-
-    /// The first place from `from` on up to which the measure from there on passes.
-    pub fn first_place(&self, from: usize, test: &impl Fn(T::Measure) -> bool) -> Option<usize> {
-        let mut seen = T::Measure::default();
-        if test(seen) {
-            Some(from)
-        } else {
-            self.on(from, 0, test, &mut seen)
-        }
     }
 
     fn on(
@@ -389,18 +408,12 @@ impl<T: Item> Link<T> {
                 return Some(base + before + 1);
             }
         }
-        node.right
-            .on(from.saturating_sub(before + 1), base + before + 1, test, seen)
-    }
-
-    /// The last place up to `to` from which on the measure up to there passes.
-    pub fn last_place(&self, to: usize, test: &impl Fn(T::Measure) -> bool) -> Option<usize> {
-        let mut seen = T::Measure::default();
-        if test(seen) {
-            Some(to)
-        } else {
-            self.back(to, 0, test, &mut seen)
-        }
+        node.right.on(
+            from.saturating_sub(before + 1),
+            base + before + 1,
+            test,
+            seen,
+        )
     }
 
     fn back(
@@ -446,12 +459,155 @@ impl<T: Item> Link<T> {
     }
 }
 
-/// By how much the sums of signs fall below their start, how far they end above their lowest point, and the marks.
+/// A list whose last items stand in a leaf beside the root, once there are more than fill a leaf.
+#[derive(Clone)]
+pub struct Tree<T: Item> {
+    root: Link<T>,
+    tail: Option<Box<Link<T>>>,
+}
+
+impl<T: Item> Tree<T> {
+    pub fn empty() -> Tree<T> {
+        Tree {
+            root: Link::empty(),
+            tail: None,
+        }
+    }
+
+    pub fn len(&self) -> usize {
+        self.root.len() + self.tail.as_ref().map_or(0, |tail| tail.len())
+    }
+
+    pub fn insert(&mut self, place: usize, item: T) {
+        let before = self.root.len();
+        if place < before || (self.tail.is_none() && before < FULL) {
+            return self.root.insert(place, item);
+        }
+        let tail = self.tail.get_or_insert_with(|| Box::new(Link::empty()));
+        if tail.len() < FULL {
+            return tail.insert(place - before, item);
+        }
+        let Part::Leaf(mut items) = tail.take().part else {
+            unreachable!()
+        };
+        items.insert(place - before, item);
+        let first = items.remove(0);
+        self.root.append(Box::new(Node {
+            left: Link::empty(),
+            item: first,
+            right: Link::leaf(items),
+        }));
+    }
+
+    pub fn remove(&mut self, place: usize) {
+        let before = self.root.len();
+        match &mut self.tail {
+            Some(tail) if place >= before => tail.remove(place - before),
+            _ => self.root.remove(place),
+        }
+    }
+
+    pub fn change(&mut self, place: usize, change: impl FnOnce(&mut T)) {
+        let before = self.root.len();
+        match &mut self.tail {
+            Some(tail) if place >= before => tail.change(place - before, change),
+            _ => self.root.change(place, change),
+        }
+    }
+
+    pub fn get(&self, place: usize) -> T {
+        let before = self.root.len();
+        match &self.tail {
+            Some(tail) if place >= before => tail.get(place - before),
+            _ => self.root.get(place),
+        }
+    }
+
+    /// Visits the items in their order.
+    pub fn each(&self, visit: &mut impl FnMut(T)) {
+        self.root.each(visit);
+        if let Some(tail) = &self.tail {
+            tail.each(visit);
+        }
+    }
+
+    /// The first place from one to before another whose item passes a test.
+    pub fn find(&self, from: usize, to: usize, test: &impl Fn(&T) -> bool) -> Option<usize> {
+        let before = self.root.len();
+        if let Some(place) = self.root.find(from, to.min(before), test) {
+            return Some(place);
+        }
+        let (from, to) = (from.saturating_sub(before), to.saturating_sub(before));
+        Some(before + self.tail.as_ref()?.find(from, to, test)?)
+    }
+
+    /// How many first items pass a test, which no item after one that fails it passes.
+    pub fn partition_point(&self, test: impl Fn(&T) -> bool) -> usize {
+        match &self.tail {
+            Some(tail) if tail.size > 0 && test(&tail.get(0)) => {
+                self.root.len() + tail.partition_point(test)
+            }
+            _ => self.root.partition_point(test),
+        }
+    }
+
+    /// The measure of the items before a place.
+    pub fn prefix(&self, place: usize) -> T::Measure {
+        let before = self.root.len();
+        match &self.tail {
+            Some(tail) if place > before => T::join(self.root.measure, tail.prefix(place - before)),
+            _ => self.root.prefix(place),
+        }
+    }
+
+    /// The measure of the items from a place on.
+    pub fn suffix(&self, place: usize) -> T::Measure {
+        let before = self.root.len();
+        match &self.tail {
+            Some(tail) if place >= before => tail.suffix(place - before),
+            Some(tail) => T::join(self.root.suffix(place), tail.measure),
+            None => self.root.suffix(place),
+        }
+    }
+
+    /// The first place from `from` on up to which the measure from there on passes.
+    pub fn first_place(&self, from: usize, test: &impl Fn(T::Measure) -> bool) -> Option<usize> {
+        let mut seen = T::Measure::default();
+        if test(seen) {
+            return Some(from);
+        }
+        let before = self.root.len();
+        if from < before
+            && let Some(place) = self.root.on(from, 0, test, &mut seen)
+        {
+            return Some(place);
+        }
+        let tail = self.tail.as_ref()?;
+        tail.on(from.saturating_sub(before), before, test, &mut seen)
+    }
+
+    /// The last place up to `to` from which on the measure up to there passes.
+    pub fn last_place(&self, to: usize, test: &impl Fn(T::Measure) -> bool) -> Option<usize> {
+        let mut seen = T::Measure::default();
+        if test(seen) {
+            return Some(to);
+        }
+        let before = self.root.len();
+        if to > before
+            && let Some(tail) = &self.tail
+            && let Some(place) = tail.back(to - before, before, test, &mut seen)
+        {
+            return Some(place);
+        }
+        self.root.back(to.min(before), 0, test, &mut seen)
+    }
+}
+
+/// By how much sums fall below their start, and how far they end above their lowest point.
 #[derive(Clone, Copy, Default)]
 pub struct Walk {
     pub falls: u32,
     pub rises: u32,
-    pub marks: u32,
 }
 
 impl Walk {
@@ -459,11 +615,10 @@ impl Walk {
         i64::from(self.rises) - i64::from(self.falls)
     }
 
-    pub fn of(sign: i8, marked: bool) -> Walk {
+    pub fn of(sign: i8) -> Walk {
         Walk {
             falls: u32::from(sign < 0),
             rises: u32::from(sign > 0),
-            marks: u32::from(marked),
         }
     }
 
@@ -471,42 +626,62 @@ impl Walk {
         Walk {
             falls: one.falls + other.falls.saturating_sub(one.rises),
             rises: other.rises + one.rises.saturating_sub(other.falls),
-            marks: one.marks + other.marks,
         }
     }
 }
 
-/// A sign, marked where an item is put in.
-#[derive(Clone, Copy)]
-pub struct Signed {
-    pub sign: i8,
-    pub marked: bool,
+/// The walks of the size of a line and of both its ends.
+#[derive(Clone, Copy, Default)]
+pub struct Walks {
+    pub size: Walk,
+    pub left: Walk,
+    pub right: Walk,
 }
 
-impl Item for Signed {
-    type Measure = Walk;
-
-    fn measure(&self) -> Walk {
-        Walk::of(self.sign, self.marked)
+impl Walks {
+    pub fn of(left: i8, right: i8) -> Walks {
+        Walks {
+            size: Walk::of(left + right),
+            left: Walk::of(left),
+            right: Walk::of(right),
+        }
     }
 
-    fn join(one: Walk, other: Walk) -> Walk {
-        Walk::join(one, other)
+    pub fn join(one: Walks, other: Walks) -> Walks {
+        Walks {
+            size: Walk::join(one.size, other.size),
+            left: Walk::join(one.left, other.left),
+            right: Walk::join(one.right, other.right),
+        }
     }
 }
 
-pub fn sum_to(signs: &Link<Signed>, place: usize) -> i64 {
-    signs.prefix(place).sum()
+/// The sum of a walk up to a place.
+pub fn sum_to<T: Item<Measure = Walks>>(
+    rows: &Tree<T>,
+    walk: impl Fn(Walks) -> Walk,
+    place: usize,
+) -> i64 {
+    walk(rows.prefix(place)).sum()
 }
 
-/// The first place from `from` on where the sum of the signs is at most a value.
-pub fn first_at_most(signs: &Link<Signed>, from: usize, value: i64) -> Option<usize> {
-    let start = sum_to(signs, from);
-    signs.first_place(from, &|walk| start - i64::from(walk.falls) <= value)
+/// The first place from `from` on where the sum is at most a value.
+pub fn first_at_most<T: Item<Measure = Walks>>(
+    rows: &Tree<T>,
+    walk: impl Fn(Walks) -> Walk,
+    from: usize,
+    value: i64,
+) -> Option<usize> {
+    let start = sum_to(rows, &walk, from);
+    rows.first_place(from, &|walks| start - i64::from(walk(walks).falls) <= value)
 }
 
-/// The last place up to `to` where it is.
-pub fn last_at_most(signs: &Link<Signed>, to: usize, value: i64) -> Option<usize> {
-    let end = sum_to(signs, to);
-    signs.last_place(to, &|walk| end - i64::from(walk.rises) <= value)
+/// The last place up to `to` from which on the sum rises by so much above its least value.
+pub fn last_growing<T: Item<Measure = Walks>>(
+    rows: &Tree<T>,
+    walk: impl Fn(Walks) -> Walk,
+    to: usize,
+    count: i64,
+) -> Option<usize> {
+    rows.last_place(to, &|walks| i64::from(walk(walks).rises) >= count)
 }

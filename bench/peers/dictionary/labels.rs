@@ -1,16 +1,14 @@
 //! Labels of rows, as crates/order_labels has them, chosen as crates/retro_dictionary does.
 
-use crate::weighted::{Item, Tree};
+use crate::tree::{Item, Tree};
 
 #[derive(Clone, Copy)]
 pub struct Label(u64);
 
 impl Item for Label {
-    type Measure = u32;
-
-    fn measure(&self) -> u32 {
-        1
-    }
+    type Measure = ();
+    fn measure(&self) {}
+    fn join(_: (), _: ()) {}
 }
 
 /// Where labels end.
@@ -55,8 +53,12 @@ impl Labels {
         }
     }
 
+    fn count(&self) -> u32 {
+        self.rows.len() as u32
+    }
+
     pub fn at(&self, place: u32) -> u64 {
-        self.rows.get(place).0
+        self.rows.get(place as usize).0
     }
 
     pub fn before(&self, place: u32) -> u64 {
@@ -64,7 +66,7 @@ impl Labels {
     }
 
     fn behind(&self, place: u32) -> u64 {
-        if place == self.rows.len() {
+        if place == self.count() {
             END
         } else {
             self.at(place)
@@ -91,7 +93,7 @@ impl Labels {
         let distance = match lately {
             Lately::Before if place == 0 => near(END),
             Lately::Before => near(before - self.before(place - 1)),
-            Lately::After if place == self.rows.len() => near(END),
+            Lately::After if place == self.count() => near(END),
             Lately::After => near(self.behind(place + 1) - behind),
             Lately::Neither => gap / 2,
         };
@@ -106,36 +108,37 @@ impl Labels {
     /// The label of a new row, or all rows are relabelled.
     pub fn insert(&mut self, place: u32, lately: Lately) -> u64 {
         if self.has_room(place) {
-            let is_after_all = 0 < place && place == self.rows.len();
+            let is_after_all = 0 < place && place == self.count();
             let label = if is_after_all {
                 self.after_all(place)
             } else {
                 self.beside(place, lately)
             };
-            self.rows.insert(place, Label(label));
+            self.rows.insert(place as usize, Label(label));
             self.since = (self.since + 1).min(LEAST_INSERTIONS);
             return label;
         }
-        self.rows.insert(place, Label(self.behind(place)));
+        self.rows.insert(place as usize, Label(self.behind(place)));
         self.since = 0;
-        let count = self.rows.len();
+        let count = self.count();
         for index in 0..count {
-            self.rows.replace(index, Label(spread(index, count)));
+            self.rows
+                .change(index as usize, |label| *label = Label(spread(index, count)));
         }
         self.at(place)
     }
 
     pub fn remove(&mut self, place: u32) {
-        self.rows.remove(place);
+        self.rows.remove(place as usize);
     }
 
     pub fn place_of(&self, label: u64) -> Option<u32> {
-        let count = self.rows.partition_point(|other| other.0 <= label);
+        let count = self.rows.partition_point(|other| other.0 <= label) as u32;
         let place = count.checked_sub(1)?;
         (self.at(place) == label).then_some(place)
     }
 
     pub fn all(&self) -> Vec<u64> {
-        (0..self.rows.len()).map(|place| self.at(place)).collect()
+        (0..self.count()).map(|place| self.at(place)).collect()
     }
 }

@@ -3,7 +3,7 @@
 use crate::index::{Bad, KeyIndex, Op};
 use crate::labels::{END, Labels, Lately, spread};
 use crate::spans::{Found, KeyPair, Lifetime, Segments};
-use crate::weighted::{Item, Tree};
+use crate::tree::{Item, Tree};
 
 #[derive(Clone, Copy)]
 #[allow(dead_code)]
@@ -14,11 +14,9 @@ pub struct Row {
 }
 
 impl Item for Row {
-    type Measure = u32;
-
-    fn measure(&self) -> u32 {
-        1
-    }
+    type Measure = ();
+    fn measure(&self) {}
+    fn join(_: (), _: ()) {}
 }
 
 #[derive(Clone, Copy)]
@@ -99,17 +97,20 @@ impl Dictionary {
 
     /// What the last row before a label on its key put, and the label of the next row on it.
     fn beside(&self, key: i64, label: u64) -> (Placed, u64) {
-        let left = self.index.before(key, label);
-        let left = left.and_then(|row| placed(row.label, row.op));
-        (left, self.next(key, label))
+        let beside = self.index.beside(key, label);
+        let left = beside.before.and_then(|row| placed(row.label, row.op));
+        (left, beside.after.map_or(END, |row| row.label))
     }
 
     /// Which of the rows beside a place came in lately before one with this number.
     fn lately(&self, place: u32, number: u32) -> Lately {
+        if place == self.len() {
+            return Lately::Neither;
+        }
         let is_lately = |other: u32| other < number && number - other <= 8;
-        if place > 0 && is_lately(self.rows.get(place - 1).number) {
+        if place > 0 && is_lately(self.rows.get(place as usize - 1).number) {
             Lately::Before
-        } else if place < self.len() && is_lately(self.rows.get(place).number) {
+        } else if is_lately(self.rows.get(place as usize).number) {
             Lately::After
         } else {
             Lately::Neither
@@ -118,7 +119,7 @@ impl Dictionary {
 
     fn insert_between(&mut self, place: u32, row: Row) {
         let label = self.labels.insert(place, self.lately(place, row.number));
-        self.rows.insert(place, row);
+        self.rows.insert(place as usize, row);
         let (left, next) = self.beside(row.op.key(), label);
         self.index.insert(label, row.op);
         add(&mut self.segments, placed(label, row.op), next);
@@ -134,10 +135,10 @@ impl Dictionary {
         let fresh_of = |label| fresh[former.binary_search(&label).unwrap()];
         self.index.relabel(fresh_of);
         self.index.insert(spread(place, count), row.op);
-        self.rows.insert(place, row);
+        self.rows.insert(place as usize, row);
         let mut segments = Segments::new();
         for index in (0..count).rev() {
-            let (op, label) = (self.rows.get(index).op, spread(index, count));
+            let (op, label) = (self.rows.get(index as usize).op, spread(index, count));
             let next = self.next(op.key(), label);
             add(&mut segments, placed(label, op), next);
         }
@@ -155,7 +156,7 @@ impl Dictionary {
 
 impl Past for Dictionary {
     fn len(&self) -> u32 {
-        self.rows.len()
+        self.rows.len() as u32
     }
 
     fn failure_after_insert(&self, place: u32, op: Op) -> Option<u32> {
@@ -169,7 +170,8 @@ impl Past for Dictionary {
     }
 
     fn failure_after_remove(&self, place: u32) -> Option<u32> {
-        let label = self.index.bad_after_remove(self.labels.at(place))?;
+        let op = self.rows.get(place as usize).op;
+        let label = self.index.bad_after_remove(self.labels.at(place), op)?;
         let index = self.labels.place_of(label)?;
         Some(if index < place { index } else { index - 1 })
     }
@@ -183,14 +185,15 @@ impl Past for Dictionary {
     }
 
     fn remove(&mut self, place: u32) -> Row {
-        let row = self.rows.get(place);
+        let row = self.rows.get(place as usize);
         let label = self.labels.at(place);
         let (left, next) = self.beside(row.op.key(), label);
         move_end(&mut self.segments, left, label, next);
         take(&mut self.segments, placed(label, row.op), next);
-        self.index.remove(label);
+        self.index.remove(label, row.op);
         self.labels.remove(place);
-        self.rows.remove(place)
+        self.rows.remove(place as usize);
+        row
     }
 
     fn ask(&self, place: u32, question: Question) -> Answer {

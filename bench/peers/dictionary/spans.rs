@@ -9,7 +9,6 @@ pub struct KeyPair {
     pub value: i64,
 }
 
-
 #[derive(Clone, Copy)]
 pub struct Pairs {
     items: u32,
@@ -21,7 +20,10 @@ impl Monoid for Pairs {
 
     #[inline(always)]
     fn join(self, other: Pairs) -> Pairs {
-        Pairs { items: self.items + other.items, sum: self.sum + other.sum }
+        Pairs {
+            items: self.items + other.items,
+            sum: self.sum + other.sum,
+        }
     }
 }
 
@@ -29,7 +31,10 @@ impl Item for KeyPair {
     type Measure = Pairs;
 
     fn measure(&self) -> Pairs {
-        Pairs { items: 1, sum: i128::from(self.value) }
+        Pairs {
+            items: 1,
+            sum: i128::from(self.value),
+        }
     }
 }
 
@@ -249,25 +254,43 @@ impl Segments {
         }
     }
 
+    fn is_at(&self, place: u32, life: Lifetime) -> bool {
+        place < self.held.len() && self.held.get(place) == life
+    }
+
+    /// Whether a lifetime stands in its order at a place.
+    fn stays(&self, place: u32, life: Lifetime) -> bool {
+        (place == 0 || self.held.get(place - 1) < life)
+            && (place + 1 == self.held.len() || life < self.held.get(place + 1))
+    }
+
     pub fn add(&mut self, life: Lifetime) {
         self.held.put(life);
         add(&mut self.root, LEVELS, life);
     }
 
     pub fn take(&mut self, life: Lifetime) {
-        if self.held.holds(life) {
-            self.held.take_out(life);
+        let place = self.held.place_of(life);
+        if self.is_at(place, life) {
+            self.held.remove(place);
             take(&mut self.root, LEVELS, life);
         }
     }
 
     /// Moves where a lifetime that is there ends.
     pub fn move_end(&mut self, life: Lifetime, next: u64) {
-        if self.held.holds(life) {
-            self.held.put(life.ending(next));
-            self.held.take_out(life);
-            move_end(&mut self.root, LEVELS, life, next);
+        let place = self.held.place_of(life);
+        if !self.is_at(place, life) {
+            return;
         }
+        let moved = life.ending(next);
+        if self.stays(place, moved) {
+            self.held.replace(place, moved);
+        } else {
+            self.held.put(moved);
+            self.held.take_out(life);
+        }
+        move_end(&mut self.root, LEVELS, life, next);
     }
 
     pub fn ask(&self, label: u64, low: i64, high: i64) -> Found {

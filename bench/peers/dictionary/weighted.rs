@@ -346,17 +346,12 @@ impl Monoid for u32 {
 
 /// A tree whose items stand in their order.
 impl<T: Item + Ord> Tree<T> {
-    fn place_of(&self, item: T) -> u32 {
+    pub fn place_of(&self, item: T) -> u32 {
         self.partition_point(|other| *other < item)
     }
 
     pub fn put(&mut self, item: T) {
         self.insert(self.place_of(item), item);
-    }
-
-    pub fn holds(&self, item: T) -> bool {
-        let place = self.place_of(item);
-        place < self.len() && self.get(place) <= item
     }
 
     pub fn take_out(&mut self, item: T) {
