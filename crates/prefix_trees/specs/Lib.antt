@@ -1,6 +1,9 @@
 pub mod Growth
 pub mod Prefixes
 pub mod Walks
+pub mod SignPrefixes
+pub mod SignWalks
+pub mod MarkLaws
 pub mod RunLaws
 pub mod LineLaws
 pub mod PositionLaws

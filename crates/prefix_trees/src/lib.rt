@@ -16,19 +16,25 @@
 //! how that row is found. The answers, the content, the failing rows and the edits are here, once for all three kinds:
 //! `Partial` and `Retro` of `retro_base`, and `ask_past`.
 //!
+//! A `SignTree` serves whoever keeps signs of another kind: it is a list of signs, -1, 0 or 1, each with a mark. It tells the sum
+//! of the first signs, the first and the last place where such a sum is at most a value, and the place of the k-th mark
+//! (specs/SignPrefixes.antt). It searches by the walk of each range in the same way.
+//!
 //! | Call | Nodes visited, d being the digits of one more than the length |
 //! |---|---|
 //! | `row_at`, `value_at`, `size_at`, `last_growing`, `insert`, `remove` of `LineRows` | at most 12 d |
 //! | `failure_after_insert` of `LineRows` | at most 24 d |
 //! | `failure_after_remove` of `LineRows` | at most 36 d |
 //! | `copy` of `LineRows` | at most one for each row |
+//! | `insert`, `remove`, `prefix`, `kth_marked` of `SignTree` | at most 12 d |
+//! | `first_at_most`, `last_at_most` of `SignTree` | at most 24 d |
 //! | `ask_past` and the calls of `Partial` of `RetroLine` that take a counter | at most 144 d |
 //!
-//! What the layer above may rely on: the clauses of these types, in the words of lists; specs/Prefixes.antt for
-//! the searches; specs/Growth.antt and the laws beside it on the rows of a line.
+//! What the layer above may rely on: the clauses of these types, in the words of lists; specs/Prefixes.antt and
+//! specs/SignPrefixes.antt for the searches; specs/MarkLaws.antt on marks; specs/Growth.antt and the laws beside it on the rows of a line.
 //!
 //! - Rows: `LineRows`, `End`. What an operation does to a line: `sign_of`, `left_growth`, `right_growth`, `value_of`.
-//! - Lines: `Sequence`, `RetroLine`.
+//! - Lines: `Sequence`, `RetroLine`. Signs: `SignTree`.
 #![tactic(auto)]
 
 mod asked;
@@ -37,8 +43,11 @@ mod line;
 mod line_row;
 mod line_rows;
 mod sequence;
+mod sign_tree;
+mod signed;
 
 pub use growth::{End, left_growth, right_growth, sign_of, value_of};
 pub use line::RetroLine;
 pub use line_rows::LineRows;
 pub use sequence::Sequence;
+pub use sign_tree::SignTree;
