@@ -50,12 +50,12 @@ put_back label op rows rise there =
           (none_pass (λ (r : KeyRow). nat_lt label r.0) stands.front (all_weaker (λ (r : KeyRow). r.0 < label) (λ (r : KeyRow). nat_lt label r.0 ≡ false) stands.front (λ r less. below_fails r.0 label less) stands.below))
           ∙ all_pass (λ (r : KeyRow). nat_lt label r.0) stands.back (all_weaker (λ (r : KeyRow). label < r.0) (λ (r : KeyRow). nat_lt label r.0 ≡ true) stands.back (λ r more. above_passes r.0 label more) stands.above)
 
-none_there : (rows : List KeyRow) → 0 ≡ length rows → [] ≡ rows
+pub none_there : (rows : List KeyRow) → 0 ≡ length rows → [] ≡ rows
 none_there [] none = refl
 none_there (row ∷ rows) none = absurd (omega arith)
 
 -- the first row by key is found by its label
-first_there : (row : KeyRow) (rows by_key : List KeyRow) → IsIndexed rows (row ∷ by_key) → op_at row.0 rows ≡ Some row.1
+pub first_there : (row : KeyRow) (rows by_key : List KeyRow) → IsIndexed rows (row ∷ by_key) → op_at row.0 rows ≡ Some row.1
 first_there row rows by_key indexed =
     let key = key_of row.1 in
     let stands = among (is_on key) row (filter (is_on key) by_key) rows []

@@ -4,6 +4,7 @@ pub mod Neighbours
 pub mod PutIn
 pub mod TakenOut
 pub mod ByLabel
+pub mod Scanned
 pub mod Moved
 pub mod Replayed
 pub mod Failing

@@ -1,14 +1,14 @@
-ghost use Rattle.std.specs.Prelude.{◌≡◌, [], length, Some, None, IfNone, IfOk, OnOk, OnErr};
+ghost use Rattle.std.specs.Prelude.{◌≡◌, [], length, Some, None, IfNone, IsSome, IfOk, OnOk, OnErr};
 ghost use Rattle.retro_base.specs.declared.kind.Kind.TheVariants.{Dict};
 ghost use Rattle.retro_base.specs.Kind.{kind_of};
 ghost use Rattle.key_index.specs.Beside.{beside};
-ghost use Rattle.key_index.specs.KeyRows.{Replays, bad_label, bad_with, first_after, key_of, op_at, with_row, without};
+ghost use Rattle.key_index.specs.KeyRows.{Replays, AreKeyRows, bad_label, bad_with, first_after, key_of, last_before, op_at, with_row, without};
 ghost use Rattle.key_index.specs.Relabelled.{Rise, HoldsLabels, relabelled};
 
 use crate::beside::{Beside, is_there, taken_at};
 use crate::labels::Labels2;
 use crate::row::KeyRow;
-use crate::tree::{around, beside, first_above, put_in, relabel, take_out};
+use crate::tree::{around, beside, first_above, op_of, put_in, relabel, take_out};
 use retro_base::{NoMemory, Op};
 use std::alloc::Global;
 use std::marker::{Brand, Model};
@@ -54,8 +54,19 @@ impl KeyIndex {
         }
     }
 
-    /// Puts a row in at its label, which no row has, and gives the rows beside it on its key. After `NoMemory` all is as before.
-    pub fn insert(&mut self, label: u64, op: Op) -> Result<Beside, NoMemory>
+    /// Puts a row in at its label, which no row has. After `NoMemory` all is as before.
+    pub fn insert(&mut self, label: u64, op: Op) -> Result<(), NoMemory>
+        requires fresh { op_at label self.old ≡ None }
+        requires dict { kind_of op ≡ Dict }
+        ensures ok { OnOk result (self.new ≡ with_row label op self.old) }
+        ensures err { OnErr result (self.new ≡ self.old) }
+    {
+        self.insert_beside(label, op)?;
+        Ok(())
+    }
+
+    /// The same, and gives the rows beside the new one on its key.
+    pub fn insert_beside(&mut self, label: u64, op: Op) -> Result<Beside, NoMemory>
         requires fresh { op_at label self.old ≡ None }
         requires dict { kind_of op ≡ Dict }
         ensures ok { OnOk result (self.new ≡ with_row label op self.old) }
@@ -65,12 +76,30 @@ impl KeyIndex {
         put_in::<Brand>(&mut self.by_key, label, op, Blank::new(1))
     }
 
+    /// Takes the row with a label out, and gives its operation, where there is one.
+    pub fn remove(&mut self, label: u64) -> Option<Op>
+        ensures found { result ≡ op_at label self.old }
+        ensures rows { self.new ≡ without label self.old }
+        ensures listed { AreKeyRows self.old }
+    {
+        let op = op_of::<Brand>(&self.by_key, label, Blank::new(1))?;
+        take_out::<Brand>(&mut self.by_key, label, op, Blank::new(1));
+        Some(op)
+    }
+
     /// Takes the row with a label out, where its operation is known.
-    pub fn remove(&mut self, label: u64, op: Op)
+    pub fn remove_row(&mut self, label: u64, op: Op)
         requires there { op_at label self.old ≡ Some op }
         ensures { self.new ≡ without label self.old }
     {
         take_out::<Brand>(&mut self.by_key, label, op, Blank::new(1));
+    }
+
+    /// The last row on a key below a label.
+    pub fn before(&self, key: i64, label: u64) -> Option<(u64, Op)>
+        ensures { result ≡ last_before key label self.now }
+    {
+        self.beside(key, label).before
     }
 
     /// The rows on a key next to a label.
@@ -109,8 +138,21 @@ impl KeyIndex {
         }
     }
 
-    /// The label of the first row that fails once the row with this label is taken out, where its operation is known.
-    pub fn bad_after_remove(&self, label: u64, op: Op) -> Option<u64>
+    /// The label of the first row that fails once the row with this label is taken out.
+    pub fn bad_after_remove(&self, label: u64) -> Option<u64>
+        requires replays { Replays self.now }
+        requires there { IsSome (op_at label self.now) }
+        ensures bad { result ≡ bad_label (without label self.now) }
+        ensures good { IfNone result (Replays (without label self.now)) }
+    {
+        match op_of::<Brand>(&self.by_key, label, Blank::new(1)) {
+            Some(op) => self.bad_without(label, op),
+            None => None,
+        }
+    }
+
+    /// The same, where the operation of the row is known.
+    pub fn bad_without(&self, label: u64, op: Op) -> Option<u64>
         requires replays { Replays self.now }
         requires there { op_at label self.now ≡ Some op }
         ensures bad { result ≡ bad_label (without label self.now) }

@@ -8,17 +8,18 @@
 //! [`KeyIndex`] is a list of rows by their labels, which rise: numbers that say which row comes first, and leave room
 //! in between (`order_labels`). It keeps them in one tree, by key and then by label, so that the rows next to an edit on its
 //! key stand next to one another, and finds a place there by one way down. A caller that has the rows by label too knows the
-//! operation of each, and hands it on where a row is to be found by its label.
+//! operation of each, and hands it on where a row is to be found by its label; by the label alone all rows are looked at.
 //!
 //! | Call | Cost, with n rows |
 //! |---|---|
-//! | `insert`, `remove`, `beside`, `after`, `bad_after_insert`, `bad_after_remove` | log n: one search each |
+//! | `insert`, `insert_beside`, `remove_row`, `before`, `after`, `beside`, `bad_after_insert`, `bad_without` | log n: one search at the most, and a way to each neighbour |
+//! | `remove`, `bad_after_remove` | n log n: the operation of the row is looked for |
 //! | `relabel` | n log n |
 //!
-//! `insert` takes memory for one node, and leaves all as it was where there is none; no other call of it takes any, so a
+//! The two insertions take memory, for what one insertion into a tree takes, and leave all as it was where there is none; no other call of an index takes any, so a
 //! relabelling can be written last, once the two lists of labels and whatever else it needs are there.
 //!
-//! What the layer above may rely on: the definitions of specs/KeyRows.antt, over plain lists.
+//! What the layer above may rely on: the definitions of specs/KeyRows.antt, specs/Beside.antt and specs/Relabelled.antt, over plain lists.
 //!
 //! - `key_index`: the type and its calls. `labels`: the labels before and after a relabelling.
 //! - `row`: what stands in the tree. `search`: how many rows stand up to a label on a key.

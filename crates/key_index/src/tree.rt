@@ -127,6 +127,22 @@ pub(crate) fn first_above<L: Ledger>(
     next_on(by_key, key, count, &mut steps)
 }
 
+/// The operation of the row with a label, where there is one. The rows are not in the order of their labels, so all are looked at.
+pub(crate) fn op_of<L: Ledger>(by_key: &Tree<KeyRow>, label: u64, blank: Blank) -> Option<Op>
+    requires counter { OpensCounter blank.name L.name blank.parts L.parts }
+    ensures { result ≡ op_at label by_key.now }
+{
+    let mut steps = Steps::<L>::new(blank);
+    let count = by_key.len();
+    for place in 0..count {
+        let row = by_key.get(place, &mut steps);
+        if row.label() == label {
+            return Some(row.op());
+        }
+    }
+    None
+}
+
 /// Puts a row in, and gives the rows beside it on its key.
 pub(crate) fn put_in<L: Ledger>(
     by_key: &mut Tree<KeyRow>,

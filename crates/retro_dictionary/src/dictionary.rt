@@ -102,7 +102,7 @@ impl Retro for RetroDictionary {
         place_of_bad_label(
             &self.kept.labels,
             place,
-            self.kept.index.bad_after_remove(label, op),
+            self.kept.index.bad_without(label, op),
         )
     }
 

@@ -38,12 +38,12 @@ fn put_labelled(
     ensures index_err { OnErr result (index.new ≡ index.old) }
     ensures segments_err { OnErr result (segments.new ≡ segments.old) }
 {
-    let beside = index.insert(label, op)?;
+    let beside = index.insert_beside(label, op)?;
     let left = placed_by(beside.before);
     let next = label_or_end(beside.after);
     let put = put_by(op);
     if cut(segments, &left, label, &put, next).is_err() {
-        index.remove(label, op);
+        index.remove_row(label, op);
         return Err(NoMemory);
     }
     Ok(())
@@ -69,7 +69,7 @@ fn take_labelled(
     let next = label_or_end(beside.after);
     let put = put_by(op);
     join(segments, &left, label, &put, next)?;
-    index.remove(label, op);
+    index.remove_row(label, op);
     Ok(())
 }
 

@@ -200,7 +200,7 @@ pub(crate) fn put_relabelled<L: Ledger>(
     let label = new_label(count, place);
     relabel_with(&mut kept.index, &former, &fresh, label, row.op)?;
     if put_indexed(kept, place, row, &mut steps).is_err() {
-        kept.index.remove(label, row.op);
+        kept.index.remove_row(label, row.op);
         kept.index.relabel(&fresh, &former);
         return Err(NoMemory);
     }

@@ -45,9 +45,12 @@ fn expect_removals(rt: &impl Abort, index: &KeyIndex)
     requires rows { index.now ≡ with_row 200 DEL (with_row 101 OTHER (with_row 100 PUT [])) }
     requires replays { Replays index.now }
 {
-    assert_eq!(rt; index.bad_after_remove(100, PUT), Some(200));
-    assert_eq!(rt; index.bad_after_remove(101, OTHER), None);
-    assert_eq!(rt; index.bad_after_remove(200, DEL), None);
+    assert_eq!(rt; index.bad_after_remove(100), Some(200));
+    assert_eq!(rt; index.bad_after_remove(101), None);
+    assert_eq!(rt; index.bad_after_remove(200), None);
+    assert_eq!(rt; index.bad_without(100, PUT), Some(200));
+    assert_eq!(rt; index.bad_without(101, OTHER), None);
+    assert_eq!(rt; index.bad_without(200, DEL), None);
 }
 
 fn expect_insertions(rt: &impl Abort, index: &KeyIndex)
@@ -90,6 +93,7 @@ fn expect_beside(rt: &impl Abort, index: &KeyIndex) {
         (2, 200, Some((101, OTHER)), None),
     ] {
         assert_eq!(rt; index.beside(key, label), Beside { before, after });
+        assert_eq!(rt; index.before(key, label), before);
         assert_eq!(rt; index.after(key, label), after);
     }
 }
@@ -98,14 +102,16 @@ fn expect_beside(rt: &impl Abort, index: &KeyIndex) {
 fn neighbours_are_those_on_the_key(rt: HostRuntime) {
     let mut index = three_rows(&rt, rt.alloc());
     expect_beside(&rt, &index);
-    index.remove(100, PUT);
-    assert_eq!(rt; index.beside(1, 200).before, None);
+    index.remove_row(200, DEL);
+    assert_eq!(rt; index.remove(150), None);
+    assert_eq!(rt; index.remove(100), Some(PUT));
+    assert_eq!(rt; index.before(1, 200), None);
 }
 
 #[test]
 fn a_row_is_put_between_its_neighbours(rt: HostRuntime) {
     let mut index = three_rows(&rt, rt.alloc());
-    let beside = index.insert(150, PUT).expect(&rt, "memory");
+    let beside = index.insert_beside(150, PUT).expect(&rt, "memory");
     assert_eq!(rt; beside.before, Some((100, PUT)));
     assert_eq!(rt; beside.after, Some((200, DEL)));
 }
@@ -129,6 +135,6 @@ fn relabelled_rows_keep_their_order(rt: HostRuntime) {
     let fresh = labels(&rt, rt.alloc(), 1_000, 2_000, 3_000);
     assert_eq!(rt; former.len(), 3);
     index.relabel(&former, &fresh);
-    assert_eq!(rt; index.beside(1, 3_000).before, Some((1_000, PUT)));
+    assert_eq!(rt; index.before(1, 3_000), Some((1_000, PUT)));
     assert_eq!(rt; index.after(1, 1_000), Some((3_000, DEL)));
 }
