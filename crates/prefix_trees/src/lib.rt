@@ -2,7 +2,7 @@
 //!
 //! A row of a queue, a stack or a deque adds an item at an end of a line, or takes one there. `LineRows` is a list of such rows,
 //! in one tree of `weighted_tree`. It tells how many items there are after the first so many rows, which row would find nothing
-//! to take were another put in or taken out, and the last row from which on an end grew by so many items. The tree measures three
+//! to take were another put in or taken out, and the last place from which on an end grew by so many items. The tree measures three
 //! walks of each range, of the growth of the whole line, at its left end and at its right end: how deep a walk falls below its start,
 //! and how high it ends above its lowest point. So the first place where the size falls to a value is where the depth of the
 //! one walk comes to reach it, and the last place from which on an end grew so far is where the height of another does,

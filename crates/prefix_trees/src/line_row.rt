@@ -66,7 +66,7 @@ pub(crate) fn growth(range: &Walks) -> i64
     range.first().sum()
 }
 
-/// How far the whole line falls below its start.
+/// The lowest point of the whole line, seen from its start.
 pub(crate) fn lowest(range: &Walks) -> i64
     ensures { result ≡ lowest_of range.now.0 }
 {

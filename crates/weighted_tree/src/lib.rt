@@ -13,8 +13,8 @@
 //!
 //! The last items stand outside of the root, in a tail: one more leaf. An item that comes in at the end goes there, and its
 //! measure is joined with that of the others; only where the tail is full, at each 33rd such item, does one way down the right
-//! side put all of them below the root, as a node with a full leaf. Where the root is a leaf with room for the item and there is
-//! no tail, it goes into the root, so that a tree of up to 32 items has no tail.
+//! side put all of them below the root, as a node with a full leaf. Where the root has fewer than 32 items and the tail has none,
+//! it goes into the root, so that a tree that never had more than 32 items has no tail.
 //!
 //! The tree is weight-balanced (Nievergelt and Reingold 1973): the weight of a subtree is the number of
 //! its nodes and one, whatever its leaves hold, and neither side of a node weighs over 3 times the other.

@@ -175,7 +175,7 @@ impl<T: Measured> Subtree<T> {
     }
 }
 
-/// The same of the items of two subtrees, of which `far` stands beyond `near`, seen from `side`.
+/// How many items after the place `from` a test turns true of their measure, in two subtrees of which `far` stands beyond `near`, seen from `side`.
 pub(crate) fn boundary_in_both<T: Measured, F: Fn(&T::Measure) -> bool, L: Ledger>(
     side: Side,
     near: &Subtree<T>,

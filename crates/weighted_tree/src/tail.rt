@@ -73,8 +73,8 @@ impl<T: Measured> Tail<T> {
         &items[place as usize]
     }
 
-    /// Puts an item in at a place, where there is room; those from there on move one place on. The tail is a visit, also where
-    /// it has no items yet, and its leaf is another.
+    /// Puts an item in at a place, where there is room; those from there on move one place on. A step is counted for the tail
+    /// itself, so that an insertion behind other items visits one also where the tail has none yet, and another for its leaf.
     #[inline(always)]
     pub(crate) fn insert<L: Ledger>(
         &mut self,
