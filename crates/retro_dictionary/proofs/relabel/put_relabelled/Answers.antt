@@ -13,7 +13,7 @@ use Rattle.retro_dictionary.proofs.EditSteps.{kept-as, op-put}
 use Rattle.retro_dictionary.proofs.Relabelling.{can-relabel-listed, all-listed, kept-all, taken-out, inserted-full}
 use Rattle.retro_dictionary.proofs.relabel.put_relabelled.Given.{Over}
 use Rattle.retro_dictionary.proofs.relabel.put_relabelled.Goals as goal
-use Rattle.retro_dictionary.proofs.relabel.put_relabelled.Goals.{After-new_label-label, In_ok-relabel_with, After-remove}
+use Rattle.retro_dictionary.proofs.relabel.put_relabelled.Goals.{After-new_label-label, In_ok-relabel_with, After-remove_row}
 
 -- all rows can be relabelled
 can : (g : Over) (c : After-new_label-label g) → CanRelabel c.in_ok-former.former c.in_ok-fresh.fresh c.new_label-label.result c.args.kept.now.index
@@ -29,11 +29,11 @@ indexed g c =
     c.in_ok-fresh.ensures c.len-count.ensures c.new_label-label.ensures c.args.row
 
 -- or the new one is taken out again
-without-new : (g : Over) (c : After-remove g) → CanRelabel c.in_ok-former.former c.in_ok-fresh.fresh c.new_label-label.result c.args.kept.now.index
-    → c.remove.new.self ≡ relabelled c.in_ok-former.former c.in_ok-fresh.fresh c.args.kept.now.index
+without-new : (g : Over) (c : After-remove_row g) → CanRelabel c.in_ok-former.former c.in_ok-fresh.fresh c.new_label-label.result c.args.kept.now.index
+    → c.remove_row.new.self ≡ relabelled c.in_ok-former.former c.in_ok-fresh.fresh c.args.kept.now.index
 without-new g c can =
     let same : c.put_indexed.new.kept ≡ record c.args.kept.now { index = c.relabel_with.new.index } = search rules in
-    taken-out _ _ _ _ _ _ _ can c.in_ok-relabel_with.ensures.ok (c.remove.ensures ∙ ap (λ kept. without c.new_label-label.result kept.index) same)
+    taken-out _ _ _ _ _ _ _ can c.in_ok-relabel_with.ensures.ok (c.remove_row.ensures ∙ ap (λ kept. without c.new_label-label.result kept.index) same)
 
 pub relabel_with-requires-clause-can : goal.relabel_with-requires-clause-can
 relabel_with-requires-clause-can g c = can g (goal.at.relabel_with-requires-clause-can g c).After-new_label-label
@@ -41,9 +41,9 @@ relabel_with-requires-clause-can g c = can g (goal.at.relabel_with-requires-clau
 pub put_indexed-requires-clause-indexed : goal.put_indexed-requires-clause-indexed
 put_indexed-requires-clause-indexed g c = indexed g (goal.at.put_indexed-requires-clause-indexed g c).In_ok-relabel_with
 
-pub remove-requires : goal.remove-requires
-remove-requires g c =
-    let can = can g (goal.at.remove-requires g c).After-new_label-label in
+pub remove_row-requires : goal.remove_row-requires
+remove_row-requires g c =
+    let can = can g (goal.at.remove_row-requires g c).After-new_label-label in
     let label = c.new_label-label.result in
     let former = c.in_ok-former.former in
     let fresh = c.in_ok-fresh.fresh in
@@ -57,7 +57,7 @@ relabel-requires g c =
       former = can.fresh_rise;
       fresh = can.former_rise;
       as_many = sym can.as_many;
-      all = subst (HoldsLabels c.in_ok-fresh.fresh) (sym (without-new g (goal.at.relabel-requires g c).After-remove can)) can.held_fresh;
+      all = subst (HoldsLabels c.in_ok-fresh.fresh) (sym (without-new g (goal.at.relabel-requires g c).After-remove_row can)) can.held_fresh;
     }
 
 pub returns-then-is_err-clause-err : goal.returns-then-is_err-clause-err
@@ -68,7 +68,7 @@ returns-then-is_err-clause-err g c =
     let renewed : Kept → Kept = λ kept. record kept { index = c.relabel.new.self } in
     ap renewed same
     ∙ ap holding
-    (c.relabel.ensures ∙ ap (relabelled c.in_ok-fresh.fresh c.in_ok-former.former) (without-new g (goal.at.returns-then-is_err-clause-err g c).After-remove can) ∙ can.back)
+    (c.relabel.ensures ∙ ap (relabelled c.in_ok-fresh.fresh c.in_ok-former.former) (without-new g (goal.at.returns-then-is_err-clause-err g c).After-remove_row can) ∙ can.back)
 
 pub returns-clause-kept : goal.returns-clause-kept
 returns-clause-kept g c =

@@ -5,11 +5,11 @@ use Rattle.retro_base.specs.Replay.{failure}
 use Rattle.retro_dictionary.proofs.FailingRow.{fails-without, index-replays, label-there, within-without}
 use Rattle.retro_dictionary.proofs.dictionary.RetroDictionaryRetro.failure_after_remove.Goals as goal
 
-pub bad_after_remove-requires-clause-replays : goal.bad_after_remove-requires-clause-replays
-bad_after_remove-requires-clause-replays c = index-replays c.self.inside.kept.rows c.self.inside.kept.labels c.self.inside.kept.index c.self.inside.kept.segments c.self.invariant
+pub bad_without-requires-clause-replays : goal.bad_without-requires-clause-replays
+bad_without-requires-clause-replays c = index-replays c.self.inside.kept.rows c.self.inside.kept.labels c.self.inside.kept.index c.self.inside.kept.segments c.self.invariant
 
-pub bad_after_remove-requires-clause-there : goal.bad_after_remove-requires-clause-there
-bad_after_remove-requires-clause-there c =
+pub bad_without-requires-clause-there : goal.bad_without-requires-clause-there
+bad_without-requires-clause-there c =
     label-there c.self.inside.kept.rows c.self.inside.kept.labels c.self.inside.kept.index c.self.inside.kept.segments c.self.invariant c.args.place c.label_at-label.result c.label_at-label.ensures
     c.op_at-op.result c.op_at-op.ensures
 
@@ -17,7 +17,7 @@ first : (c : goal.After-place_of_bad_label) → c.place_of_bad_label.result ≡ 
 first c =
     c.place_of_bad_label.ensures
     ∙ fails-without c.self.inside.kept.rows c.self.inside.kept.labels c.self.inside.kept.index c.self.inside.kept.segments c.self.invariant c.args.place
-    c.label_at-label.result c.label_at-label.ensures c.bad_after_remove.result c.bad_after_remove.ensures.bad c.bad_after_remove.ensures.good
+    c.label_at-label.result c.label_at-label.ensures c.bad_without.result c.bad_without.ensures.bad c.bad_without.ensures.good
     ∙ ap (λ rows. failure Dict (remove rows c.args.place)) c.self.view_is
 
 pub returns-clause-first : goal.returns-clause-first
