@@ -70,6 +70,18 @@ impl Found {
         }
     }
 
+    fn of_one(pair: KeyPair, low: i64, high: i64) -> Found {
+        if pair.key < low || high < pair.key {
+            return Found::NONE;
+        }
+        Found {
+            count: 1,
+            sum: i128::from(pair.value),
+            least: Some(pair),
+            greatest: Some(pair),
+        }
+    }
+
     fn combine(self, other: Found) -> Found {
         let least = match (self.least, other.least) {
             (Some(a), Some(b)) => Some(a.min(b)),
@@ -117,10 +129,22 @@ impl Lifetime {
     fn ending(self, to: u64) -> Lifetime {
         Lifetime { to, ..self }
     }
+
+    /// What of it lies in a span of this level.
+    fn clipped(self, level: u32) -> Lifetime {
+        self.ending(self.to.min(1 << level))
+    }
+
+    fn holds(self, label: u64) -> bool {
+        self.from <= label && label < self.to
+    }
 }
 
-/// The pairs in a span of labels and in the spans below it; a span with nothing is left out.
-type Spans = Option<Box<Span>>;
+/// The lifetimes in a span of labels: as they are where they are few, and else divided over the span itself and its halves.
+enum Spans {
+    Few(Tree<Lifetime>),
+    Full(Box<Span>),
+}
 
 struct Span {
     pairs: Tree<KeyPair>,
@@ -131,25 +155,55 @@ struct Span {
 /// The level of the span of all labels.
 const LEVELS: u32 = 40;
 
-fn closed(span: Box<Span>) -> Spans {
-    let is_empty = span.pairs.len() == 0 && span.left.is_none() && span.right.is_none();
-    if is_empty { None } else { Some(span) }
+/// So many lifetimes of a span are kept as they are at the most.
+const FEW: u32 = 63;
+
+impl Spans {
+    fn new() -> Spans {
+        Spans::Few(Tree::empty())
+    }
+
+    fn is_nothing(&self) -> bool {
+        matches!(self, Spans::Few(few) if few.len() == 0)
+    }
+}
+
+impl Span {
+    fn is_bare(&self) -> bool {
+        self.pairs.len() == 0 && self.left.is_nothing() && self.right.is_nothing()
+    }
 }
 
 fn add(spans: &mut Spans, level: u32, life: Lifetime) {
-    let mut span = spans.take().unwrap_or_else(|| {
-        Box::new(Span {
-            pairs: Tree::empty(),
-            left: None,
-            right: None,
-        })
+    match spans {
+        Spans::Full(span) => add_to_span(span, level, life),
+        Spans::Few(few) if few.len() < FEW => few.put(life.clipped(level)),
+        Spans::Few(few) => {
+            let mut span = divided(few, level);
+            add_to_span(&mut span, level, life);
+            *spans = Spans::Full(span);
+        }
+    }
+}
+
+fn divided(few: &Tree<Lifetime>, level: u32) -> Box<Span> {
+    let mut span = Box::new(Span {
+        pairs: Tree::empty(),
+        left: Spans::new(),
+        right: Spans::new(),
     });
+    for place in (0..few.len()).rev() {
+        add_to_span(&mut span, level, few.get(place));
+    }
+    span
+}
+
+fn add_to_span(span: &mut Span, level: u32, life: Lifetime) {
     if life.is_whole(level) {
         span.pairs.put(life.pair);
     } else {
-        add_below(&mut span, level - 1, life);
+        add_below(span, level - 1, life);
     }
-    *spans = closed(span);
 }
 
 /// Into the halves of a span, which have this level.
@@ -163,13 +217,19 @@ fn add_below(span: &mut Span, level: u32, life: Lifetime) {
 }
 
 fn take(spans: &mut Spans, level: u32, life: Lifetime) {
-    let Some(mut span) = spans.take() else { return };
-    if life.is_whole(level) {
-        span.pairs.take_out(life.pair);
-    } else {
-        take_below(&mut span, level - 1, life);
+    match spans {
+        Spans::Few(few) => few.take_out(life.clipped(level)),
+        Spans::Full(span) => {
+            if life.is_whole(level) {
+                span.pairs.take_out(life.pair);
+            } else {
+                take_below(span, level - 1, life);
+            }
+            if span.is_bare() {
+                *spans = Spans::new();
+            }
+        }
     }
-    *spans = closed(span);
 }
 
 /// Out of the halves of a span, which have this level.
@@ -184,21 +244,23 @@ fn take_below(span: &mut Span, level: u32, life: Lifetime) {
 
 /// Moves where a lifetime ends. Spans that the lifetime has with either end are left as they are.
 fn move_end(spans: &mut Spans, level: u32, life: Lifetime, next: u64) {
-    let Some(mut span) = spans.take() else { return };
     let moved = life.ending(next);
+    let span = match spans {
+        Spans::Few(few) => return few.exchange(life.clipped(level), moved.clipped(level)),
+        Spans::Full(span) => span,
+    };
     match (life.is_whole(level), moved.is_whole(level)) {
         (true, true) => {}
         (true, false) => {
-            add_below(&mut span, level - 1, moved);
+            add_below(span, level - 1, moved);
             span.pairs.take_out(life.pair);
         }
         (false, true) => {
             span.pairs.put(life.pair);
-            take_below(&mut span, level - 1, life);
+            take_below(span, level - 1, life);
         }
-        (false, false) => move_below(&mut span, level - 1, life, next),
+        (false, false) => move_below(span, level - 1, life, next),
     }
-    *spans = closed(span);
 }
 
 fn move_below(span: &mut Span, level: u32, life: Lifetime, next: u64) {
@@ -224,9 +286,21 @@ fn move_first(left: &mut Spans, level: u32, life: Lifetime, next: u64) {
     }
 }
 
+fn ask_few(few: &Tree<Lifetime>, label: u64, low: i64, high: i64) -> Found {
+    let mut found = Found::NONE;
+    for place in 0..few.len() {
+        let life = few.get(place);
+        if life.holds(label) {
+            found = found.combine(Found::of_one(life.pair, low, high));
+        }
+    }
+    found
+}
+
 fn ask(spans: &Spans, level: u32, label: u64, low: i64, high: i64) -> Found {
-    let Some(span) = spans else {
-        return Found::NONE;
+    let span = match spans {
+        Spans::Few(few) => return ask_few(few, label, low, high),
+        Spans::Full(span) => span,
     };
     let own = Found::of(&span.pairs, low, high);
     if level == 0 {
@@ -250,18 +324,12 @@ impl Segments {
     pub fn new() -> Segments {
         Segments {
             held: Tree::empty(),
-            root: None,
+            root: Spans::new(),
         }
     }
 
     fn is_at(&self, place: u32, life: Lifetime) -> bool {
         place < self.held.len() && self.held.get(place) == life
-    }
-
-    /// Whether a lifetime stands in its order at a place.
-    fn stays(&self, place: u32, life: Lifetime) -> bool {
-        (place == 0 || self.held.get(place - 1) < life)
-            && (place + 1 == self.held.len() || life < self.held.get(place + 1))
     }
 
     pub fn add(&mut self, life: Lifetime) {
@@ -283,13 +351,7 @@ impl Segments {
         if !self.is_at(place, life) {
             return;
         }
-        let moved = life.ending(next);
-        if self.stays(place, moved) {
-            self.held.replace(place, moved);
-        } else {
-            self.held.put(moved);
-            self.held.take_out(life);
-        }
+        self.held.exchange(life, life.ending(next));
         move_end(&mut self.root, LEVELS, life, next);
     }
 

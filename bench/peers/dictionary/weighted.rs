@@ -357,4 +357,17 @@ impl<T: Item + Ord> Tree<T> {
     pub fn take_out(&mut self, item: T) {
         self.remove(self.place_of(item));
     }
+
+    /// Takes an item out and puts another one in, in its place where it stands in order there.
+    pub fn exchange(&mut self, item: T, other: T) {
+        let place = self.place_of(item);
+        let follows = place == 0 || self.get(place - 1) < other;
+        let stays = follows && (place + 1 == self.len() || other < self.get(place + 1));
+        if stays {
+            self.replace(place, other);
+        } else {
+            self.put(other);
+            self.take_out(item);
+        }
+    }
 }

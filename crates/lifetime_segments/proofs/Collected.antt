@@ -6,14 +6,16 @@ use Rattle.std.proofs.lemmas.List.{map-id, take_all, append-nil, drop_all}
 use Rattle.std.proofs.Math.Seq.{take-append_seam}
 use Rattle.weighted_tree.specs.Reads.{overwritten}
 use Rattle.lifetime_segments.specs.declared.lifetime.Lifetime.{Lifetime}
-use Rattle.lifetime_segments.specs.declared.trie.Trie.{Trie, Empty}
+use Rattle.lifetime_segments.specs.declared.trie.Trie.{Trie, Few}
 use Rattle.lifetime_segments.specs.declared.trie.Node.{Node}
 use Rattle.lifetime_segments.specs.Lawful.{most_items}
 use Rattle.lifetime_segments.specs.Lifetimes.{items_at}
 use Rattle.lifetime_segments.specs.Ordered.{IsOrder, put_in, in_order}
 use Rattle.lifetime_segments.specs.OrderedLaws.{length-in_order}
 use Rattle.lifetime_segments.specs.Tries.{IsOfNode, in_first, in_second, items_below, CollectsAt, NodeCollectsAt}
-use Rattle.lifetime_segments.proofs.Nodes.{absorbs_after, empty_at, items_at-few, node_at, node_at_zero, node_left, node_right}
+use Rattle.lifetime_segments.proofs.FewLives.{few_of}
+use Rattle.lifetime_segments.proofs.Moved.{few_items}
+use Rattle.lifetime_segments.proofs.Nodes.{absorbs_after, items_at-few, node_at, node_at_zero, node_left, node_right}
 
 -- items that were read over as many others
 pub read_all : {A : Type 0} (items former new rest : List A) (count room : ℕ) → count ≡ length items → length former ≡ count → room ≡ count
@@ -30,11 +32,12 @@ module _ {A : Type 0} {before : A → A → Bool} (order : IsOrder before) where
   one_after (z ∷ zs) xs ys one = ap (put_in before z) (one_after zs xs ys one)
 
   module _ {M : Type 0} where
-    pub collects_none : (level label : ℕ) (trie : Trie A M) (old : List A) → label < 2 ^ level → trie ≡ Empty → CollectsAt before level label trie old old
-    collects_none level label trie old within none lives is_of =
-        ap (in_order before) (sym (append-nil old))
-        ∙ ap (λ xs. in_order before (old ++ xs)) (sym (empty_at order level label lives within trie none is_of))
-        ∙ absorbs_after order old (items_at label lives)
+    -- those of few lifetimes
+    pub collects_few : (level label : ℕ) (few : List (Lifetime A)) (trie : Trie A M) (old new : List A) → label < 2 ^ level → trie ≡ Few few → new ≡ old ++ items_at label few
+        → CollectsAt before level label trie old new
+    collects_few level label few trie old new within is items lives is_of =
+        ap (in_order before) items
+        ∙ one_after old (items_at label few) (items_at label lives) (few_items order level label lives few within (few_of before level lives few trie is is_of))
 
     pub collects_zero : (level label : ℕ) (node : Node A M) (old new : List A) (lives : List (Lifetime A)) → level ≡ 0 → label < 2 ^ level → new ≡ old ++ node.items
         → IsOfNode before level lives node → in_order before new ≡ in_order before (old ++ items_at label lives)

@@ -1,22 +1,18 @@
 -- The lifetimes that are held, and the trie of their items, through an edit.
-use Rattle.std.proofs.Common.{◌≡◌, ℕ, zero, suc, ◌<◌, Some, Bool, true, List, [], length, slice_set, sym, subst, ap, ◌∙◌, arith}
+use Rattle.std.proofs.Common.{◌≡◌, ℕ, ◌<◌, Some, Bool, true, List, [], length, slice_set, sym, subst, ap, ◌∙◌, arith}
 use Rattle.lifetime_segments.specs.declared.lifetime.Lifetime.{Lifetime}
-use Rattle.lifetime_segments.specs.declared.trie.Trie.{Trie, Empty}
+use Rattle.lifetime_segments.specs.declared.trie.Trie.{Trie, Few}
 use Rattle.lifetime_segments.specs.Lawful.{most_items}
 use Rattle.lifetime_segments.specs.Ordered.{IsOrder, AreInOrder, put_in, is_in, without, position_in}
 use Rattle.lifetime_segments.specs.OrderedLaws.{length-put_in, length-without, all-put_in, all-without, put_in-ordered, without-ordered, is_in-all, put_in-without, put_in-swap, is_in-put_in, without-put_in}
 use Rattle.lifetime_segments.specs.Lifetimes.{IsInRange, stands_earlier}
 use Rattle.lifetime_segments.specs.LifetimeLaws.{earlier_order}
-use Rattle.lifetime_segments.specs.Tries.{items_of, left_of, right_of, IsOf, HasOne, Keeps, Adds, Takes, Moves, ending, AreHeld}
+use Rattle.lifetime_segments.specs.Tries.{IsOf, HasOne, Keeps, Adds, Takes, Moves, ending, AreHeld}
 use Rattle.lifetime_segments.proofs.Moved.{of_put_in, of_without}
+use Rattle.lifetime_segments.proofs.Nodes.{of_none}
 use Rattle.lifetime_segments.proofs.Places.{position-some, replaced}
 
-of_none : {A M : Type 0} (before : A → A → Bool) (level : ℕ) (trie : Trie A M) → trie ≡ Empty → IsOf before level [] trie
-unfolding IsOf
-of_none before zero trie none = ap items_of none
-of_none before (suc level) trie none = (ap items_of none, of_none before level (left_of trie) (ap left_of none), of_none before level (right_of trie) (ap right_of none))
-
-pub held_none : {A M : Type 0} (before : A → A → Bool) (held : List (Lifetime A)) (root : Trie A M) → held ≡ [] → root ≡ Empty → AreHeld before held root
+pub held_none : {A M : Type 0} (before : A → A → Bool) (held : List (Lifetime A)) (root : Trie A M) → held ≡ [] → root ≡ Few [] → AreHeld before held root
 held_none before held root none no_root = subst (λ lives. AreHeld before lives root) (sym none) (record {
   ordered = tt;
   in_range = tt;

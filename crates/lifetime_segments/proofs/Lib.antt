@@ -1,7 +1,10 @@
 mod Places
+mod Taken
 mod Spans
-mod Nodes
+mod Parts
 mod Moved
+mod Nodes
+mod FewLives
 mod MovedEnds
 mod Results
 mod Held

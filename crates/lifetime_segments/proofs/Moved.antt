@@ -1,121 +1,120 @@
--- A trie has its lifetimes in any order.
-use Rattle.std.proofs.Common.{◌≡◌, ℕ, zero, suc, Bool, true, false, cond, not, List, [], ◌∷◌, ◌++◌, take, drop, refl, sym, subst, ap, ◌∙◌}
-use Rattle.std.specs.Prelude.{◌^◌, ◌&&◌, nat_lt, map}
-use Rattle.std.specs.List.{filter}
-use Rattle.std.proofs.lemmas.List.{map-append, take-append-drop}
-use Rattle.std.proofs.lemmas.List.Elements.{filter-append}
+-- A trie has its lifetimes in any order, and knows of them what lies in its span.
+use Rattle.std.proofs.Common.{◌≡◌, ℕ, zero, suc, ◌≤◌, ◌<◌, Bool, true, List, [], ◌∷◌, append-nil, sym, ap, ◌∙◌}
+use Rattle.std.specs.Prelude.{◌^◌}
 use Rattle.lifetime_segments.specs.declared.lifetime.Lifetime.{Lifetime}
-use Rattle.lifetime_segments.specs.declared.trie.Trie.{Trie}
+use Rattle.lifetime_segments.specs.declared.trie.Trie.{Trie, Few, Full'}
 use Rattle.lifetime_segments.specs.declared.trie.Node.{Node}
-use Rattle.lifetime_segments.specs.Ordered.{IsOrder, AreInOrder, put_in, in_order, is_in, without, place_in}
-use Rattle.lifetime_segments.specs.OrderedLaws.{in_order-middle, put_in-without}
-use Rattle.lifetime_segments.specs.Lifetimes.{stands_earlier}
-use Rattle.lifetime_segments.specs.LifetimeLaws.{earlier_order}
-use Rattle.lifetime_segments.specs.Tries.{IsOf, IsOfNode, is_whole, wholes, in_first, in_second, seen_from, left_of, right_of}
-use Rattle.lifetime_segments.proofs.Places.{insert-place}
-use Rattle.lifetime_segments.proofs.Spans.{map-same}
+use Rattle.lifetime_segments.specs.Ordered.{IsOrder, AreInOrder, put_in, in_order, is_in, without}
+use Rattle.lifetime_segments.specs.OrderedLaws.{in_order-kept, in_order-put_in, put_in-swap, put_in-without, without-ordered}
+use Rattle.lifetime_segments.specs.Lifetimes.{stands_earlier, items_at}
+use Rattle.lifetime_segments.specs.LifetimeLaws.{earlier_order, items_at-in_order}
+use Rattle.lifetime_segments.specs.Tries.{IsOf, IsOfNode, ending, in_first, in_second, parts, wholes}
+use Rattle.lifetime_segments.proofs.Parts.{part, whole_item, first_part, second_part, parts-taken, wholes-parts, first-parts, second-parts, parts-parts, items-parts, part-past}
+use Rattle.lifetime_segments.proofs.Taken.{with, taken, taken-alike, taken-in_order}
 
--- lifetimes that lie alike in every span
-unfoldable AreAlike : {A : Type 0} → (A → A → Bool) → ℕ → List (Lifetime A) → List (Lifetime A) → Type 0
-AreAlike before zero lives others = in_order before (wholes zero lives) ≡ in_order before (wholes zero others)
-AreAlike before (suc level) lives others =
-    (in_order before (wholes (suc level) lives) ≡ in_order before (wholes (suc level) others))
-    × AreAlike before level (in_first level lives) (in_first level others)
-    × AreAlike before level (in_second level lives) (in_second level others)
-
-of_alike : {A M : Type 0} (before : A → A → Bool) (level : ℕ) (lives others : List (Lifetime A)) (trie : Trie A M) → AreAlike before level lives others → IsOf before level lives trie → IsOf before level others trie
-unfolding AreAlike IsOf
-of_alike before zero lives others trie alike is_of = is_of ∙ alike
-of_alike before (suc level) lives others trie alike is_of = (
-  is_of.0 ∙ alike.0,
-  of_alike before level (in_first level lives) (in_first level others) (left_of trie) alike.1 is_of.1,
-  of_alike before level (in_second level lives) (in_second level others) (right_of trie) alike.2 is_of.2,
-)
-
-alike-same : {A : Type 0} (before : A → A → Bool) (level : ℕ) (lives : List (Lifetime A)) → AreAlike before level lives lives
-unfolding AreAlike
-alike-same before zero lives = refl
-alike-same before (suc level) lives = (refl, alike-same before level (in_first level lives), alike-same before level (in_second level lives))
-
-alike-back : {A : Type 0} (before : A → A → Bool) (level : ℕ) (lives others : List (Lifetime A)) → AreAlike before level lives others → AreAlike before level others lives
-unfolding AreAlike
-alike-back before zero lives others alike = sym alike
-alike-back before (suc level) lives others alike = (
-  sym alike.0,
-  alike-back before level (in_first level lives) (in_first level others) alike.1,
-  alike-back before level (in_second level lives) (in_second level others) alike.2,
-)
-
--- what is taken of a list that has an element in its middle
-middle : {X Y : Type 0} (test : X → Bool) (f : X → Y) (x : X) (xs ys : List X) → map f (filter test (xs ++ x ∷ ys)) ≡ map f (filter test xs) ++ map f (cond (test x) (x ∷ filter test ys) (filter test ys))
-middle test f x xs ys = ap (map f) (filter-append test xs (x ∷ ys)) ∙ map-append f (filter test xs) (filter test (x ∷ ys))
-
-front : {X Y : Type 0} (test : X → Bool) (f : X → Y) (x : X) (xs ys : List X) → map f (filter test (x ∷ xs ++ ys)) ≡ map f (cond (test x) (x ∷ filter test xs) (filter test xs)) ++ map f (filter test ys)
-front test f x xs ys = ap (map f) (filter-append test (x ∷ xs) ys) ∙ map-append f (filter test (x ∷ xs)) (filter test ys)
+-- as much of these lifetimes lies in a span as of others
+abbrev pub AreAlike : {A : Type 0} → (A → A → Bool) → ℕ → List (Lifetime A) → List (Lifetime A) → Type 0
+AreAlike before level lives others = in_order (stands_earlier before) (parts level lives) ≡ in_order (stands_earlier before) (parts level others)
 
 module _ {A : Type 0} {before : A → A → Bool} (order : IsOrder before) where
-  items-moved : (level : ℕ) (x : Lifetime A) (xs ys : List (Lifetime A)) → in_order before (wholes level (xs ++ x ∷ ys)) ≡ in_order before (wholes level (x ∷ xs ++ ys))
-  items-moved level x xs ys =
-      ap (in_order before) (middle (is_whole level) (λ life. life.item) x xs ys)
-      ∙ (elim (is_whole level x) as (λ b. in_order before (wholes level xs
-      ++ map (λ life. life.item) (cond b (x ∷ filter (is_whole level) ys) (filter (is_whole level) ys)))
-      ≡ in_order before (map (λ life. life.item) (cond b (x ∷ filter (is_whole level) xs) (filter (is_whole level) xs)) ++ wholes level ys)) [
-        | true ↦ in_order-middle order x.item (wholes level xs) (wholes level ys)
-        | false ↦ refl
-      ])
-      ∙ sym (ap (in_order before) (front (is_whole level) (λ life. life.item) x xs ys))
+  wholes-alike : (level : ℕ) (lives others : List (Lifetime A)) → AreAlike before level lives others → in_order before (wholes level lives) ≡ in_order before (wholes level others)
+  wholes-alike level lives others alike =
+      ap (in_order before) (wholes-parts level lives)
+      ∙ taken-alike (stands_earlier before) order (whole_item level) (parts level lives) (parts level others) alike
+      ∙ sym (ap (in_order before) (wholes-parts level others))
 
-  -- the parts of a lifetime in the middle of others, moved to their front
-  parts-moved : (level : ℕ) (test : Lifetime A → Bool) (f : Lifetime A → Lifetime A) (x : Lifetime A) (xs ys : List (Lifetime A))
-      → ((z : Lifetime A) (zs rest : List (Lifetime A)) → AreAlike before level (zs ++ z ∷ rest) (z ∷ zs ++ rest))
-      → AreAlike before level (map f (filter test (xs ++ x ∷ ys))) (map f (filter test (x ∷ xs ++ ys)))
-  parts-moved level test f x xs ys moves =
-      subst (λ ls. AreAlike before level ls (map f (filter test (x ∷ xs ++ ys)))) (sym (middle test f x xs ys))
-      (subst (λ ls. AreAlike before level (map f (filter test xs) ++ map f (cond (test x) (x ∷ filter test ys) (filter test ys))) ls) (sym (front test f x xs ys))
-      (elim (test x) as (λ b. AreAlike before level (map f (filter test xs) ++ map f (cond b (x ∷ filter test ys) (filter test ys))) (map f (cond b (x ∷ filter test xs) (filter test xs)) ++ map f (filter test ys))) [
-        | true ↦ moves (f x) (map f (filter test xs)) (map f (filter test ys))
-        | false ↦ alike-same before level (map f (filter test xs) ++ map f (filter test ys))
-      ]))
+  first-alike : (level : ℕ) (lives others : List (Lifetime A)) → AreAlike before (suc level) lives others → AreAlike before level (in_first level lives) (in_first level others)
+  first-alike level lives others alike =
+      ap (in_order (stands_earlier before)) (first-parts level lives)
+      ∙ taken-alike (stands_earlier before) (earlier_order order) (first_part level) (parts (suc level) lives) (parts (suc level) others) alike
+      ∙ sym (ap (in_order (stands_earlier before)) (first-parts level others))
 
-  moved : (level : ℕ) (x : Lifetime A) (xs ys : List (Lifetime A)) → AreAlike before level (xs ++ x ∷ ys) (x ∷ xs ++ ys)
-  unfolding AreAlike
-  moved zero x xs ys = items-moved zero x xs ys
-  moved (suc level) x xs ys =
-      let first = λ (life : Lifetime A). not (is_whole (suc level) life) && nat_lt life.from (2 ^ level) in
-      let second = λ (life : Lifetime A). not (is_whole (suc level) life) && nat_lt (2 ^ level) life.to in (
-        items-moved (suc level) x xs ys,
-        subst (λ ls. AreAlike before level ls (in_first level (x ∷ xs ++ ys))) (map-same (in_first level (xs ++ x ∷ ys)))
-            (subst (λ ls. AreAlike before level (map (λ life. life) (in_first level (xs ++ x ∷ ys))) ls) (map-same (in_first level (x ∷ xs ++ ys)))
-            (parts-moved level first (λ life. life) x xs ys (moved level))),
-        parts-moved level second (seen_from (2 ^ level)) x xs ys (moved level),
-      )
+  second-alike : (level : ℕ) (lives others : List (Lifetime A)) → AreAlike before (suc level) lives others → AreAlike before level (in_second level lives) (in_second level others)
+  second-alike level lives others alike =
+      ap (in_order (stands_earlier before)) (second-parts level lives)
+      ∙ taken-alike (stands_earlier before) (earlier_order order) (second_part level) (parts (suc level) lives) (parts (suc level) others) alike
+      ∙ sym (ap (in_order (stands_earlier before)) (second-parts level others))
+
+  module _ {M : Type 0} where
+    pub of_alike : (level : ℕ) (lives others : List (Lifetime A)) (trie : Trie A M) → AreAlike before level lives others → IsOf before level lives trie → IsOf before level others trie
+    unfolding IsOf
+    of_alike zero lives others (Few few) alike is_of = is_of ∙ alike
+    of_alike (suc level) lives others (Few few) alike is_of = is_of ∙ alike
+    of_alike zero lives others (Full' p items left right) alike is_of = is_of ∙ wholes-alike zero lives others alike
+    of_alike (suc level) lives others (Full' p items left right) alike is_of = (
+      is_of.0 ∙ wholes-alike (suc level) lives others alike,
+      of_alike level (in_first level lives) (in_first level others) left (first-alike level lives others alike) is_of.1,
+      of_alike level (in_second level lives) (in_second level others) right (second-alike level lives others alike) is_of.2,
+    )
+
+    pub node_of_alike : (level : ℕ) (lives others : List (Lifetime A)) (node : Node A M) → AreAlike before level lives others → IsOfNode before level lives node → IsOfNode before level others node
+    unfolding IsOfNode
+    node_of_alike zero lives others node alike is_of = is_of ∙ wholes-alike zero lives others alike
+    node_of_alike (suc level) lives others node alike is_of = (
+      is_of.0 ∙ wholes-alike (suc level) lives others alike,
+      of_alike level (in_first level lives) (in_first level others) node.left (first-alike level lives others alike) is_of.1,
+      of_alike level (in_second level lives) (in_second level others) node.right (second-alike level lives others alike) is_of.2,
+    )
+
+  -- the same lifetimes in another order
+  reordered : (level : ℕ) (lives others : List (Lifetime A)) → in_order (stands_earlier before) lives ≡ in_order (stands_earlier before) others → AreAlike before level lives others
+  reordered level lives others same =
+      ap (in_order (stands_earlier before)) (parts-taken level lives)
+      ∙ taken-alike (stands_earlier before) (earlier_order order) (part level) lives others same
+      ∙ sym (ap (in_order (stands_earlier before)) (parts-taken level others))
 
   -- the first two lifetimes of a node
   pub node_swapped : {M : Type 0} (level : ℕ) (x y : Lifetime A) (lives : List (Lifetime A)) (node : Node A M) → IsOfNode before level (x ∷ y ∷ lives) node → IsOfNode before level (y ∷ x ∷ lives) node
-  unfolding AreAlike IsOfNode
-  node_swapped zero x y lives node is_of = is_of ∙ moved zero y (x ∷ []) lives
-  node_swapped (suc level) x y lives node is_of =
-      let alike = moved (suc level) y (x ∷ []) lives in (
-        is_of.0 ∙ alike.0,
-        of_alike before level (in_first level (x ∷ y ∷ lives)) (in_first level (y ∷ x ∷ lives)) node.left alike.1 is_of.1,
-        of_alike before level (in_second level (x ∷ y ∷ lives)) (in_second level (y ∷ x ∷ lives)) node.right alike.2 is_of.2,
-      )
+  node_swapped level x y lives node is_of =
+      node_of_alike level (x ∷ y ∷ lives) (y ∷ x ∷ lives) node
+      (reordered level (x ∷ y ∷ lives) (y ∷ x ∷ lives) (put_in-swap (earlier_order order) x y (in_order (stands_earlier before) lives))) is_of
 
   -- a lifetime at the front, and at its place
-  put_in-alike : (level : ℕ) (life : Lifetime A) (lives : List (Lifetime A)) → AreAlike before level (put_in (stands_earlier before) life lives) (life ∷ lives)
-  put_in-alike level life lives =
-      let place = place_in (stands_earlier before) life lives in
-      subst (λ ls. AreAlike before level ls (life ∷ lives)) (insert-place (stands_earlier before) life lives)
-      (subst (λ ls. AreAlike before level (take place lives ++ life ∷ drop place lives) (life ∷ ls)) (take-append-drop place lives)
-      (moved level life (take place lives) (drop place lives)))
+  put_in-one : (life : Lifetime A) (lives : List (Lifetime A)) → in_order (stands_earlier before) (put_in (stands_earlier before) life lives) ≡ in_order (stands_earlier before) (life ∷ lives)
+  put_in-one life lives =
+      ap (in_order (stands_earlier before)) (sym (append-nil (put_in (stands_earlier before) life lives)))
+      ∙ in_order-put_in (earlier_order order) life lives []
+      ∙ ap (λ ls. put_in (stands_earlier before) life (in_order (stands_earlier before) ls)) (append-nil lives)
 
   pub of_put_in : {M : Type 0} (level : ℕ) (life : Lifetime A) (lives : List (Lifetime A)) (trie : Trie A M) → IsOf before level (life ∷ lives) trie → IsOf before level (put_in (stands_earlier before) life lives) trie
   of_put_in level life lives trie is_of =
-      of_alike before level (life ∷ lives) (put_in (stands_earlier before) life lives) trie (alike-back before level (put_in (stands_earlier before) life lives) (life ∷ lives) (put_in-alike level life lives)) is_of
+      of_alike level (life ∷ lives) (put_in (stands_earlier before) life lives) trie
+      (reordered level (life ∷ lives) (put_in (stands_earlier before) life lives) (sym (put_in-one life lives))) is_of
 
   pub of_without : {M : Type 0} (level : ℕ) (life : Lifetime A) (lives : List (Lifetime A)) (trie : Trie A M) → AreInOrder (stands_earlier before) lives → is_in (stands_earlier before) life lives ≡ true
       → IsOf before level lives trie → IsOf before level (life ∷ without (stands_earlier before) life lives) trie
   of_without level life lives trie ordered there is_of =
-      let rest = without (stands_earlier before) life lives in
-      of_alike before level (put_in (stands_earlier before) life rest) (life ∷ rest) trie (put_in-alike level life rest)
-      (subst (λ ls. IsOf before level ls trie) (sym (put_in-without (earlier_order order) life lives ordered there)) is_of)
+      let earlier = stands_earlier before in
+      let rest = without earlier life lives in
+      let one : in_order earlier lives ≡ in_order earlier (life ∷ rest) =
+      in_order-kept (earlier_order order) lives ordered
+      ∙ sym (put_in-without (earlier_order order) life lives ordered there)
+      ∙ sym (ap (put_in earlier life) (in_order-kept (earlier_order order) rest (without-ordered (earlier_order order) life lives ordered))) in
+      of_alike level lives (life ∷ rest) trie (reordered level lives (life ∷ rest) one) is_of
+
+  -- a lifetime that ends with a span or after it lies in it as one that ends elsewhere there
+  pub of_past : {M : Type 0} (level next : ℕ) (life : Lifetime A) (lives : List (Lifetime A)) (trie : Trie A M) → 2 ^ level ≤ life.to → 2 ^ level ≤ next
+      → IsOf before level (life ∷ lives) trie → IsOf before level (ending next life ∷ lives) trie
+  of_past level next life lives trie ends next_ends is_of =
+      of_alike level (life ∷ lives) (ending next life ∷ lives) trie
+      (ap (in_order (stands_earlier before))
+      (parts-taken level (life ∷ lives)
+      ∙ ap (λ o. with o (taken (part level) lives)) (part-past level next life ends next_ends)
+      ∙ sym (parts-taken level (ending next life ∷ lives))))
+      is_of
+
+  -- lifetimes that are kept as they lie in a span
+  pub few_alike : (level : ℕ) (lives few : List (Lifetime A)) → few ≡ in_order (stands_earlier before) (parts level lives) → AreAlike before level few lives
+  few_alike level lives few is =
+      let earlier = stands_earlier before in
+      ap (λ ls. in_order earlier (parts level ls)) is
+      ∙ ap (in_order earlier) (parts-taken level (in_order earlier (parts level lives)))
+      ∙ taken-in_order earlier (earlier_order order) (part level) (parts level lives)
+      ∙ ap (in_order earlier) (sym (parts-parts level lives))
+
+  pub few_items : (level label : ℕ) (lives few : List (Lifetime A)) → label < 2 ^ level → few ≡ in_order (stands_earlier before) (parts level lives)
+      → in_order before (items_at label few) ≡ in_order before (items_at label lives)
+  few_items level label lives few within is =
+      ap (λ ls. in_order before (items_at label ls)) is
+      ∙ items_at-in_order order label (parts level lives)
+      ∙ sym (ap (in_order before) (items-parts level label lives within))

@@ -3,15 +3,13 @@ use Rattle.std.proofs.Common.{◌≡◌, ℕ, zero, suc, ◌-◌, ◌≤◌, ◌
 use Rattle.std.specs.Prelude.{◌^◌, ◌&&◌, nat_lt, map}
 use Rattle.std.specs.List.{filter}
 use Rattle.std.proofs.lemmas.Bool.Decides.{nat_tests}
-use Rattle.std.proofs.lemmas.Nat.{pow_pos}
 use Rattle.lifetime_segments.specs.declared.lifetime.Lifetime.{Lifetime}
 use Rattle.lifetime_segments.specs.declared.trie.Trie.{Trie}
 use Rattle.lifetime_segments.specs.declared.trie.Node.{Node}
 use Rattle.lifetime_segments.specs.Ordered.{IsOrder, put_in, in_order}
 use Rattle.lifetime_segments.specs.Tries.{IsOf, IsOfNode, Moves, NodeAdds, NodeTakes, NodeMoves, MovesFirst, TakesSecond, AddsSecond, TakesFirst}
-use Rattle.lifetime_segments.specs.Tries.{HasOne, SecondHasOne, is_whole, wholes, in_first, in_second, seen_from, ending, left_of, right_of}
-use Rattle.lifetime_segments.proofs.Spans.{double}
-use Rattle.lifetime_segments.proofs.Moved.{node_swapped}
+use Rattle.lifetime_segments.specs.Tries.{HasOne, SecondHasOne, is_whole, in_first, in_second, seen_from, ending}
+use Rattle.lifetime_segments.proofs.Moved.{node_swapped, of_past}
 use Rattle.lifetime_segments.proofs.Nodes.{wholes-broken, wholes-whole, first-whole, second-whole}
 
 -- a lifetime that is not whole in a span lies in those halves that it touches
@@ -47,54 +45,7 @@ second-in level life lives broken ends = second-broken level life lives broken t
 second-out : {A : Type 0} (level : ℕ) (life : Lifetime A) (lives : List (Lifetime A)) → is_whole (suc level) life ≡ false → life.to ≤ 2 ^ level → in_second level (life ∷ lives) ≡ in_second level lives
 second-out level life lives broken ends = second-broken level life lives broken false (grind (arith, nat_tests))
 
-past_half : (level to : ℕ) → 2 ^ suc level ≤ to → nat_lt (2 ^ level) to ≡ true
-past_half level to ends =
-    let far : 2 ^ level < to = omega (arith, double level, pow_pos level) in
-    grind (arith, nat_tests)
-
--- a lifetime that ends with a span or after it lies in it as one that ends elsewhere there
-whole-past : {A : Type 0} (level next : ℕ) (life : Lifetime A) → 2 ^ level ≤ life.to → 2 ^ level ≤ next → is_whole level life ≡ is_whole level (ending next life)
-whole-past level next life ends next_ends = grind (arith, nat_tests)
-
-wholes-past : {A : Type 0} (level next : ℕ) (life : Lifetime A) (lives : List (Lifetime A)) → 2 ^ level ≤ life.to → 2 ^ level ≤ next → wholes level (life ∷ lives) ≡ wholes level (ending next life ∷ lives)
-wholes-past {A = A} level next life lives ends next_ends =
-    let rest = filter (is_whole level) lives in
-    ap (λ b. map (λ (l : Lifetime A). l.item) (cond b (life ∷ rest) rest)) (whole-past level next life ends next_ends)
-    ∙ (elim (is_whole level (ending next life)) as (λ b. map (λ (l : Lifetime A). l.item) (cond b (life ∷ rest) rest) ≡ map (λ (l : Lifetime A). l.item) (cond b (ending next life ∷ rest) rest)) [
-      | true ↦ refl
-      | false ↦ refl
-    ])
-
-of_past : {A M : Type 0} (before : A → A → Bool) (level next : ℕ) (life : Lifetime A) (lives : List (Lifetime A)) (trie : Trie A M) → 2 ^ level ≤ life.to → 2 ^ level ≤ next
-    → IsOf before level (life ∷ lives) trie → IsOf before level (ending next life ∷ lives) trie
-unfolding IsOf
-of_past before zero next life lives trie ends next_ends is_of = is_of ∙ ap (in_order before) (wholes-past zero next life lives ends next_ends)
-of_past {A = A} before (suc level) next life lives trie ends next_ends is_of =
-    let half = 2 ^ level in
-    let whole = is_whole (suc level) life in
-    let same = whole-past (suc level) next life ends next_ends in
-    let others = filter (λ (l : Lifetime A). not (is_whole (suc level) l) && nat_lt half l.to) lives in
-    let far : nat_lt half life.to ≡ true = past_half level life.to ends in
-    let next_far : nat_lt half next ≡ true = past_half level next next_ends in (
-      is_of.0 ∙ ap (in_order before) (wholes-past (suc level) next life lives ends next_ends),
-      subst (λ b. IsOf before level (cond (not b && nat_lt life.from half) (ending next life ∷ in_first level lives) (in_first level lives)) (left_of trie)) same
-          ((elim (not whole && nat_lt life.from half) as
-          (λ b. IsOf before level (cond b (life ∷ in_first level lives) (in_first level lives)) (left_of trie)
-          → IsOf before level (cond b (ending next life ∷ in_first level lives) (in_first level lives)) (left_of trie)) [
-            | true ↦ λ below. of_past before level next life (in_first level lives) (left_of trie) (omega (arith, double level)) (omega (arith, double level)) below
-            | false ↦ λ below. below
-          ]) is_of.1),
-      subst (λ b. IsOf before level (map (seen_from half) (cond (not b && nat_lt half next) (ending next life ∷ others) others)) (right_of trie)) same
-          (subst (λ c. IsOf before level (map (seen_from half) (cond (not whole && c) (ending next life ∷ others) others)) (right_of trie)) (sym next_far)
-          ((elim (not whole && true) as
-          (λ b. IsOf before level (map (seen_from half) (cond b (life ∷ others) others)) (right_of trie)
-          → IsOf before level (map (seen_from half) (cond b (ending next life ∷ others) others)) (right_of trie)) [
-            | true ↦ λ below. of_past before level (next - half) (seen_from half life) (in_second level lives) (right_of trie) (omega (arith, double level)) (omega (arith, double level)) below
-            | false ↦ λ below. below
-          ]) (subst (λ c. IsOf before level (map (seen_from half) (cond (not whole && c) (life ∷ others) others)) (right_of trie)) far is_of.2))),
-    )
-
-module _ {A M : Type 0} (before : A → A → Bool) (level next : ℕ) (life : Lifetime A) where
+module _ {A M : Type 0} {before : A → A → Bool} (order : IsOrder before) (level next : ℕ) (life : Lifetime A) where
   -- the first half, where the lifetime begins after it
   pub first_none : (left : Trie A M) → is_whole (suc level) life ≡ false → is_whole (suc level) (ending next life) ≡ false → 2 ^ level ≤ life.from → MovesFirst before level life next left left
   first_none left broken next_broken begins lives is_of =
@@ -107,7 +58,7 @@ module _ {A M : Type 0} (before : A → A → Bool) (level next : ℕ) (life : L
         | true ↦ λ near.
             let begins : life.from < 2 ^ level = grind (arith, nat_tests) in
             subst (λ ls. IsOf before level ls left) (sym (first-in level (ending next life) lives next_broken begins))
-            (of_past before level next life (in_first level lives) left ends next_ends
+            (of_past order level next life (in_first level lives) left ends next_ends
             (subst (λ ls. IsOf before level ls left) (first-in level life lives broken begins) is_of))
         | false ↦ λ far. first_none left broken next_broken (grind (arith, nat_tests)) lives is_of
       ] refl

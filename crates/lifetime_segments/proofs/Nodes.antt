@@ -3,30 +3,34 @@ use Rattle.std.proofs.Common.{◌≡◌, ℕ, zero, suc, ◌-◌, ◌≤◌, ◌
 use Rattle.std.specs.Prelude.{◌^◌, ◌&&◌, nat_lt, map}
 use Rattle.std.specs.List.{filter}
 use Rattle.std.proofs.lemmas.Bool.Decides.{nat_tests}
+use Rattle.std.proofs.lemmas.List.{length-map}
 use Rattle.lifetime_segments.specs.declared.lifetime.Lifetime.{Lifetime}
-use Rattle.lifetime_segments.specs.declared.trie.Trie.{Trie, Empty}
+use Rattle.lifetime_segments.specs.declared.trie.Trie.{Trie, Few, Full'}
 use Rattle.lifetime_segments.specs.declared.trie.Node.{Node}
 use Rattle.lifetime_segments.specs.Lawful.{most_items, AreLawful}
 use Rattle.lifetime_segments.specs.Ordered.{IsOrder, AreInOrder, put_in, in_order, is_in, without}
 use Rattle.lifetime_segments.specs.OrderedLaws.{in_order-absorbs, in_order-ordered, in_order-kept, length-in_order, is_in-put_in, without-put_in}
-use Rattle.lifetime_segments.specs.Lifetimes.{holds, items_at}
-use Rattle.lifetime_segments.specs.Tries.{Has, NodeHas, HasOne, NodeHasOne, FirstHasOne, SecondHasOne, IsOf, IsOfNode, IsOpened}
+use Rattle.lifetime_segments.specs.Lifetimes.{holds, items_at, stands_earlier}
+use Rattle.lifetime_segments.specs.Tries.{Has, NodeHas, HasOne, NodeHasOne, FirstHasOne, SecondHasOne, IsOf, IsOfNode, IsBare, LeadsTo, parts}
 use Rattle.lifetime_segments.specs.Tries.{NodeKeeps, NodeAdds, NodeTakes, AddsFirst, AddsSecond, TakesFirst, TakesSecond, is_whole, wholes}
-use Rattle.lifetime_segments.specs.Tries.{in_first, in_second, seen_from, items_of, left_of, right_of, items_below}
-use Rattle.lifetime_segments.proofs.Spans.{double, first-in_order, second-in_order}
+use Rattle.lifetime_segments.specs.Tries.{in_first, in_second, seen_from, items_below}
+use Rattle.lifetime_segments.proofs.Spans.{first-in_order, second-in_order}
+use Rattle.lifetime_segments.proofs.Parts.{parts-nowhere, parts-nowhere-zero}
 
 -- what holds of a trie holds of the node that it leads to, and the other way round
-pub node_of : {A M : Type 0} (before : A → A → Bool) (level : ℕ) (lives : List (Lifetime A)) (trie : Trie A M) (node : Node A M) → IsOpened trie node → IsOf before level lives trie → IsOfNode before level lives node
+pub node_of : {A M : Type 0} (before : A → A → Bool) (level : ℕ) (lives : List (Lifetime A)) (trie : Trie A M) (node : Node A M) → LeadsTo trie node → IsOf before level lives trie → IsOfNode before level lives node
 unfolding IsOf IsOfNode
-node_of before zero lives trie node opened is_of = opened.items_are ∙ is_of
-node_of before (suc level) lives trie node opened is_of =
-    (opened.items_are ∙ is_of.0, subst (IsOf before level (in_first level lives)) (sym opened.left_is) is_of.1, subst (IsOf before level (in_second level lives)) (sym opened.right_is) is_of.2)
+node_of before level lives (Few few) node leads is_of = absurd leads
+node_of before zero lives (Full' p items left right) node leads is_of = leads.0 ∙ is_of
+node_of before (suc level) lives (Full' p items left right) node leads is_of =
+    (leads.0 ∙ is_of.0, subst (IsOf before level (in_first level lives)) (sym leads.1) is_of.1, subst (IsOf before level (in_second level lives)) (sym leads.2) is_of.2)
 
-pub trie_of : {A M : Type 0} (before : A → A → Bool) (level : ℕ) (lives : List (Lifetime A)) (trie : Trie A M) (node : Node A M) → IsOpened trie node → IsOfNode before level lives node → IsOf before level lives trie
+pub trie_of : {A M : Type 0} (before : A → A → Bool) (level : ℕ) (lives : List (Lifetime A)) (trie : Trie A M) (node : Node A M) → LeadsTo trie node → IsOfNode before level lives node → IsOf before level lives trie
 unfolding IsOf IsOfNode
-trie_of before zero lives trie node opened is_of = sym opened.items_are ∙ is_of
-trie_of before (suc level) lives trie node opened is_of =
-    (sym opened.items_are ∙ is_of.0, subst (IsOf before level (in_first level lives)) opened.left_is is_of.1, subst (IsOf before level (in_second level lives)) opened.right_is is_of.2)
+trie_of before level lives (Few few) node leads is_of = absurd leads
+trie_of before zero lives (Full' p items left right) node leads is_of = sym leads.0 ∙ is_of
+trie_of before (suc level) lives (Full' p items left right) node leads is_of =
+    (sym leads.0 ∙ is_of.0, subst (IsOf before level (in_first level lives)) leads.1 is_of.1, subst (IsOf before level (in_second level lives)) leads.2 is_of.2)
 
 pub node_items : {A M : Type 0} (before : A → A → Bool) (level : ℕ) (lives : List (Lifetime A)) (node : Node A M) → IsOfNode before level lives node → node.items ≡ in_order before (wholes level lives)
 unfolding IsOfNode
@@ -41,12 +45,43 @@ pub node_right : {A M : Type 0} (before : A → A → Bool) (level : ℕ) (lives
 unfolding IsOfNode
 node_right before level lives node is_of = is_of.2
 
--- the same of some lifetimes that it has
-pub node_has : {A M : Type 0} {before : A → A → Bool} {level : ℕ} {trie : Trie A M} {node : Node A M} → IsOpened trie node → Has before level trie → NodeHas before level node
-node_has {before = before} {level = level} {trie = trie} {node = node} opened has = record { lives = has.lives; is_of = node_of before level has.lives trie node opened has.is_of; few = has.few }
+-- a node with nothing has no lifetimes
+pub of_none : {A M : Type 0} (before : A → A → Bool) (level : ℕ) (trie : Trie A M) → trie ≡ Few [] → IsOf before level [] trie
+unfolding IsOf
+of_none before zero trie none = subst (IsOf before zero []) (sym none) refl
+of_none before (suc level) trie none = subst (IsOf before (suc level) []) (sym none) refl
 
-pub node_has_one : {A M : Type 0} {before : A → A → Bool} {level : ℕ} {life : Lifetime A} {trie : Trie A M} {node : Node A M} → IsOpened trie node → HasOne before level life trie → NodeHasOne before level life node
-node_has_one {before = before} {level = level} {life = life} {trie = trie} {node = node} opened has = record { others = has.others; is_of = node_of before level (life ∷ has.others) trie node opened has.is_of }
+pub bare_of : {A M : Type 0} (before : A → A → Bool) (level : ℕ) (node : Node A M) → IsBare node → IsOfNode before level [] node
+unfolding IsOfNode
+bare_of before zero node bare = bare.no_items
+bare_of before (suc level) node bare = (bare.no_items, of_none before level node.left bare.no_left, of_none before level node.right bare.no_right)
+
+-- and is as good as none
+nothing : {A : Type 0} (before : A → A → Bool) (xs : List A) → [] ≡ in_order before xs → xs ≡ []
+nothing before [] none = refl
+nothing before (x ∷ xs) none = absurd (omega (arith, ap length none, length-in_order before (x ∷ xs)))
+
+no_parts : {A M : Type 0} (before : A → A → Bool) (level : ℕ) (lives : List (Lifetime A)) (trie : Trie A M) → trie ≡ Few [] → IsOf before level lives trie → parts level lives ≡ []
+unfolding IsOf
+no_parts before zero lives trie none is_of = nothing (stands_earlier before) (parts zero lives) (subst (IsOf before zero lives) none is_of)
+no_parts before (suc level) lives trie none is_of = nothing (stands_earlier before) (parts (suc level) lives) (subst (IsOf before (suc level) lives) none is_of)
+
+pub bare_nothing : {A M : Type 0} (before : A → A → Bool) (level : ℕ) (lives : List (Lifetime A)) (node : Node A M) → IsBare node → IsOfNode before level lives node → (trie : Trie A M) → trie ≡ Few [] → IsOf before level lives trie
+unfolding IsOf IsOfNode
+bare_nothing before zero lives node bare is_of trie is =
+    subst (IsOf before zero lives) (sym is) (sym (ap (in_order (stands_earlier before)) (parts-nowhere-zero lives (nothing before (wholes zero lives) (sym bare.no_items ∙ is_of)))))
+bare_nothing before (suc level) lives node bare is_of trie is =
+    subst (IsOf before (suc level) lives) (sym is) (sym (ap (in_order (stands_earlier before)) (parts-nowhere level lives
+    (nothing before (wholes (suc level) lives) (sym bare.no_items ∙ is_of.0))
+    (no_parts before level (in_first level lives) node.left bare.no_left is_of.1)
+    (no_parts before level (in_second level lives) node.right bare.no_right is_of.2))))
+
+-- the same of some lifetimes that it has
+pub node_has : {A M : Type 0} {before : A → A → Bool} {level : ℕ} {trie : Trie A M} {node : Node A M} → LeadsTo trie node → Has before level trie → NodeHas before level node
+node_has {before = before} {level = level} {trie = trie} {node = node} leads has = record { lives = has.lives; is_of = node_of before level has.lives trie node leads has.is_of; few = has.few }
+
+pub node_has_one : {A M : Type 0} {before : A → A → Bool} {level : ℕ} {life : Lifetime A} {trie : Trie A M} {node : Node A M} → LeadsTo trie node → HasOne before level life trie → NodeHasOne before level life node
+node_has_one {before = before} {level = level} {life = life} {trie = trie} {node = node} leads has = record { others = has.others; is_of = node_of before level (life ∷ has.others) trie node leads has.is_of }
 
 pub left_has_one : {A M : Type 0} {before : A → A → Bool} {level : ℕ} {life : Lifetime A} {node : Node A M} → NodeHasOne before (suc level) life node → FirstHasOne before level life node.left
 left_has_one {before = before} {level = level} {life = life} {node = node} has = record { others = has.others; is_of = node_left before level (life ∷ has.others) node has.is_of }
@@ -54,11 +89,7 @@ left_has_one {before = before} {level = level} {life = life} {node = node} has =
 pub right_has_one : {A M : Type 0} {before : A → A → Bool} {level : ℕ} {life : Lifetime A} {node : Node A M} → NodeHasOne before (suc level) life node → SecondHasOne before level life node.right
 right_has_one {before = before} {level = level} {life = life} {node = node} has = record { others = has.others; is_of = node_right before level (life ∷ has.others) node has.is_of }
 
-length-map : {A X : Type 0} (f : X → A) (xs : List X) → length (map f xs) ≡ length xs
-length-map f [] = refl
-length-map f (x ∷ xs) = ap suc (length-map f xs)
-
-length-filter : {X : Type 0} (test : X → Bool) (xs : List X) → length (filter test xs) ≤ length xs
+pub length-filter : {X : Type 0} (test : X → Bool) (xs : List X) → length (filter test xs) ≤ length xs
 length-filter test [] = omega arith
 length-filter test (x ∷ xs) = elim (test x) as (λ b. length (cond b (x ∷ filter test xs) (filter test xs)) ≤ suc (length xs)) [
   | true ↦ let fewer = length-filter test xs in omega arith
@@ -66,10 +97,10 @@ length-filter test (x ∷ xs) = elim (test x) as (λ b. length (cond b (x ∷ fi
 ]
 
 pub wholes-few : {A : Type 0} (level : ℕ) (lives : List (Lifetime A)) → length (wholes level lives) ≤ length lives
-wholes-few {A = A} level lives = omega (arith, length-map (λ (life : Lifetime A). life.item) (filter (is_whole level) lives), length-filter (is_whole level) lives)
+wholes-few {A = A} level lives = omega (arith, length-map (filter (is_whole level) lives) (λ (life : Lifetime A). life.item), length-filter (is_whole level) lives)
 
 pub items_at-few : {A : Type 0} (label : ℕ) (lives : List (Lifetime A)) → length (items_at label lives) ≤ length lives
-items_at-few {A = A} label lives = omega (arith, length-map (λ (life : Lifetime A). life.item) (filter (holds label) lives), length-filter (holds label) lives)
+items_at-few {A = A} label lives = omega (arith, length-map (filter (holds label) lives) (λ (life : Lifetime A). life.item), length-filter (holds label) lives)
 
 pub first-few : {A : Type 0} (level : ℕ) (lives : List (Lifetime A)) → length (in_first level lives) ≤ length lives
 first-few {A = A} level lives = length-filter (λ (life : Lifetime A). not (is_whole (suc level) life) && nat_lt life.from (2 ^ level)) lives
@@ -77,7 +108,7 @@ first-few {A = A} level lives = length-filter (λ (life : Lifetime A). not (is_w
 pub second-few : {A : Type 0} (level : ℕ) (lives : List (Lifetime A)) → length (in_second level lives) ≤ length lives
 second-few {A = A} level lives = omega (
   arith,
-  length-map (seen_from (2 ^ level)) (filter (λ (life : Lifetime A). not (is_whole (suc level) life) && nat_lt (2 ^ level) life.to) lives),
+  length-map (filter (λ (life : Lifetime A). not (is_whole (suc level) life) && nat_lt (2 ^ level) life.to) lives) (seen_from (2 ^ level)),
   length-filter (λ (life : Lifetime A). not (is_whole (suc level) life) && nat_lt (2 ^ level) life.to) lives,
 )
 
@@ -127,35 +158,6 @@ node_with_whole before (suc level) life node after whole items left right lives 
   subst (λ t. IsOf before level (in_first level (life ∷ lives)) t) (sym left) (subst (λ ls. IsOf before level ls node.left) (sym (first-whole level life lives whole)) is_of.1),
   subst (λ t. IsOf before level (in_second level (life ∷ lives)) t) (sym right) (subst (λ ls. IsOf before level ls node.right) (sym (second-whole level life lives whole)) is_of.2),
 )
-
--- where no item lies, none lies without one of the lifetimes
-fewer_items : {A : Type 0} (before : A → A → Bool) (level : ℕ) (life : Lifetime A) (lives : List (Lifetime A)) → [] ≡ in_order before (wholes level (life ∷ lives)) → [] ≡ in_order before (wholes level lives)
-fewer_items {A = A} before level life lives none =
-    let items : length (wholes level (life ∷ lives)) ≡ 0 = omega (arith, ap length none, length-in_order before (wholes level (life ∷ lives))) in
-    elim (is_whole level life) as (λ b. is_whole level life ≡ b → [] ≡ in_order before (wholes level lives)) [
-      | true ↦ λ whole. absurd (omega (arith, ap length (wholes-whole level life lives whole)))
-      | false ↦ λ broken. none ∙ ap (in_order before) (wholes-broken level life lives broken)
-    ] refl
-
--- where there is no node, nothing can be taken
-pub empty_without : {A M : Type 0} (before : A → A → Bool) (level : ℕ) (life : Lifetime A) (lives : List (Lifetime A)) (trie : Trie A M) → trie ≡ Empty → IsOf before level (life ∷ lives) trie
-    → IsOf before level lives trie
-unfolding IsOf
-empty_without before zero life lives trie none is_of = ap items_of none ∙ fewer_items before zero life lives (sym (ap items_of none) ∙ is_of)
-empty_without {A = A} before (suc level) life lives trie none is_of =
-    let first = not (is_whole (suc level) life) && nat_lt life.from (2 ^ level) in
-    let second = not (is_whole (suc level) life) && nat_lt (2 ^ level) life.to in
-    let others = filter (λ (l : Lifetime A). not (is_whole (suc level) l) && nat_lt (2 ^ level) l.to) lives in (
-      ap items_of none ∙ fewer_items before (suc level) life lives (sym (ap items_of none) ∙ is_of.0),
-      (elim first as (λ b. IsOf before level (cond b (life ∷ in_first level lives) (in_first level lives)) (left_of trie) → IsOf before level (in_first level lives) (left_of trie)) [
-        | true ↦ λ below. empty_without before level life (in_first level lives) (left_of trie) (ap left_of none) below
-        | false ↦ λ below. below
-      ]) is_of.1,
-      (elim second as (λ b. IsOf before level (map (seen_from (2 ^ level)) (cond b (life ∷ others) others)) (right_of trie) → IsOf before level (in_second level lives) (right_of trie)) [
-        | true ↦ λ below. empty_without before level (seen_from (2 ^ level) life) (in_second level lives) (right_of trie) (ap right_of none) below
-        | false ↦ λ below. below
-      ]) is_of.2,
-    )
 
 -- parts of a lifetime are put into the halves
 pub node_with_parts : {A M : Type 0} (before : A → A → Bool) (level : ℕ) (life : Lifetime A) (node after : Node A M) → is_whole (suc level) life ≡ false → after.items ≡ node.items
@@ -270,18 +272,3 @@ module _ {A : Type 0} {before : A → A → Bool} (order : IsOrder before) where
         ∙ ap (λ n. in_order before (wholes n lives)) bottom
         ∙ ap (in_order before) (sym (zero_items lives))
         ∙ ap (λ n. in_order before (items_at n lives)) (sym first)
-
-    -- where there is no node no item is there
-    pub empty_at : (level label : ℕ) (lives : List (Lifetime A)) → label < 2 ^ level → (trie : Trie A M) → trie ≡ Empty → IsOf before level lives trie → in_order before (items_at label lives) ≡ []
-    unfolding IsOf
-    empty_at zero label lives within trie none is_of =
-        let first : label ≡ 0 = omega arith in
-        ap (λ n. in_order before (items_at n lives)) first ∙ ap (in_order before) (zero_items lives) ∙ sym is_of ∙ ap items_of none
-    empty_at (suc level) label lives within trie none is_of =
-        sym (items_below-in_order level label lives within)
-        ∙ sym (in_order-absorbs order (wholes (suc level) lives) (items_below level label lives))
-        ∙ ap (λ items. in_order before (items ++ items_below level label lives)) (sym is_of.0 ∙ ap items_of none)
-        ∙ elim (nat_lt label (2 ^ level)) as (λ b. nat_lt label (2 ^ level) ≡ b → in_order before (cond b (items_at label (in_first level lives)) (items_at (label - 2 ^ level) (in_second level lives))) ≡ []) [
-          | true ↦ λ near. empty_at level label (in_first level lives) (grind (arith, nat_tests)) (left_of trie) (ap left_of none) is_of.1
-          | false ↦ λ far. empty_at level (label - 2 ^ level) (in_second level lives) (let later : 2 ^ level ≤ label = grind (arith, nat_tests) in omega (arith, double level)) (right_of trie) (ap right_of none) is_of.2
-        ] refl

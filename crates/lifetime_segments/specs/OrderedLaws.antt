@@ -131,7 +131,7 @@ module _ {A : Type 0} {before : A → A → Bool} (order : IsOrder before) where
   in_order-middle x (y ∷ xs) ys = ap (put_in before y) (in_order-middle x xs ys) ∙ put_in-swap y x (in_order before (xs ++ ys))
 
   -- an element that was put in is as one at the front
-  in_order-put_in : (x : A) (xs ys : List A) → in_order before (put_in before x xs ++ ys) ≡ put_in before x (in_order before (xs ++ ys))
+  pub in_order-put_in : (x : A) (xs ys : List A) → in_order before (put_in before x xs ++ ys) ≡ put_in before x (in_order before (xs ++ ys))
   in_order-put_in x [] ys = refl
   in_order-put_in x (z ∷ zs) ys = elim (before z x) as (λ b. before z x ≡ b → in_order before (put_in before x (z ∷ zs) ++ ys) ≡ put_in before x (in_order before (z ∷ zs ++ ys))) [
     | true ↦ λ past. ap (λ l. in_order before (l ++ ys)) (put_in-past x z zs past) ∙ ap (put_in before z) (in_order-put_in x zs ys) ∙ put_in-swap z x (in_order before (zs ++ ys))

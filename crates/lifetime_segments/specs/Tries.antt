@@ -1,12 +1,16 @@
 -- Lifetimes as they lie in the dyadic spans of a trie.
-use Rattle.std.specs.Prelude.{◌≡◌, ◌==◌, ◌≤◌, ◌-◌, ◌^◌, ◌&&◌, ℕ, zero, suc, Bool, true, false, cond, not, nat_le, nat_lt, List, [], ◌∷◌, ◌++◌, map, length}
+use Rattle.std.specs.Prelude.{◌≡◌, ◌==◌, ◌≤◌, ◌<◌, ◌-◌, ◌^◌, ◌&&◌, ℕ, zero, suc, min, Bool, cond, not, nat_le, nat_lt, List, [], ◌∷◌, ◌++◌, map, length}
 use Rattle.std.specs.List.{filter, AllByRecursion}
 use Rattle.lifetime_segments.specs.declared.lifetime.Lifetime.{Lifetime}
-use Rattle.lifetime_segments.specs.declared.trie.Trie.{Trie, Empty, Full'}
+use Rattle.lifetime_segments.specs.declared.trie.Trie.{Trie, Few, Full'}
 use Rattle.lifetime_segments.specs.declared.trie.Node.{Node}
 use Rattle.lifetime_segments.specs.Lawful.{most_items}
 use Rattle.lifetime_segments.specs.Ordered.{AreInOrder, in_order}
 use Rattle.lifetime_segments.specs.Lifetimes.{IsInRange, items_at, stands_earlier}
+
+-- a lifetime that ends at another label
+abbrev pub ending : {A : Type 0} → ℕ → Lifetime A → Lifetime A
+ending to life = record life { to = to }
 
 -- the labels of a span are those from 0 to before 2 ^ level; a lifetime may hold all of them
 abbrev pub is_whole : {A : Type 0} → ℕ → Lifetime A → Bool
@@ -24,10 +28,6 @@ in_first level lives = filter (λ life. not (is_whole (suc level) life) && nat_l
 abbrev pub seen_from : {A : Type 0} → ℕ → Lifetime A → Lifetime A
 seen_from label life = record life { from = life.from - label; to = life.to - label }
 
--- a lifetime that ends at another label
-abbrev pub ending : {A : Type 0} → ℕ → Lifetime A → Lifetime A
-ending to life = record life { to = to }
-
 -- the lifetimes that lie below, in a second half of this level, seen from where that half begins
 abbrev pub in_second : {A : Type 0} → ℕ → List (Lifetime A) → List (Lifetime A)
 in_second level lives = map (seen_from (2 ^ level)) (filter (λ life. not (is_whole (suc level) life) && nat_lt (2 ^ level) life.to) lives)
@@ -36,29 +36,31 @@ in_second level lives = map (seen_from (2 ^ level)) (filter (λ life. not (is_wh
 abbrev pub items_below : {A : Type 0} → ℕ → ℕ → List (Lifetime A) → List A
 items_below level label lives = cond (nat_lt label (2 ^ level)) (items_at label (in_first level lives)) (items_at (label - 2 ^ level) (in_second level lives))
 
-abbrev pub items_of : {A M : Type 0} → Trie A M → List A
-items_of Empty = []
-items_of (Full' p items left right) = items
+-- what of a lifetime lies in the span: it ends with the span at the latest
+abbrev pub clipped : {A : Type 0} → ℕ → Lifetime A → Lifetime A
+clipped level life = ending (min life.to (2 ^ level)) life
 
-abbrev pub is_empty : {A M : Type 0} → Trie A M → Bool
-is_empty Empty = true
-is_empty (Full' p items left right) = false
+-- it holds a label, and begins in the span
+abbrev pub touches : {A : Type 0} → ℕ → Lifetime A → Bool
+touches level life = nat_lt life.from life.to && nat_lt life.from (2 ^ level)
 
-abbrev pub left_of : {A M : Type 0} → Trie A M → Trie A M
-left_of Empty = Empty
-left_of (Full' p items left right) = left
+pub record Touches {A : Type 0} (level : ℕ) (life : Lifetime A) : Type 0 where
+  pub rises : life.from < life.to
+  pub begins : life.from < 2 ^ level
 
-abbrev pub right_of : {A M : Type 0} → Trie A M → Trie A M
-right_of Empty = Empty
-right_of (Full' p items left right) = right
+-- what of some lifetimes lies in the span
+abbrev pub parts : {A : Type 0} → ℕ → List (Lifetime A) → List (Lifetime A)
+parts level lives = map (clipped level) (filter (touches level) lives)
 
--- the trie of a span has these lifetimes: each lies in the span where it holds it whole, and else in its halves
+-- the trie of a span has these lifetimes: as they lie in it, or each in the span where it holds it whole, and else in its halves
 unfoldable pub IsOf : {A M : Type 0} → (A → A → Bool) → ℕ → List (Lifetime A) → Trie A M → Type 0
-IsOf before zero lives trie = items_of trie ≡ in_order before (wholes zero lives)
-IsOf before (suc level) lives trie =
-    (items_of trie ≡ in_order before (wholes (suc level) lives))
-    × IsOf before level (in_first level lives) (left_of trie)
-    × IsOf before level (in_second level lives) (right_of trie)
+IsOf before zero lives (Few few) = few ≡ in_order (stands_earlier before) (parts zero lives)
+IsOf before (suc level) lives (Few few) = few ≡ in_order (stands_earlier before) (parts (suc level) lives)
+IsOf before zero lives (Full' p items left right) = items ≡ in_order before (wholes zero lives)
+IsOf before (suc level) lives (Full' p items left right) =
+    (items ≡ in_order before (wholes (suc level) lives))
+    × IsOf before level (in_first level lives) left
+    × IsOf before level (in_second level lives) right
 
 -- the same of a node
 unfoldable pub IsOfNode : {A M : Type 0} → (A → A → Bool) → ℕ → List (Lifetime A) → Node A M → Type 0
@@ -68,17 +70,20 @@ IsOfNode before (suc level) lives node =
     × IsOf before level (in_first level lives) node.left
     × IsOf before level (in_second level lives) node.right
 
--- the node is what the trie leads to; no trie is a node with nothing
-pub record IsOpened {A M : Type 0} (trie : Trie A M) (node : Node A M) : Type 0 where
-  pub items_are : node.items ≡ items_of trie
-  pub left_is : node.left ≡ left_of trie
-  pub right_is : node.right ≡ right_of trie
+-- the node is what the trie leads to
+abbrev pub LeadsTo : {A M : Type 0} → Trie A M → Node A M → Type 0
+LeadsTo (Few few) node = ⊥
+LeadsTo (Full' p items left right) node = (node.items ≡ items) × (node.left ≡ left) × (node.right ≡ right)
 
--- two tries lead to nodes that are alike; no trie is a node with nothing
-pub record LeadAlike {A M : Type 0} (first second : Trie A M) : Type 0 where
-  pub items_are : items_of first ≡ items_of second
-  pub left_is : left_of first ≡ left_of second
-  pub right_is : right_of first ≡ right_of second
+-- there are no lifetimes, and no node
+abbrev pub IsNothing : {A M : Type 0} → Trie A M → Type 0
+IsNothing trie = trie ≡ Few []
+
+-- the node has nothing
+pub record IsBare {A M : Type 0} (node : Node A M) : Type 0 where
+  pub no_items : node.items ≡ []
+  pub no_left : IsNothing node.left
+  pub no_right : IsNothing node.right
 
 -- it has some lifetimes, and not too many
 pub record Has {A M : Type 0} (before : A → A → Bool) (level : ℕ) (trie : Trie A M) : Type 0 where

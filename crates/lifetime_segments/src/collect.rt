@@ -1,9 +1,10 @@
 ghost use Rattle.std.specs.Prelude.{◌≡◌, ◌<◌, ◌≤◌, ◌^◌, ◌++◌, suc, [], OnOk, IfOk};
 ghost use Rattle.retro_base.specs.Visits.{OpensCounter};
+ghost use Rattle.lifetime_segments.specs.Lifetimes.{items_at};
 ghost use Rattle.lifetime_segments.specs.Tries.{CollectsAt, NodeCollectsAt};
 
 use crate::decomposable::Decomposable;
-use crate::lifetime::labels;
+use crate::lifetime::{Lifetime, labels};
 use crate::trie::{Node, Trie};
 use monoid_laws::Measured;
 use retro_base::{NoMemory, Steps};
@@ -43,8 +44,9 @@ fn collect<D: Decomposable, L: Ledger>(
     requires within { label < 2 ^ level }
     ensures { OnOk result (CollectsAt D.stands_before level label trie.now items.old.items items.new.items) }
 {
-    let Trie::Full(node) = trie else {
-        return Ok(());
+    let node = match trie {
+        Trie::Few(few) => return append_few(few, label, items, steps),
+        Trie::Full(node) => node,
     };
     append(&node.items, items, steps)?;
     if level == 0 {
@@ -88,5 +90,23 @@ fn append<T: Measured, L: Ledger>(
     let mut read = vec![in tree.alloc(); tree.get(0, steps); tree.len() as usize]?;
     tree.read(0, |item: &T| *item, &mut read, steps);
     items.append(&mut read)?;
+    Ok(())
+}
+
+/// Appends the items of those of a few lifetimes that hold a label.
+fn append_few<T: Measured, L: Ledger>(
+    few: &Tree<Lifetime<T>>,
+    label: u64,
+    items: &mut Vec<T>,
+    steps: &mut Steps<L>,
+) -> Result<(), NoMemory>
+    ensures { OnOk result (items.new.items ≡ items.old.items ++ items_at label few.now) }
+{
+    for place in 0..few.len() {
+        let life = few.get(place, steps);
+        if life.holds(label) {
+            items.push(life.item)?;
+        }
+    }
     Ok(())
 }

@@ -1,4 +1,4 @@
-ghost use Rattle.std.specs.Prelude.{◌≡◌, Bool, List};
+ghost use Rattle.std.specs.Prelude.{◌≡◌, ◌∷◌, [], Bool, List};
 ghost use Rattle.lifetime_segments.specs.Ordered.{IsOrder};
 ghost use Rattle.lifetime_segments.specs.Lawful.{IsLawful, AnswerTogether, SearchLaws};
 
@@ -37,6 +37,10 @@ pub trait Decomposable {
     /// The answer over no items.
     fn empty() -> Self::Part
         ensures { result ≡ empty_part };
+
+    /// The answer over one item.
+    fn ask_one(item: &Self::Item, query: Self::Query) -> Self::Part
+        ensures { result ≡ answer (item.now ∷ []) query };
 
     /// The answer over these items.
     fn ask(items: &Tree<Self::Item>, query: Self::Query) -> Self::Part

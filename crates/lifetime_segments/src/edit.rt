@@ -1,16 +1,19 @@
-ghost use Rattle.std.specs.Prelude.{◌≡◌, ◌<◌, ◌≤◌, ◌^◌, true, false, suc, OnOk, OnErr};
+ghost use Rattle.std.specs.Prelude.{◌≡◌, ◌<◌, ◌≤◌, ◌^◌, true, false, suc, length, IfOk, OnOk, OnErr};
+ghost use Rattle.std.specs.List.{AllByRecursion};
+ghost use Rattle.lifetime_segments.specs.Lawful.{most_items};
 ghost use Rattle.lifetime_segments.specs.Tries.{Has, NodeHas, HasOne, NodeHasOne, FirstHasOne, SecondHasOne, Keeps, Adds, Takes, NodeKeeps, NodeAdds};
-ghost use Rattle.lifetime_segments.specs.Tries.{NodeTakes, AddsFirst, AddsSecond, TakesFirst, TakesSecond, Moves, NodeMoves, MovesFirst, ending, is_whole};
+ghost use Rattle.lifetime_segments.specs.Tries.{NodeTakes, AddsFirst, AddsSecond, TakesFirst, TakesSecond, Moves, NodeMoves, MovesFirst, IsOfNode, Touches, ending, is_whole};
 
 use crate::decomposable::Decomposable;
 use crate::lifetime::{Lifetime, labels};
-use crate::sorted::{ByItem, put, take_out};
-use crate::trie::{Node, Trie};
+use crate::sorted::{ByItem, ByStart, exchange, put, take_out};
+use crate::trie::{FEW, Node, Trie};
 use retro_base::{NoMemory, Steps};
 use std::alloc::Global;
 use std::sync::ledger::Ledger;
+use weighted_tree::Tree;
 
-/// Puts the item of a lifetime into the spans that make it up.
+/// Puts the item of a lifetime into the spans that make it up. Lifetimes that are no longer few are divided first.
 #[cycle(add)]
 pub(crate) fn add<D: Decomposable, L: Ledger>(
     trie: &mut Trie<D::Item>,
@@ -21,18 +24,43 @@ pub(crate) fn add<D: Decomposable, L: Ledger>(
 ) -> Result<(), NoMemory>
     requires level { level ≤ 40 }
     requires begins { life.from < 2 ^ level }
-    requires ends { 0 < life.to }
+    requires rises { life.from < life.to }
     requires has { Has D.stands_before level trie.old }
     ensures ok { OnOk result (Adds D.stands_before level life trie.old trie.new) }
     ensures err { OnErr result (Keeps D.stands_before level trie.old trie.new) }
 {
-    if let Trie::Full(node) = trie {
-        return add_to_node::<D, L>(node, level, life, alloc, steps);
+    match trie {
+        Trie::Full(node) => add_to_node::<D, L>(node, level, life, alloc, steps),
+        Trie::Few(few) => {
+            if few.len() < FEW {
+                return put::<ByStart<D>, L>(few, life.clipped(level), steps);
+            }
+            let mut node = divided::<D, L>(few, level, alloc, steps)?;
+            add_to_node::<D, L>(&mut node, level, life, alloc, steps)?;
+            *trie = Trie::Full(node);
+            Ok(())
+        }
     }
+}
+
+/// A node that has these lifetimes.
+#[cycle(add)]
+fn divided<D: Decomposable, L: Ledger>(
+    few: &Tree<Lifetime<D::Item>>,
+    level: u32,
+    alloc: Global,
+    steps: &mut Steps<L>,
+) -> Result<Box<Node<D::Item>>, NoMemory>
+    requires level { level ≤ 40 }
+    requires touch { AllByRecursion (Touches level) few.now }
+    requires few { length few.now ≤ most_items }
+    ensures { IfOk result (λ node. IsOfNode D.stands_before level few.now node.value) }
+{
     let mut node = Node::boxed(alloc)?;
-    let added = add_to_node::<D, L>(&mut node, level, life, alloc, steps);
-    *trie = Trie::closed(node);
-    added
+    for place in (0..few.len()).rev() {
+        add_to_node::<D, L>(&mut node, level, few.get(place, steps), alloc, steps)?;
+    }
+    Ok(node)
 }
 
 #[cycle(add)]
@@ -45,7 +73,7 @@ fn add_to_node<D: Decomposable, L: Ledger>(
 ) -> Result<(), NoMemory>
     requires level { level ≤ 40 }
     requires begins { life.from < 2 ^ level }
-    requires ends { 0 < life.to }
+    requires rises { life.from < life.to }
     requires has { NodeHas D.stands_before level node.old }
     ensures ok { OnOk result (NodeAdds D.stands_before level life node.old node.new) }
     ensures err { OnErr result (NodeKeeps D.stands_before level node.old node.new) }
@@ -68,7 +96,7 @@ fn add_to_halves<D: Decomposable, L: Ledger>(
 ) -> Result<(), NoMemory>
     requires level { level < 40 }
     requires begins { life.from < 2 ^ suc level }
-    requires ends { 0 < life.to }
+    requires rises { life.from < life.to }
     requires broken { is_whole (suc level) life ≡ false }
     requires has { NodeHas D.stands_before (suc level) node.old }
     ensures ok { OnOk result (NodeAdds D.stands_before (suc level) life node.old node.new) }
@@ -91,7 +119,7 @@ fn add_first<D: Decomposable, L: Ledger>(
     steps: &mut Steps<L>,
 ) -> Result<(), NoMemory>
     requires level { level < 40 }
-    requires ends { 0 < life.to }
+    requires rises { life.from < life.to }
     requires broken { is_whole (suc level) life ≡ false }
     requires has { Has D.stands_before level left.old }
     ensures ok { OnOk result (AddsFirst D.stands_before level life left.old left.new) }
@@ -114,6 +142,7 @@ fn add_second<D: Decomposable, L: Ledger>(
 ) -> Result<(), NoMemory>
     requires level { level < 40 }
     requires begins { life.from < 2 ^ suc level }
+    requires rises { life.from < life.to }
     requires broken { is_whole (suc level) life ≡ false }
     requires has { Has D.stands_before level right.old }
     ensures ok { OnOk result (AddsSecond D.stands_before level life right.old right.new) }
@@ -136,15 +165,19 @@ pub(crate) fn take<D: Decomposable, L: Ledger>(
 )
     requires level { level ≤ 40 }
     requires begins { life.from < 2 ^ level }
-    requires ends { 0 < life.to }
+    requires rises { life.from < life.to }
     requires has { HasOne D.stands_before level life trie.old }
     ensures { Takes D.stands_before level life trie.old trie.new }
 {
-    let Trie::Full(node) = trie else {
-        return;
-    };
-    take_from_node::<D, L>(node, level, life, steps);
-    trie.prune();
+    match trie {
+        Trie::Few(few) => take_out::<ByStart<D>, L>(few, life.clipped(level), steps),
+        Trie::Full(node) => {
+            take_from_node::<D, L>(node, level, life, steps);
+            if node.is_bare() {
+                *trie = Trie::new(node.items.alloc());
+            }
+        }
+    }
 }
 
 #[cycle(take)]
@@ -156,7 +189,7 @@ fn take_from_node<D: Decomposable, L: Ledger>(
 )
     requires level { level ≤ 40 }
     requires begins { life.from < 2 ^ level }
-    requires ends { 0 < life.to }
+    requires rises { life.from < life.to }
     requires has { NodeHasOne D.stands_before level life node.old }
     ensures { NodeTakes D.stands_before level life node.old node.new }
 {
@@ -176,7 +209,7 @@ fn take_first<D: Decomposable, L: Ledger>(
     steps: &mut Steps<L>,
 )
     requires level { level < 40 }
-    requires ends { 0 < life.to }
+    requires rises { life.from < life.to }
     requires broken { is_whole (suc level) life ≡ false }
     requires has { FirstHasOne D.stands_before level life left.old }
     ensures { TakesFirst D.stands_before level life left.old left.new }
@@ -195,6 +228,7 @@ fn take_second<D: Decomposable, L: Ledger>(
 )
     requires level { level < 40 }
     requires begins { life.from < 2 ^ suc level }
+    requires rises { life.from < life.to }
     requires broken { is_whole (suc level) life ≡ false }
     requires has { SecondHasOne D.stands_before level life right.old }
     ensures { TakesSecond D.stands_before level life right.old right.new }
@@ -216,17 +250,20 @@ pub(crate) fn move_end<D: Decomposable, L: Ledger>(
 ) -> Result<(), NoMemory>
     requires level { level ≤ 40 }
     requires begins { life.from < 2 ^ level }
-    requires ends { 0 < life.to }
-    requires next { 0 < next }
+    requires rises { life.from < life.to }
+    requires next { life.from < next }
     requires has { Has D.stands_before level trie.old }
     requires there { HasOne D.stands_before level life trie.old }
     ensures ok { OnOk result (Moves D.stands_before level life next trie.old trie.new) }
     ensures err { OnErr result (Keeps D.stands_before level trie.old trie.new) }
 {
-    if let Trie::Full(node) = trie {
-        return move_in_node::<D, L>(node, level, life, next, alloc, steps);
+    match trie {
+        Trie::Few(few) => {
+            let moved = life.ending(next).clipped(level);
+            exchange::<ByStart<D>, L>(few, life.clipped(level), moved, steps)
+        }
+        Trie::Full(node) => move_in_node::<D, L>(node, level, life, next, alloc, steps),
     }
-    add::<D, L>(trie, level, life.ending(next), alloc, steps)
 }
 
 #[cycle(move_end)]
@@ -240,8 +277,8 @@ fn move_in_node<D: Decomposable, L: Ledger>(
 ) -> Result<(), NoMemory>
     requires level { level ≤ 40 }
     requires begins { life.from < 2 ^ level }
-    requires ends { 0 < life.to }
-    requires next { 0 < next }
+    requires rises { life.from < life.to }
+    requires next { life.from < next }
     requires has { NodeHas D.stands_before level node.old }
     requires there { NodeHasOne D.stands_before level life node.old }
     ensures ok { OnOk result (NodeMoves D.stands_before level life next node.old node.new) }
@@ -269,7 +306,7 @@ fn break_up<D: Decomposable, L: Ledger>(
     steps: &mut Steps<L>,
 ) -> Result<(), NoMemory>
     requires level { level < 40 }
-    requires next { 0 < next }
+    requires next { life.from < next }
     requires whole { is_whole (suc level) life ≡ true }
     requires broken { is_whole (suc level) (ending next life) ≡ false }
     requires has { NodeHas D.stands_before (suc level) node.old }
@@ -292,7 +329,7 @@ fn make_whole<D: Decomposable, L: Ledger>(
 ) -> Result<(), NoMemory>
     requires level { level < 40 }
     requires begins { life.from < 2 ^ suc level }
-    requires ends { 0 < life.to }
+    requires rises { life.from < life.to }
     requires broken { is_whole (suc level) life ≡ false }
     requires whole { is_whole (suc level) (ending next life) ≡ true }
     requires has { NodeHas D.stands_before (suc level) node.old }
@@ -318,8 +355,8 @@ fn move_in_halves<D: Decomposable, L: Ledger>(
 ) -> Result<(), NoMemory>
     requires level { level < 40 }
     requires begins { life.from < 2 ^ suc level }
-    requires ends { 0 < life.to }
-    requires next { 0 < next }
+    requires rises { life.from < life.to }
+    requires next { life.from < next }
     requires broken { is_whole (suc level) life ≡ false }
     requires broken_next { is_whole (suc level) (ending next life) ≡ false }
     requires has { NodeHas D.stands_before (suc level) node.old }
@@ -353,7 +390,7 @@ fn lengthen<D: Decomposable, L: Ledger>(
 ) -> Result<(), NoMemory>
     requires level { level < 40 }
     requires begins { life.from < 2 ^ suc level }
-    requires ends { 0 < life.to }
+    requires rises { life.from < life.to }
     requires in_first { life.to ≤ 2 ^ level }
     requires in_second { 2 ^ level < next }
     requires broken { is_whole (suc level) life ≡ false }
@@ -383,8 +420,8 @@ fn move_first<D: Decomposable, L: Ledger>(
     steps: &mut Steps<L>,
 ) -> Result<(), NoMemory>
     requires level { level < 40 }
-    requires ends { 0 < life.to }
-    requires next { 0 < next }
+    requires rises { life.from < life.to }
+    requires next { life.from < next }
     requires broken { is_whole (suc level) life ≡ false }
     requires broken_next { is_whole (suc level) (ending next life) ≡ false }
     requires has { Has D.stands_before level left.old }

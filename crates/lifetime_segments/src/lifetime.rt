@@ -1,5 +1,6 @@
 ghost use Rattle.std.specs.Prelude.{◌≡◌, ◌≤◌, ◌^◌, nat_lt};
-ghost use Rattle.lifetime_segments.specs.Tries.{ending, is_whole, seen_from};
+ghost use Rattle.lifetime_segments.specs.Lifetimes.{holds};
+ghost use Rattle.lifetime_segments.specs.Tries.{clipped, ending, is_whole, seen_from};
 
 use monoid_laws::{Count, Measured};
 
@@ -63,6 +64,21 @@ impl<T: Copy> Lifetime<T> {
         ensures { result ≡ ending to self.now }
     {
         Lifetime { to, ..*self }
+    }
+
+    /// What of it lies in a span of this level.
+    pub(crate) fn clipped(&self, level: u32) -> Lifetime<T>
+        requires { level ≤ 40 }
+        ensures { result ≡ clipped level self.now }
+    {
+        self.ending(self.to.min(labels(level)))
+    }
+
+    /// Whether it holds a label.
+    pub(crate) fn holds(&self, label: u64) -> bool
+        ensures { result ≡ holds label self.now }
+    {
+        self.from <= label && label < self.to
     }
 
     /// What of it is in a second half of this level, seen from where that half begins.

@@ -8,10 +8,11 @@ ghost use Rattle.lifetime_segments.specs.Tries.{AreHeld, ending};
 
 use crate::collect::collected;
 use crate::decomposable::Decomposable;
+use crate::edit;
 use crate::lifetime::Lifetime;
+use crate::search::asked;
 use crate::sorted::{ByStart, fits_at, position, put, take_out};
 use crate::trie::Trie;
-use crate::{edit, search};
 use retro_base::{NoMemory, Steps};
 use std::alloc::Global;
 use std::marker::{Brand, Model};
@@ -49,7 +50,7 @@ impl<D: Decomposable> Segments<D> {
     {
         Segments {
             held: Tree::new(alloc),
-            root: Trie::Empty,
+            root: Trie::new(alloc),
         }
     }
 
@@ -106,7 +107,7 @@ impl<D: Decomposable> Segments<D> {
         requires within { label < label_end }
         ensures { result ≡ D.answer (in_order D.stands_before (items_at label self.now)) query }
     {
-        search::ask::<D>(&self.root, LEVELS, label, query)
+        asked::<D, Brand>(&self.root, LEVELS, label, query, Blank::new(1))
     }
 
     /// The items of all lifetimes that hold the label, in no order of their own.

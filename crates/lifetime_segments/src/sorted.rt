@@ -136,3 +136,27 @@ pub(crate) fn take_out<O: Order, L: Ledger>(
     let place = place_of::<O, L>(items, &item, steps);
     items.remove(place, steps);
 }
+
+/// Takes an item out that is there, and puts another one in, in its place where it stands in order there. After `NoMemory` all is
+/// as before.
+pub(crate) fn exchange<O: Order, L: Ledger>(
+    items: &mut Tree<O::Item>,
+    item: O::Item,
+    other: O::Item,
+    steps: &mut Steps<L>,
+) -> Result<(), NoMemory>
+    requires ordered { AreInOrder O.stands_before items.old }
+    requires room { length items.old < 2 ^ 31 }
+    requires there { is_in O.stands_before item items.old ≡ true }
+    ensures ok { OnOk result (items.new ≡ without O.stands_before item (put_in O.stands_before other items.old)) }
+    ensures err { OnErr result (items.new ≡ items.old) }
+{
+    let place = place_of::<O, L>(items, &item, steps);
+    if fits_at::<O, L>(items, place, &item, &other, steps) {
+        items.replace(place, other, steps);
+        return Ok(());
+    }
+    put::<O, L>(items, other, steps)?;
+    take_out::<O, L>(items, item, steps);
+    Ok(())
+}

@@ -1,20 +1,26 @@
 ghost use Rattle.std.specs.Prelude.{◌≡◌, true, IfOk};
-ghost use Rattle.lifetime_segments.specs.Tries.{IsOpened, LeadAlike, is_empty};
+ghost use Rattle.lifetime_segments.specs.Tries.{IsNothing, IsBare};
 
+use crate::lifetime::Lifetime;
 use monoid_laws::Measured;
 use retro_base::NoMemory;
 use std::alloc::Global;
 use weighted_tree::Tree;
 
-/// The items in a span of labels and in the spans below it.
+/// So many lifetimes of a span are kept as they are at the most.
+///
+/// With more of them less is divided, so that an edit touches fewer spans; with fewer of them a question looks at less.
+pub(crate) const FEW: u32 = 63;
+
+/// The lifetimes in a span of labels: as they are where they are few, and else divided over the span itself and its halves.
 #[cycle(trie)]
 #[derive(Drop)]
 pub(crate) enum Trie<T: Measured> {
-    Empty,
+    Few(Tree<Lifetime<T>>),
     Full(Box<Node<T>>),
 }
 
-/// The items in a span itself, and those below it in its halves.
+/// The items in a span itself, and the lifetimes in its halves.
 #[cycle(trie)]
 #[derive(Drop)]
 pub(crate) struct Node<T: Measured> {
@@ -24,40 +30,20 @@ pub(crate) struct Node<T: Measured> {
 }
 
 impl<T: Measured> Trie<T> {
-    /// Whether there is no node.
-    fn is_empty(&self) -> bool
-        ensures { result ≡ is_empty self.now }
+    /// No lifetimes.
+    pub(crate) fn new(alloc: Global) -> Trie<T>
+        ensures { IsNothing result }
     {
-        matches!(self, Trie::Empty)
+        Trie::Few(Tree::new(alloc))
     }
 
-    /// Whether it leads to nothing: to no node, or to one with nothing.
-    fn leads_to_nothing(&self) -> bool
-        ensures { result ≡ true → LeadAlike Trie.Empty self.now }
+    /// Whether there are no lifetimes, and no node.
+    fn is_nothing(&self) -> bool
+        ensures { result ≡ true → IsNothing self.now }
     {
         match self {
-            Trie::Empty => true,
-            Trie::Full(node) => node.is_empty(),
-        }
-    }
-
-    /// Drops a node with nothing.
-    pub(crate) fn prune(&mut self)
-        ensures { LeadAlike self.new self.old }
-    {
-        if self.leads_to_nothing() {
-            *self = Trie::Empty;
-        }
-    }
-
-    /// What leads to a node. A node with nothing is dropped.
-    pub(crate) fn closed(node: Box<Node<T>>) -> Trie<T>
-        ensures { IsOpened result node.value }
-    {
-        if node.is_empty() {
-            Trie::Empty
-        } else {
-            Trie::Full(node)
+            Trie::Few(few) => few.len() == 0,
+            Trie::Full(_) => false,
         }
     }
 }
@@ -65,20 +51,20 @@ impl<T: Measured> Trie<T> {
 impl<T: Measured> Node<T> {
     /// One with nothing.
     pub(crate) fn boxed(alloc: Global) -> Result<Box<Node<T>>, NoMemory>
-        ensures { IfOk result (λ node. IsOpened Trie.Empty node.value) }
+        ensures { IfOk result (λ node. IsBare node.value) }
     {
         let node = Node {
             items: Tree::new(alloc),
-            left: Trie::Empty,
-            right: Trie::Empty,
+            left: Trie::new(alloc),
+            right: Trie::new(alloc),
         };
         Ok(Box::new(alloc, node)?)
     }
 
     /// Whether it has nothing.
-    fn is_empty(&self) -> bool
-        ensures { result ≡ true → IsOpened Trie.Empty self.now }
+    pub(crate) fn is_bare(&self) -> bool
+        ensures { result ≡ true → IsBare self.now }
     {
-        self.items.len() == 0 && self.left.is_empty() && self.right.is_empty()
+        self.items.len() == 0 && self.left.is_nothing() && self.right.is_nothing()
     }
 }

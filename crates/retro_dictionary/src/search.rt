@@ -51,6 +51,18 @@ impl Decomposable for PairSearch {
         }
     }
 
+    fn ask_one(item: &KeyPair, query: KeyRange) -> Found {
+        if item.key < query.low || query.high < item.key {
+            return PairSearch::empty();
+        }
+        Found {
+            count: 1,
+            sum: i128::from(item.value),
+            least: Some(*item),
+            greatest: Some(*item),
+        }
+    }
+
     fn ask(items: &Tree<KeyPair>, query: KeyRange) -> Found {
         found_in::<Brand>(items, query, Blank::new(1))
     }

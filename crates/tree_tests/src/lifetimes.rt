@@ -1,4 +1,4 @@
-ghost use Rattle.std.specs.Prelude.{◌≡◌, ◌<◌, ◌≤◌, length, nat_lt};
+ghost use Rattle.std.specs.Prelude.{◌≡◌, ◌+◌, ◌<◌, ◌≤◌, length, nat_lt};
 ghost use Rattle.retro_base.specs.Visits.{OpensCounter};
 ghost use Rattle.lifetime_segments.specs.Lawful.{most_items};
 ghost use Rattle.lifetime_segments.specs.Lifetimes.{label_end, lifetime, stands_earlier};
@@ -92,6 +92,13 @@ impl Decomposable for Totals {
 
     fn empty() -> Total {
         Total { count: 0, sum: 0 }
+    }
+
+    fn ask_one(item: &Amount, _query: ()) -> Total {
+        Total {
+            count: 1,
+            sum: u64::from(item.value),
+        }
     }
 
     fn ask(items: &Tree<Amount>, _query: ()) -> Total {
@@ -208,4 +215,60 @@ fn moves_an_end(rt: HostRuntime) {
     assert_eq!(rt; segments.ask(END - 1, ()), Total { count: 1, sum: 10 });
     assert!(rt; segments.take(2, 12, Amount { value: 20 }));
     assert!(rt; segments.take(2, END, item));
+}
+
+/// Adds so many lifetimes of a 1, which begin one label after another and hold fifty labels each.
+fn add_ones(rt: &impl Abort, segments: &mut Segments<Totals>, count: u64)
+    requires few { count ≤ 1000 }
+    requires room { length segments.old + count ≤ most_items }
+    ensures { length segments.new ≤ length segments.old + count }
+{
+    for from in 0..count {
+        add(rt, segments, from, from + 50, 1);
+    }
+}
+
+#[test]
+fn answers_where_more_than_a_few_are_there(rt: HostRuntime) {
+    let mut segments = Segments::<Totals>::new(rt.alloc());
+    add_ones(&rt, &mut segments, 100);
+    for (label, count) in [
+        (0, 1),
+        (10, 11),
+        (49, 50),
+        (60, 50),
+        (99, 50),
+        (148, 1),
+        (149, 0),
+    ] {
+        assert!(rt; label < END);
+        let sum = u64::from(count);
+        assert_eq!(rt; segments.ask(label, ()), Total { count, sum });
+        let items = segments.items_at(label).expect(&rt, "memory");
+        assert_eq!(rt; items.len(), count as usize);
+    }
+}
+
+#[test]
+fn edits_where_more_than_a_few_are_there(rt: HostRuntime) {
+    let mut segments = Segments::<Totals>::new(rt.alloc());
+    let item = Amount { value: 1 };
+    add_ones(&rt, &mut segments, 100);
+    segments.move_end(10, 60, 140, item).expect(&rt, "memory");
+    for from in 20..90 {
+        assert!(rt; segments.take(from, from + 50, item));
+    }
+    for (label, count) in [
+        (0, 1),
+        (19, 20),
+        (65, 5),
+        (69, 1),
+        (95, 7),
+        (139, 11),
+        (140, 9),
+    ] {
+        assert!(rt; label < END);
+        let sum = u64::from(count);
+        assert_eq!(rt; segments.ask(label, ()), Total { count, sum });
+    }
 }

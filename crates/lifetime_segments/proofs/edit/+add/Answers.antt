@@ -1,61 +1,41 @@
-use Rattle.std.proofs.Common.{◌≡◌, ◌<◌, ◌-◌, ◌^◌, suc, false, ◌∷◌, refl, sym, subst, ◌∙◌, arith, rules}
-use Rattle.lifetime_segments.specs.Tries.{IsOfNode, IsOpened, NodeAdds, NodeKeeps, Has, NodeHas, is_whole, in_first, in_second}
+use Rattle.std.proofs.Common.{◌≡◌, ◌<◌, ◌≤◌, ◌-◌, ◌^◌, suc, false, ◌∷◌, length, drop, refl, sym, subst, ap, ◌∙◌, arith, rules, length-drop}
+use Rattle.std.specs.List.{AllByRecursion}
+use Rattle.std.proofs.lemmas.List.{drop_all}
+use Rattle.lifetime_segments.specs.Lawful.{most_items}
+use Rattle.lifetime_segments.specs.Lifetimes.{stands_earlier}
+use Rattle.lifetime_segments.specs.Ordered.{put_in}
+use Rattle.lifetime_segments.specs.Tries.{IsOfNode, LeadsTo, Touches, NodeAdds, NodeKeeps, Has, NodeHas, is_whole, in_first, in_second}
 use Rattle.lifetime_segments.proofs.Results.{ok_weaker, err_weaker, err_always}
-use Rattle.lifetime_segments.proofs.Nodes.{node_of, trie_of, node_has, left_has, right_has, node_left, node_ordered, node_few, node_with_whole, node_with_parts, node_kept, below_level}
+use Rattle.lifetime_segments.proofs.Nodes.{bare_of, node_of, trie_of, node_has, left_has, right_has, node_left, node_ordered, node_few, node_with_whole, node_with_parts, node_kept, below_level}
+use Rattle.lifetime_segments.proofs.FewLives.{few_of, of_few, few_ordered, few_with, few_touch, few_length, all_get, drop_get}
+use Rattle.lifetime_segments.proofs.Moved.{few_alike, node_of_alike}
 use Rattle.lifetime_segments.proofs.edit.+add.Goals as goal
 
 pub add-add_to_node-requires : goal.add-add_to_node-requires
 add-add_to_node-requires g t c κs within =
-    let opened : IsOpened c.args.trie.now c.in-Full.node.value = subst (λ trie. IsOpened trie c.in-Full.node.value) (sym c.in-Full.is) (record { items_are = refl; left_is = refl; right_is = refl }) in
-    let has : NodeHas g.D.Decomposable.stands_before c.args.level c.deref_mut.result.now = subst (NodeHas g.D.Decomposable.stands_before c.args.level) (sym c.deref_mut.ensures.value) (node_has opened c.requires.has) in
+    let leads : LeadsTo c.args.trie.now c.in-Full.node.value = subst (λ trie. LeadsTo trie c.in-Full.node.value) (sym c.in-Full.is) (refl, refl, refl) in
+    let has : NodeHas g.D.Decomposable.stands_before c.args.level c.deref_mut.result.now = subst (NodeHas g.D.Decomposable.stands_before c.args.level) (sym c.deref_mut.ensures.value) (node_has leads c.requires.has) in
     search rules
 
 pub add-returns-in-Full-clause-ok : goal.add-returns-in-Full-clause-ok
 add-returns-in-Full-clause-ok g t c =
     let before = g.D.Decomposable.stands_before in
-    let opened : IsOpened c.args.trie.now c.in-Full.node.value = subst (λ trie. IsOpened trie c.in-Full.node.value) (sym c.in-Full.is) (record { items_are = refl; left_is = refl; right_is = refl }) in
+    let leads : LeadsTo c.args.trie.now c.in-Full.node.value = subst (λ trie. LeadsTo trie c.in-Full.node.value) (sym c.in-Full.is) (refl, refl, refl) in
     ok_weaker c.add_to_node.result
     (λ adds lives is_of.
-    trie_of before c.args.level (c.args.life ∷ lives) _ c.add_to_node.new.node (record { items_are = refl; left_is = refl; right_is = refl })
-    (adds lives (subst (IsOfNode before c.args.level lives) (sym c.deref_mut.ensures.value) (node_of before c.args.level lives c.args.trie.now c.in-Full.node.value opened is_of))))
+    trie_of before c.args.level (c.args.life ∷ lives) _ c.add_to_node.new.node (refl, refl, refl)
+    (adds lives (subst (IsOfNode before c.args.level lives) (sym c.deref_mut.ensures.value) (node_of before c.args.level lives c.args.trie.now c.in-Full.node.value leads is_of))))
     c.add_to_node.ensures.ok
 
 pub add-returns-in-Full-clause-err : goal.add-returns-in-Full-clause-err
 add-returns-in-Full-clause-err g t c =
     let before = g.D.Decomposable.stands_before in
-    let opened : IsOpened c.args.trie.now c.in-Full.node.value = subst (λ trie. IsOpened trie c.in-Full.node.value) (sym c.in-Full.is) (record { items_are = refl; left_is = refl; right_is = refl }) in
+    let leads : LeadsTo c.args.trie.now c.in-Full.node.value = subst (λ trie. LeadsTo trie c.in-Full.node.value) (sym c.in-Full.is) (refl, refl, refl) in
     err_weaker c.add_to_node.result
     (λ keeps lives is_of.
-    trie_of before c.args.level lives _ c.add_to_node.new.node (record { items_are = refl; left_is = refl; right_is = refl })
-    (keeps lives (subst (IsOfNode before c.args.level lives) (sym c.deref_mut.ensures.value) (node_of before c.args.level lives c.args.trie.now c.in-Full.node.value opened is_of))))
+    trie_of before c.args.level lives _ c.add_to_node.new.node (refl, refl, refl)
+    (keeps lives (subst (IsOfNode before c.args.level lives) (sym c.deref_mut.ensures.value) (node_of before c.args.level lives c.args.trie.now c.in-Full.node.value leads is_of))))
     c.add_to_node.ensures.err
-
-pub add-add_to_node-added-requires : goal.add-add_to_node-added-requires
-add-add_to_node-added-requires g t c κs within =
-    let opened : IsOpened c.args.trie.now c.in_ok-node.node.value = subst (λ trie. IsOpened trie c.in_ok-node.node.value) (sym c.in_default.is) c.in_ok-node.ensures in
-    let has : NodeHas g.D.Decomposable.stands_before c.args.level c.deref_mut-2.result.now =
-    subst (NodeHas g.D.Decomposable.stands_before c.args.level) (sym c.deref_mut-2.ensures.value) (node_has opened c.requires.has) in
-    search rules
-
-pub add-returns-clause-ok : goal.add-returns-clause-ok
-add-returns-clause-ok g t c =
-    let before = g.D.Decomposable.stands_before in
-    let opened : IsOpened c.args.trie.now c.in_ok-node.node.value = subst (λ trie. IsOpened trie c.in_ok-node.node.value) (sym c.in_default.is) c.in_ok-node.ensures in
-    ok_weaker c.add_to_node-added.result
-    (λ adds lives is_of.
-    trie_of before c.args.level (c.args.life ∷ lives) c.closed.result c.add_to_node-added.new.node c.closed.ensures
-    (adds lives (subst (IsOfNode before c.args.level lives) (sym c.deref_mut-2.ensures.value) (node_of before c.args.level lives c.args.trie.now c.in_ok-node.node.value opened is_of))))
-    c.add_to_node-added.ensures.ok
-
-pub add-returns-clause-err : goal.add-returns-clause-err
-add-returns-clause-err g t c =
-    let before = g.D.Decomposable.stands_before in
-    let opened : IsOpened c.args.trie.now c.in_ok-node.node.value = subst (λ trie. IsOpened trie c.in_ok-node.node.value) (sym c.in_default.is) c.in_ok-node.ensures in
-    err_weaker c.add_to_node-added.result
-    (λ keeps lives is_of.
-    trie_of before c.args.level lives c.closed.result c.add_to_node-added.new.node c.closed.ensures
-    (keeps lives (subst (IsOfNode before c.args.level lives) (sym c.deref_mut-2.ensures.value) (node_of before c.args.level lives c.args.trie.now c.in_ok-node.node.value opened is_of))))
-    c.add_to_node-added.ensures.err
 
 pub add_to_halves-add_first-requires : goal.add_to_halves-add_first-requires
 add_to_halves-add_first-requires g t c κs within =
@@ -100,7 +80,7 @@ add_to_node-put-requires-clause-room g t c = omega (arith, node_few g.met.D.Deco
 pub add_to_node-add_to_halves-requires : goal.add_to_node-add_to_halves-requires
 add_to_node-add_to_halves-requires g t c κs within =
     let broken : is_whole c.args.level c.args.life ≡ false = sym c.is_whole.ensures ∙ c.if-is_whole.false in
-    let below : c.args.level ≡ suc (c.args.level - 1) = below_level c.args.level c.args.life broken c.requires.begins c.requires.ends in
+    let below : c.args.level ≡ suc (c.args.level - 1) = below_level c.args.level c.args.life broken c.requires.begins (omega (arith, c.requires.rises)) in
     let broken_below : is_whole (suc (c.args.level - 1)) c.args.life ≡ false = subst (λ n. is_whole n c.args.life ≡ false) below broken in
     let begins : c.args.life.from < 2 ^ suc (c.args.level - 1) = subst (λ n. c.args.life.from < 2 ^ n) below c.requires.begins in
     let has : NodeHas g.D.Decomposable.stands_before (suc (c.args.level - 1)) c.args.node.now = subst (λ n. NodeHas g.D.Decomposable.stands_before n c.args.node.now) below c.requires.has in
@@ -115,7 +95,7 @@ add_to_node-returns-then-is_whole-clause-ok g t c =
 pub add_to_node-returns-else-is_whole-clause-ok : goal.add_to_node-returns-else-is_whole-clause-ok
 add_to_node-returns-else-is_whole-clause-ok g t c =
     let broken : is_whole c.args.level c.args.life ≡ false = sym c.is_whole.ensures ∙ c.if-is_whole.false in
-    let below : c.args.level ≡ suc (c.args.level - 1) = below_level c.args.level c.args.life broken c.requires.begins c.requires.ends in
+    let below : c.args.level ≡ suc (c.args.level - 1) = below_level c.args.level c.args.life broken c.requires.begins (omega (arith, c.requires.rises)) in
     ok_weaker c.add_to_halves.result
     (λ adds. subst (λ n. NodeAdds g.D.Decomposable.stands_before n c.args.life c.args.node.now c.add_to_halves.new.node) (sym below) adds)
     c.add_to_halves.ensures.ok
@@ -123,7 +103,76 @@ add_to_node-returns-else-is_whole-clause-ok g t c =
 pub add_to_node-returns-else-is_whole-clause-err : goal.add_to_node-returns-else-is_whole-clause-err
 add_to_node-returns-else-is_whole-clause-err g t c =
     let broken : is_whole c.args.level c.args.life ≡ false = sym c.is_whole.ensures ∙ c.if-is_whole.false in
-    let below : c.args.level ≡ suc (c.args.level - 1) = below_level c.args.level c.args.life broken c.requires.begins c.requires.ends in
+    let below : c.args.level ≡ suc (c.args.level - 1) = below_level c.args.level c.args.life broken c.requires.begins (omega (arith, c.requires.rises)) in
     err_weaker c.add_to_halves.result
     (λ keeps. subst (λ n. NodeKeeps g.D.Decomposable.stands_before n c.args.node.now c.add_to_halves.new.node) (sym below) keeps)
     c.add_to_halves.ensures.err
+
+pub add-put-requires-clause-ordered : goal.add-put-requires-clause-ordered
+add-put-requires-clause-ordered g t c = few_ordered g.met.D.Decomposable.order c.args.level c.requires.has.lives c.in-Few.few (few_of g.D.Decomposable.stands_before c.args.level c.requires.has.lives c.in-Few.few c.args.trie.now c.in-Few.is c.requires.has.is_of)
+
+pub add-returns-then-len-lt-FEW-clause-ok : goal.add-returns-then-len-lt-FEW-clause-ok
+add-returns-then-len-lt-FEW-clause-ok g t c =
+    let before = g.D.Decomposable.stands_before in
+    ok_weaker c.put.result
+    (λ put lives is_of.
+    of_few before c.args.level (c.args.life ∷ lives) c.put.new.items _ refl
+    (few_with g.met.D.Decomposable.order c.args.level c.args.life lives c.in-Few.few c.put.new.items (record { rises = c.requires.rises; begins = c.requires.begins })
+    (put ∙ ap (λ life. put_in (stands_earlier before) life c.in-Few.few) c.clipped.ensures)
+    (few_of before c.args.level lives c.in-Few.few c.args.trie.now c.in-Few.is is_of)))
+    c.put.ensures.ok
+
+pub add-divided-requires : goal.add-divided-requires
+add-divided-requires g t c κs within =
+    let before = g.D.Decomposable.stands_before in
+    let kept = few_of before c.args.level c.requires.has.lives c.in-Few.few c.args.trie.now c.in-Few.is c.requires.has.is_of in
+    let touch : AllByRecursion (Touches c.args.level) c.in-Few.few = few_touch before c.args.level c.requires.has.lives c.in-Few.few kept in
+    let few : length c.in-Few.few ≤ most_items = omega (arith, few_length before c.args.level c.requires.has.lives c.in-Few.few kept, c.requires.has.few) in
+    search rules
+
+pub add-add_to_node-requires-in-Few : goal.add-add_to_node-requires-in-Few
+add-add_to_node-requires-in-Few g t c κs within =
+    let before = g.D.Decomposable.stands_before in
+    let kept = few_of before c.args.level c.requires.has.lives c.in-Few.few c.args.trie.now c.in-Few.is c.requires.has.is_of in
+    let has : NodeHas before c.args.level c.deref_mut-in-Few.result.now = subst (NodeHas before c.args.level) (sym c.deref_mut-in-Few.ensures.value) (record {
+      lives = c.in-Few.few;
+      is_of = c.in_ok-node-in-Few.ensures;
+      few = omega (arith, few_length before c.args.level c.requires.has.lives c.in-Few.few kept, c.requires.has.few);
+    }) in
+    search rules
+
+pub add-returns-in_ok-add_to_node-in-Few-clause-ok : goal.add-returns-in_ok-add_to_node-in-Few-clause-ok
+add-returns-in_ok-add_to_node-in-Few-clause-ok g t c lives is_of =
+    let before = g.D.Decomposable.stands_before in
+    let kept = few_of before c.args.level lives c.in-Few.few c.args.trie.now c.in-Few.is is_of in
+    trie_of before c.args.level (c.args.life ∷ lives) _ c.add_to_node-in-Few.new.node (refl, refl, refl)
+    (c.in_ok-add_to_node-in-Few.ensures.ok lives (subst (IsOfNode before c.args.level lives) (sym c.deref_mut-in-Few.ensures.value)
+    (node_of_alike g.met.D.Decomposable.order c.args.level c.in-Few.few lives c.in_ok-node-in-Few.node.value
+    (few_alike g.met.D.Decomposable.order c.args.level lives c.in-Few.few kept) c.in_ok-node-in-Few.ensures)))
+
+pub divided-loop-place-init : goal.divided-loop-place-init
+divided-loop-place-init g t c =
+    subst (λ lives. IsOfNode g.D.Decomposable.stands_before c.args.level lives c.in_ok-node.node.value) (sym (drop_all c.len-place.result c.args.few.now (omega (arith, c.len-place.ensures))))
+    (bare_of g.D.Decomposable.stands_before c.args.level c.in_ok-node.node.value c.in_ok-node.ensures)
+
+pub divided-add_to_node-requires : goal.divided-add_to_node-requires
+divided-add_to_node-requires g t c κs within =
+    let before = g.D.Decomposable.stands_before in
+    let touches = all_get (Touches c.args.level) c.args.few.now (c.loop-place.place - 1) c.get.result c.requires.touch c.get.ensures.item in
+    let begins : c.get.result.from < 2 ^ c.args.level = touches.begins in
+    let rises : c.get.result.from < c.get.result.to = touches.rises in
+    let has : NodeHas before c.args.level c.deref_mut.result.now = subst (NodeHas before c.args.level) (sym c.deref_mut.ensures.value) (record {
+      lives = drop c.loop-place.place c.args.few.now;
+      is_of = c.loop-place.invariant;
+      few = omega (arith, length-drop c.loop-place.place c.args.few.now, c.requires.few);
+    }) in
+    search rules
+
+pub divided-loop-place-preserved : goal.divided-loop-place-preserved
+divided-loop-place-preserved g t c =
+    let before = g.D.Decomposable.stands_before in
+    let place : suc (c.loop-place.place - 1) ≡ c.loop-place.place = omega arith in
+    subst (λ lives. IsOfNode before c.args.level lives c.add_to_node.new.node) (sym (drop_get c.args.few.now (c.loop-place.place - 1) c.get.result c.get.ensures.item))
+    (c.in_ok-add_to_node.ensures.ok (drop (suc (c.loop-place.place - 1)) c.args.few.now)
+    (subst (IsOfNode before c.args.level (drop (suc (c.loop-place.place - 1)) c.args.few.now)) (sym c.deref_mut.ensures.value)
+    (subst (λ n. IsOfNode before c.args.level (drop n c.args.few.now) c.loop-place.node.value) (sym place) c.loop-place.invariant)))

@@ -1,47 +1,72 @@
 use Rattle.std.proofs.Common.{◌≡◌, ◌<◌, ◌-◌, ◌^◌, suc, true, false, ◌∷◌, refl, sym, subst, ap, ◌∙◌, arith, rules}
-use Rattle.lifetime_segments.specs.Tries.{IsOf, IsOfNode, IsOpened, NodeMoves, NodeKeeps, Moves, AddsSecond, Has, NodeHas, HasOne, NodeHasOne, FirstHasOne, is_whole, ending, in_first, in_second, seen_from}
+use Rattle.lifetime_segments.specs.Lifetimes.{stands_earlier}
+use Rattle.lifetime_segments.specs.Ordered.{is_in, put_in, without}
+use Rattle.lifetime_segments.specs.Tries.{IsOfNode, LeadsTo, NodeMoves, NodeKeeps, Moves, AddsSecond, Has, NodeHas, HasOne, NodeHasOne, FirstHasOne, is_whole, clipped, ending, in_first, in_second, seen_from}
 use Rattle.lifetime_segments.proofs.Results.{ok_weaker, err_weaker, err_always}
-use Rattle.lifetime_segments.proofs.Nodes.{node_of, trie_of, node_has, node_has_one, left_has, right_has, left_has_one, right_has_one, node_right, node_kept, empty_without, below_level}
+use Rattle.lifetime_segments.proofs.Nodes.{node_of, trie_of, node_has, node_has_one, left_has, right_has, left_has_one, right_has_one, node_right, node_kept, below_level}
 use Rattle.lifetime_segments.proofs.MovedEnds.{first_none, first_past, second_there, node_second_moved, node_shortened, node_lengthened, node_still_whole}
 use Rattle.lifetime_segments.proofs.Spans.{double}
+use Rattle.lifetime_segments.proofs.FewLives.{few_of, of_few, few_ordered, few_there, few_moved, few_length}
 use Rattle.lifetime_segments.proofs.edit.+move_end.Goals as goal
 
 pub move_end-move_in_node-requires : goal.move_end-move_in_node-requires
 move_end-move_in_node-requires g t c κs within =
     let before = g.D.Decomposable.stands_before in
-    let opened : IsOpened c.args.trie.now c.in-Full.node.value = subst (λ trie. IsOpened trie c.in-Full.node.value) (sym c.in-Full.is) (record { items_are = refl; left_is = refl; right_is = refl }) in
-    let has : NodeHas before c.args.level c.deref_mut.result.now = subst (NodeHas before c.args.level) (sym c.deref_mut.ensures.value) (node_has opened c.requires.has) in
-    let there : NodeHasOne before c.args.level c.args.life c.deref_mut.result.now = subst (NodeHasOne before c.args.level c.args.life) (sym c.deref_mut.ensures.value) (node_has_one opened c.requires.there) in
+    let leads : LeadsTo c.args.trie.now c.in-Full.node.value = subst (λ trie. LeadsTo trie c.in-Full.node.value) (sym c.in-Full.is) (refl, refl, refl) in
+    let has : NodeHas before c.args.level c.deref_mut.result.now = subst (NodeHas before c.args.level) (sym c.deref_mut.ensures.value) (node_has leads c.requires.has) in
+    let there : NodeHasOne before c.args.level c.args.life c.deref_mut.result.now = subst (NodeHasOne before c.args.level c.args.life) (sym c.deref_mut.ensures.value) (node_has_one leads c.requires.there) in
     search rules
 
 pub move_end-returns-in-Full-clause-ok : goal.move_end-returns-in-Full-clause-ok
 move_end-returns-in-Full-clause-ok g t c =
     let before = g.D.Decomposable.stands_before in
-    let opened : IsOpened c.args.trie.now c.in-Full.node.value = subst (λ trie. IsOpened trie c.in-Full.node.value) (sym c.in-Full.is) (record { items_are = refl; left_is = refl; right_is = refl }) in
+    let leads : LeadsTo c.args.trie.now c.in-Full.node.value = subst (λ trie. LeadsTo trie c.in-Full.node.value) (sym c.in-Full.is) (refl, refl, refl) in
     ok_weaker c.move_in_node.result
     (λ moves lives is_of.
-    trie_of before c.args.level (ending c.args.next c.args.life ∷ lives) _ c.move_in_node.new.node (record { items_are = refl; left_is = refl; right_is = refl })
-    (moves lives (subst (IsOfNode before c.args.level (c.args.life ∷ lives)) (sym c.deref_mut.ensures.value) (node_of before c.args.level (c.args.life ∷ lives) c.args.trie.now c.in-Full.node.value opened is_of))))
+    trie_of before c.args.level (ending c.args.next c.args.life ∷ lives) _ c.move_in_node.new.node (refl, refl, refl)
+    (moves lives (subst (IsOfNode before c.args.level (c.args.life ∷ lives)) (sym c.deref_mut.ensures.value) (node_of before c.args.level (c.args.life ∷ lives) c.args.trie.now c.in-Full.node.value leads is_of))))
     c.move_in_node.ensures.ok
 
 pub move_end-returns-in-Full-clause-err : goal.move_end-returns-in-Full-clause-err
 move_end-returns-in-Full-clause-err g t c =
     let before = g.D.Decomposable.stands_before in
-    let opened : IsOpened c.args.trie.now c.in-Full.node.value = subst (λ trie. IsOpened trie c.in-Full.node.value) (sym c.in-Full.is) (record { items_are = refl; left_is = refl; right_is = refl }) in
+    let leads : LeadsTo c.args.trie.now c.in-Full.node.value = subst (λ trie. LeadsTo trie c.in-Full.node.value) (sym c.in-Full.is) (refl, refl, refl) in
     err_weaker c.move_in_node.result
     (λ keeps lives is_of.
-    trie_of before c.args.level lives _ c.move_in_node.new.node (record { items_are = refl; left_is = refl; right_is = refl })
-    (keeps lives (subst (IsOfNode before c.args.level lives) (sym c.deref_mut.ensures.value) (node_of before c.args.level lives c.args.trie.now c.in-Full.node.value opened is_of))))
+    trie_of before c.args.level lives _ c.move_in_node.new.node (refl, refl, refl)
+    (keeps lives (subst (IsOfNode before c.args.level lives) (sym c.deref_mut.ensures.value) (node_of before c.args.level lives c.args.trie.now c.in-Full.node.value leads is_of))))
     c.move_in_node.ensures.err
 
-pub move_end-returns-clause-ok : goal.move_end-returns-clause-ok
-move_end-returns-clause-ok g t c =
+pub move_end-exchange-requires-clause-ordered : goal.move_end-exchange-requires-clause-ordered
+move_end-exchange-requires-clause-ordered g t c =
+    few_ordered g.met.D.Decomposable.order c.args.level c.requires.has.lives c.in-Few.few (few_of g.D.Decomposable.stands_before c.args.level c.requires.has.lives c.in-Few.few c.args.trie.now c.in-Few.is c.requires.has.is_of)
+
+pub move_end-exchange-requires-clause-room : goal.move_end-exchange-requires-clause-room
+move_end-exchange-requires-clause-room g t c =
     let before = g.D.Decomposable.stands_before in
-    ok_weaker c.add.result
-    (λ adds lives is_of.
-    subst (λ moved. IsOf before c.args.level (moved ∷ lives) c.add.new.trie) c.ending.ensures
-    (adds lives (empty_without before c.args.level c.args.life lives c.args.trie.now c.in_default.is is_of)))
-    c.add.ensures.ok
+    omega (arith, few_length before c.args.level c.requires.has.lives c.in-Few.few (few_of before c.args.level c.requires.has.lives c.in-Few.few c.args.trie.now c.in-Few.is c.requires.has.is_of), c.requires.has.few)
+
+pub move_end-exchange-requires-clause-there : goal.move_end-exchange-requires-clause-there
+move_end-exchange-requires-clause-there g t c =
+    let before = g.D.Decomposable.stands_before in
+    let others = c.requires.there.others in
+    ap (λ life. is_in (stands_earlier before) life c.in-Few.few) c.clipped.ensures
+    ∙ few_there g.met.D.Decomposable.order c.args.level c.args.life others c.in-Few.few (record { rises = c.requires.rises; begins = c.requires.begins })
+    (few_of before c.args.level (c.args.life ∷ others) c.in-Few.few c.args.trie.now c.in-Few.is c.requires.there.is_of)
+
+pub move_end-returns-in-Few-clause-ok : goal.move_end-returns-in-Few-clause-ok
+move_end-returns-in-Few-clause-ok g t c =
+    let before = g.D.Decomposable.stands_before in
+    let earlier = stands_earlier before in
+    ok_weaker c.exchange.result
+    (λ exchanged lives is_of.
+    of_few before c.args.level (ending c.args.next c.args.life ∷ lives) c.exchange.new.items _ refl
+    (few_moved g.met.D.Decomposable.order c.args.level c.args.next c.args.life lives c.in-Few.few c.exchange.new.items (record { rises = c.requires.rises; begins = c.requires.begins }) c.requires.next
+    (exchanged
+    ∙ ap (λ life. without earlier life (put_in earlier c.clipped-moved.result c.in-Few.few)) c.clipped.ensures
+    ∙ ap (λ life. without earlier (clipped c.args.level c.args.life) (put_in earlier life c.in-Few.few)) (c.clipped-moved.ensures ∙ ap (clipped c.args.level) c.ending.ensures))
+    (few_of before c.args.level (c.args.life ∷ lives) c.in-Few.few c.args.trie.now c.in-Few.is is_of)))
+    c.exchange.ensures.ok
 
 pub move_in_node-returns-then-is_whole-2-clause-ok : goal.move_in_node-returns-then-is_whole-2-clause-ok
 move_in_node-returns-then-is_whole-2-clause-ok g t c =
@@ -51,61 +76,61 @@ move_in_node-returns-then-is_whole-2-clause-ok g t c =
 pub move_in_node-break_up-requires-clause-whole : goal.move_in_node-break_up-requires-clause-whole
 move_in_node-break_up-requires-clause-whole g t c =
     let below : c.args.level ≡ suc (c.args.level - 1) = below_level c.args.level (ending c.args.next c.args.life)
-    (sym (c.is_whole-then-is_whole.ensures ∙ ap (is_whole c.args.level) c.ending.ensures) ∙ c.if-is_whole-2.false) c.requires.begins c.requires.next in
+    (sym (c.is_whole-then-is_whole.ensures ∙ ap (is_whole c.args.level) c.ending.ensures) ∙ c.if-is_whole-2.false) c.requires.begins (omega (arith, c.requires.next)) in
     subst (λ n. is_whole n c.args.life ≡ true) below (sym c.is_whole.ensures ∙ c.if-is_whole.true)
 
 pub move_in_node-break_up-requires-clause-has : goal.move_in_node-break_up-requires-clause-has
 move_in_node-break_up-requires-clause-has g t c =
     let below : c.args.level ≡ suc (c.args.level - 1) = below_level c.args.level (ending c.args.next c.args.life)
-    (sym (c.is_whole-then-is_whole.ensures ∙ ap (is_whole c.args.level) c.ending.ensures) ∙ c.if-is_whole-2.false) c.requires.begins c.requires.next in
+    (sym (c.is_whole-then-is_whole.ensures ∙ ap (is_whole c.args.level) c.ending.ensures) ∙ c.if-is_whole-2.false) c.requires.begins (omega (arith, c.requires.next)) in
     subst (λ n. NodeHas g.D.Decomposable.stands_before n c.args.node.now) below c.requires.has
 
 pub move_in_node-break_up-requires-clause-there : goal.move_in_node-break_up-requires-clause-there
 move_in_node-break_up-requires-clause-there g t c =
     let below : c.args.level ≡ suc (c.args.level - 1) = below_level c.args.level (ending c.args.next c.args.life)
-    (sym (c.is_whole-then-is_whole.ensures ∙ ap (is_whole c.args.level) c.ending.ensures) ∙ c.if-is_whole-2.false) c.requires.begins c.requires.next in
+    (sym (c.is_whole-then-is_whole.ensures ∙ ap (is_whole c.args.level) c.ending.ensures) ∙ c.if-is_whole-2.false) c.requires.begins (omega (arith, c.requires.next)) in
     subst (λ n. NodeHasOne g.D.Decomposable.stands_before n c.args.life c.args.node.now) below c.requires.there
 
 pub move_in_node-returns-then-is_whole-clause-ok : goal.move_in_node-returns-then-is_whole-clause-ok
 move_in_node-returns-then-is_whole-clause-ok g t c =
     let below : c.args.level ≡ suc (c.args.level - 1) = below_level c.args.level (ending c.args.next c.args.life)
-    (sym (c.is_whole-then-is_whole.ensures ∙ ap (is_whole c.args.level) c.ending.ensures) ∙ c.if-is_whole-2.false) c.requires.begins c.requires.next in
+    (sym (c.is_whole-then-is_whole.ensures ∙ ap (is_whole c.args.level) c.ending.ensures) ∙ c.if-is_whole-2.false) c.requires.begins (omega (arith, c.requires.next)) in
     ok_weaker c.break_up.result (λ moves. subst (λ n. NodeMoves g.D.Decomposable.stands_before n c.args.life c.args.next c.args.node.now c.break_up.new.node) (sym below) moves) c.break_up.ensures.ok
 
 pub move_in_node-returns-then-is_whole-clause-err : goal.move_in_node-returns-then-is_whole-clause-err
 move_in_node-returns-then-is_whole-clause-err g t c =
     let below : c.args.level ≡ suc (c.args.level - 1) = below_level c.args.level (ending c.args.next c.args.life)
-    (sym (c.is_whole-then-is_whole.ensures ∙ ap (is_whole c.args.level) c.ending.ensures) ∙ c.if-is_whole-2.false) c.requires.begins c.requires.next in
+    (sym (c.is_whole-then-is_whole.ensures ∙ ap (is_whole c.args.level) c.ending.ensures) ∙ c.if-is_whole-2.false) c.requires.begins (omega (arith, c.requires.next)) in
     err_weaker c.break_up.result (λ keeps. subst (λ n. NodeKeeps g.D.Decomposable.stands_before n c.args.node.now c.break_up.new.node) (sym below) keeps) c.break_up.ensures.err
 
 pub move_in_node-make_whole-requires-clause-whole : goal.move_in_node-make_whole-requires-clause-whole
 move_in_node-make_whole-requires-clause-whole g t c =
-    let below : c.args.level ≡ suc (c.args.level - 1) = below_level c.args.level c.args.life (sym c.is_whole.ensures ∙ c.if-is_whole.false) c.requires.begins c.requires.ends in
+    let below : c.args.level ≡ suc (c.args.level - 1) = below_level c.args.level c.args.life (sym c.is_whole.ensures ∙ c.if-is_whole.false) c.requires.begins (omega (arith, c.requires.rises)) in
     subst (λ n. is_whole n (ending c.args.next c.args.life) ≡ true) below (sym (c.is_whole-2.ensures ∙ ap (is_whole c.args.level) c.ending-2.ensures) ∙ c.if-is_whole-3.true)
 
 pub move_in_node-make_whole-requires-clause-has : goal.move_in_node-make_whole-requires-clause-has
 move_in_node-make_whole-requires-clause-has g t c =
-    let below : c.args.level ≡ suc (c.args.level - 1) = below_level c.args.level c.args.life (sym c.is_whole.ensures ∙ c.if-is_whole.false) c.requires.begins c.requires.ends in
+    let below : c.args.level ≡ suc (c.args.level - 1) = below_level c.args.level c.args.life (sym c.is_whole.ensures ∙ c.if-is_whole.false) c.requires.begins (omega (arith, c.requires.rises)) in
     subst (λ n. NodeHas g.D.Decomposable.stands_before n c.args.node.now) below c.requires.has
 
 pub move_in_node-make_whole-requires-clause-there : goal.move_in_node-make_whole-requires-clause-there
 move_in_node-make_whole-requires-clause-there g t c =
-    let below : c.args.level ≡ suc (c.args.level - 1) = below_level c.args.level c.args.life (sym c.is_whole.ensures ∙ c.if-is_whole.false) c.requires.begins c.requires.ends in
+    let below : c.args.level ≡ suc (c.args.level - 1) = below_level c.args.level c.args.life (sym c.is_whole.ensures ∙ c.if-is_whole.false) c.requires.begins (omega (arith, c.requires.rises)) in
     subst (λ n. NodeHasOne g.D.Decomposable.stands_before n c.args.life c.args.node.now) below c.requires.there
 
 pub move_in_node-returns-then-is_whole-3-clause-ok : goal.move_in_node-returns-then-is_whole-3-clause-ok
 move_in_node-returns-then-is_whole-3-clause-ok g t c =
-    let below : c.args.level ≡ suc (c.args.level - 1) = below_level c.args.level c.args.life (sym c.is_whole.ensures ∙ c.if-is_whole.false) c.requires.begins c.requires.ends in
+    let below : c.args.level ≡ suc (c.args.level - 1) = below_level c.args.level c.args.life (sym c.is_whole.ensures ∙ c.if-is_whole.false) c.requires.begins (omega (arith, c.requires.rises)) in
     ok_weaker c.make_whole.result (λ moves. subst (λ n. NodeMoves g.D.Decomposable.stands_before n c.args.life c.args.next c.args.node.now c.make_whole.new.node) (sym below) moves) c.make_whole.ensures.ok
 
 pub move_in_node-returns-then-is_whole-3-clause-err : goal.move_in_node-returns-then-is_whole-3-clause-err
 move_in_node-returns-then-is_whole-3-clause-err g t c =
-    let below : c.args.level ≡ suc (c.args.level - 1) = below_level c.args.level c.args.life (sym c.is_whole.ensures ∙ c.if-is_whole.false) c.requires.begins c.requires.ends in
+    let below : c.args.level ≡ suc (c.args.level - 1) = below_level c.args.level c.args.life (sym c.is_whole.ensures ∙ c.if-is_whole.false) c.requires.begins (omega (arith, c.requires.rises)) in
     err_weaker c.make_whole.result (λ keeps. subst (λ n. NodeKeeps g.D.Decomposable.stands_before n c.args.node.now c.make_whole.new.node) (sym below) keeps) c.make_whole.ensures.err
 
 pub move_in_node-move_in_halves-requires : goal.move_in_node-move_in_halves-requires
 move_in_node-move_in_halves-requires g t c κs within =
-    let below : c.args.level ≡ suc (c.args.level - 1) = below_level c.args.level c.args.life (sym c.is_whole.ensures ∙ c.if-is_whole.false) c.requires.begins c.requires.ends in
+    let below : c.args.level ≡ suc (c.args.level - 1) = below_level c.args.level c.args.life (sym c.is_whole.ensures ∙ c.if-is_whole.false) c.requires.begins (omega (arith, c.requires.rises)) in
     let broken : is_whole (suc (c.args.level - 1)) c.args.life ≡ false = subst (λ n. is_whole n c.args.life ≡ false) below (sym c.is_whole.ensures ∙ c.if-is_whole.false) in
     let broken_next : is_whole (suc (c.args.level - 1)) (ending c.args.next c.args.life) ≡ false = subst (λ n. is_whole n (ending c.args.next c.args.life) ≡ false) below
     (sym (c.is_whole-2.ensures ∙ ap (is_whole c.args.level) c.ending-2.ensures) ∙ c.if-is_whole-3.false) in
@@ -117,12 +142,12 @@ move_in_node-move_in_halves-requires g t c κs within =
 
 pub move_in_node-returns-clause-ok : goal.move_in_node-returns-clause-ok
 move_in_node-returns-clause-ok g t c =
-    let below : c.args.level ≡ suc (c.args.level - 1) = below_level c.args.level c.args.life (sym c.is_whole.ensures ∙ c.if-is_whole.false) c.requires.begins c.requires.ends in
+    let below : c.args.level ≡ suc (c.args.level - 1) = below_level c.args.level c.args.life (sym c.is_whole.ensures ∙ c.if-is_whole.false) c.requires.begins (omega (arith, c.requires.rises)) in
     ok_weaker c.move_in_halves.result (λ moves. subst (λ n. NodeMoves g.D.Decomposable.stands_before n c.args.life c.args.next c.args.node.now c.move_in_halves.new.node) (sym below) moves) c.move_in_halves.ensures.ok
 
 pub move_in_node-returns-clause-err : goal.move_in_node-returns-clause-err
 move_in_node-returns-clause-err g t c =
-    let below : c.args.level ≡ suc (c.args.level - 1) = below_level c.args.level c.args.life (sym c.is_whole.ensures ∙ c.if-is_whole.false) c.requires.begins c.requires.ends in
+    let below : c.args.level ≡ suc (c.args.level - 1) = below_level c.args.level c.args.life (sym c.is_whole.ensures ∙ c.if-is_whole.false) c.requires.begins (omega (arith, c.requires.rises)) in
     err_weaker c.move_in_halves.result (λ keeps. subst (λ n. NodeKeeps g.D.Decomposable.stands_before n c.args.node.now c.move_in_halves.new.node) (sym below) keeps) c.move_in_halves.ensures.err
 
 pub move_in_halves-move_first-requires : goal.move_in_halves-move_first-requires
@@ -141,7 +166,7 @@ move_in_halves-take_second-requires-clause-has g t c = right_has_one c.requires.
 
 pub move_in_halves-returns-then-next-half-clause-ok : goal.move_in_halves-returns-then-next-half-clause-ok
 move_in_halves-returns-then-next-half-clause-ok g t c =
-    node_shortened g.D.Decomposable.stands_before c.args.level c.args.next c.args.life c.args.node.now _ c.requires.broken c.requires.broken_next refl (omega arith) c.in_ok-move_first.ensures.ok c.take_second.ensures
+    node_shortened g.met.D.Decomposable.order c.args.level c.args.next c.args.life c.args.node.now _ c.requires.broken c.requires.broken_next refl (omega arith) c.in_ok-move_first.ensures.ok c.take_second.ensures
 
 pub move_in_halves-move_end-requires : goal.move_in_halves-move_end-requires
 move_in_halves-move_end-requires g t c κs within =
@@ -151,8 +176,8 @@ move_in_halves-move_end-requires g t c κs within =
     let there : HasOne before c.args.level c.in_second-later.result c.args.node.now.right =
     subst (λ life. HasOne before c.args.level life c.args.node.now.right) (sym c.in_second-later.ensures) (second_there c.requires.broken ends (right_has_one c.requires.there)) in
     let later_begins : c.in_second-later.result.from < 2 ^ c.args.level = subst (λ life. life.from < 2 ^ c.args.level) (sym c.in_second-later.ensures) (omega (arith, double c.args.level)) in
-    let later_ends : 0 < c.in_second-later.result.to = subst (λ life. 0 < life.to) (sym c.in_second-later.ensures) (omega arith) in
-    let later_next : 0 < c.args.next - c.labels-half.result = omega arith in
+    let later_rises : c.in_second-later.result.from < c.in_second-later.result.to = subst (λ life. life.from < life.to) (sym c.in_second-later.ensures) (omega (arith, c.requires.rises)) in
+    let later_next : c.in_second-later.result.from < c.args.next - c.labels-half.result = subst (λ life. life.from < c.args.next - c.labels-half.result) (sym c.in_second-later.ensures) (omega (arith, c.requires.next)) in
     search rules
 
 pub move_in_halves-returns-then-half-life-clause-ok : goal.move_in_halves-returns-then-half-life-clause-ok
@@ -161,7 +186,7 @@ move_in_halves-returns-then-half-life-clause-ok g t c =
     let right = c.args.node.now.right in
     let half = 2 ^ c.args.level in
     ok_weaker c.move_end.result
-    (λ moves. node_second_moved before c.args.level c.args.next c.args.life c.args.node.now _ c.requires.broken c.requires.broken_next refl refl (omega arith) (omega arith)
+    (λ moves. node_second_moved g.met.D.Decomposable.order c.args.level c.args.next c.args.life c.args.node.now _ c.requires.broken c.requires.broken_next refl refl (omega arith) (omega arith)
     (subst (λ n. Moves before c.args.level (seen_from half c.args.life) (c.args.next - n) right c.move_end.new.trie) c.labels-half.ensures
     (subst (λ life. Moves before c.args.level life (c.args.next - c.labels-half.result) right c.move_end.new.trie) c.in_second-later.ensures moves)))
     c.move_end.ensures.ok
@@ -184,7 +209,6 @@ pub lengthen-move_first-moved-requires : goal.lengthen-move_first-moved-requires
 lengthen-move_first-moved-requires g t c κs within =
     let has : Has g.D.Decomposable.stands_before c.args.level c.args.node.now.left = left_has c.requires.has in
     let there : FirstHasOne g.D.Decomposable.stands_before c.args.level c.args.life c.args.node.now.left = left_has_one c.requires.there in
-    let later : 0 < c.args.next = omega arith in
     search rules
 
 pub lengthen-take_second-requires-clause-has : goal.lengthen-take_second-requires-clause-has
@@ -206,14 +230,14 @@ pub lengthen-returns-else-is_err-clause-ok : goal.lengthen-returns-else-is_err-c
 lengthen-returns-else-is_err-clause-ok g t c =
     let before = g.D.Decomposable.stands_before in
     ok_weaker c.move_first-moved.result
-    (λ moves. node_lengthened before c.args.level c.args.next c.args.life c.args.node.now _ c.requires.broken c.requires.broken_next refl c.requires.in_first moves
+    (λ moves. node_lengthened g.met.D.Decomposable.order c.args.level c.args.next c.args.life c.args.node.now _ c.requires.broken c.requires.broken_next refl c.requires.in_first moves
     (subst (λ life. AddsSecond before c.args.level life c.args.node.now.right c.add_second.new.right) c.ending-longer.ensures c.in_ok-add_second.ensures.ok))
     c.move_first-moved.ensures.ok
 
 pub move_first-returns-then-half-life-clause-ok : goal.move_first-returns-then-half-life-clause-ok
 move_first-returns-then-half-life-clause-ok g t c =
-    first_none g.D.Decomposable.stands_before c.args.level c.args.next c.args.life c.args.left.now c.requires.broken c.requires.broken_next (omega arith)
+    first_none g.met.D.Decomposable.order c.args.level c.args.next c.args.life c.args.left.now c.requires.broken c.requires.broken_next (omega arith)
 
 pub move_first-returns-then-half-next-clause-ok : goal.move_first-returns-then-half-next-clause-ok
 move_first-returns-then-half-next-clause-ok g t c =
-    first_past g.D.Decomposable.stands_before c.args.level c.args.next c.args.life c.args.left.now c.requires.broken c.requires.broken_next (omega arith) (omega arith)
+    first_past g.met.D.Decomposable.order c.args.level c.args.next c.args.life c.args.left.now c.requires.broken c.requires.broken_next (omega arith) (omega arith)

@@ -3,22 +3,32 @@ use Rattle.std.specs.Prelude.{nat_lt}
 use Rattle.std.proofs.lemmas.Bool.Decides.{nat_tests}
 use Rattle.lifetime_segments.specs.Lifetimes.{items_at}
 use Rattle.lifetime_segments.specs.Ordered.{in_order}
-use Rattle.lifetime_segments.specs.Tries.{IsOfNode, IsOpened, Has, NodeHas, in_first, in_second, items_below}
-use Rattle.lifetime_segments.proofs.Nodes.{node_of, node_has, left_has, right_has, node_left, node_right, first-few, second-few, node_ordered, node_few, node_at, node_at_zero, node_lawful, empty_at}
+use Rattle.lifetime_segments.specs.Tries.{IsOfNode, LeadsTo, Has, NodeHas, in_first, in_second, items_below}
+use Rattle.lifetime_segments.proofs.Nodes.{node_of, node_has, left_has, right_has, node_left, node_right, first-few, second-few, node_ordered, node_few, node_at, node_at_zero, node_lawful}
 use Rattle.lifetime_segments.proofs.Spans.{double}
+use Rattle.lifetime_segments.proofs.FewLives.{few_of, few_length}
+use Rattle.lifetime_segments.proofs.Moved.{few_items}
 use Rattle.lifetime_segments.proofs.search.+ask.Goals as goal
 
-pub ask-returns-in_default : goal.ask-returns-in_default
-ask-returns-in_default g t c lives is_of few =
-    c.empty.ensures
-    ∙ sym (g.met.D.Decomposable.laws.of_none c.args.query)
-    ∙ sym (ap (λ items. g.D.Decomposable.answer items c.args.query) (empty_at g.met.D.Decomposable.order c.args.level c.args.label lives c.requires.within c.args.trie.now c.in_default.is is_of))
+pub ask-ask_few-requires : goal.ask-ask_few-requires
+ask-ask_few-requires g t c =
+    let before = g.D.Decomposable.stands_before in
+    record {
+      few = omega (arith, few_length before c.args.level c.requires.has.lives c.in-Few.few (few_of before c.args.level c.requires.has.lives c.in-Few.few c.args.trie.now c.in-Few.is c.requires.has.is_of), c.requires.has.few);
+    }
+
+pub ask-returns-in-Few : goal.ask-returns-in-Few
+ask-returns-in-Few g t c lives is_of few =
+    let before = g.D.Decomposable.stands_before in
+    c.ask_few.ensures
+    ∙ ap (λ items. g.D.Decomposable.answer items c.args.query)
+    (few_items g.met.D.Decomposable.order c.args.level c.args.label lives c.in-Few.few c.requires.within (few_of before c.args.level lives c.in-Few.few c.args.trie.now c.in-Few.is is_of))
 
 pub ask-ask-own-requires : goal.ask-ask-own-requires
 ask-ask-own-requires g t c =
     let has : NodeHas g.D.Decomposable.stands_before c.args.level c.deref.result.now =
-    node_has (subst (IsOpened c.args.trie.now) (sym c.deref.ensures)
-    (subst (λ trie. IsOpened trie c.in-Full.node.value) (sym c.in-Full.is) (record { items_are = refl; left_is = refl; right_is = refl }))) c.requires.has
+    node_has (subst (LeadsTo c.args.trie.now) (sym c.deref.ensures)
+    (subst (λ trie. LeadsTo trie c.in-Full.node.value) (sym c.in-Full.is) (refl, refl, refl))) c.requires.has
     in
     record {
       lawful = record {
@@ -29,34 +39,34 @@ ask-ask-own-requires g t c =
 
 pub ask-returns-then-level-eq0 : goal.ask-returns-then-level-eq0
 ask-returns-then-level-eq0 g t c lives is_of few =
-    let opened : IsOpened c.args.trie.now c.deref.result.now =
-    subst (IsOpened c.args.trie.now) (sym c.deref.ensures)
-    (subst (λ trie. IsOpened trie c.in-Full.node.value) (sym c.in-Full.is) (record { items_are = refl; left_is = refl; right_is = refl })) in
+    let leads : LeadsTo c.args.trie.now c.deref.result.now =
+    subst (LeadsTo c.args.trie.now) (sym c.deref.ensures)
+    (subst (λ trie. LeadsTo trie c.in-Full.node.value) (sym c.in-Full.is) (refl, refl, refl)) in
     c.ask-own.ensures
     ∙ ap (λ items. g.D.Decomposable.answer items c.args.query)
     (node_at_zero g.met.D.Decomposable.order c.args.level c.args.label lives c.deref.result.now c.if-level-eq0.true c.requires.within
-    (node_of g.D.Decomposable.stands_before c.args.level lives c.args.trie.now c.deref.result.now opened is_of))
+    (node_of g.D.Decomposable.stands_before c.args.level lives c.args.trie.now c.deref.result.now leads is_of))
 
 pub ask-ask_half-requires : goal.ask-ask_half-requires
 ask-ask_half-requires g t c κs within =
     let below : c.args.level ≡ suc (c.args.level - 1) = omega arith in
-    let opened : IsOpened c.args.trie.now c.deref-2.result.now =
-    subst (IsOpened c.args.trie.now) (sym c.deref-2.ensures)
-    (subst (λ trie. IsOpened trie c.in-Full.node.value) (sym c.in-Full.is) (record { items_are = refl; left_is = refl; right_is = refl })) in
+    let leads : LeadsTo c.args.trie.now c.deref-2.result.now =
+    subst (LeadsTo c.args.trie.now) (sym c.deref-2.ensures)
+    (subst (λ trie. LeadsTo trie c.in-Full.node.value) (sym c.in-Full.is) (refl, refl, refl)) in
     let near : c.args.label < 2 ^ suc (c.args.level - 1) = subst (λ n. c.args.label < 2 ^ n) below c.requires.within in
-    let has : NodeHas g.D.Decomposable.stands_before (suc (c.args.level - 1)) c.deref-2.result.now = subst (λ n. NodeHas g.D.Decomposable.stands_before n c.deref-2.result.now) below (node_has opened c.requires.has) in
+    let has : NodeHas g.D.Decomposable.stands_before (suc (c.args.level - 1)) c.deref-2.result.now = subst (λ n. NodeHas g.D.Decomposable.stands_before n c.deref-2.result.now) below (node_has leads c.requires.has) in
     search rules
 
 pub ask-combine-requires : goal.ask-combine-requires
 ask-combine-requires g t c =
     let before = g.D.Decomposable.stands_before in
     let below : c.args.level ≡ suc (c.args.level - 1) = omega arith in
-    let opened : IsOpened c.args.trie.now c.deref.result.now =
-    subst (IsOpened c.args.trie.now) (sym c.deref.ensures)
-    (subst (λ trie. IsOpened trie c.in-Full.node.value) (sym c.in-Full.is) (record { items_are = refl; left_is = refl; right_is = refl })) in
+    let leads : LeadsTo c.args.trie.now c.deref.result.now =
+    subst (LeadsTo c.args.trie.now) (sym c.deref.ensures)
+    (subst (λ trie. LeadsTo trie c.in-Full.node.value) (sym c.in-Full.is) (refl, refl, refl)) in
     let near : c.args.label < 2 ^ suc (c.args.level - 1) = subst (λ n. c.args.label < 2 ^ n) below c.requires.within in
     let is_of : IsOfNode before (suc (c.args.level - 1)) c.requires.has.lives c.deref.result.now =
-    subst (λ n. IsOfNode before n c.requires.has.lives c.deref.result.now) below (node_of before c.args.level c.requires.has.lives c.args.trie.now c.deref.result.now opened c.requires.has.is_of) in
+    subst (λ n. IsOfNode before n c.requires.has.lives c.deref.result.now) below (node_of before c.args.level c.requires.has.lives c.args.trie.now c.deref.result.now leads c.requires.has.is_of) in
     record {
       together = record {
         query = c.args.query;
@@ -73,12 +83,12 @@ pub ask-returns : goal.ask-returns
 ask-returns g t c lives is_of few =
     let before = g.D.Decomposable.stands_before in
     let below : c.args.level ≡ suc (c.args.level - 1) = omega arith in
-    let opened : IsOpened c.args.trie.now c.deref.result.now =
-    subst (IsOpened c.args.trie.now) (sym c.deref.ensures)
-    (subst (λ trie. IsOpened trie c.in-Full.node.value) (sym c.in-Full.is) (record { items_are = refl; left_is = refl; right_is = refl })) in
+    let leads : LeadsTo c.args.trie.now c.deref.result.now =
+    subst (LeadsTo c.args.trie.now) (sym c.deref.ensures)
+    (subst (λ trie. LeadsTo trie c.in-Full.node.value) (sym c.in-Full.is) (refl, refl, refl)) in
     let near : c.args.label < 2 ^ suc (c.args.level - 1) = subst (λ n. c.args.label < 2 ^ n) below c.requires.within in
     let is_of_node : IsOfNode before (suc (c.args.level - 1)) lives c.deref.result.now =
-    subst (λ n. IsOfNode before n lives c.deref.result.now) below (node_of before c.args.level lives c.args.trie.now c.deref.result.now opened is_of) in
+    subst (λ n. IsOfNode before n lives c.deref.result.now) below (node_of before c.args.level lives c.args.trie.now c.deref.result.now leads is_of) in
     let items = items_below (c.args.level - 1) c.args.label lives in
     c.combine.ensures
     ∙ ap (λ part. g.D.Decomposable.combined part c.ask_half.result) c.ask-own.ensures

@@ -9,8 +9,8 @@ use Rattle.lifetime_segments.proofs.Results.{ok_of, err_of, ok_always, ok_never,
 use Rattle.lifetime_segments.proofs.segments.move_away.Goals as goal
 use Rattle.lifetime_segments.proofs.segments.move_away.Goals.{then-is_err, else-is_err}
 
-pub move_end-done-requires-clause-ends : goal.move_end-done-requires-clause-ends
-move_end-done-requires-clause-ends g c =
+pub move_end-done-requires-clause-rises : goal.move_end-done-requires-clause-rises
+move_end-done-requires-clause-rises g c =
     let range : IsInRange c.args.life = held_range g.met.D.Decomposable.order c.args.life c.args.held.now c.args.root.now c.requires.held c.requires.there in
     omega arith
 

@@ -10,8 +10,8 @@ use Rattle.lifetime_segments.proofs.segments.move_held.Goals as goal
 pub fits_at-requires-clause-there : goal.fits_at-requires-clause-there
 fits_at-requires-clause-there g c = position-get (earlier_order g.met.D.Decomposable.order) c.args.life c.args.held.now c.args.place c.requires.place
 
-pub move_end-requires-clause-ends : goal.move_end-requires-clause-ends
-move_end-requires-clause-ends g c =
+pub move_end-requires-clause-rises : goal.move_end-requires-clause-rises
+move_end-requires-clause-rises g c =
     let some = position-some (stands_earlier g.D.Decomposable.stands_before) c.args.life c.args.held.now c.args.place c.requires.place in
     let range : IsInRange c.args.life = held_range g.met.D.Decomposable.order c.args.life c.args.held.now c.args.root.now c.requires.held some.0 in
     omega arith

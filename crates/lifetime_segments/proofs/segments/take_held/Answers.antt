@@ -20,11 +20,11 @@ take-requires-clause-begins g c =
     let range : IsInRange c.args.life = held_range g.met.D.Decomposable.order c.args.life c.args.held.now c.args.root.now c.requires.held some.0 in
     omega arith
 
-pub take-requires-clause-ends : goal.take-requires-clause-ends
-take-requires-clause-ends g c =
+pub take-requires-clause-rises : goal.take-requires-clause-rises
+take-requires-clause-rises g c =
     let some = position-some (stands_earlier g.D.Decomposable.stands_before) c.args.life c.args.held.now c.in-Some.place (sym c.position.ensures ∙ c.in-Some.is) in
     let range : IsInRange c.args.life = held_range g.met.D.Decomposable.order c.args.life c.args.held.now c.args.root.now c.requires.held some.0 in
-    omega arith
+    range.rises
 
 pub take-requires-clause-has : goal.take-requires-clause-has
 take-requires-clause-has g c =
