@@ -273,6 +273,33 @@ impl<T: Item> Link<T> {
         }
     }
 
+    /// Writes what is shown of the items from a place on into a slice, as many as fit or are there, and gives their number.
+    fn read<U: Copy>(&self, from: usize, shown: &impl Fn(&T) -> U, read: &mut [U]) -> usize {
+        if from >= self.len() || read.is_empty() {
+            return 0;
+        }
+        let node = match &self.part {
+            Part::Leaf(items) => {
+                let found = &items[from..];
+                for (copy, item) in read.iter_mut().zip(found) {
+                    *copy = shown(item);
+                }
+                return found.len().min(read.len());
+            }
+            Part::Node(node) => node,
+        };
+        let before = node.left.len();
+        if from > before {
+            return node.right.read(from - before - 1, shown, read);
+        }
+        let count = node.left.read(from, shown, read);
+        let Some((copy, rest)) = read[count..].split_first_mut() else {
+            return count;
+        };
+        *copy = shown(&node.item);
+        count + 1 + node.right.read(0, shown, rest)
+    }
+
     /// Visits the items in their order.
     fn each(&self, visit: &mut impl FnMut(T)) {
         match &self.part {
@@ -521,6 +548,14 @@ impl<T: Item> Tree<T> {
             Some(tail) if place >= before => tail.get(place - before),
             _ => self.root.get(place),
         }
+    }
+
+    /// Writes what is shown of the items from a place on into a slice, as many as fit or are there, and gives their number.
+    pub fn read<U: Copy>(&self, from: usize, shown: impl Fn(&T) -> U, read: &mut [U]) -> usize {
+        let count = self.root.read(from, &shown, read);
+        let (from, rest) = (from.saturating_sub(self.root.len()), &mut read[count..]);
+        let tail = self.tail.as_ref();
+        count + tail.map_or(0, |tail| tail.read(from, &shown, rest))
     }
 
     /// Visits the items in their order.

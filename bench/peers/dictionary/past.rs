@@ -107,18 +107,25 @@ impl Dictionary {
         if place == self.len() {
             return Lately::Neither;
         }
+        let mut numbers = [number; 2];
+        let count = place.min(1);
+        self.rows.read(
+            (place - count) as usize,
+            |row| row.number,
+            &mut numbers[1 - count as usize..],
+        );
         let is_lately = |other: u32| other < number && number - other <= 8;
-        if place > 0 && is_lately(self.rows.get(place as usize - 1).number) {
+        if is_lately(numbers[0]) {
             Lately::Before
-        } else if is_lately(self.rows.get(place as usize).number) {
+        } else if is_lately(numbers[1]) {
             Lately::After
         } else {
             Lately::Neither
         }
     }
 
-    fn insert_between(&mut self, place: u32, row: Row) {
-        let label = self.labels.insert(place, self.lately(place, row.number));
+    fn insert_between(&mut self, place: u32, label: u64, row: Row) {
+        self.labels.insert(place, label);
         self.rows.insert(place as usize, row);
         let (left, next) = self.beside(row.op.key(), label);
         self.index.insert(label, row.op);
@@ -142,7 +149,7 @@ impl Dictionary {
             let next = self.next(op.key(), label);
             add(&mut segments, placed(label, op), next);
         }
-        self.labels.insert(place, Lately::Neither);
+        self.labels.insert_relabelled(place);
         self.segments = segments;
     }
 
@@ -177,10 +184,10 @@ impl Past for Dictionary {
     }
 
     fn insert(&mut self, place: u32, row: Row) {
-        if self.labels.has_room(place) {
-            self.insert_between(place, row);
-        } else {
-            self.insert_relabelled(place, row);
+        let lately = self.lately(place, row.number);
+        match self.labels.free_label(place, lately) {
+            Some(label) => self.insert_between(place, label, row),
+            None => self.insert_relabelled(place, row),
         }
     }
 
