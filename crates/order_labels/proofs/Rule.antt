@@ -52,20 +52,6 @@ labels_without labels place within are = record {
   rising = apart_without 1 0 label_limit labels place within are.rising;
 }
 
--- what is read beside a place
-pub before_is : (first : ℕ) (labels : List ℕ) (place label : ℕ) → 0 < place → slice_get labels (place - 1) ≡ Some label → label ≡ label_before first labels place
-before_is first labels zero label some read = absurd (omega arith)
-before_is first [] (suc place) label some read = cc
-before_is first (next ∷ labels) (suc zero) label some read = cc
-before_is first (next ∷ labels) (suc (suc place)) label some read =
-    before_is next labels (suc place) label (omega arith) (let less : suc (suc place) - 1 ≡ suc (suc place - 1) = omega arith in
-    subst (λ n. slice_get (next ∷ labels) n ≡ Some label) less read)
-
-pub after_is : (last : ℕ) (labels : List ℕ) (place label : ℕ) → slice_get labels place ≡ Some label → label ≡ label_after last labels place
-after_is last [] place label read = cc
-after_is last (next ∷ labels) zero label read = cc
-after_is last (next ∷ labels) (suc place) label read = after_is last labels place label read
-
 -- what was put in at a place is read there
 pub read_back : (labels : List ℕ) (place label : ℕ) → place ≤ length labels → slice_get (insert labels place label) place ≡ Some label
 read_back [] zero label within = refl

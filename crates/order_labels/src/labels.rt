@@ -1,10 +1,12 @@
 ghost use Rattle.std.specs.Prelude.{◌≡◌, ◌+◌, false, true, ◌<◌, ◌≤◌, ◌==◌, [], length, slice_get, position, Some, IfSome, IfOk, OnOk, OnErr, not};
 ghost use Rattle.std.specs.List.{insert, remove};
+ghost use Rattle.order_labels.specs.Beside.{IsBeside};
 ghost use Rattle.order_labels.specs.Labels.{AreApart, AreLabels, has_room, inserted, label_before, label_after, label_limit, least_gap};
 ghost use Rattle.retro_base.specs.Limits.{most_rows};
 ghost use Rattle.retro_base.specs.Visits.{OpensCounter};
 
-use crate::spread::{LIMIT, Label, spread};
+use crate::beside::{Beside, labels_beside};
+use crate::spread::{Label, spread};
 use retro_base::{NoMemory, Steps};
 use std::alloc::Global;
 use std::marker::{Brand, Model};
@@ -97,6 +99,14 @@ impl Labels {
         read::<Brand>(&self.rows, place, Blank::new(1))
     }
 
+    /// The labels beside a place.
+    pub fn beside(&self, place: u32) -> Beside
+        requires { place ≤ length self.now }
+        ensures { IsBeside self.now place result }
+    {
+        read_beside::<Brand>(&self.rows, place, Blank::new(1))
+    }
+
     /// The place of the row with this label, where there is one.
     pub fn place_of_label(&self, label: u64) -> Option<u32>
         ensures place { result ≡ position (λ other. other == label) self.now }
@@ -121,8 +131,7 @@ fn put_in<L: Ledger>(rows: &mut Tree<Label>, place: u32, blank: Blank) -> Result
     ensures err { OnErr result (rows.new ≡ rows.old) }
 {
     let mut steps = Steps::<L>::new(blank);
-    let before = label_before(rows, place, &mut steps);
-    let after = label_after(rows, place, &mut steps);
+    let Beside { before, after, .. } = labels_beside(rows, place, &mut steps);
     if after - before >= 2 {
         let label = (before + after) / 2;
         rows.insert(place, Label::new(label), &mut steps)?;
@@ -155,26 +164,13 @@ fn put_labelled<L: Ledger>(
     rows.insert(place, Label::new(label), &mut steps)
 }
 
-/// The label before a place, or 0.
-fn label_before<L: Ledger>(rows: &Tree<Label>, place: u32, steps: &mut Steps<L>) -> u64
-    requires { place ≤ length rows.now }
-    ensures { result ≡ label_before 0 rows.now place }
+fn read_beside<L: Ledger>(rows: &Tree<Label>, place: u32, blank: Blank) -> Beside
+    requires counter { OpensCounter blank.name L.name blank.parts L.parts }
+    requires within { place ≤ length rows.now }
+    ensures { IsBeside rows.now place result }
 {
-    if place == 0 {
-        return 0;
-    }
-    rows.get(place - 1, steps).value()
-}
-
-/// The label after a place, or the limit.
-fn label_after<L: Ledger>(rows: &Tree<Label>, place: u32, steps: &mut Steps<L>) -> u64
-    requires { place ≤ length rows.now }
-    ensures { result ≡ label_after label_limit rows.now place }
-{
-    if place == rows.len() {
-        return LIMIT;
-    }
-    rows.get(place, steps).value()
+    let mut steps = Steps::<L>::new(blank);
+    labels_beside(rows, place, &mut steps)
 }
 
 fn take_out<L: Ledger>(rows: &mut Tree<Label>, place: u32, blank: Blank)

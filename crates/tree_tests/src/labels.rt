@@ -69,6 +69,13 @@ fn insert_labelled(rt: &impl Abort, labels: &mut Labels, place: u32, label: u64)
     labels.insert_labelled(place, label).expect(rt, "memory");
 }
 
+/// The labels beside a place, in their order.
+fn beside(rt: &impl Abort, labels: &Labels, place: u32) -> [u64; 4] {
+    assert!(rt; place <= labels.len());
+    let beside = labels.beside(place);
+    [beside.former, beside.before, beside.after, beside.later]
+}
+
 #[test]
 fn a_label_is_chosen_by_the_caller(rt: HostRuntime) {
     let mut labels = Labels::new(rt.alloc());
@@ -80,4 +87,12 @@ fn a_label_is_chosen_by_the_caller(rt: HostRuntime) {
         assert_eq!(rt; labels.label_at(place), label);
     }
     assert_eq!(rt; labels.place_of_label(8), Some(1));
+    for (place, labels_beside) in [
+        (0, [0, 0, 7, 8]),
+        (1, [0, 7, 8, (1 << 40) - 1]),
+        (2, [7, 8, (1 << 40) - 1, 1 << 40]),
+        (3, [8, (1 << 40) - 1, 1 << 40, 1 << 40]),
+    ] {
+        assert_eq!(rt; beside(&rt, &labels, place), labels_beside);
+    }
 }

@@ -7,6 +7,7 @@ pub mod Opened
 pub mod Partitioned
 pub mod PartitionLaws
 pub mod Reads
+pub mod ReadLaws
 pub mod Search
 pub mod SearchSteps
 pub mod Sides

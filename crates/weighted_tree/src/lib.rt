@@ -42,7 +42,7 @@
 //! `Tree`, in the words of lists; `measure_in` of specs/Measures.antt and std's `slice_range` for what a
 //! range measures; `FindsFirst`, `FindsLast` and `FindsPartition` of specs/Search.antt for the searches;
 //! specs/PartitionLaws.antt for what `partition_point` says of a list along which a test turns false once; `Writes` of
-//! specs/Reads.antt for what `read` writes;
+//! specs/Reads.antt for what `read` writes, and specs/ReadLaws.antt for what it leaves of a list;
 //! `VisitsWithin` of `retro_base` for the cost.
 #![tactic(auto)]
 

@@ -6,7 +6,7 @@ use Rattle.order_labels.proofs.Rule.{read_back, length-spread_with, length-with}
 use Rattle.order_labels.proofs.labels.put_in.Goals as goal
 
 pub overflow_sub-after : goal.overflow_sub-after
-overflow_sub-after g c = omega (arith, gap_at 1 0 label_limit c.args.rows.now c.args.place c.requires.within c.requires.labels.rising, c.label_before-before.ensures, c.label_after-after.ensures)
+overflow_sub-after g c = omega (arith, gap_at 1 0 label_limit c.args.rows.now c.args.place c.requires.within c.requires.labels.rising, c.labels_beside-before.ensures.before, c.labels_beside-before.ensures.after_it)
 
 pub overflow_add-label : goal.overflow_add-label
 overflow_add-label g c =
@@ -14,8 +14,8 @@ overflow_add-label g c =
       arith,
       gap_at 1 0 label_limit c.args.rows.now c.args.place c.requires.within c.requires.labels.rising,
       after_within 1 0 label_limit c.args.rows.now c.args.place c.requires.labels.rising,
-      c.label_before-before.ensures,
-      c.label_after-after.ensures,
+      c.labels_beside-before.ensures.before,
+      c.labels_beside-before.ensures.after_it,
     )
 
 pub returns-then-after-before-ge2-clause-label : goal.returns-then-after-before-ge2-clause-label
