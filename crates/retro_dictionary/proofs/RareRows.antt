@@ -249,15 +249,17 @@ pub rare : RelabellingIsRare row_rule
 rare count edits last few ends = lasts least_insertions 0 (spread count) edits last (omega arith) (spread-lasts count few) ends
 
 -- labels rise
-pub former-below : (labels : List ℕ) (place : ℕ) → place ≤ length labels → 0 < place → AreApart 1 0 label_limit labels → label_before 0 labels (place - 1) ≤ label_before 0 labels place
-former-below labels place within some apart =
-    let next : suc (place - 1) ≡ place = omega arith in
-    omega (arith, gap_at 1 0 label_limit labels (place - 1) (omega arith) apart, next_before 0 label_limit labels (place - 1) (omega arith), ap (label_before 0 labels) next)
+pub former-below : (labels : List ℕ) (place : ℕ) → place ≤ length labels → AreApart 1 0 label_limit labels → label_before 0 labels (place - 1) ≤ label_before 0 labels place
+former-below labels zero within apart = omega arith
+former-below labels (suc place) within apart =
+    let less : place ≡ suc place - 1 = omega arith in
+    omega (arith, gap_at 1 0 label_limit labels place (omega arith) apart, next_before 0 label_limit labels place within, ap (label_before 0 labels) less)
 
-pub later-above : (labels : List ℕ) (place : ℕ) → place < length labels → AreApart 1 0 label_limit labels → label_later label_limit labels place ≤ label_later label_limit labels (place + 1)
-later-above labels place within apart =
-    let next : suc place ≡ place + 1 = omega arith in
-    omega (arith, gap_at 1 0 label_limit labels (suc place) (omega arith) apart, next_before 0 label_limit labels place within, ap (label_later label_limit labels) next)
+pub later-above : (first : ℕ) (labels : List ℕ) (place : ℕ) → AreApart 1 first label_limit labels → label_later label_limit labels place ≤ label_later label_limit labels (suc place)
+later-above first [] place apart = omega arith
+later-above first (label ∷ []) zero apart = omega (arith, apart.1)
+later-above first (label ∷ next ∷ labels) zero apart = omega (arith, apart.1.0)
+later-above first (label ∷ labels) (suc place) apart = later-above label labels place apart.1
 
 -- the label of a row lies between those beside its place
 pub after-between : (labels : List ℕ) (place : ℕ) → place ≡ length labels → label_before 0 labels place + 2 ≤ label_limit

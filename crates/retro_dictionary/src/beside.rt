@@ -1,8 +1,8 @@
-ghost use Rattle.std.specs.Prelude.{◌≡◌, ◌+◌, ◌-◌, ◌<◌, ◌≤◌, max, false, length, IfSome, IfNone};
-ghost use Rattle.order_labels.specs.Labels.{AreLabels, label_before, label_after as label_later, label_limit, has_room};
+ghost use Rattle.std.specs.Prelude.{◌≡◌, ◌+◌, ◌-◌, ◌<◌, ◌≤◌, max, false, length, IfSome, IfNone, if◌then◌else◌};
+ghost use Rattle.order_labels.specs.Labels.{AreLabels, label_before, label_limit, has_room};
 ghost use Rattle.retro_dictionary.specs.Edited.{IsBetween};
 ghost use Rattle.retro_dictionary.specs.RelabellingLaw.{one_more};
-ghost use Rattle.retro_dictionary.specs.RowLabels.{distance_beside, distance_by, gap_after, gap_before, label_after, label_beside, owed, rounded, row_rule, unit_after, unit_beside};
+ghost use Rattle.retro_dictionary.specs.RowLabels.{distance_beside, distance_by, label_after, label_beside, owed, rounded, row_rule, unit_after, unit_beside};
 
 use crate::lately::Lately;
 use crate::lifetimes::END;
@@ -27,41 +27,6 @@ pub(crate) fn label_before(labels: &Labels, place: u32) -> u64
     labels.label_at(place - 1)
 }
 
-/// The label of the row at a place, or the end of all labels.
-fn label_later(labels: &Labels, place: u32) -> u64
-    requires { place ≤ length labels.now }
-    ensures { result ≡ label_later label_limit labels.now place }
-{
-    if place == labels.len() {
-        return END;
-    }
-    labels.label_at(place)
-}
-
-/// The gap before the label before a place, or the end of all labels where there is none.
-fn gap_before(labels: &Labels, place: u32) -> u64
-    requires within { place ≤ length labels.now }
-    requires labels { AreLabels labels.now }
-    ensures { result ≡ gap_before labels.now place }
-{
-    if place == 0 {
-        return END;
-    }
-    label_before(labels, place) - label_before(labels, place - 1)
-}
-
-/// The gap after the label at a place, or the end of all labels where there is none.
-fn gap_after(labels: &Labels, place: u32) -> u64
-    requires within { place ≤ length labels.now }
-    requires labels { AreLabels labels.now }
-    ensures { result ≡ gap_after labels.now place }
-{
-    if place == labels.len() {
-        return END;
-    }
-    label_later(labels, place + 1) - label_later(labels, place)
-}
-
 /// The label that a row gets at a place, where one is left and so many rows were put in since all were relabelled: that of the
 /// rule in specs/RowLabels.antt.
 ///
@@ -76,17 +41,24 @@ pub(crate) fn free_label(labels: &Labels, lately: Lately, since: u32, place: u32
     ensures between { IfSome result (λ label. IsBetween labels.now place label) }
     ensures full { IfNone result (has_room labels.now place ≡ false) }
 {
-    let before = label_before(labels, place);
-    let after = label_later(labels, place);
-    if after - before < 2 {
+    let beside = labels.beside(place);
+    if beside.after - beside.before < 2 {
         return None;
     }
-    if place != labels.len() || place == 0 {
-        let left = gap_before(labels, place);
-        let right = gap_after(labels, place);
-        return Some(label_beside(lately, since, left, before, after, right));
+    if place == labels.len() && place > 0 {
+        return Some(label_after(beside.former, beside.before));
     }
-    Some(label_after(label_before(labels, place - 1), before))
+    let left = gap_or_end(place > 0, beside.former, beside.before);
+    let right = gap_or_end(place < labels.len(), beside.after, beside.later);
+    Some(label_beside(lately, since, left, beside.before, beside.after, right))
+}
+
+/// The gap between two labels, or the end of all labels where one of them is none.
+fn gap_or_end(is_gap: bool, lower: u64, upper: u64) -> u64
+    requires { lower ≤ upper }
+    ensures { result ≡ if is_gap then upper - lower else label_limit }
+{
+    if is_gap { upper - lower } else { END }
 }
 
 /// One insertion more since all rows were relabelled, counted up to 22.

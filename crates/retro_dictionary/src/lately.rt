@@ -1,5 +1,6 @@
-ghost use Rattle.std.specs.Prelude.{◌≡◌, ◌≤◌, length};
+ghost use Rattle.std.specs.Prelude.{◌≡◌, ◌≤◌, length, if◌then◌else◌};
 ghost use Rattle.retro_base.specs.Visits.{OpensCounter};
+ghost use Rattle.retro_dictionary.specs.declared.lately.Lately.TheVariants.{Before, After, Neither};
 ghost use Rattle.retro_dictionary.specs.RowLabels.{came_lately, lately_beside};
 
 use monoid_laws::Counted;
@@ -21,7 +22,7 @@ pub(crate) enum Lately {
 const LATEST: u32 = 8;
 
 /// Which of the rows beside a place came in lately, before a row with this number is put in there. After all rows the rule does not
-/// ask.
+/// ask, and where none stands before the place, this number is read in its stead, which is not lately before itself.
 pub(crate) fn lately_beside<L: Ledger>(
     rows: &Tree<Counted<Row>>,
     place: u32,
@@ -36,13 +37,28 @@ pub(crate) fn lately_beside<L: Ledger>(
         return Lately::Neither;
     }
     let mut steps = Steps::<L>::new(blank);
-    if place > 0 && came_lately(rows.get(place - 1, &mut steps).value().number, number) {
-        return Lately::Before;
+    let count = place.min(1);
+    let mut numbers = [number; 2];
+    rows.read(
+        place - count,
+        |row: &Counted<Row>| row.value().number,
+        &mut numbers[1 - count as usize..],
+        &mut steps,
+    );
+    lately_in(numbers[0], numbers[1], number)
+}
+
+/// Which of the rows with these numbers, before a place and after it, came in lately before the one with the next number.
+fn lately_in(before: u32, after: u32, next: u32) -> Lately
+    ensures { result ≡ if came_lately before next then Before else if came_lately after next then After else Neither }
+{
+    if came_lately(before, next) {
+        Lately::Before
+    } else if came_lately(after, next) {
+        Lately::After
+    } else {
+        Lately::Neither
     }
-    if came_lately(rows.get(place, &mut steps).value().number, number) {
-        return Lately::After;
-    }
-    Lately::Neither
 }
 
 /// Whether the row with a number came in lately before the one with the next one.
