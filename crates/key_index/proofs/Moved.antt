@@ -5,7 +5,7 @@ use Rattle.std.specs.List.{AllByRecursion, filter}
 use Rattle.std.proofs.lemmas.Int.{ints}
 use Rattle.std.proofs.lemmas.Bool.{cases_lt, ltb-true, ne_eqb}
 use Rattle.std.proofs.lemmas.Bool.Decides.{nat_tests, Decides-int_eq, Decides-eqb}
-use Rattle.std.proofs.lemmas.List.{length-map, drop_all, take_all, append-nil}
+use Rattle.std.proofs.lemmas.List.{length-map}
 use Rattle.retro_base.specs.declared.kind.Kind.TheVariants.{Dict}
 use Rattle.retro_base.specs.Kind.{kind_of}
 use Rattle.key_index.specs.KeyRows.{KeyRow, LabelsRise, key_of, is_on}
@@ -162,17 +162,3 @@ module _ (former fresh : List ℕ) where
     more place [] there = absurd (cc)
     more zero (first ∷ rows) there = let one : row ≡ first = cc in ap (λ (r : KeyRow). (counterpart former fresh r.0, r.1) ∷ rows) one
     more (suc place) (first ∷ rows) there = ap (λ found. (counterpart former fresh first.0, first.1) ∷ found) (more place rows there)
-
-  pub partly-length : (place : ℕ) (rows : List KeyRow) → length (partly place rows) ≡ length rows
-  partly-length zero rows = refl
-  partly-length (suc place) [] = refl
-  partly-length (suc place) (row ∷ rows) = ap suc (partly-length place rows)
-
-  pub partly-all : (place : ℕ) (rows : List KeyRow) → length rows ≤ place → partly place rows ≡ relabelled former fresh rows
-  partly-all place rows all = ap (λ found. relabelled former fresh found ++ drop place rows) (take_all place rows all)
-      ∙ ap (λ found. relabelled former fresh rows ++ found) (drop_all place rows all) ∙ append-nil (relabelled former fresh rows)
-
-  pub one_held : (rows : List KeyRow) (place : ℕ) (row : KeyRow) → HoldsLabels former rows → slice_get rows place ≡ Some row → is_in former row.0 ≡ true
-  one_held [] place row all there = absurd (cc)
-  one_held (first ∷ rows) zero row all there = let one : first ≡ row = cc in rw one at all.0
-  one_held (first ∷ rows) (suc place) row all there = one_held rows place row all.1 there

@@ -1,6 +1,6 @@
 -- The place of a mark, by the number of marks in front of a place. The layers above may cite these laws.
-use Rattle.std.proofs.Common.{◌≡◌, ℕ, zero, suc, ◌+◌, ◌<◌, ◌≤◌, ℤ, Bool, true, false, List, [], ◌∷◌, take, Option, Some, None, refl, ap, sym, ◌∙◌, arith}
-use Rattle.std.specs.Prelude.{slice_get, if◌then◌else◌}
+use Rattle.std.proofs.Common.{◌≡◌, ℕ, zero, suc, ◌+◌, ◌<◌, ◌≤◌, ℤ, Bool, true, false, List, [], ◌∷◌, take, Some, refl, ap, sym, ◌∙◌, arith}
+use Rattle.std.specs.Prelude.{if◌then◌else◌}
 use Rattle.prefix_trees.specs.SignPrefixes.{marks_in, IsKthMarked}
 
 -- a longer prefix has no fewer marks
@@ -9,11 +9,6 @@ marks-rise items zero later order = omega arith
 marks-rise items (suc place) zero order = absurd (omega arith)
 marks-rise [] (suc place) (suc later) order = omega arith
 marks-rise (item ∷ items) (suc place) (suc later) order = omega (arith, marks-rise items place later (omega arith))
-
-pub marks-le : (items : List (ℤ × Bool)) (place : ℕ) → marks_in (take place items) ≤ marks_in items
-marks-le items zero = omega arith
-marks-le [] (suc place) = omega arith
-marks-le (item ∷ items) (suc place) = omega (arith, marks-le items place)
 
 marked_first : (sign : ℤ) (b : Bool) (k : ℕ) → k < (if b then 1 else 0) + 0 → (◌≡◌ {A = Bool} b true) × (k ≡ 0)
 marked_first sign true k more = (refl, omega arith)
@@ -46,16 +41,3 @@ kth-is (item ∷ items) k zero few more = first_is item items k more
 kth-is (item ∷ items) k (suc place) few more =
     let less = less_one (if item.1 then 1 else 0) k (omega (arith, few)) in
     one_further item items less.0 k place less.1 (kth-is items less.0 place (omega (arith, few, less.1)) (omega (arith, more, less.1)))
-
-some_item : (item other : ℤ × Bool) → ◌≡◌ {A = Option (ℤ × Bool)} (Some item) (Some other) → item ≡ other
-some_item item other same = cc
-
-no_item : (item : ℤ × Bool) → ◌≡◌ {A = Option (ℤ × Bool)} None (Some item) → ⊥
-no_item item same = cc
-
--- a marked place has one mark more after it
-pub marks-next : (items : List (ℤ × Bool)) (place : ℕ) (sign : ℤ) → slice_get items place ≡ Some (sign, true) → marks_in (take (suc place) items) ≡ suc (marks_in (take place items))
-marks-next [] zero sign is = absurd (no_item (sign, true) is)
-marks-next [] (suc place) sign is = absurd (no_item (sign, true) is)
-marks-next (item ∷ items) zero sign is = ap (λ (i : ℤ × Bool). (if i.1 then 1 else 0) + 0) (some_item item (sign, true) is)
-marks-next (item ∷ items) (suc place) sign is = omega (arith, marks-next items place sign is)

@@ -57,9 +57,6 @@ end_is xs zs is = items_same xs zs (run-nil (items xs) (items zs) is)
 further : (a b c : ℤ) → (a +ℤ b) +ℤ c ≡ a +ℤ (b +ℤ c)
 further a b c = omega (arith, ints)
 
-none_yet : (a : ℤ) → a +ℤ pos 0 ≡ a
-none_yet a = omega (arith, ints)
-
 module _ (kind : Kind) (line : IsLine kind) (position : ℤ) where
   -- the position is inside after so many rows, where the ends stood at these growths before
   abbrev InsideAt : ℤ → ℤ → List Row → ℕ → Type 0

@@ -1,5 +1,5 @@
 -- How many items pass a test, and lists of the same items.
-use Rattle.std.proofs.Common.{◌≡◌, ◌+◌, Bool, true, false, ◌&&◌, cond, List, [], ◌∷◌, ◌++◌, map, refl, sym, ap, ◌∙◌, arith}
+use Rattle.std.proofs.Common.{◌≡◌, ◌+◌, Bool, true, false, ◌&&◌, cond, List, [], ◌∷◌, ◌++◌, refl, sym, ap, ◌∙◌, arith}
 use Rattle.std.specs.List.{filter, count_by}
 use Rattle.std.proofs.lemmas.List.Sums.{sum_by-cons, sum_by-append}
 use Rattle.retro_dictionary.specs.SameItems.{HaveSameItems}
@@ -17,10 +17,6 @@ count-filter test other (x ∷ xs) =
       | true ↦ count-cons test x (filter other xs) ∙ ap (λ n. cond (test x) 1 0 + n) (count-filter test other xs)
       | false ↦ count-filter test other xs ∙ omega arith
     ] ∙ sym (count-cons (λ y. other y && test y) x xs)
-
-pub count-map : {X Y : Type 0} (test : Y → Bool) (f : X → Y) (xs : List X) → count_by test (map f xs) ≡ count_by (λ x. test (f x)) xs
-count-map test f [] = refl
-count-map test f (x ∷ xs) = count-cons test (f x) (map f xs) ∙ ap (λ n. cond (test (f x)) 1 0 + n) (count-map test f xs) ∙ sym (count-cons (λ y. test (f y)) x xs)
 
 module _ {X : Type 0} where
   pub same-refl : (xs : List X) → HaveSameItems xs xs
@@ -41,14 +37,8 @@ module _ {X : Type 0} where
   pub same-append : (xs ys us vs : List X) → HaveSameItems xs ys → HaveSameItems us vs → HaveSameItems (xs ++ us) (ys ++ vs)
   same-append xs ys us vs p q = record { as_many = λ test. omega (arith, count-append test xs us, count-append test ys vs, p.as_many test, q.as_many test) }
 
-  pub same-swap : (xs ys : List X) → HaveSameItems (xs ++ ys) (ys ++ xs)
-  same-swap xs ys = record { as_many = λ test. omega (arith, count-append test xs ys, count-append test ys xs) }
-
   pub same-middle : (xs : List X) (x : X) (ys : List X) → HaveSameItems (xs ++ x ∷ ys) (x ∷ (xs ++ ys))
   same-middle xs x ys = record { as_many = λ test. omega (arith, count-append test xs (x ∷ ys), count-append test xs ys, count-cons test x ys, count-cons test x (xs ++ ys)) }
 
   pub same-regroup : (xs ys zs : List X) → HaveSameItems ((xs ++ ys) ++ zs) (ys ++ (xs ++ zs))
   same-regroup xs ys zs = record { as_many = λ test. omega (arith, count-append test xs ys, count-append test (xs ++ ys) zs, count-append test xs zs, count-append test ys (xs ++ zs)) }
-
-pub same-map : {X Y : Type 0} (f : X → Y) (xs ys : List X) → HaveSameItems xs ys → HaveSameItems (map f xs) (map f ys)
-same-map f xs ys same = record { as_many = λ test. count-map test f xs ∙ same.as_many (λ x. test (f x)) ∙ sym (count-map test f ys) }

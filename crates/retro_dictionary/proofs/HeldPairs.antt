@@ -81,10 +81,6 @@ module _ (label : ℕ) (below : label < label_end) where
     pub sorted : AreSorted after
     pub same : HaveSameItems (items_at label (lifetimes_of rows) ++ filter (stays label rows) before) after
 
-  all_stay : (ps : List (ℤ × ℤ)) → filter (stays label []) ps ≡ ps
-  all_stay [] = refl
-  all_stay (e ∷ es) = ap (λ b. cond b (e ∷ filter (stays label []) es) (filter (stays label []) es)) (lt-ltb label label_end below) ∙ ap (λ ps. e ∷ ps) (all_stay es)
-
   -- rows after the label
   abbrev AreLater : List KeyRow → Type 0
   AreLater rows = AllByRecursion (λ (row : KeyRow). label < row.0) rows

@@ -47,9 +47,6 @@ module _ (front : List KeyRow) (row : KeyRow) (after : List KeyRow) where
   abbrev own : Lives
   own = up_to_label (placed_at row.0 (put_by row.1)) next
 
-  front_swap : (a b c : Lives) → HaveSameItems (a ++ (b ++ c)) (b ++ (a ++ c))
-  front_swap a b c = record { as_many = λ test. omega (arith, count-append test a (b ++ c), count-append test b c, count-append test b (a ++ c), count-append test a c) }
-
   without-is : ordered (lifetimes_of (front ++ after)) ≡ ordered (up_to_label left next ++ (edited row after front).others)
   without-is = same-ordered (lifetimes_of (front ++ after)) (up_to_label left next ++ (edited row after front).others) (edited row after front).without_row
 
