@@ -1,5 +1,5 @@
--- Where the sum of the signs falls first, were a row put in or taken out: the sums after the place rise or fall
--- by the row's sign, and those before it stay.
+-- After which row the size of a line falls below 0 first, were a row put in or taken out: the sizes after the place
+-- rise or fall by what that row lets the line grow, and those before it stay.
 use Rattle.std.proofs.Common.{◌≡◌, ℕ, zero, suc, ◌+◌, ◌-◌, ◌<◌, ◌≤◌, ℤ, pos, negsuc, ◌+ℤ◌, ◌-ℤ◌, ◌≤ℤ◌, ◌<ℤ◌, List, [], ◌∷◌, length, Option, Some, None, refl, ap, ◌∙◌, arith, inl, inr, subst}
 use Rattle.std.specs.Prelude.{slice_get}
 use Rattle.std.specs.List.{insert, remove}
@@ -77,7 +77,7 @@ module _ (rows : List Row) (place : ℕ) (never : NeverFalls rows) where
       not_before = λ k before. enough_with k (λ earlier after below. omega (arith, ints, first.not_before earlier after (omega arith))) (omega (arith, first.within));
     }
 
-    -- a row that takes nothing lowers no sum
+    -- a row that takes nothing lowers no size
     pub never-falls-insert : pos 0 ≤ℤ sign_of row.op → FallsFirst (insert rows place row) None
     never-falls-insert takes_none = λ k small.
         enough_with k (λ earlier after below. omega (arith, ints, takes_none, enough earlier (omega (arith, length-insert rows place row within))))
@@ -94,7 +94,7 @@ module _ (rows : List Row) (place : ℕ) (never : NeverFalls rows) where
       | inr before ↦ omega (arith, ints, grown-remove-before sign_of rows place k before, enough k (omega arith))
     ]
 
-    -- the sum falls no earlier than after the row that follows
+    -- the size falls no earlier than after the row that follows
     pub falls-later : (later : ℕ) → IsFirstAtMost sign_of rows (place + 1) (sign_of row.op -ℤ pos 1) later → place + 2 ≤ later
     falls-later later first = elim (cases_lt (place + 1) later) [
       | inl far ↦ omega arith
@@ -118,7 +118,7 @@ module _ (rows : List Row) (place : ℕ) (never : NeverFalls rows) where
       length_less (r ∷ rows) zero inside = omega arith
       length_less (r ∷ rows) (suc place) inside = omega (arith, length_less rows place (omega arith))
 
-    -- without a row that adds nothing no sum is lower
+    -- without a row that adds nothing no size is lower
     pub never-falls-remove : sign_of row.op ≤ℤ pos 0 → FallsFirst (remove rows place) None
     never-falls-remove adds_none k small =
         enough_without k (λ later after below. omega (arith, ints, adds_none, enough later (omega (arith, length_without)))) (omega (arith, length_without))

@@ -1,5 +1,5 @@
--- Rows of a line replay exactly where the sum of their signs never falls below 0, and the first one after which
--- it does is the first that cannot be performed.
+-- Rows of a line replay exactly where the size of the line never falls below 0, and the first one after which it
+-- does is the first that cannot be performed.
 use Rattle.std.proofs.Common.{◌≡◌, ℕ, zero, suc, ◌≤◌, ℤ, pos, negsuc, ◌+ℤ◌, ◌≤ℤ◌, List, [], ◌∷◌, take, length, Option, Some, None, Result, Ok, Err, refl, sym, ap, ◌∙◌, arith, subst, length-take-le}
 use Rattle.std.specs.Result.{result_err, result_unwrap_or}
 use Rattle.std.specs.Option.{option_map}
@@ -73,7 +73,7 @@ failure_from kind (row ∷ rows) xs answer line all falls =
           ∙ later.2
     ] refl
 
--- which row fails first is found by the sums of the signs
+-- which row fails first is found by the sizes of the line
 pub failure-falls : (kind : Kind) (rows : List Row) (answer : Option ℕ) → IsLine kind → AreOfKind kind rows → FallsFirst rows answer → failure kind rows ≡ answer
 failure-falls kind rows answer line all falls = ap (λ s. result_err (run rows s)) (empty-line kind line) ∙ failure_from kind rows [] answer line all falls
 
