@@ -12,7 +12,7 @@ pub enum End {
 }
 
 /// By how much an operation lets a line of items grow: 1, 0 or -1.
-pub fn sign_of(op: Op) -> i8
+pub(crate) fn sign_of(op: Op) -> i8
     ensures value { result ≡ sign_of op }
     ensures sign { IsSign result }
 {
@@ -24,7 +24,7 @@ pub fn sign_of(op: Op) -> i8
 }
 
 /// By how much it lets the line grow at its left end.
-pub fn left_growth(op: Op) -> i8
+pub(crate) fn left_growth(op: Op) -> i8
     ensures value { result ≡ left_growth op }
     ensures sign { IsSign result }
 {
@@ -37,7 +37,7 @@ pub fn left_growth(op: Op) -> i8
 }
 
 /// By how much it lets the line grow at its right end.
-pub fn right_growth(op: Op) -> i8
+pub(crate) fn right_growth(op: Op) -> i8
     ensures value { result ≡ right_growth op }
     ensures sign { IsSign result }
 {
@@ -50,7 +50,7 @@ pub fn right_growth(op: Op) -> i8
 }
 
 /// The item that the operation adds, where it adds one to a line.
-pub fn value_of(op: Op) -> Option<i64>
+pub(crate) fn value_of(op: Op) -> Option<i64>
     ensures { result ≡ value_of op }
 {
     match op {

@@ -22,9 +22,7 @@
 //!
 //! | Call | Nodes visited, d being the digits of one more than the length |
 //! |---|---|
-//! | `row_at`, `value_at`, `size_at`, `last_growing`, `insert`, `remove` of `LineRows` | at most 12 d |
-//! | `failure_after_insert` of `LineRows` | at most 24 d |
-//! | `failure_after_remove` of `LineRows` | at most 36 d |
+//! | `size_at`, `last_growing`, `insert`, `remove` of `LineRows` | at most 12 d |
 //! | `copy` of `LineRows` | at most one for each row |
 //! | `insert`, `remove`, `prefix`, `kth_marked` of `SignTree` | at most 12 d |
 //! | `first_at_most`, `last_at_most` of `SignTree` | at most 24 d |
@@ -33,8 +31,7 @@
 //! What the layer above may rely on: the clauses of these types, in the words of lists; specs/Prefixes.antt and
 //! specs/SignPrefixes.antt for the searches; specs/MarkLaws.antt on marks; specs/Growth.antt and the laws beside it on the rows of a line.
 //!
-//! - Rows: `LineRows`, `End`. What an operation does to a line: `sign_of`, `left_growth`, `right_growth`, `value_of`.
-//! - Lines: `Sequence`, `RetroLine`. Signs: `SignTree`.
+//! - Rows: `LineRows`, `End`. Lines: `Sequence`, `RetroLine`. Signs: `SignTree`.
 #![tactic(auto)]
 
 mod asked;
@@ -46,7 +43,7 @@ mod sequence;
 mod sign_tree;
 mod signed;
 
-pub use growth::{End, left_growth, right_growth, sign_of, value_of};
+pub use growth::End;
 pub use line::RetroLine;
 pub use line_rows::LineRows;
 pub use sequence::Sequence;

@@ -42,7 +42,7 @@ impl LineRows {
     }
 
     /// Where the memory comes from.
-    pub fn alloc(&self) -> Global {
+    pub(crate) fn alloc(&self) -> Global {
         self.rows.alloc()
     }
 
@@ -54,7 +54,7 @@ impl LineRows {
     }
 
     /// The row at a place.
-    pub fn row_at<L: Ledger>(&self, place: u32, steps: &mut Steps<L>) -> Row
+    pub(crate) fn row_at<L: Ledger>(&self, place: u32, steps: &mut Steps<L>) -> Row
         requires { place < length self.now }
         ensures row { slice_get self.now place ≡ Some result }
         ensures visits { VisitsWithin 12 (length self.now) steps.old steps.new }
@@ -63,7 +63,7 @@ impl LineRows {
     }
 
     /// The item that the row at a place wrote.
-    pub fn value_at<L: Ledger>(&self, place: u32, steps: &mut Steps<L>) -> i64
+    pub(crate) fn value_at<L: Ledger>(&self, place: u32, steps: &mut Steps<L>) -> i64
         requires { (items : List ℤ) × ((index : ℕ) × IsWrittenAt self.now items index place) }
         ensures value { (items : List ℤ) (index : ℕ)
             → IsWrittenAt self.now items index place → slice_get items index ≡ Some result }
@@ -115,7 +115,7 @@ impl LineRows {
 
     /// The index of the first row that finds nothing to take, were a row with this operation put in at
     /// the place; none where each finds something, as where the row takes nothing itself.
-    pub fn failure_after_insert<L: Ledger>(
+    pub(crate) fn failure_after_insert<L: Ledger>(
         &self,
         place: u32,
         op: Op,
@@ -135,7 +135,11 @@ impl LineRows {
 
     /// The index of the first row that finds nothing to take, were the row at the place taken out; none
     /// where each finds something, as where the row adds nothing.
-    pub fn failure_after_remove<L: Ledger>(&self, place: u32, steps: &mut Steps<L>) -> Option<u32>
+    pub(crate) fn failure_after_remove<L: Ledger>(
+        &self,
+        place: u32,
+        steps: &mut Steps<L>,
+    ) -> Option<u32>
         requires within { place < length self.now }
         requires never { NeverFalls self.now }
         ensures first { FallsFirst (remove self.now place) result }
