@@ -12,9 +12,9 @@
 //! search, and by none where the edit lowers no size. An item keeps its position in the line while it is there; the row
 //! that wrote it is the last one before which the position was not yet reached (specs/PositionLaws.antt).
 //!
-//! A `RetroLine` is a queue, a stack or a deque whose past can be edited. What differs between the three is a `Sequence`:
-//! how that row is found. The answers, the content, the failing rows and the edits are here, once for all three kinds:
-//! `Partial` and `Retro` of `retro_base`, and `ask_past`.
+//! A `RetroLine` is a queue, a stack or a deque whose past can be edited, over its `LineRows`. What differs between the three is
+//! a `Sequence`: how that row is found. The answers, the content, the failing rows and the edits are here, once for all
+//! three kinds: `Partial` and `Retro` of `retro_base`, and `ask_past`.
 //!
 //! A `SignTree` serves whoever keeps signs of another kind: it is a list of signs, -1, 0 or 1, each with a mark. It tells the sum
 //! of the first signs, the first and the last place where such a sum is at most a value, and the place of the k-th mark

@@ -4,18 +4,20 @@ ghost use Rattle.retro_base.specs.Replay.{state_at};
 ghost use Rattle.retro_base.specs.Questions.{suits};
 ghost use Rattle.retro_base.specs.Visits.{OpensCounter, VisitsWithin};
 
+use crate::line_rows::LineRows;
 use crate::sequence::{Sequence, ask_sequence, ask_uncounted, list_sequence};
 use retro_base::{
     Answer, Change, Kind, Listing, NoMemory, Op, Partial, Question, Retro, Row, Steps, uncounted,
 };
 use std::alloc::Global;
-use std::marker::{Brand, Model};
+use std::marker::{Brand, Model, PhantomData};
 use std::sync::ledger::{Blank, Ledger};
 
 /// A queue, a stack or a deque whose past can be edited, which contracts see as its rows.
 #[derive(Drop)]
 pub struct RetroLine<S: Sequence> {
-    sequence: S,
+    rows: LineRows,
+    sequence: PhantomData<S>,
 }
 
 impl<S: Sequence> Model for RetroLine<S> {
@@ -25,9 +27,9 @@ impl<S: Sequence> Model for RetroLine<S> {
 
     ghost Value = { List Row };
 
-    ghost view = { λ line. S.rows line.sequence };
+    ghost view = { λ line. line.rows };
 
-    ghost invariant = { λ line. IsReplayable S.kind (S.rows line.sequence) };
+    ghost invariant = { λ line. IsReplayable S.kind line.rows };
 }
 
 impl<S: Sequence> RetroLine<S> {
@@ -36,7 +38,8 @@ impl<S: Sequence> RetroLine<S> {
         ensures { result ≡ [] }
     {
         RetroLine {
-            sequence: S::new(alloc),
+            rows: LineRows::new(alloc),
+            sequence: PhantomData,
         }
     }
 
@@ -52,7 +55,7 @@ impl<S: Sequence> RetroLine<S> {
         ensures answer { result ≡ answer_of (state_at S.kind self.now place) question }
         ensures visits { VisitsWithin 144 (length self.now) steps.old steps.new }
     {
-        ask_sequence(&self.sequence, place, question, steps)
+        ask_sequence::<S, L>(&self.rows, place, question, steps)
     }
 
     /// The same structure once more, with a counter of its own.
@@ -61,8 +64,11 @@ impl<S: Sequence> RetroLine<S> {
         ensures { IfOk result (λ copy. copy ≡ self.now) }
     {
         let mut steps = Steps::<L>::new(blank);
-        let sequence = self.sequence.copy(&mut steps)?;
-        Ok(RetroLine { sequence })
+        let rows = self.rows.copy(&mut steps)?;
+        Ok(RetroLine {
+            rows,
+            sequence: PhantomData,
+        })
     }
 }
 
@@ -72,15 +78,16 @@ impl<S: Sequence> Partial for RetroLine<S> {
     ghost rows = { λ line. line };
 
     fn kind(&self) -> Kind {
-        self.sequence.kind()
+        let _replayable = &self.rows;
+        S::kind()
     }
 
     fn len(&self) -> u32 {
-        self.sequence.rows().len()
+        self.rows.len()
     }
 
     fn row_at<L: Ledger>(&self, place: u32, steps: &mut Steps<L>) -> Row {
-        self.sequence.rows().row_at(place, steps)
+        self.rows.row_at(place, steps)
     }
 
     fn failure_after_insert<L: Ledger>(
@@ -89,13 +96,11 @@ impl<S: Sequence> Partial for RetroLine<S> {
         op: Op,
         steps: &mut Steps<L>,
     ) -> Option<u32> {
-        let rows = self.sequence.rows();
-        rows.failure_after_insert(place, op, steps)
+        self.rows.failure_after_insert(place, op, steps)
     }
 
     fn failure_after_remove<L: Ledger>(&self, place: u32, steps: &mut Steps<L>) -> Option<u32> {
-        let rows = self.sequence.rows();
-        rows.failure_after_remove(place, steps)
+        self.rows.failure_after_remove(place, steps)
     }
 
     fn insert<L: Ledger>(
@@ -104,22 +109,20 @@ impl<S: Sequence> Partial for RetroLine<S> {
         row: Row,
         steps: &mut Steps<L>,
     ) -> Result<Change, NoMemory> {
-        self.sequence.insert(place, row, steps)?;
+        self.rows.insert(place, row, steps)?;
         Ok(Change::Plain)
     }
 
     fn remove<L: Ledger>(&mut self, place: u32, steps: &mut Steps<L>) -> (Row, Change) {
-        (self.sequence.remove(place, steps), Change::Plain)
+        (self.rows.remove(place, steps), Change::Plain)
     }
 
     fn ask_now<L: Ledger>(&self, question: Question, steps: &mut Steps<L>) -> Answer {
-        let end = self.sequence.rows().len();
-        ask_sequence(&self.sequence, end, question, steps)
+        ask_sequence::<S, L>(&self.rows, self.rows.len(), question, steps)
     }
 
     fn all_now(&self) -> Result<Listing, NoMemory> {
-        let end = self.sequence.rows().len();
-        list_sequence(&self.sequence, end)
+        list_sequence::<S>(&self.rows, self.rows.len())
     }
 
     fn copy(&self) -> Result<RetroLine<S>, NoMemory> {
@@ -161,10 +164,10 @@ impl<S: Sequence> Retro for RetroLine<S> {
     }
 
     fn ask(&mut self, place: u32, question: Question) -> Result<Answer, NoMemory> {
-        Ok(ask_uncounted(&self.sequence, place, question))
+        Ok(ask_uncounted::<S>(&self.rows, place, question))
     }
 
     fn all(&mut self, place: u32) -> Result<Listing, NoMemory> {
-        list_sequence(&self.sequence, place)
+        list_sequence::<S>(&self.rows, place)
     }
 }

@@ -1,60 +1,31 @@
 use prefix_trees::{End, LineRows, RetroLine, Sequence};
-use retro_base::{Kind, NoMemory, Row, Steps};
-use std::alloc::Global;
+use retro_base::{Kind, Steps};
 use std::sync::ledger::Ledger;
 
 /// A stack whose past can be edited, which contracts see as its rows.
-pub type RetroStack = RetroLine<StackRows>;
+pub type RetroStack = RetroLine<Stack>;
 
-/// The rows of a stack.
-#[derive(Drop)]
-pub struct StackRows {
-    rows: LineRows,
-}
+/// The kind whose rows put items in at the left end of a line, and take them there.
+pub struct Stack;
 
-impl Sequence for StackRows {
+impl Sequence for Stack {
     ghost use Rattle.retro_base.specs.declared.kind.Kind.TheVariants.{Stack};
 
     ghost kind = { Stack };
 
-    ghost rows = { λ stack. stack.rows };
-
     ghost is_line = { tt };
 
-    fn new(alloc: Global) -> StackRows {
-        StackRows {
-            rows: LineRows::new(alloc),
-        }
-    }
-
-    fn kind(&self) -> Kind {
+    fn kind() -> Kind {
         Kind::Stack
     }
 
-    fn rows(&self) -> &LineRows {
-        &self.rows
-    }
-
-    fn written_by<L: Ledger>(&self, place: u32, index: u32, steps: &mut Steps<L>) -> Option<u32> {
-        let count = i64::from(index) + 1;
-        self.rows.last_growing(End::Left, place, count, steps)
-    }
-
-    fn insert<L: Ledger>(
-        &mut self,
+    fn written_by<L: Ledger>(
+        rows: &LineRows,
         place: u32,
-        row: Row,
+        index: u32,
         steps: &mut Steps<L>,
-    ) -> Result<(), NoMemory> {
-        self.rows.insert(place, row, steps)
-    }
-
-    fn remove<L: Ledger>(&mut self, place: u32, steps: &mut Steps<L>) -> Row {
-        self.rows.remove(place, steps)
-    }
-
-    fn copy<L: Ledger>(&self, steps: &mut Steps<L>) -> Result<StackRows, NoMemory> {
-        let rows = self.rows.copy(steps)?;
-        Ok(StackRows { rows })
+    ) -> Option<u32> {
+        let count = i64::from(index) + 1;
+        rows.last_growing(End::Left, place, count, steps)
     }
 }

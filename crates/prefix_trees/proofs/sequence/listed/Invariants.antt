@@ -5,4 +5,4 @@ use Rattle.prefix_trees.specs.FailureLaws.{LineAt}
 use Rattle.prefix_trees.proofs.sequence.listed.Given as goal
 
 abbrev pub invariant-loop-index : goal.invariant-loop-index
-invariant-loop-index g l = (line : List ℤ) → LineAt g.S.Sequence.kind (g.S.Sequence.rows l.structure) l.place line → l.listing ≡ map (λ x. contents.Single x) (take l.index line)
+invariant-loop-index g l = (line : List ℤ) → LineAt g.S.Sequence.kind l.rows l.place line → l.listing ≡ map (λ x. contents.Single x) (take l.index line)

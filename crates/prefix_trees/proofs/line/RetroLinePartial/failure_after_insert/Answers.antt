@@ -1,16 +1,12 @@
-use Rattle.std.proofs.Common.{sym, ap, ◌∙◌, subst}
-use Rattle.std.specs.List.{insert}
+use Rattle.std.proofs.Common.{ap, ◌∙◌}
 use Rattle.retro_base.specs.Kind.{kind_of}
-use Rattle.prefix_trees.specs.Falls.{NeverFalls, FallsFirst}
 use Rattle.prefix_trees.proofs.LineAnswers.{never, fails-with}
 use Rattle.prefix_trees.proofs.line.RetroLinePartial.failure_after_insert.Goals as goal
 
 pub failure_after_insert-requires-clause-never : goal.failure_after_insert-requires-clause-never
-failure_after_insert-requires-clause-never g c =
-    subst NeverFalls (sym c.rows-rows.ensures) (never g.S.Sequence.kind (g.S.Sequence.rows c.self.inside.sequence) g.met.S.Sequence.is_line c.self.invariant)
+failure_after_insert-requires-clause-never g c = never g.S.Sequence.kind c.self.inside.rows g.met.S.Sequence.is_line c.self.invariant
 
 pub returns-clause-first : goal.returns-clause-first
 returns-clause-first g c = rw (← c.self.view_is) (λ row same.
-    fails-with g.S.Sequence.kind (g.S.Sequence.rows c.self.inside.sequence) g.met.S.Sequence.is_line c.self.invariant c.args.place row c.failure_after_insert.result
-    (ap kind_of same ∙ c.requires.of_kind)
-    (subst (λ rows. FallsFirst (insert rows c.args.place row) c.failure_after_insert.result) c.rows-rows.ensures (c.failure_after_insert.ensures.first row same)))
+    fails-with g.S.Sequence.kind c.self.inside.rows g.met.S.Sequence.is_line c.self.invariant c.args.place row c.failure_after_insert.result
+    (ap kind_of same ∙ c.requires.of_kind) (c.failure_after_insert.ensures.first row same))

@@ -6,7 +6,7 @@ use Rattle.prefix_trees.proofs.line.RetroLinePartial.remove.Goals as goal
 
 pub invariant_of-self : goal.invariant_of-self
 invariant_of-self g c =
-    let taken : g.S.Sequence.rows c.remove.new.self ≡ remove c.args.self.now c.args.place = search rules in
+    let taken : c.remove.new.self ≡ remove c.args.self.now c.args.place = search rules in
     subst (IsReplayable g.S.Sequence.kind) (sym taken)
     (replayable_without g.S.Sequence.kind c.args.self.now c.args.place (subst (IsReplayable g.S.Sequence.kind) c.self.view_is c.self.invariant) c.requires.replays)
 
