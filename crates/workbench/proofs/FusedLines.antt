@@ -1,11 +1,9 @@
 -- A line that starts a fused priority queue has the effect of one that starts a plain one.
-use Rattle.std.proofs.Common.{◌≡◌, ℕ, Bool, true, false, List, [], ◌∷◌, refl, sym, ap, ◌∙◌, Option, Some, None}
-use Rattle.std.specs.Prelude.{codes, Result, Ok, Err}
+use Rattle.std.proofs.Common.{◌≡◌, ℕ, false, List, [], ◌∷◌, refl, ap, ◌∙◌, Option, Some, None}
+use Rattle.std.specs.Prelude.{codes}
 use Rattle.std.specs.Option.{ok_or}
 use Rattle.retro_base.specs.Name.{name_of}
-use Rattle.retro_base.specs.declared.row.Row.{Row}
-use Rattle.retro_base.specs.LineLength.{is_long}
-use Rattle.script_grammar.specs.BlockLines.{are_end, are_passed_over, is_end, is_passed_over, row_of, row_spelled}
+use Rattle.script_grammar.specs.BlockLines.{is_end, is_passed_over, row_of}
 use Rattle.script_grammar.specs.Command.{command, command_of}
 use Rattle.script_grammar.specs.Numbers.{row_number_of}
 use Rattle.script_grammar.specs.Words.{words}
@@ -14,7 +12,7 @@ use Rattle.timeline_file.specs.Block.{Block, taken}
 use Rattle.workbench.specs.Bench.{NamedTimeline, OpenBlock, Bench, empty_bench}
 use Rattle.workbench.specs.FusedLines.{AreStarts, DifferInPieces, FusedAnswersAlike}
 use Rattle.workbench.specs.OwnLines.{answers_from}
-use Rattle.workbench.specs.Reaction.{BenchEffect, Reaction, happens, outside, reaction_of, reacts, reacts_to}
+use Rattle.workbench.specs.Reaction.{Reaction, happens, outside, reaction_of, reacts}
 
 module _ (name : List ℕ) where
   abbrev plain_words : List (List ℕ)

@@ -1,5 +1,5 @@
 -- Scripts that differ only in how their new priority queues are held: as `pq` says, or as a product of pieces, as `pqf` says.
-use Rattle.std.specs.Prelude.{◌≡◌, ◌⊎◌, ℕ, false, List, [], ◌∷◌, codes}
+use Rattle.std.specs.Prelude.{◌≡◌, ℕ, false, List, [], ◌∷◌, codes}
 use Rattle.retro_base.specs.LineLength.{is_long}
 use Rattle.script_grammar.specs.Words.{words}
 use Rattle.workbench.specs.OwnLines.{all_answers}
