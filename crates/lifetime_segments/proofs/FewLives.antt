@@ -14,12 +14,14 @@ use Rattle.lifetime_segments.specs.Tries.{IsOf, Touches, clipped, ending, parts,
 use Rattle.lifetime_segments.proofs.Nodes.{length-filter}
 
 -- a trie of few lifetimes keeps what of its lifetimes lies in the span
-pub few_of : {A M : Type 0} (before : A → A → Bool) (level : ℕ) (lives few : List (Lifetime A)) (trie : Trie A M) → trie ≡ Few few → IsOf before level lives trie → few ≡ in_order (stands_earlier before) (parts level lives)
+pub few_of : {A M : Type 0} (before : A → A → Bool) (level : ℕ) (lives few : List (Lifetime A)) (trie : Trie A M) → trie ≡ Few few → IsOf before level lives trie
+    → few ≡ in_order (stands_earlier before) (parts level lives)
 unfolding IsOf
 few_of before zero lives few trie is is_of = subst (IsOf before zero lives) is is_of
 few_of before (suc level) lives few trie is is_of = subst (IsOf before (suc level) lives) is is_of
 
-pub of_few : {A M : Type 0} (before : A → A → Bool) (level : ℕ) (lives few : List (Lifetime A)) (trie : Trie A M) → trie ≡ Few few → few ≡ in_order (stands_earlier before) (parts level lives) → IsOf before level lives trie
+pub of_few : {A M : Type 0} (before : A → A → Bool) (level : ℕ) (lives few : List (Lifetime A)) (trie : Trie A M) → trie ≡ Few few
+    → few ≡ in_order (stands_earlier before) (parts level lives) → IsOf before level lives trie
 unfolding IsOf
 of_few before zero lives few trie is kept = subst (IsOf before zero lives) (sym is) kept
 of_few before (suc level) lives few trie is kept = subst (IsOf before (suc level) lives) (sym is) kept
@@ -32,16 +34,17 @@ parts-with level life lives here =
 
 all_touch : {A : Type 0} (level : ℕ) (lives : List (Lifetime A)) → AllByRecursion (Touches level) (parts level lives)
 all_touch level [] = tt
-all_touch level (life ∷ lives) = elim (touches level life) as (λ b. touches level life ≡ b → AllByRecursion (Touches level) (map (clipped level) (cond b (life ∷ filter (touches level) lives) (filter (touches level) lives)))) [
-  | true ↦ λ there. (
-    record {
-      rises = (let both : (life.from < life.to) × (life.from < 2 ^ level) = (grind (arith, nat_tests), grind (arith, nat_tests)) in omega (arith, both.0, both.1));
-      begins = grind (arith, nat_tests);
-    },
-    all_touch level lives,
-  )
-  | false ↦ λ _. all_touch level lives
-] refl
+all_touch level (life ∷ lives) =
+    elim (touches level life) as (λ b. touches level life ≡ b → AllByRecursion (Touches level) (map (clipped level) (cond b (life ∷ filter (touches level) lives) (filter (touches level) lives)))) [
+      | true ↦ λ there. (
+        record {
+          rises = (let both : (life.from < life.to) × (life.from < 2 ^ level) = (grind (arith, nat_tests), grind (arith, nat_tests)) in omega (arith, both.0, both.1));
+          begins = grind (arith, nat_tests);
+        },
+        all_touch level lives,
+      )
+      | false ↦ λ _. all_touch level lives
+    ] refl
 
 pub few_touch : {A : Type 0} (before : A → A → Bool) (level : ℕ) (lives few : List (Lifetime A)) → few ≡ in_order (stands_earlier before) (parts level lives) → AllByRecursion (Touches level) few
 few_touch before level lives few is = subst (AllByRecursion (Touches level)) (sym is) (all-in_order (Touches level) (stands_earlier before) (parts level lives) (all_touch level lives))

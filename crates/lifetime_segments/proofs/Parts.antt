@@ -131,7 +131,8 @@ module _ {A : Type 0} where
   second-part : (level : ℕ) (life : Lifetime A) → second_part level life ≡ after (part (suc level) life) (second_part level)
   second-part level life = of_part (suc level) (second_part level) life
       (ap (λ b. after (cond (not b && nat_lt (2 ^ level) life.to) (Some (seen_from (2 ^ level) life)) None) (part level)) (whole-clipped (suc level) life)
-      ∙ ap (λ b. after (cond (not (is_whole (suc level) (clipped (suc level) life)) && b) (Some (seen_from (2 ^ level) life)) None) (part level)) (sym (below-cut (2 ^ level) life.to (2 ^ suc level) (omega (arith, double level, pow_pos level))))
+      ∙ ap (λ b. after (cond (not (is_whole (suc level) (clipped (suc level) life)) && b) (Some (seen_from (2 ^ level) life)) None) (part level))
+      (sym (below-cut (2 ^ level) life.to (2 ^ suc level) (omega (arith, double level, pow_pos level))))
       ∙ (elim (goes_second level (clipped (suc level) life)) as
       (λ b. after (cond b (Some (seen_from (2 ^ level) life)) None) (part level) ≡ after (cond b (Some (seen_from (2 ^ level) (clipped (suc level) life))) None) (part level)) [
         | true ↦ second-clipped level life

@@ -17,7 +17,8 @@ use Rattle.retro_dictionary.specs.declared.lately.Lately.TheVariants.{Before, Af
 use Rattle.retro_dictionary.specs.Edited.{IsBetween}
 use Rattle.retro_dictionary.specs.RelabellingLaw.{EndInRelabelling, RelabellingIsRare, RowEdit, label_edit, one_more}
 use Rattle.retro_dictionary.specs.RelabellingLaw.RowEdit.{PutIn, TakeOut}
-use Rattle.retro_dictionary.specs.RowLabels.{distance_after, distance_beside, distance_by, gap_after, gap_before, is_after_all, label_after, label_beside, owed, rounded, row_label, row_rule, unit_after, unit_beside, unit_further}
+use Rattle.retro_dictionary.specs.RowLabels.{distance_after, distance_beside, distance_by, gap_after, gap_before, is_after_all, label_after, label_beside, owed, rounded, row_label, row_rule}
+use Rattle.retro_dictionary.specs.RowLabels.{unit_after, unit_beside, unit_further}
 
 -- a distance that is rounded
 pub rounded-some : (distance : ℕ) → 0 < rounded distance
@@ -111,7 +112,8 @@ with_label distance labels place label within apart before after =
 has : (labels : List ℕ) (place : ℕ) → label_before 0 labels place + 2 ≤ label_later label_limit labels place → has_room labels place ≡ true
 has labels place room = le-leb 2 (label_later label_limit labels place - label_before 0 labels place) (omega arith)
 
-by_rule : (lately : Lately) (since : ℕ) (labels : List ℕ) (place : ℕ) → label_before 0 labels place + 2 ≤ label_later label_limit labels place → row_rule lately since labels place ≡ Some (row_label lately since labels place)
+by_rule : (lately : Lately) (since : ℕ) (labels : List ℕ) (place : ℕ)
+    → label_before 0 labels place + 2 ≤ label_later label_limit labels place → row_rule lately since labels place ≡ Some (row_label lately since labels place)
 by_rule lately since labels place room = ap (λ b. cond b (Some (row_label lately since labels place)) None) (has labels place room)
 
 pub before-others : (lately : Lately) (since : ℕ) (labels : List ℕ) (place : ℕ) → is_after_all labels place ≡ false
@@ -120,7 +122,8 @@ before-others lately since labels place is =
     ap (λ b. cond b (label_after (label_before 0 labels (place - 1)) (label_before 0 labels place))
     (label_beside lately since (gap_before labels place) (label_before 0 labels place) (label_later label_limit labels place) (gap_after labels place))) is
 
-pub after-all : (lately : Lately) (since : ℕ) (labels : List ℕ) (place : ℕ) → is_after_all labels place ≡ true → row_label lately since labels place ≡ label_after (label_before 0 labels (place - 1)) (label_before 0 labels place)
+pub after-all : (lately : Lately) (since : ℕ) (labels : List ℕ) (place : ℕ)
+    → is_after_all labels place ≡ true → row_label lately since labels place ≡ label_after (label_before 0 labels (place - 1)) (label_before 0 labels place)
 after-all lately since labels place is =
     ap (λ b. cond b (label_after (label_before 0 labels (place - 1)) (label_before 0 labels place))
     (label_beside lately since (gap_before labels place) (label_before 0 labels place) (label_later label_limit labels place) (gap_after labels place))) is

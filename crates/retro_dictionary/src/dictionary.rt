@@ -7,7 +7,7 @@ use crate::asked::{answer_from, found_at, range_of};
 use crate::beside::label_before;
 use crate::edit::{put, take_out};
 use crate::failing::{place_of_bad, place_of_bad_label};
-use crate::kept::{Kept, op_at};
+use crate::kept::{Kept, op_of_row};
 use crate::lately::lately_beside;
 use crate::listed::list_at;
 use retro_base::{Answer, Change, Kind, Listing, NoMemory, Op, Question, Retro, Row};
@@ -98,7 +98,7 @@ impl Retro for RetroDictionary {
 
     fn failure_after_remove(&self, place: u32) -> Option<u32> {
         let label = self.kept.labels.label_at(place);
-        let op = op_at::<Brand>(&self.kept.rows, place, Blank::new(1));
+        let op = op_of_row::<Brand>(&self.kept.rows, place, Blank::new(1));
         place_of_bad_label(
             &self.kept.labels,
             place,

@@ -40,7 +40,7 @@ impl Kept {
 }
 
 /// The operation of the row at a place.
-pub(crate) fn op_at<L: Ledger>(rows: &Tree<Counted<Row>>, place: u32, blank: Blank) -> Op
+pub(crate) fn op_of_row<L: Ledger>(rows: &Tree<Counted<Row>>, place: u32, blank: Blank) -> Op
     requires counter { OpensCounter blank.name L.name blank.parts L.parts }
     requires within { place < length rows.now }
     ensures { option_map (λ row. row.op) (slice_get rows.now place) ≡ Some result }

@@ -10,14 +10,23 @@ use Rattle.lifetime_segments.proofs.search.ask_few.Goals as goal
 use Rattle.lifetime_segments.proofs.search.ask_few.Goals.{then-holds, else-holds, After-get-life}
 
 -- the items that were looked at, and the one that is looked at now, are not too many
-together : (g : Over) (c : After-get-life g) → AreLawful g.D.Decomposable.stands_before (in_order g.D.Decomposable.stands_before (items_at c.args.label (take c.loop-place.place c.args.few.now))) (c.get-life.result.item ∷ [])
+together : (g : Over) (c : After-get-life g)
+    → AreLawful g.D.Decomposable.stands_before (in_order g.D.Decomposable.stands_before (items_at c.args.label (take c.loop-place.place c.args.few.now))) (c.get-life.result.item ∷ [])
 together g c =
     let before = g.D.Decomposable.stands_before in
     let seen = take c.loop-place.place c.args.few.now in
     record {
       first_ordered = in_order-ordered g.met.D.Decomposable.order (items_at c.args.label seen);
       second_ordered = (tt, tt);
-      few = omega (arith, length-in_order before (items_at c.args.label seen), items_at-few c.args.label seen, length-take c.loop-place.place c.args.few.now, c.requires.few, c.loop-place-test.true, c.len-place-end.ensures);
+      few = omega (
+        arith,
+        length-in_order before (items_at c.args.label seen),
+        items_at-few c.args.label seen,
+        length-take c.loop-place.place c.args.few.now,
+        c.requires.few,
+        c.loop-place-test.true,
+        c.len-place-end.ensures,
+      );
     }
 
 pub combine-part-requires : goal.combine-part-requires

@@ -11,7 +11,7 @@ bad_without-requires-clause-replays c = index-replays c.self.inside.kept.rows c.
 pub bad_without-requires-clause-there : goal.bad_without-requires-clause-there
 bad_without-requires-clause-there c =
     label-there c.self.inside.kept.rows c.self.inside.kept.labels c.self.inside.kept.index c.self.inside.kept.segments c.self.invariant c.args.place c.label_at-label.result c.label_at-label.ensures
-    c.op_at-op.result c.op_at-op.ensures
+    c.op_of_row-op.result c.op_of_row-op.ensures
 
 first : (c : goal.After-place_of_bad_label) → c.place_of_bad_label.result ≡ failure Dict (remove c.args.self.now c.args.place)
 first c =
