@@ -47,7 +47,7 @@ second-out level life lives broken ends = second-broken level life lives broken 
 
 module _ {A M : Type 0} {before : A → A → Bool} (order : IsOrder before) (level next : ℕ) (life : Lifetime A) where
   -- the first half, where the lifetime begins after it
-  pub first_none : (left : Trie A M) → is_whole (suc level) life ≡ false → is_whole (suc level) (ending next life) ≡ false → 2 ^ level ≤ life.from → MovesFirst before level life next left left
+  first_none : (left : Trie A M) → is_whole (suc level) life ≡ false → is_whole (suc level) (ending next life) ≡ false → 2 ^ level ≤ life.from → MovesFirst before level life next left left
   first_none left broken next_broken begins lives is_of =
       subst (λ ls. IsOf before level ls left) (first-out level life lives broken begins ∙ sym (first-out level (ending next life) lives next_broken begins)) is_of
 

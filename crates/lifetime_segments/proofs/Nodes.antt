@@ -11,11 +11,16 @@ use Rattle.lifetime_segments.specs.Lawful.{most_items, AreLawful}
 use Rattle.lifetime_segments.specs.Ordered.{IsOrder, AreInOrder, put_in, in_order, is_in, without}
 use Rattle.lifetime_segments.specs.OrderedLaws.{in_order-absorbs, in_order-ordered, in_order-kept, length-in_order, is_in-put_in, without-put_in}
 use Rattle.lifetime_segments.specs.Lifetimes.{holds, items_at, stands_earlier}
-use Rattle.lifetime_segments.specs.Tries.{Has, NodeHas, HasOne, NodeHasOne, FirstHasOne, SecondHasOne, IsOf, IsOfNode, IsBare, LeadsTo, parts}
+use Rattle.lifetime_segments.specs.Tries.{Has, NodeHas, HasOne, NodeHasOne, FirstHasOne, SecondHasOne, IsOf, IsOfNode, IsBare, parts}
 use Rattle.lifetime_segments.specs.Tries.{NodeKeeps, NodeAdds, NodeTakes, AddsFirst, AddsSecond, TakesFirst, TakesSecond, is_whole, wholes}
 use Rattle.lifetime_segments.specs.Tries.{in_first, in_second, seen_from, items_below}
 use Rattle.lifetime_segments.proofs.Spans.{first-in_order, second-in_order}
 use Rattle.lifetime_segments.proofs.Parts.{parts-nowhere, parts-nowhere-zero}
+
+-- the node is what the trie leads to
+abbrev pub LeadsTo : {A M : Type 0} → Trie A M → Node A M → Type 0
+LeadsTo (Few few) node = ⊥
+LeadsTo (Full' p items left right) node = (node.items ≡ items) × (node.left ≡ left) × (node.right ≡ right)
 
 -- what holds of a trie holds of the node that it leads to, and the other way round
 pub node_of : {A M : Type 0} (before : A → A → Bool) (level : ℕ) (lives : List (Lifetime A)) (trie : Trie A M) (node : Node A M) → LeadsTo trie node → IsOf before level lives trie → IsOfNode before level lives node
@@ -66,7 +71,8 @@ unfolding IsOf
 no_parts before zero lives trie none is_of = nothing (stands_earlier before) (parts zero lives) (subst (IsOf before zero lives) none is_of)
 no_parts before (suc level) lives trie none is_of = nothing (stands_earlier before) (parts (suc level) lives) (subst (IsOf before (suc level) lives) none is_of)
 
-pub bare_nothing : {A M : Type 0} (before : A → A → Bool) (level : ℕ) (lives : List (Lifetime A)) (node : Node A M) → IsBare node → IsOfNode before level lives node → (trie : Trie A M) → trie ≡ Few [] → IsOf before level lives trie
+pub bare_nothing : {A M : Type 0} (before : A → A → Bool) (level : ℕ) (lives : List (Lifetime A)) (node : Node A M) → IsBare node
+    → IsOfNode before level lives node → (trie : Trie A M) → trie ≡ Few [] → IsOf before level lives trie
 unfolding IsOf IsOfNode
 bare_nothing before zero lives node bare is_of trie is =
     subst (IsOf before zero lives) (sym is) (sym (ap (in_order (stands_earlier before)) (parts-nowhere-zero lives (nothing before (wholes zero lives) (sym bare.no_items ∙ is_of)))))

@@ -44,6 +44,7 @@ clipped level life = ending (min life.to (2 ^ level)) life
 abbrev pub touches : {A : Type 0} → ℕ → Lifetime A → Bool
 touches level life = nat_lt life.from life.to && nat_lt life.from (2 ^ level)
 
+-- the same, as what a call asks for
 pub record Touches {A : Type 0} (level : ℕ) (life : Lifetime A) : Type 0 where
   pub rises : life.from < life.to
   pub begins : life.from < 2 ^ level
@@ -69,11 +70,6 @@ IsOfNode before (suc level) lives node =
     (node.items ≡ in_order before (wholes (suc level) lives))
     × IsOf before level (in_first level lives) node.left
     × IsOf before level (in_second level lives) node.right
-
--- the node is what the trie leads to
-abbrev pub LeadsTo : {A M : Type 0} → Trie A M → Node A M → Type 0
-LeadsTo (Few few) node = ⊥
-LeadsTo (Full' p items left right) node = (node.items ≡ items) × (node.left ≡ left) × (node.right ≡ right)
 
 -- there are no lifetimes, and no node
 abbrev pub IsNothing : {A M : Type 0} → Trie A M → Type 0
@@ -105,7 +101,7 @@ pub record NodeHasOne {A M : Type 0} (before : A → A → Bool) (level : ℕ) (
   pub others : List (Lifetime A)
   pub is_of : IsOfNode before level (life ∷ others) node
 
--- the parts of a lifetime and of others in a half of this level
+-- it has what of a lifetime and of others goes into a half of this level
 pub record FirstHasOne {A M : Type 0} (before : A → A → Bool) (level : ℕ) (life : Lifetime A) (trie : Trie A M) : Type 0 where
   pub others : List (Lifetime A)
   pub is_of : IsOf before level (in_first level (life ∷ others)) trie
@@ -140,7 +136,7 @@ NodeTakes {A} before level life old new = (lives : List (Lifetime A)) → IsOfNo
 abbrev pub NodeMoves : {A M : Type 0} → (A → A → Bool) → ℕ → Lifetime A → ℕ → Node A M → Node A M → Type 0
 NodeMoves {A} before level life next old new = (lives : List (Lifetime A)) → IsOfNode before level (life ∷ lives) old → IsOfNode before level (ending next life ∷ lives) new
 
--- the same of the parts in a half of this level
+-- the same of what goes into a half of this level
 abbrev pub AddsFirst : {A M : Type 0} → (A → A → Bool) → ℕ → Lifetime A → Trie A M → Trie A M → Type 0
 AddsFirst {A} before level life old new = (lives : List (Lifetime A)) → IsOf before level (in_first level lives) old → IsOf before level (in_first level (life ∷ lives)) new
 

@@ -85,7 +85,7 @@ fn add_to_node<D: Decomposable, L: Ledger>(
     }
 }
 
-/// After out of memory on the second side, the first is as before.
+/// After out of memory on the second side, the first has the lifetimes that it had.
 #[cycle(add)]
 fn add_to_halves<D: Decomposable, L: Ledger>(
     node: &mut Node<D::Item>,
@@ -377,8 +377,8 @@ fn move_in_halves<D: Decomposable, L: Ledger>(
     lengthen::<D, L>(node, level, life, next, alloc, steps)
 }
 
-/// A lifetime that ended in the first half ends in the second. After out of memory in the first half, the second is as
-/// before.
+/// A lifetime that ended in the first half ends in the second. After out of memory in the first half, the second has the
+/// lifetimes that it had.
 #[cycle(move_end)]
 fn lengthen<D: Decomposable, L: Ledger>(
     node: &mut Node<D::Item>,
@@ -430,9 +430,6 @@ fn move_first<D: Decomposable, L: Ledger>(
     ensures err { OnErr result (Keeps D.stands_before level left.old left.new) }
 {
     let half = labels(level);
-    if half <= life.from {
-        return Ok(());
-    }
     if half <= life.to && half <= next {
         return Ok(());
     }

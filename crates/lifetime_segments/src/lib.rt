@@ -6,10 +6,12 @@
 //! of them, and gives these items. Where nothing is asked but at the last label, the items alone serve better.
 //!
 //! `Segments` is a segment tree (Bentley 1977) over labels of 40 bits. The spans of labels are dyadic: that of the root
-//! has all labels, and each has two halves. A lifetime is made up of at most two spans of each level, and its item lies
-//! in the nodes of these. The spans that hold a label are those on the way from the root to it, 41 at the most, and a
-//! lifetime that holds the label lies in exactly one of them; so their answers are combined. A node keeps its items in a
-//! tree in their order, and one with nothing is dropped.
+//! has all labels, and each has two halves. While the lifetimes in a span are few, it keeps them as they are, cut off where
+//! the span ends, in one tree by where they begin. Where more come in they are divided: the items of those that hold the
+//! whole span lie in a tree of the span itself, in their order, and the others go on into the halves that they touch. So
+//! a lifetime is made up of at most two spans of each level. The spans that hold a label are those on the way from the
+//! root to it, 41 at the most, and a lifetime that holds the label lies in exactly one of them; so their answers are
+//! combined. A span that was divided stays so until it has nothing left.
 //!
 //! Beside it all lifetimes stand in one tree, by where they begin. One whose end moves mostly keeps its place there, and is
 //! replaced; only where it goes past another that begins at the same label is it put in and taken out.
@@ -17,20 +19,21 @@
 //! | Call | Cost, with n lifetimes |
 //! |---|---|
 //! | `new` | constant |
-//! | `add`, `take` | a search of log n in each of at most 80 nodes |
-//! | `move_end` | that of an `add` and a `take`, but for the nodes of spans that the lifetime has with either end |
-//! | `ask` | one `ask` in each of at most 41 nodes, and as many of `combine` |
-//! | `items_at` | a walk through at most 41 nodes, and through the items that it gives |
+//! | `add`, `take` | a search of log n in each of at most 80 spans; where an `add` divides a span, one for each of its 63 lifetimes as well |
+//! | `move_end` | that of an `add` and a `take`, but for the spans that the lifetime has with either end |
+//! | `ask` | one `ask` in each of at most 41 spans, one `ask_one` for each of at most 63 lifetimes where the way ends, and as many of `combine` |
+//! | `items_at` | a walk through at most 41 spans, and through the items that it gives |
 //!
-//! `add` and `move_end` take memory for a node of each new span and for one of each tree, and leave all as it was where
-//! there is none; `items_at` takes it for what it gives. No other call takes any.
+//! `add` and `move_end` take memory in the tree of each span that a lifetime comes to, and for the node of each that is
+//! divided, and leave the lifetimes as they were where there is none; `items_at` takes it for what it gives. No other call
+//! takes any.
 //!
 //! What the layer above may rely on, beside the clauses: the definitions of specs/Ordered.antt, specs/Lifetimes.antt and
 //! specs/Lawful.antt, and the laws of lists in their order in specs/OrderedLaws.antt and specs/LifetimeLaws.antt. So a
 //! caller with a list of its own says that what is held is that list `in_order`.
 //!
 //! - `decomposable`: the trait. `segments`: the type and its calls. `lifetime`: what lies in a span, and what in its halves.
-//! - `trie`: the nodes of the spans. `edit`: putting an item in, moving its end and taking it out. `search`: the way to a label.
+//! - `trie`: the spans. `edit`: putting a lifetime in, moving its end and taking it out. `search`: the way to a label.
 //!   `collect`: the items on this way.
 //! - `sorted`: trees that keep their items in an order.
 #![tactic(auto)]

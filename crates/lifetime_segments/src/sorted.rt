@@ -137,8 +137,8 @@ pub(crate) fn take_out<O: Order, L: Ledger>(
     items.remove(place, steps);
 }
 
-/// Takes an item out that is there, and puts another one in, in its place where it stands in order there. After `NoMemory` all is
-/// as before.
+/// Takes an item out that is there, and puts another one in: where that one stands in order in the place of the first, it is
+/// written there. After `NoMemory` all is as before.
 pub(crate) fn exchange<O: Order, L: Ledger>(
     items: &mut Tree<O::Item>,
     item: O::Item,

@@ -12,7 +12,7 @@ use weighted_tree::Tree;
 /// With more of them less is divided, so that an edit touches fewer spans; with fewer of them a question looks at less.
 pub(crate) const FEW: u32 = 63;
 
-/// The lifetimes in a span of labels: as they are where they are few, and else divided over the span itself and its halves.
+/// The lifetimes in a span of labels: as they are, or divided over the span itself and its halves once they were more than a few.
 #[cycle(trie)]
 #[derive(Drop)]
 pub(crate) enum Trie<T: Measured> {

@@ -1,6 +1,6 @@
 use Rattle.std.proofs.Common.{◌≡◌, ◌<◌, ◌≤◌, ◌-◌, ◌^◌, ◌++◌, suc, refl, sym, subst, ap, ◌∙◌, arith}
-use Rattle.lifetime_segments.specs.Tries.{IsOfNode, LeadsTo, CollectsAt}
-use Rattle.lifetime_segments.proofs.Nodes.{node_of}
+use Rattle.lifetime_segments.specs.Tries.{IsOfNode, CollectsAt}
+use Rattle.lifetime_segments.proofs.Nodes.{LeadsTo, node_of}
 use Rattle.lifetime_segments.proofs.Collected.{collects_few, collects_zero, collects_more, collects_first, collects_second}
 use Rattle.lifetime_segments.proofs.Results.{ok_weaker}
 use Rattle.lifetime_segments.proofs.collect.+collect.Goals as goal

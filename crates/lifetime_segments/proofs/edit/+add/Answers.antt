@@ -4,9 +4,9 @@ use Rattle.std.proofs.lemmas.List.{drop_all}
 use Rattle.lifetime_segments.specs.Lawful.{most_items}
 use Rattle.lifetime_segments.specs.Lifetimes.{stands_earlier}
 use Rattle.lifetime_segments.specs.Ordered.{put_in}
-use Rattle.lifetime_segments.specs.Tries.{IsOfNode, LeadsTo, Touches, NodeAdds, NodeKeeps, Has, NodeHas, is_whole, in_first, in_second}
+use Rattle.lifetime_segments.specs.Tries.{IsOfNode, Touches, NodeAdds, NodeKeeps, Has, NodeHas, is_whole, in_first, in_second}
 use Rattle.lifetime_segments.proofs.Results.{ok_weaker, err_weaker, err_always}
-use Rattle.lifetime_segments.proofs.Nodes.{bare_of, node_of, trie_of, node_has, left_has, right_has, node_left, node_ordered, node_few, node_with_whole, node_with_parts, node_kept, below_level}
+use Rattle.lifetime_segments.proofs.Nodes.{LeadsTo, bare_of, node_of, trie_of, node_has, left_has, right_has, node_left, node_ordered, node_few, node_with_whole, node_with_parts, node_kept, below_level}
 use Rattle.lifetime_segments.proofs.FewLives.{few_of, of_few, few_ordered, few_with, few_touch, few_length, all_get, drop_get}
 use Rattle.lifetime_segments.proofs.Moved.{few_alike, node_of_alike}
 use Rattle.lifetime_segments.proofs.edit.+add.Goals as goal
@@ -109,7 +109,9 @@ add_to_node-returns-else-is_whole-clause-err g t c =
     c.add_to_halves.ensures.err
 
 pub add-put-requires-clause-ordered : goal.add-put-requires-clause-ordered
-add-put-requires-clause-ordered g t c = few_ordered g.met.D.Decomposable.order c.args.level c.requires.has.lives c.in-Few.few (few_of g.D.Decomposable.stands_before c.args.level c.requires.has.lives c.in-Few.few c.args.trie.now c.in-Few.is c.requires.has.is_of)
+add-put-requires-clause-ordered g t c =
+    few_ordered g.met.D.Decomposable.order c.args.level c.requires.has.lives c.in-Few.few
+    (few_of g.D.Decomposable.stands_before c.args.level c.requires.has.lives c.in-Few.few c.args.trie.now c.in-Few.is c.requires.has.is_of)
 
 pub add-returns-then-len-lt-FEW-clause-ok : goal.add-returns-then-len-lt-FEW-clause-ok
 add-returns-then-len-lt-FEW-clause-ok g t c =

@@ -1,10 +1,10 @@
 use Rattle.std.proofs.Common.{◌≡◌, ◌<◌, ◌-◌, ◌^◌, suc, true, false, ◌∷◌, refl, sym, subst, ap, ◌∙◌, arith, rules}
 use Rattle.lifetime_segments.specs.Lifetimes.{stands_earlier}
 use Rattle.lifetime_segments.specs.Ordered.{is_in, put_in, without}
-use Rattle.lifetime_segments.specs.Tries.{IsOfNode, LeadsTo, NodeMoves, NodeKeeps, Moves, AddsSecond, Has, NodeHas, HasOne, NodeHasOne, FirstHasOne, is_whole, clipped, ending, in_first, in_second, seen_from}
+use Rattle.lifetime_segments.specs.Tries.{IsOfNode, NodeMoves, NodeKeeps, Moves, AddsSecond, Has, NodeHas, HasOne, NodeHasOne, FirstHasOne, is_whole, clipped, ending, in_first, in_second, seen_from}
 use Rattle.lifetime_segments.proofs.Results.{ok_weaker, err_weaker, err_always}
-use Rattle.lifetime_segments.proofs.Nodes.{node_of, trie_of, node_has, node_has_one, left_has, right_has, left_has_one, right_has_one, node_right, node_kept, below_level}
-use Rattle.lifetime_segments.proofs.MovedEnds.{first_none, first_past, second_there, node_second_moved, node_shortened, node_lengthened, node_still_whole}
+use Rattle.lifetime_segments.proofs.Nodes.{LeadsTo, node_of, trie_of, node_has, node_has_one, left_has, right_has, left_has_one, right_has_one, node_right, node_kept, below_level}
+use Rattle.lifetime_segments.proofs.MovedEnds.{first_past, second_there, node_second_moved, node_shortened, node_lengthened, node_still_whole}
 use Rattle.lifetime_segments.proofs.Spans.{double}
 use Rattle.lifetime_segments.proofs.FewLives.{few_of, of_few, few_ordered, few_there, few_moved, few_length}
 use Rattle.lifetime_segments.proofs.edit.+move_end.Goals as goal
@@ -39,7 +39,8 @@ move_end-returns-in-Full-clause-err g t c =
 
 pub move_end-exchange-requires-clause-ordered : goal.move_end-exchange-requires-clause-ordered
 move_end-exchange-requires-clause-ordered g t c =
-    few_ordered g.met.D.Decomposable.order c.args.level c.requires.has.lives c.in-Few.few (few_of g.D.Decomposable.stands_before c.args.level c.requires.has.lives c.in-Few.few c.args.trie.now c.in-Few.is c.requires.has.is_of)
+    few_ordered g.met.D.Decomposable.order c.args.level c.requires.has.lives c.in-Few.few
+    (few_of g.D.Decomposable.stands_before c.args.level c.requires.has.lives c.in-Few.few c.args.trie.now c.in-Few.is c.requires.has.is_of)
 
 pub move_end-exchange-requires-clause-room : goal.move_end-exchange-requires-clause-room
 move_end-exchange-requires-clause-room g t c =
@@ -233,10 +234,6 @@ lengthen-returns-else-is_err-clause-ok g t c =
     (λ moves. node_lengthened g.met.D.Decomposable.order c.args.level c.args.next c.args.life c.args.node.now _ c.requires.broken c.requires.broken_next refl c.requires.in_first moves
     (subst (λ life. AddsSecond before c.args.level life c.args.node.now.right c.add_second.new.right) c.ending-longer.ensures c.in_ok-add_second.ensures.ok))
     c.move_first-moved.ensures.ok
-
-pub move_first-returns-then-half-life-clause-ok : goal.move_first-returns-then-half-life-clause-ok
-move_first-returns-then-half-life-clause-ok g t c =
-    first_none g.met.D.Decomposable.order c.args.level c.args.next c.args.life c.args.left.now c.requires.broken c.requires.broken_next (omega arith)
 
 pub move_first-returns-then-half-next-clause-ok : goal.move_first-returns-then-half-next-clause-ok
 move_first-returns-then-half-next-clause-ok g t c =

@@ -1,8 +1,8 @@
 use Rattle.std.proofs.Common.{◌≡◌, ◌<◌, ◌-◌, ◌^◌, suc, false, ◌∷◌, refl, sym, subst, ap, ◌∙◌, arith, rules}
 use Rattle.lifetime_segments.specs.Lifetimes.{stands_earlier}
 use Rattle.lifetime_segments.specs.Ordered.{is_in, without}
-use Rattle.lifetime_segments.specs.Tries.{IsOfNode, IsBare, LeadsTo, NodeHasOne, FirstHasOne, SecondHasOne, is_whole}
-use Rattle.lifetime_segments.proofs.Nodes.{node_of, trie_of, node_has_one, left_has_one, right_has_one, node_ordered, node_is_in, node_without_whole, node_without_parts, bare_nothing, below_level}
+use Rattle.lifetime_segments.specs.Tries.{IsOfNode, IsBare, NodeHasOne, FirstHasOne, SecondHasOne, is_whole}
+use Rattle.lifetime_segments.proofs.Nodes.{LeadsTo, node_of, trie_of, node_has_one, left_has_one, right_has_one, node_ordered, node_is_in, node_without_whole, node_without_parts, bare_nothing, below_level}
 use Rattle.std.proofs.lemmas.Bool.Decides.{nat_tests}
 use Rattle.std.proofs.lemmas.Nat.{pow_pos}
 use Rattle.lifetime_segments.proofs.Spans.{double}

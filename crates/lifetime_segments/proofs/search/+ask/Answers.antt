@@ -3,8 +3,8 @@ use Rattle.std.specs.Prelude.{nat_lt}
 use Rattle.std.proofs.lemmas.Bool.Decides.{nat_tests}
 use Rattle.lifetime_segments.specs.Lifetimes.{items_at}
 use Rattle.lifetime_segments.specs.Ordered.{in_order}
-use Rattle.lifetime_segments.specs.Tries.{IsOfNode, LeadsTo, Has, NodeHas, in_first, in_second, items_below}
-use Rattle.lifetime_segments.proofs.Nodes.{node_of, node_has, left_has, right_has, node_left, node_right, first-few, second-few, node_ordered, node_few, node_at, node_at_zero, node_lawful}
+use Rattle.lifetime_segments.specs.Tries.{IsOfNode, Has, NodeHas, in_first, in_second, items_below}
+use Rattle.lifetime_segments.proofs.Nodes.{LeadsTo, node_of, node_has, left_has, right_has, node_left, node_right, first-few, second-few, node_ordered, node_few, node_at, node_at_zero, node_lawful}
 use Rattle.lifetime_segments.proofs.Spans.{double}
 use Rattle.lifetime_segments.proofs.FewLives.{few_of, few_length}
 use Rattle.lifetime_segments.proofs.Moved.{few_items}
@@ -14,7 +14,12 @@ pub ask-ask_few-requires : goal.ask-ask_few-requires
 ask-ask_few-requires g t c =
     let before = g.D.Decomposable.stands_before in
     record {
-      few = omega (arith, few_length before c.args.level c.requires.has.lives c.in-Few.few (few_of before c.args.level c.requires.has.lives c.in-Few.few c.args.trie.now c.in-Few.is c.requires.has.is_of), c.requires.has.few);
+      few = omega (
+        arith,
+        few_length before c.args.level c.requires.has.lives c.in-Few.few
+            (few_of before c.args.level c.requires.has.lives c.in-Few.few c.args.trie.now c.in-Few.is c.requires.has.is_of),
+        c.requires.has.few,
+      );
     }
 
 pub ask-returns-in-Few : goal.ask-returns-in-Few
