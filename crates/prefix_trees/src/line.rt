@@ -78,6 +78,7 @@ impl<S: Sequence> Partial for RetroLine<S> {
     ghost rows = { λ line. line };
 
     fn kind(&self) -> Kind {
+        // Reading a field gives the invariant: the rows replay.
         let _replayable = &self.rows;
         S::kind()
     }

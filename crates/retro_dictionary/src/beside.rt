@@ -53,7 +53,7 @@ pub(crate) fn free_label(labels: &Labels, lately: Lately, since: u32, place: u32
     Some(label_beside(lately, since, left, beside.before, beside.after, right))
 }
 
-/// The gap between two labels, or the end of all labels where one of them is none.
+/// The gap beyond a label that stands beside a place, or the end of all labels where no such label stands there.
 fn gap_or_end(is_gap: bool, lower: u64, upper: u64) -> u64
     requires { lower ≤ upper }
     ensures { result ≡ if is_gap then upper - lower else label_limit }

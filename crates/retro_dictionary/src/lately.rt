@@ -22,7 +22,7 @@ pub(crate) enum Lately {
 const LATEST: u32 = 8;
 
 /// Which of the rows beside a place came in lately, before a row with this number is put in there. After all rows the rule does not
-/// ask, and where none stands before the place, this number is read in its stead, which is not lately before itself.
+/// ask. Where no row stands before the place, this number stands for that row's: no number is lately before itself.
 pub(crate) fn lately_beside<L: Ledger>(
     rows: &Tree<Counted<Row>>,
     place: u32,
