@@ -35,7 +35,7 @@ REASONS = {
     "trees": "A timeline keeps its rows in one tree and their runs in others, and the structure keeps the rows again: an edit goes down "
              "each of these trees, once to be tested and once to be made, and looks through a leaf of up to 32 items where it ends. The program of the last "
              "column keeps one tree, with 64 rows to a leaf. One tree for both, and one way down it, would change it.",
-    "trie": "A dictionary keeps each lifetime in up to some dozens of spans of a trie over labels, each a tree of its own: an edit puts one lifetime "
+    "trie": "A dictionary keeps each lifetime in up to a dozen spans of a trie over labels, each with a tree of its own: an edit puts one lifetime "
             "in or takes one out, and moves the end of another, in each span that changes. The program of the last column keeps a list of rows for each key, which has no bound for `succ`, "
             "`count` and `sum` where few of many keys are there. Spans that share their trees, or a wider trie, would "
             "change it.",
@@ -55,6 +55,8 @@ def reason(kind, phase):
     """Why a row is slower than the best program."""
     if phase == "fate":
         return "walk"
+    if phase in ("end", "load") and kind in ("queue", "stack", "deque"):
+        return "tests"
     if phase in ("save", "load", "now"):
         return "trees"
     if kind == "dict":
@@ -148,7 +150,7 @@ class Page:
                 theirs = {peer: self.cost(kind, self.main, phase, peer) for peer in others}
                 reasons = ["tests"] if theirs.get("same") and own > 1.1 * theirs["same"] else []
                 reasons += [reason(kind, phase)] if theirs.get("best") and own > 3 * theirs["best"] else []
-                note = ", ".join(str(numbered.setdefault(name, len(numbered) + 1)) for name in reasons)
+                note = ", ".join(str(numbered.setdefault(name, len(numbered) + 1)) for name in dict.fromkeys(reasons))
                 row = [MEANT[phase][0], number(own)] + [number(theirs[peer]) for peer in others]
                 rows.append(row + [ratio(own, theirs.get("same")), ratio(own, theirs.get("best")), note])
             yield from table(["µs a line"] + [NAMES[peer] for peer in ["retro"] + others] + ["to the same design", "to the best", "why"], rows)
