@@ -1,8 +1,8 @@
 -- How digits bound numbers, and how bounds by digits are joined. The layers above cite these laws.
-use Rattle.std.proofs.Common.{◌≡◌, ℕ, zero, suc, ◌+◌, ◌/◌, ◌^◌, ◌<◌, ◌≤◌, refl, ap, ◌∙◌, arith, inl, inr}
+use Rattle.std.proofs.Common.{◌≡◌, ℕ, zero, suc, ◌+◌, ◌*◌, ◌/◌, ◌^◌, ◌<◌, ◌≤◌, refl, ap, ◌∙◌, arith, inl, inr}
 use Rattle.std.proofs.lemmas.Bool.{lt-ltb, le-ltb, cases_lt}
 use Rattle.std.proofs.lemmas.Nat.{pow-add}
-use Rattle.std.proofs.Math.Nat.{add-mul, mul-add, mul-le-mul_left}
+use Rattle.std.proofs.Math.Nat.{add-mul, mul-add, mul-le-mul_left, mul-le-mul_right}
 use Rattle.retro_base.specs.Digits.{digits_by, digits}
 use Rattle.retro_base.specs.Visits.{VisitsWithin}
 
@@ -58,6 +58,26 @@ visits-add first second length before between after one two = record {
   none_lost = omega (arith, one.none_lost, two.none_lost);
   few = omega (arith, one.few, two.few, add-mul first second (digits (length + 1)));
 }
+
+-- a bound holds with each greater factor
+pub visits-more : (few more length before after : ℕ) → few ≤ more → VisitsWithin few length before after → VisitsWithin more length before after
+visits-more few more length before after less visits = record {
+  none_lost = visits.none_lost;
+  few = omega (arith, visits.few, mul-le-mul_right (digits (length + 1)) less);
+}
+
+-- one call after another, of which the second sees no more rows
+pub visits-then : (first second length shorter before between after : ℕ) → shorter ≤ length → VisitsWithin first length before between
+    → VisitsWithin second shorter between after → VisitsWithin (first + second) length before after
+visits-then first second length shorter before between after less one two =
+    visits-add first second length before between after one (visits-longer second shorter length between after less two)
+
+-- one call more of some that cost the same
+pub visits-again : (factor count more length shorter before between after : ℕ) → more ≡ count + 1 → shorter ≤ length → VisitsWithin (factor * count) length before between
+    → VisitsWithin factor shorter between after → VisitsWithin (factor * more) length before after
+visits-again factor count more length shorter before between after next less one two =
+    visits-more (factor * count + factor) (factor * more) length before after (rw next (omega (arith, mul-add factor count 1)))
+    (visits-then (factor * count) factor length shorter before between after less one two)
 
 -- one more is at most one digit more
 pub digits-one_more : (n : ℕ) → digits (n + 1) ≤ digits n + 1

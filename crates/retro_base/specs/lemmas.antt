@@ -14,6 +14,7 @@ pub mod GivingEdits
 pub mod ValuedRows
 -- rows that replay
 pub mod Replayable
+pub mod FirstRows
 -- entries of a priority queue, and its bridges
 pub mod bridges
 pub mod EntrySteps

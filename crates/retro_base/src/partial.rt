@@ -1,10 +1,10 @@
-ghost use Rattle.std.specs.Prelude.{◌≡◌, ◌+◌, ◌<◌, ◌≤◌, List, length, slice_get, true, IfSome, IfOk, OnOk, OnErr};
+ghost use Rattle.std.specs.Prelude.{◌≡◌, ◌+◌, ◌<◌, ◌≤◌, ◌-◌, ◌*◌, List, length, take, slice_get, true, IsOk, IfSome, IfOk, OnOk, OnErr};
 ghost use Rattle.std.specs.List.{insert, remove};
 ghost use Rattle.retro_base.specs.declared.kind.Kind.{Kind};
 ghost use Rattle.retro_base.specs.declared.row.Row.{Row};
 ghost use Rattle.retro_base.specs.Limits.{most_rows};
 ghost use Rattle.retro_base.specs.Kind.{kind_of};
-ghost use Rattle.retro_base.specs.Replay.{failure, IsValid, present};
+ghost use Rattle.retro_base.specs.Replay.{failure, IsValid, present, state_at};
 ghost use Rattle.retro_base.specs.Answers.{answer_of, content};
 ghost use Rattle.retro_base.specs.Questions.{suits};
 ghost use Rattle.retro_base.specs.Edits.{add, cut};
@@ -12,7 +12,7 @@ ghost use Rattle.retro_base.specs.Changes.{IsChange};
 ghost use Rattle.retro_base.specs.Timeline.{IsReplayable};
 ghost use Rattle.retro_base.specs.Visits.{VisitsWithin};
 
-use crate::{Answer, Change, Kind, Listing, NoMemory, Op, Question, Row, Steps};
+use crate::{Answer, Change, Kind, Listing, NoMemory, Op, Question, Row, Steps, uncounted};
 use std::sync::ledger::Ledger;
 
 /// A structure whose past can be edited and that answers of the present alone. It is seen as a kind and
@@ -107,4 +107,90 @@ pub trait Partial: Sized {
     fn copy(&self) -> Result<Self, NoMemory>
         ensures kind { IfOk result (λ copy. kind copy ≡ kind self.now) }
         ensures rows { IfOk result (λ copy. rows copy ≡ rows self.now) };
+
+    /// A structure with the first rows of a later one, up to a place.
+    fn copy_after<L: Ledger>(
+        &self,
+        later: &Self,
+        place: u32,
+        steps: &mut Steps<L>,
+    ) -> Result<Self, NoMemory>
+    where
+        Self: Drop,
+        requires kind { kind later.now ≡ kind self.now }
+        requires first { rows self.now ≡ take (length (rows self.now)) (rows later.now) }
+        requires earlier { length (rows self.now) ≤ place }
+        requires within { place ≤ length (rows later.now) }
+        ensures kind { IfOk result (λ copy. kind copy ≡ kind later.now) }
+        ensures rows { IfOk result (λ copy. rows copy ≡ take place (rows later.now)) }
+        ensures visits { VisitsWithin (288 * (place - length (rows self.now))) (length (rows later.now)) steps.old steps.new }
+    {
+        // Its clause says that the later rows replay.
+        let _kind = later.kind();
+        let mut copy = self.copy()?;
+        for at in self.len()..place {
+            copy.insert(at, later.row_at(at, steps), steps)?;
+        }
+        Ok(copy)
+    }
+
+    /// The answer to a question about the state of a later structure at a place, where this one has its first
+    /// rows and the place is not before them. At its own last row this one answers alone, and needs no memory.
+    fn ask_after<L: Ledger>(
+        &self,
+        later: &Self,
+        place: u32,
+        question: Question,
+        steps: &mut Steps<L>,
+    ) -> Result<Answer, NoMemory>
+    where
+        Self: Drop,
+        requires kind { kind later.now ≡ kind self.now }
+        requires first { rows self.now ≡ take (length (rows self.now)) (rows later.now) }
+        requires earlier { length (rows self.now) ≤ place }
+        requires within { place ≤ length (rows later.now) }
+        requires suited { suits question (kind later.now) ≡ true }
+        ensures answer { IfOk result (λ answer. answer ≡ answer_of (state_at (kind later.now) (rows later.now) place) question) }
+        ensures here { place ≡ length (rows self.now) → IsOk result }
+        ensures visits { VisitsWithin (288 * (place - length (rows self.now)) + 144) (length (rows later.now)) steps.old steps.new }
+    {
+        if place == self.len() {
+            return Ok(self.ask_now(question, steps));
+        }
+        let copy = self.copy_after(later, place, steps)?;
+        Ok(copy.ask_now(question, steps))
+    }
+
+    /// The whole content of a later structure at a place, where this one has its first rows and the place is not
+    /// before them.
+    fn list_after<L: Ledger>(
+        &self,
+        later: &Self,
+        place: u32,
+        steps: &mut Steps<L>,
+    ) -> Result<Listing, NoMemory>
+    where
+        Self: Drop,
+        requires kind { kind later.now ≡ kind self.now }
+        requires first { rows self.now ≡ take (length (rows self.now)) (rows later.now) }
+        requires earlier { length (rows self.now) ≤ place }
+        requires within { place ≤ length (rows later.now) }
+        ensures content { IfOk result (λ listing. listing ≡ content (state_at (kind later.now) (rows later.now) place)) }
+    {
+        let copy = self.copy_after(later, place, steps)?;
+        copy.all_now()
+    }
+
+    /// `list_after` with a counter of its own.
+    final fn all_after(&self, later: &Self, place: u32) -> Result<Listing, NoMemory>
+    where
+        Self: Drop,
+        requires kind { kind later.now ≡ kind self.now }
+        requires first { rows self.now ≡ take (length (rows self.now)) (rows later.now) }
+        requires earlier { length (rows self.now) ≤ place }
+        requires within { place ≤ length (rows later.now) }
+        ensures content { IfOk result (λ listing. listing ≡ content (state_at (kind later.now) (rows later.now) place)) }
+    {
+        uncounted::list_after(self, later, place)
+    }
 }

@@ -1,18 +1,18 @@
 //! The calls of a structure that answers of the present alone, each with a counter of its own: for a caller
 //! that counts nothing. Costs, conditions and answers are those of `Partial`.
-ghost use Rattle.std.specs.Prelude.{◌≡◌, ◌+◌, ◌<◌, ◌≤◌, length, slice_get, true, Some, IfSome, IfOk, OnOk, OnErr};
+ghost use Rattle.std.specs.Prelude.{◌≡◌, ◌+◌, ◌<◌, ◌≤◌, length, take, slice_get, true, Some, IfSome, IfOk, OnOk, OnErr};
 ghost use Rattle.std.specs.List.{insert, remove};
 ghost use Rattle.retro_base.specs.declared.row.Row.{Row};
 ghost use Rattle.retro_base.specs.Kind.{kind_of};
-ghost use Rattle.retro_base.specs.Replay.{failure, IsValid, present};
-ghost use Rattle.retro_base.specs.Answers.{answer_of};
+ghost use Rattle.retro_base.specs.Replay.{failure, IsValid, present, state_at};
+ghost use Rattle.retro_base.specs.Answers.{answer_of, content};
 ghost use Rattle.retro_base.specs.Questions.{suits};
 ghost use Rattle.retro_base.specs.Edits.{add, cut};
 ghost use Rattle.retro_base.specs.Changes.{IsChange};
 ghost use Rattle.retro_base.specs.Timeline.{IsReplayable};
 ghost use Rattle.retro_base.specs.Visits.{OpensCounter};
 
-use crate::{Answer, Change, NoMemory, Op, Partial, Question, Row, Steps};
+use crate::{Answer, Change, Listing, NoMemory, Op, Partial, Question, Row, Steps};
 use std::marker::Brand;
 use std::sync::ledger::{Blank, Ledger};
 
@@ -141,4 +141,36 @@ fn answer_now<P: Partial, L: Ledger>(structure: &P, question: Question, blank: B
 {
     let mut steps = Steps::<L>::new(blank);
     structure.ask_now(question, &mut steps)
+}
+
+/// `list_after` of the structure.
+pub fn list_after<P: Partial + Drop>(
+    structure: &P,
+    later: &P,
+    place: u32,
+) -> Result<Listing, NoMemory>
+    requires kind { P.kind later.now ≡ P.kind structure.now }
+    requires first { P.rows structure.now ≡ take (length (P.rows structure.now)) (P.rows later.now) }
+    requires earlier { length (P.rows structure.now) ≤ place }
+    requires within { place ≤ length (P.rows later.now) }
+    ensures content { IfOk result (λ listing. listing ≡ content (state_at (P.kind later.now) (P.rows later.now) place)) }
+{
+    list_later::<P, Brand>(structure, later, place, Blank::new(1))
+}
+
+fn list_later<P: Partial + Drop, L: Ledger>(
+    structure: &P,
+    later: &P,
+    place: u32,
+    blank: Blank,
+) -> Result<Listing, NoMemory>
+    requires kind { P.kind later.now ≡ P.kind structure.now }
+    requires first { P.rows structure.now ≡ take (length (P.rows structure.now)) (P.rows later.now) }
+    requires earlier { length (P.rows structure.now) ≤ place }
+    requires within { place ≤ length (P.rows later.now) }
+    requires counter { OpensCounter blank.name L.name blank.parts L.parts }
+    ensures content { IfOk result (λ listing. listing ≡ content (state_at (P.kind later.now) (P.rows later.now) place)) }
+{
+    let mut steps = Steps::<L>::new(blank);
+    structure.list_after(later, place, &mut steps)
 }
