@@ -10,8 +10,8 @@
 //! it.
 //!
 //! - Rows: `Kind`, `Op`, `Row`, `Rows`, `Entry`, `Change`. Questions: `Question`, `Answer`, `Item`, `Listing`.
-//! - Structures: `Retro`; `Partial`, which answers of the present alone and takes no memory to remove;
-//!   `PlainList`, `PerformedRows`.
+//! - Structures: `Retro`; `Partial`, which answers of the present alone, and of that of a later structure whose first
+//!   rows it has, and takes no memory to remove; `PlainList`, `PerformedRows`.
 //! - The calls of `Partial` with a counter of their own: `uncounted`.
 //! - Texts: `Name`, `Text`, `print_op`. Costs: `Steps`. Memory: `NoMemory`.
 //! - Laws on the bridges of a priority queue, and on edits that give: the functions of the module `laws`, which have no body.

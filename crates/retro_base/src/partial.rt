@@ -18,7 +18,8 @@ use std::sync::ledger::Ledger;
 /// A structure whose past can be edited and that answers of the present alone. It is seen as a kind and
 /// a list of rows, as `Retro` is, and its calls have the conditions and the answers of those of `Retro`.
 /// A call that takes a counter visits at most 144 nodes for each binary digit of one more than the
-/// length, the greater one of those before and after.
+/// length, the greater one of those before and after; `copy_after`, `ask_after` and `list_after` have
+/// bodies of their own, and visit more.
 pub trait Partial: Sized {
     /// The kind of the structure.
     ghost kind: { Self → Kind };
@@ -108,7 +109,8 @@ pub trait Partial: Sized {
         ensures kind { IfOk result (λ copy. kind copy ≡ kind self.now) }
         ensures rows { IfOk result (λ copy. rows copy ≡ rows self.now) };
 
-    /// A structure with the first rows of a later one, up to a place.
+    /// A structure with the first rows of a later one, up to a place, where this one has its first rows and
+    /// the place is not before them. It visits at most 288 nodes for each row between, and each digit.
     fn copy_after<L: Ledger>(
         &self,
         later: &Self,
@@ -135,7 +137,8 @@ pub trait Partial: Sized {
     }
 
     /// The answer to a question about the state of a later structure at a place, where this one has its first
-    /// rows and the place is not before them. At its own last row this one answers alone, and needs no memory.
+    /// rows and the place is not before them. It visits at most 288 nodes for each row between and 144 more, and
+    /// each digit. Right after its own rows this one answers alone, and needs no memory.
     fn ask_after<L: Ledger>(
         &self,
         later: &Self,
