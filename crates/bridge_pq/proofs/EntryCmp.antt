@@ -1,7 +1,7 @@
 -- The derived order of entries is that of the definitions.
 use Rattle.std.proofs.Common.{◌≡◌, ℕ, ℤ, Bool, true, false, ◌&&◌, ◌||◌, ◌⊎◌, inl, inr, refl, sym, subst, arith, int_cmp, nat_cmp}
 use Rattle.std.specs.Prelude.{int_lt, nat_lt}
-use Rattle.std.specs.Ordering.{is_gt, ordering_then, int_eq}
+use Rattle.std.specs.Ordering.{is_gt, is_lt, ordering_then, int_eq}
 use Rattle.std.proofs.lemmas.Int.{ints}
 use Rattle.std.proofs.lemmas.Bool.Decides.{nat_tests}
 use Rattle.retro_base.specs.declared.row.Entry.{Entry}
@@ -38,3 +38,21 @@ pair_agrees k m l n upto = elim (by_keys k l) [
 
 pub agrees : (a b : Entry) → is_gt (entry_order a b) ≡ false → comes_before b a ≡ false
 agrees a b upto = pair_agrees a.key a.number b.key b.number upto
+
+less_number : (m n : ℕ) → is_lt (nat_cmp m n) ≡ false → nat_lt m n ≡ false
+less_number m n from = grind (arith, nat_tests)
+
+less_at : (k : ℤ) (m n : ℕ) → is_lt (ordering_then (int_cmp k k) (nat_cmp m n)) ≡ false → pair_before k m k n ≡ false
+less_at k m n from = rw (not_itself k) (less_number m n (rw (not_itself k) at from))
+
+pair_less : (k : ℤ) (m : ℕ) (l : ℤ) (n : ℕ) → is_lt (ordering_then (int_cmp k l) (nat_cmp m n)) ≡ false → pair_before k m l n ≡ false
+pair_less k m l n from = elim (by_keys k l) [
+  | inl less ↦ let wrong : true ≡ false = rw less at from in absurd (cc)
+  | inr other ↦ elim other [
+    | inl greater ↦ rw (not_less l k greater, greater) refl
+    | inr same ↦ subst (λ j. pair_before k m j n ≡ false) same (less_at k m n (subst (λ j. is_lt (ordering_then (int_cmp k j) (nat_cmp m n)) ≡ false) (sym same) from))
+  ]
+]
+
+pub agrees_less : (a b : Entry) → is_lt (entry_order a b) ≡ false → comes_before a b ≡ false
+agrees_less a b from = pair_less a.key a.number b.key b.number from

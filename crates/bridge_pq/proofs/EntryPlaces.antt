@@ -1,6 +1,6 @@
 -- Entries in their order, as they are measured: where one of them has its place, and which is the k-th of the present.
-use Rattle.std.proofs.Common.{◌≡◌, ℕ, zero, suc, ◌-◌, ◌<◌, ◌≤◌, ℤ, pos, ◌+ℤ◌, Bool, true, false, List, [], ◌∷◌, take, length, refl, sym, ap, ◌∙◌, arith, subst, Some, None}
-use Rattle.std.specs.Prelude.{slice_index_or, if◌then◌else◌}
+use Rattle.std.proofs.Common.{◌≡◌, ℕ, zero, suc, ◌+◌, ◌-◌, ◌<◌, ◌≤◌, ℤ, pos, ◌+ℤ◌, Bool, true, false, List, [], ◌∷◌, take, length, refl, sym, ap, ◌∙◌, arith, subst, Option, Some, None}
+use Rattle.std.specs.Prelude.{slice_index_or, MatchOption, if◌then◌else◌}
 use Rattle.std.specs.Fn.{Shared}
 use Rattle.std.specs.Borrow.{Bor}
 use Rattle.std.specs.List.{AllWithin, slice_get, slice_range}
@@ -16,8 +16,9 @@ use Rattle.retro_base.specs.OrderLaws.{all_weaker}
 use Rattle.retro_base.specs.State.{comes_before}
 use Rattle.retro_base.specs.lemmas.EntrySteps.{partitioned}
 use Rattle.retro_base.specs.lemmas.bridges.EntryOrder.{before_one_way}
-use Rattle.weighted_tree.specs.Search.{HoldsNowhere, IsFirstPlace, IsRising, TellsItems, FindsPartition}
+use Rattle.weighted_tree.specs.Search.{HoldsNowhere, IsFirstOrNone, IsFirstPlace, IsRising, TellsItems, FindsPartition}
 use Rattle.bridge_pq.specs.declared.marked_entry.MarkedEntry.{MarkedEntry}
+use Rattle.bridge_pq.specs.Gathered.{count_to, EndsAt}
 use Rattle.bridge_pq.specs.MarkedEntries.{entries_in, present_in, Rise, entry_measure}
 
 -- what a range measures
@@ -77,9 +78,6 @@ no_more k m few = grind (arith, ints)
 is_more : (k m : ℕ) → k < m → lt_z (pos k) (pos m) ≡ true
 is_more k m more = grind (arith, ints)
 
-abbrev count_to : List MarkedEntry → ℕ → ℕ
-count_to items place = length (present_in (take place items))
-
 count_more : (b : Bool) (x : Entry) (xs ys : List Entry) → length xs ≤ length ys → length (if b then x ∷ xs else xs) ≤ length (if b then x ∷ ys else ys)
 count_more true x xs ys few = omega arith
 count_more false x xs ys few = few
@@ -104,7 +102,7 @@ later_present false x e xs ys rest k low high there = there k low high
 item_same : (x y : MarkedEntry) → Some x ≡ Some y → x ≡ y
 item_same x y same = cc
 
-kth_is : (items : List MarkedEntry) (n k : ℕ) (item : MarkedEntry) → slice_get items n ≡ Some item → count_to items n ≤ k → k < count_to items (suc n) → slice_get (present_in items) k ≡ Some item.entry
+pub kth_is : (items : List MarkedEntry) (n k : ℕ) (item : MarkedEntry) → slice_get items n ≡ Some item → count_to items n ≤ k → k < count_to items (suc n) → slice_get (present_in items) k ≡ Some item.entry
 kth_is [] n k item at low high = absurd (cc)
 kth_is (x ∷ items) zero k item at low high =
     first_present x.present x.entry (present_in items) k high ∙ ap (λ (y : MarkedEntry). Some y.entry) (item_same x item at)
@@ -141,6 +139,37 @@ module _ (items : List MarkedEntry) (k : ℕ) where
   kth-before (suc n) item first at =
       let same : suc n - 1 ≡ n = omega arith in
       kth_is items n k item (sym (ap (slice_get items) same) ∙ at) (no_more k (count_to items n) (first.not_before n (omega arith) (omega arith))) (more_is k (count_to items (suc n)) first.holds_there)
+
+count_at_most : (b : Bool) (x : Entry) (xs ys : List Entry) → length ys ≤ length xs + 1 → length (if b then x ∷ ys else ys) ≤ length (if b then x ∷ xs else xs) + 1
+count_at_most true x xs ys few = omega arith
+count_at_most false x xs ys few = few
+
+first_at_most : (b : Bool) (x : Entry) → length (if b then x ∷ [] else []) ≤ 1
+first_at_most true x = omega arith
+first_at_most false x = omega arith
+
+-- one more entry is one more of the present at the most
+count_one_more : (items : List MarkedEntry) (n : ℕ) → count_to items (suc n) ≤ count_to items n + 1
+count_one_more [] zero = omega arith
+count_one_more [] (suc n) = omega arith
+count_one_more (item ∷ items) zero = first_at_most item.present item.entry
+count_one_more (item ∷ items) (suc n) = count_at_most item.present item.entry (present_in (take n items)) (present_in (take (suc n) items)) (count_one_more items n)
+
+-- what the search for an index finds
+module _ (items : List MarkedEntry) (k : ℕ) where
+  ends_there : (end : ℕ) → IsFirstPlace (has_more items k) 0 (length items) end → count_to items end ≡ k + 1
+  ends_there zero first = absurd (omega (arith, some-more items k zero first))
+  ends_there (suc n) first =
+      omega (arith, no_more k (count_to items n) (first.not_before n (omega arith) (omega arith)), more_is k (count_to items (suc n)) first.holds_there, count_one_more items n)
+
+  pub found_end : (answer : Option ℕ) → IsFirstOrNone (has_more items k) 0 (length items) answer → MatchOption answer (slice_get (present_in items) k ≡ None) (EndsAt items k)
+  found_end None nowhere = none-more items k nowhere
+  found_end (Some end) first = record {
+    some = some-more items k end first;
+    within = first.within;
+    passed = ends_there end first;
+    there = λ item at. kth-before items k end item first at;
+  }
 
 pub size-reported : (items : List MarkedEntry) → (measures_in (slice_range items 0 (length items))).sum ≡ pos (length (present_in items))
 size-reported items = sum-part (slice_range items 0 (length items)) ∙ ap (λ l. pos (length (present_in l))) (range-is items (length items) ∙ take_all (length items) items (omega arith))

@@ -13,3 +13,8 @@ pub mod Edited
 pub mod FoundBridges
 pub mod Failures
 pub mod Present
+pub mod EarlierRows
+pub mod GatheredEntries
+pub mod HeapEntries
+pub mod CursorEntries
+pub mod Moved

@@ -6,3 +6,5 @@ pub mod MarkedRows
 pub mod MarkedEntries
 pub mod Bridged
 pub mod Flips
+pub mod Gathered
+pub mod Heaps

@@ -9,6 +9,7 @@ ghost use Rattle.retro_base.specs.Visits.{OpensCounter};
 use crate::edit::{insert_adding, insert_taking, remove_dead, remove_survivor, remove_taking};
 use crate::entry_tree::{nth_present, size_of_present};
 use crate::failure::{failure_after_take, failure_without_dead};
+use crate::later::{ask_held, list_held};
 use crate::marked_entry::MarkedEntry;
 use crate::marked_row::MarkedRow;
 use retro_base::{
@@ -158,6 +159,35 @@ impl Partial for BridgeQueue {
         }
     }
 
+    fn ask_after<L: Ledger>(
+        &self,
+        later: &BridgeQueue,
+        place: u32,
+        question: Question,
+        steps: &mut Steps<L>,
+    ) -> Result<Answer, NoMemory> {
+        if place == self.len() {
+            return Ok(self.ask_now(question, steps));
+        }
+        ask_held(
+            &self.entries,
+            &later.rows,
+            self.len(),
+            place,
+            question,
+            steps,
+        )
+    }
+
+    fn list_after<L: Ledger>(
+        &self,
+        later: &BridgeQueue,
+        place: u32,
+        steps: &mut Steps<L>,
+    ) -> Result<Listing, NoMemory> {
+        list_held(&self.entries, &later.rows, self.len(), place, steps)
+    }
+
     fn all_now(&self) -> Result<Listing, NoMemory> {
         self.listed::<Brand>(Blank::new(1))
     }
@@ -168,7 +198,7 @@ impl Partial for BridgeQueue {
 }
 
 /// The answer that is the key of an entry, where there is one.
-fn key_answer(entry: Option<Entry>) -> Answer
+pub(crate) fn key_answer(entry: Option<Entry>) -> Answer
     ensures { result ≡ number_of (option_map key_of entry) }
 {
     match entry {

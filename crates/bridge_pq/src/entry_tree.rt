@@ -1,7 +1,8 @@
-ghost use Rattle.std.specs.Prelude.{◌≡◌, pos, ◌^◌, ◌<◌, ◌≤◌, length, slice_get, Contains, true, false, OnOk, OnErr};
+ghost use Rattle.std.specs.Prelude.{◌≡◌, pos, ◌^◌, ◌<◌, ◌≤◌, length, slice_get, Contains, true, false, None, MatchOption, OnOk, OnErr};
 ghost use Rattle.std.specs.List.{AllWithin};
 ghost use Rattle.retro_base.specs.State.{comes_before};
 ghost use Rattle.retro_base.specs.Visits.{VisitsWithin};
+ghost use Rattle.bridge_pq.specs.Gathered.{EndsAt};
 ghost use Rattle.bridge_pq.specs.MarkedEntries.{entries_in, present_in, Rise, put_marked, without_entry, marked_so};
 
 use crate::entry_measure::EntryMeasure;
@@ -85,6 +86,27 @@ pub(crate) fn size_of_present<L: Ledger>(entries: &Tree<MarkedEntry>, steps: &mu
     marks(&entries.measure(0, entries.len(), steps))
 }
 
+/// How many entries are in the present, as a count.
+pub(crate) fn count_present<L: Ledger>(entries: &Tree<MarkedEntry>, steps: &mut Steps<L>) -> u32
+    ensures size { result ≡ length (present_in entries.now) }
+    ensures visits { VisitsWithin 12 (length entries.now) steps.old steps.new }
+{
+    entries.measure(0, entries.len(), steps).present()
+}
+
+/// The place right after the entry at this index of the present, where there is one.
+pub(crate) fn end_of_present<L: Ledger>(
+    entries: &Tree<MarkedEntry>,
+    index: u64,
+    steps: &mut Steps<L>,
+) -> Option<u32>
+    ensures end { MatchOption result (slice_get (present_in entries.now) index ≡ None) (EndsAt entries.now index) }
+    ensures visits { VisitsWithin 12 (length entries.now) steps.old steps.new }
+{
+    let index = i128::from(index);
+    entries.first_place(0, |range: &EntryMeasure| index < marks(range), steps)
+}
+
 /// The entry at this index of the present, where there is one.
 pub(crate) fn nth_present<L: Ledger>(
     entries: &Tree<MarkedEntry>,
@@ -94,7 +116,6 @@ pub(crate) fn nth_present<L: Ledger>(
     ensures entry { result ≡ slice_get (present_in entries.now) index }
     ensures visits { VisitsWithin 24 (length entries.now) steps.old steps.new }
 {
-    let index = i128::from(index);
-    let end = entries.first_place(0, |range: &EntryMeasure| index < marks(range), steps)?;
+    let end = end_of_present(entries, index, steps)?;
     Some(entries.get(end - 1, steps).entry)
 }

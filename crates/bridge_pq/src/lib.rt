@@ -41,12 +41,16 @@
 
 mod bridge_queue;
 mod changes;
+mod cursor;
 mod edit;
 mod entry_measure;
 mod entry_tree;
 mod extreme;
 mod failure;
 mod flip;
+mod fresh;
+mod held;
+mod later;
 mod marked_entry;
 mod marked_row;
 mod row_measure;
