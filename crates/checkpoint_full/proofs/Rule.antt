@@ -120,7 +120,7 @@ start_last : (places front : List ℕ) → places ≡ front ++ 0 ∷ [] → reve
 start_last places front ends = rw ends (rw (reverse-append front (0 ∷ [])) (ap (λ ps. ps ++ 0 ∷ []) (reverse-reverse front)))
 
 -- so what is seen tells all of them
-all_seen : (width : ℕ) (now : Structure) (checkpoints : List Structure) → KeepsCheckpoints width now checkpoints
+pub all_seen : (width : ℕ) (now : Structure) (checkpoints : List Structure) → KeepsCheckpoints width now checkpoints
     → latest_first (seen width now checkpoints) ≡ map place_of checkpoints
 all_seen width now [] kept = refl
 all_seen width now (checkpoint ∷ checkpoints) kept =

@@ -1,5 +1,5 @@
 -- The checkpoints of a timeline: structures that perform its first rows, so close to one another that few rows lie between.
-use Rattle.std.specs.Prelude.{◌≡◌, ℕ, ◌+◌, ◌<◌, ◌≤◌, nat_lt, if◌then◌else◌, Bool, true, false, List, [], ◌∷◌, length, take, drop, map, reverse}
+use Rattle.std.specs.Prelude.{◌≡◌, ℕ, ◌+◌, ◌<◌, ◌≤◌, nat_le, nat_lt, if◌then◌else◌, Bool, true, false, List, [], ◌∷◌, length, take, drop, map, reverse}
 use Rattle.std.specs.Prelude.{Option, Some, None}
 use Rattle.std.specs.List.{insert, remove, AllByRecursion}
 use Rattle.retro_base.specs.declared.kind.Kind.{Kind}
@@ -57,6 +57,11 @@ were_made (checkpoint ∷ checkpoints) = true
 -- the places of those after the start, rising
 abbrev pub places_of : List Structure → List ℕ
 places_of checkpoints = drop 1 (reverse (map place_of checkpoints))
+
+-- the latest place that is not after this one, of places that are listed the latest first
+abbrev pub nearest_to : ℕ → List ℕ → ℕ
+nearest_to place [] = 0
+nearest_to place (earlier ∷ places) = if nat_le earlier place then earlier else nearest_to place places
 
 -- they are kept where they were made
 abbrev pub KeepsCheckpoints : ℕ → Structure → List Structure → Type 0

@@ -1,4 +1,4 @@
-ghost use Rattle.std.specs.Prelude.{◌≡◌, ◌+◌, ◌*◌, ◌<◌, ◌≤◌, [], length, slice_get, true, false, Some, IfSome, IsOk, IfOk, OnOk, OnErr};
+ghost use Rattle.std.specs.Prelude.{◌≡◌, ◌+◌, ◌-◌, ◌*◌, ◌<◌, ◌≤◌, [], length, slice_get, true, false, Some, IfSome, IsOk, IfOk, OnOk, OnErr};
 ghost use Rattle.std.specs.List.{insert, remove};
 ghost use Rattle.retro_base.specs.declared.row.Row.{Row};
 ghost use Rattle.retro_base.specs.Answers.{answer_of, content};
@@ -8,7 +8,8 @@ ghost use Rattle.retro_base.specs.Questions.{suits};
 ghost use Rattle.retro_base.specs.Replay.{IsValid, present, state_at};
 ghost use Rattle.retro_base.specs.Timeline.{IsReplayable};
 ghost use Rattle.retro_base.specs.Visits.{OpensCounter, VisitsWithin};
-ghost use Rattle.checkpoint_full.specs.Rule.{FollowsRule};
+ghost use Rattle.checkpoint_full.specs.Checkpoints.{nearest_to};
+ghost use Rattle.checkpoint_full.specs.Rule.{latest_first, FollowsRule};
 ghost use Rattle.checkpoint_full.specs.Widths.{least_width, made_places, narrowest};
 
 use crate::kept::{ask_kept, insert_kept, list_kept, remove_kept};
@@ -36,8 +37,8 @@ use std::sync::ledger::{Blank, Ledger};
 /// So neighbours are at most a width apart, the two neighbours of each are more than a width apart, there are at most
 /// 31, and each performs the first rows of the timeline, as many as it stands for.
 ///
-/// Where questions go forward in time, a copy of a checkpoint that was rolled to a place stays there for the next
-/// question. Contracts do not see it, and copying it is not counted among the visits.
+/// Where many questions have followed one another closely, a copy of a checkpoint is moved to each of their places in
+/// turn. Contracts do not see it, and copying it is not counted among the visits.
 #[derive(Drop)]
 pub struct Full<P: Partial + Drop> {
     alloc: Global,
@@ -74,8 +75,10 @@ impl<P: Partial + Drop> Full<P> {
     }
 
     /// The answer to a question about the state at a place, after so many rows. The rows stay, whatever the answer, and
-    /// so do the checkpoints where they had been made; then it visits at most 432 nodes for each row of a width and one
-    /// more, and each binary digit of one more than the number of rows. After `NoMemory` all is as before.
+    /// so do the checkpoints where they had been made; then it visits at most 432 nodes for each row after the nearest
+    /// checkpoint that is not later and 144 more, and each binary digit of one more than the number of rows. So it never
+    /// visits more than 432 for each row of a width and one more. Right at a checkpoint, and after all rows, it takes no
+    /// memory and always answers. After `NoMemory` all is as before.
     pub fn ask_past<L: Ledger>(
         &mut self,
         place: u32,
@@ -93,6 +96,10 @@ impl<P: Partial + Drop> Full<P> {
         ensures places { self.old.made ≡ true → self.new ≡ self.old }
         ensures err { OnErr result (self.new ≡ self.old) }
         ensures visits { self.old.made ≡ true → VisitsWithin (432 * (self.old.width + 1)) (length self.old.rows) steps.old steps.new }
+        ensures near { self.old.made ≡ true
+            → VisitsWithin (432 * (place - nearest_to place (latest_first self.old)) + 144) (length self.old.rows) steps.old steps.new }
+        ensures here { self.old.made ≡ true → place ≡ nearest_to place (latest_first self.old) → IsOk result }
+        ensures last { self.old.made ≡ true → place ≡ length self.old.rows → IsOk result }
     {
         ask_kept(
             self.alloc,

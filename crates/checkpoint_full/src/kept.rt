@@ -1,5 +1,5 @@
 //! The present of a timeline and its checkpoints, edited and asked together.
-ghost use Rattle.std.specs.Prelude.{◌≡◌, ◌+◌, ◌*◌, ◌<◌, ◌≤◌, slice_get, true, false, Some, IfSome, IfOk, OnOk, OnErr};
+ghost use Rattle.std.specs.Prelude.{◌≡◌, ◌+◌, ◌*◌, ◌-◌, ◌<◌, ◌≤◌, slice_get, map, true, false, Some, IsOk, IfSome, IfOk, OnOk, OnErr};
 ghost use Rattle.std.specs.List.{remove};
 ghost use Rattle.retro_base.specs.Answers.{answer_of, content};
 ghost use Rattle.retro_base.specs.Changes.{IsChange};
@@ -8,7 +8,7 @@ ghost use Rattle.retro_base.specs.Questions.{suits};
 ghost use Rattle.retro_base.specs.Replay.{IsValid, state_at};
 ghost use Rattle.retro_base.specs.Timeline.{IsReplayable};
 ghost use Rattle.retro_base.specs.Visits.{OpensCounter, VisitsWithin};
-ghost use Rattle.checkpoint_full.specs.Checkpoints.{after, place_of, places_of, were_made, CanTake, HoldsFirstRows, KeepsRule, seen};
+ghost use Rattle.checkpoint_full.specs.Checkpoints.{after, nearest_to, place_of, places_of, were_made, CanTake, HoldsFirstRows, KeepsRule, seen};
 ghost use Rattle.checkpoint_full.specs.Rule.{places_after_insertion, places_after_removal, width_after_insertion, width_after_removal};
 ghost use Rattle.checkpoint_full.specs.Widths.{least_width, made_places};
 
@@ -109,14 +109,18 @@ pub(crate) fn ask_kept<P: Partial + Drop, L: Ledger>(
     ensures first { were_made checkpoints.old.items ≡ false → OnOk result (width.new ≡ least_width (place_of present.now)) }
     ensures places { were_made checkpoints.old.items ≡ false → OnOk result (places_of checkpoints.new.items ≡ made_places width.new (place_of present.now)) }
     ensures err { OnErr result ((checkpoints.new.items ≡ checkpoints.old.items) × (width.new ≡ width.old)) }
+    ensures here { were_made checkpoints.old.items ≡ true → place ≡ nearest_to place (map place_of checkpoints.old.items) → IsOk result }
+    ensures last { were_made checkpoints.old.items ≡ true → place ≡ place_of present.now → IsOk result }
+    ensures near { were_made checkpoints.old.items ≡ true
+        → VisitsWithin (432 * (place - nearest_to place (map place_of checkpoints.old.items)) + 144) (place_of present.now) steps.old steps.new }
     ensures visits { were_made checkpoints.old.items ≡ true → VisitsWithin (432 * (width.old + 1)) (place_of present.now) steps.old steps.new }
 {
     if checkpoints.is_empty() {
         let least = width_for(present.place());
-        let mut made = make(alloc, present, least, steps)?;
+        let made = make(alloc, present, least, steps)?;
         let answer = ask_at(
             reader,
-            made.as_mut_slice(),
+            made.as_slice(),
             present,
             least,
             place,
@@ -127,15 +131,8 @@ pub(crate) fn ask_kept<P: Partial + Drop, L: Ledger>(
         *width = least;
         return Ok(answer);
     }
-    ask_at(
-        reader,
-        checkpoints.as_mut_slice(),
-        present,
-        *width,
-        place,
-        question,
-        steps,
-    )
+    let lent = checkpoints.as_slice();
+    ask_at(reader, lent, present, *width, place, question, steps)
 }
 
 /// Lists the content at a place, with a counter of its own; the checkpoints are made where they were not. After
@@ -165,22 +162,15 @@ pub(crate) fn list_kept<P: Partial + Drop, L: Ledger>(
     let mut steps = Steps::<L>::new(blank);
     if checkpoints.is_empty() {
         let least = width_for(present.place());
-        let mut made = make(alloc, present, least, &mut steps)?;
-        let listing = list_at(
-            reader,
-            made.as_mut_slice(),
-            present,
-            least,
-            place,
-            &mut steps,
-        )?;
+        let made = make(alloc, present, least, &mut steps)?;
+        let listing = list_at(reader, made.as_slice(), present, least, place, &mut steps)?;
         *checkpoints = made;
         *width = least;
         return Ok(listing);
     }
     list_at(
         reader,
-        checkpoints.as_mut_slice(),
+        checkpoints.as_slice(),
         present,
         *width,
         place,

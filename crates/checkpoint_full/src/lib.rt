@@ -1,9 +1,9 @@
 //! A past for every structure that answers of the present alone.
 //!
 //! `Full<P>` keeps a structure of the present, and from the first question about the past on some more of the first
-//! rows of the same timeline: its checkpoints. A question about a place is put to the nearest checkpoint that is not
-//! later, after the rows between were appended there; they are taken off again afterwards. Where questions go forward
-//! in time, a copy of a checkpoint that was rolled to a place stays there for the next question (`reader.rt`). An edit
+//! rows of the same timeline: its checkpoints. The nearest checkpoint that is not later than a place is lent to answer a
+//! question about it for the timeline (`ask_after` of `Partial`), and stays as it is. Only where many questions have
+//! followed one another closely, a copy of a checkpoint is moved to each of their places in turn (`reader.rt`). An edit
 //! goes to the present and to each checkpoint after its place. It is the general way from a partially to a fully
 //! retroactive structure of Demaine, Iacono and Langerman, "Retroactive Data Structures", with checkpoints at most a
 //! width apart.

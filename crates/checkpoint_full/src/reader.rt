@@ -11,12 +11,13 @@ use retro_base::{Answer, Listing, NoMemory, Partial, Question, Steps};
 use std::marker::Model;
 use std::sync::ledger::Ledger;
 
-/// A structure that was rolled to a place for a question, and stays there for the next one, beside the place that was
-/// asked last. Contracts see the structure, where there is one.
+/// A structure that was moved to a place for a question, and stays there for the next one, beside the place that was
+/// asked last and how many questions have followed one another closely. Contracts see the structure, where there is one.
 #[derive(Drop)]
 pub(crate) struct Reader<P: Partial + Drop> {
     copy: Option<Snapshot<P>>,
     last: u32,
+    run: u32,
 }
 
 impl<P: Partial + Drop> Model for Reader<P> {
@@ -32,23 +33,41 @@ impl<P: Partial + Drop> Model for Reader<P> {
 const NOWHERE: u32 = u32::MAX;
 
 /// Whether a place follows closely on the one that was asked last.
-fn goes_on(last: u32, place: u32, width: u32) -> bool {
-    last <= place && place - last < width
+fn follows(last: u32, place: u32) -> bool {
+    last <= place && place - last <= CLOSE
 }
 
-/// Whether it is cheaper to move the structure to the place than to roll the checkpoint there and back, or to copy it.
+/// How far apart places are that follow one another closely.
+const CLOSE: u32 = 32;
+
+/// Whether the structure is moved to the place: it is near, and moving it costs no more than asking the checkpoint, or
+/// the questions go on.
 fn serves<P: Partial + Drop>(
     copy: &Snapshot<P>,
     checkpoint: &Snapshot<P>,
     place: u32,
-    width: u32,
-    follows: bool,
+    goes_on: bool,
 ) -> bool
     requires { place_of checkpoint.now ≤ place }
-    ensures { result ≡ true → (place ≤ place_of copy.now + width) × (place_of copy.now ≤ place + width) }
+    ensures { result ≡ true → (2 * (place - place_of copy.now) ≤ 3 * (place - place_of checkpoint.now)) × (2 * (place_of copy.now - place) ≤ 3 * (place - place_of checkpoint.now)) }
 {
-    let apart = copy.place().abs_diff(place);
-    apart <= width && (follows || apart / 2 <= place - checkpoint.place())
+    let apart = u64::from(copy.place().abs_diff(place));
+    let between = u64::from(place - checkpoint.place());
+    2 * apart <= 3 * between && (goes_on || u64::from(CLOSE) * apart <= between)
+}
+
+/// Whether there is no structure within a width of the place.
+fn is_far<P: Partial + Drop>(copy: &Snapshot<P>, place: u32, width: u32) -> bool {
+    copy.place().abs_diff(place) > width
+}
+
+/// How many questions have followed one another closely, the one at this place among them.
+fn next_run(run: u32, last: u32, place: u32) -> u32 {
+    if follows(last, place) {
+        run.saturating_add(1)
+    } else {
+        0
+    }
 }
 
 impl<P: Partial + Drop> Reader<P> {
@@ -59,6 +78,7 @@ impl<P: Partial + Drop> Reader<P> {
         Reader {
             copy: None,
             last: NOWHERE,
+            run: 0,
         }
     }
 
@@ -79,8 +99,8 @@ impl<P: Partial + Drop> Reader<P> {
         }
     }
 
-    /// Gives out a structure to ask at the place: its own where that stands near, and a copy of the nearest checkpoint
-    /// where the questions go forward in time; none otherwise, or out of memory.
+    /// Gives out a structure to ask at the place: its own where that serves, and a copy of the nearest checkpoint where
+    /// questions have gone forward in time for long and none is near; none otherwise, or out of memory.
     pub(crate) fn choose(
         &mut self,
         checkpoint: &Snapshot<P>,
@@ -88,21 +108,26 @@ impl<P: Partial + Drop> Reader<P> {
         width: u32,
     ) -> Option<Snapshot<P>>
         requires earlier { place_of checkpoint.now ≤ place }
-        requires near { place ≤ place_of checkpoint.now + width }
         ensures left { IfSome self.new (λ copy. self.old ≡ Some copy) }
         ensures chosen { IfSome result (λ copy. (self.old ≡ Some copy) ⊎ (copy ≡ checkpoint.now)) }
-        ensures near { IfSome result (λ copy. (place ≤ place_of copy + width) × (place_of copy ≤ place + width)) }
+        ensures near { IfSome result (λ copy. (2 * (place - place_of copy) ≤ 3 * (place - place_of checkpoint.now)) × (2 * (place_of copy - place) ≤ 3 * (place - place_of checkpoint.now))) }
     {
-        let follows = goes_on(self.last, place, width);
+        let run = next_run(self.run, self.last, place);
         self.last = place;
+        self.run = run;
+        let goes_on = run >= width / CLOSE;
         let own = match &self.copy {
-            Some(copy) => serves(copy, checkpoint, place, width, follows),
+            Some(copy) => serves(copy, checkpoint, place, goes_on),
             None => false,
         };
         if own {
             return self.copy.take();
         }
-        if follows {
+        let far = match &self.copy {
+            Some(copy) => is_far(copy, place, width),
+            None => true,
+        };
+        if goes_on && far {
             self.copy = None;
             return checkpoint.copy().ok();
         }

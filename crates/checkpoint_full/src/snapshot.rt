@@ -1,12 +1,12 @@
 //! A structure with some first rows of a timeline: the present with all of them, a checkpoint with fewer.
-ghost use Rattle.std.specs.Prelude.{◌≡◌, ◌+◌, ◌-◌, ◌*◌, ◌<◌, ◌≤◌, nat_lt, slice_get, true, Some, IfOk, OnOk, OnErr};
+ghost use Rattle.std.specs.Prelude.{◌≡◌, ◌+◌, ◌-◌, ◌*◌, ◌<◌, ◌≤◌, nat_lt, slice_get, true, Some, IsOk, IfOk, OnOk, OnErr};
 ghost use Rattle.std.specs.List.{insert, remove};
 ghost use Rattle.retro_base.specs.declared.row.Row.{Row};
 ghost use Rattle.retro_base.specs.Answers.{answer_of, content};
 ghost use Rattle.retro_base.specs.Changes.{IsChange};
 ghost use Rattle.retro_base.specs.Edits.{add, cut};
 ghost use Rattle.retro_base.specs.Questions.{suits};
-ghost use Rattle.retro_base.specs.Replay.{IsValid, present};
+ghost use Rattle.retro_base.specs.Replay.{IsValid, present, state_at};
 ghost use Rattle.retro_base.specs.Timeline.{IsReplayable};
 ghost use Rattle.retro_base.specs.Visits.{VisitsWithin};
 ghost use Rattle.checkpoint_full.specs.Checkpoints.{after, first_of, place_of, CanTake, HoldsFirstRows};
@@ -128,6 +128,41 @@ impl<P: Partial + Drop> Snapshot<P> {
         ensures { IfOk result (λ listing. listing ≡ content (present self.now.kind self.now.rows)) }
     {
         self.structure.all_now()
+    }
+
+    /// The answer to a question about the timeline at a place, from its first rows, which stay as they are.
+    pub(crate) fn ask_after<L: Ledger>(
+        &self,
+        timeline: &Snapshot<P>,
+        place: u32,
+        question: Question,
+        steps: &mut Steps<L>,
+    ) -> Result<Answer, NoMemory>
+        requires first { HoldsFirstRows timeline.now self.now }
+        requires earlier { place_of self.now ≤ place }
+        requires within { place ≤ place_of timeline.now }
+        requires suited { suits question timeline.now.kind ≡ true }
+        ensures answer { IfOk result (λ answer. answer ≡ answer_of (state_at timeline.now.kind timeline.now.rows place) question) }
+        ensures here { place ≡ place_of self.now → IsOk result }
+        ensures visits { VisitsWithin (288 * (place - place_of self.now) + 144) (place_of timeline.now) steps.old steps.new }
+    {
+        let own = &self.structure;
+        own.ask_after(&timeline.structure, place, question, steps)
+    }
+
+    /// The whole content of the timeline at a place, from its first rows, which stay as they are.
+    pub(crate) fn list_after<L: Ledger>(
+        &self,
+        timeline: &Snapshot<P>,
+        place: u32,
+        steps: &mut Steps<L>,
+    ) -> Result<Listing, NoMemory>
+        requires first { HoldsFirstRows timeline.now self.now }
+        requires earlier { place_of self.now ≤ place }
+        requires within { place ≤ place_of timeline.now }
+        ensures content { IfOk result (λ listing. listing ≡ content (state_at timeline.now.kind timeline.now.rows place)) }
+    {
+        self.structure.list_after(&timeline.structure, place, steps)
     }
 
     /// Takes the last row off.

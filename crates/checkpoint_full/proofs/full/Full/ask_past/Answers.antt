@@ -1,0 +1,10 @@
+use Rattle.checkpoint_full.proofs.Rule.{all_seen}
+use Rattle.checkpoint_full.proofs.full.Full.ask_past.Goals as goal
+
+pub returns-clause-near : goal.returns-clause-near
+returns-clause-near g c =
+    rw (← c.self.view_is) (λ made. rw (all_seen c.self.inside.width c.self.inside.present c.self.inside.checkpoints.items c.self.invariant.0.kept) (c.ask_kept.ensures.near made))
+
+pub returns-clause-here : goal.returns-clause-here
+returns-clause-here g c =
+    rw (← c.self.view_is) (λ made. rw (all_seen c.self.inside.width c.self.inside.present c.self.inside.checkpoints.items c.self.invariant.0.kept) (c.ask_kept.ensures.here made))
