@@ -1,6 +1,10 @@
-ghost use Rattle.std.specs.Prelude.{◌≡◌, ◌≤◌, [], length, true, IfOk};
+ghost use Rattle.std.specs.Prelude.{◌≡◌, ◌<◌, ◌≤◌, [], length, slice_get, true, Some, IsOk, IfOk, OnOk, OnErr};
+ghost use Rattle.std.specs.List.{remove};
 ghost use Rattle.retro_base.specs.Answers.{answer_of};
-ghost use Rattle.retro_base.specs.Replay.{state_at};
+ghost use Rattle.retro_base.specs.Changes.{IsChange};
+ghost use Rattle.retro_base.specs.Edits.{cut};
+ghost use Rattle.retro_base.specs.Replay.{IsValid, state_at};
+ghost use Rattle.retro_base.specs.Timeline.{IsReplayable};
 ghost use Rattle.retro_base.specs.Questions.{suits};
 ghost use Rattle.retro_base.specs.Visits.{OpensCounter, VisitsWithin};
 
@@ -126,6 +130,26 @@ impl<S: Sequence> Partial for RetroLine<S> {
         list_sequence::<S>(&self.rows, self.rows.len())
     }
 
+    /// The later line answers of its own past, and needs no memory.
+    fn ask_after<L: Ledger>(
+        &self,
+        later: &RetroLine<S>,
+        place: u32,
+        question: Question,
+        steps: &mut Steps<L>,
+    ) -> Result<Answer, NoMemory> {
+        Ok(ask_sequence::<S, L>(&later.rows, place, question, steps))
+    }
+
+    fn list_after<L: Ledger>(
+        &self,
+        later: &RetroLine<S>,
+        place: u32,
+        _: &mut Steps<L>,
+    ) -> Result<Listing, NoMemory> {
+        list_sequence::<S>(&later.rows, place)
+    }
+
     fn copy(&self) -> Result<RetroLine<S>, NoMemory> {
         self.copied::<Brand>(Blank::new(1))
     }
@@ -156,7 +180,17 @@ impl<S: Sequence> Retro for RetroLine<S> {
         uncounted::insert(self, place, row)
     }
 
-    fn remove(&mut self, place: u32) -> Result<(Row, Change), NoMemory> {
+    /// It takes no memory, so it never answers `NoMemory`.
+    fn remove(&mut self, place: u32) -> Result<(Row, Change), NoMemory>
+        requires within { place < length self.old }
+        requires replays { IsValid S.kind (remove self.old place) }
+        ensures succeeds { IsOk result }
+        ensures row { IfOk result (λ taken. slice_get self.old place ≡ Some taken.0) }
+        ensures rows { OnOk result (self.new ≡ remove self.old place) }
+        ensures replayable { OnOk result (IsReplayable S.kind self.new) }
+        ensures change { IfOk result (λ taken. IsChange S.kind self.old (cut place taken.0) taken.1) }
+        ensures err { OnErr result (self.new ≡ self.old) }
+    {
         Ok(uncounted::remove(self, place))
     }
 
