@@ -38,10 +38,14 @@ node_part node = record { items = node_items node; nodes = node_count node }
 abbrev pub HasBalance : {A M : Type 0} → Node A M → Type 0
 HasBalance node = IsBalanced (weight node.left) (weight node.right)
 
--- the measure is that of the items of a leaf
+-- so many items fill a leaf
+abbrev pub full : ℕ
+full = 32
+
+-- the measure is that of the items of a leaf, which are no more than fill one
 pub record IsLeaf {A M : Type 0} (unit : M) (join : M → M → M) (measured : A → M) (measure : M) (items : List A) : Type 0 where
   pub measure_is : measure ≡ measure_of unit join measured items
-  pub fits : length items < 2 ^ 32
+  pub few : length items ≤ full
 
 -- the sizes and the measure are those of what is below the node, whose sides are in balance
 pub record IsNode {A M : Type 0} (unit : M) (join : M → M → M) (measured : A → M) (size nodes : ℕ) (measure : M) (node : Node A M) : Type 0 where

@@ -2,6 +2,7 @@ ghost use Rattle.std.specs.Prelude.{◌≡◌, ◌+◌, ◌^◌, ◌<◌, ◌≤
 ghost use Rattle.std.specs.List.{insert, remove};
 ghost use Rattle.weighted_tree.specs.Balance.{weight, IsUpToOneMore};
 ghost use Rattle.weighted_tree.specs.Levels.{TwoALevel, FourALevel};
+ghost use Rattle.weighted_tree.specs.Nodes.{full};
 
 use crate::leaf::{FULL, divide};
 use crate::node::Side;
@@ -99,7 +100,7 @@ impl<T: Measured> Subtree<T> {
     fn push_in_leaf<L: Ledger>(&mut self, item: T, steps: &mut Steps<L>) -> Result<(), NoMemory>
         requires leaf { self.old.nodes ≡ 0 }
         requires some { 0 < length self.old.items }
-        requires fits { length self.old.items + 1 < 2 ^ 32 }
+        requires room { length self.old.items < full }
         ensures ok { OnOk result (self.new.items ≡ insert self.old.items (length self.old.items) item) }
         ensures leaf { self.new.nodes ≡ 0 }
         ensures err { OnErr result (self.new ≡ self.old) }
@@ -137,6 +138,7 @@ impl<T: Measured> Subtree<T> {
     fn take_or_new<L: Ledger>(&mut self, alloc: Global, steps: &mut Steps<L>) -> Vec<T>
         requires leaf { self.old.nodes ≡ 0 }
         ensures items { result.items ≡ self.old.items }
+        ensures few { length result.items ≤ full }
         ensures some { 0 < length self.old.items → steps.new ≡ steps.old + 1 }
         ensures none { length self.old.items ≡ 0 → steps.new ≡ steps.old }
     {

@@ -2,6 +2,7 @@ ghost use Rattle.std.specs.Prelude.{◌≡◌, ◌+◌, ◌-◌, ◌^◌, ◌<�
 ghost use Rattle.std.specs.List.{insert, slice_range};
 ghost use Rattle.weighted_tree.specs.Balance.{no_part};
 ghost use Rattle.weighted_tree.specs.Measures.{measure_in, passing};
+ghost use Rattle.weighted_tree.specs.Nodes.{full};
 ghost use Rattle.weighted_tree.specs.Reads.{Writes};
 ghost use Rattle.weighted_tree.specs.Search.{FindsPartition};
 ghost use Rattle.weighted_tree.specs.SearchSteps.{IsSought, joined_after};
@@ -138,10 +139,11 @@ pub(crate) fn divide<T: Measured>(
 ) -> Result<Box<Node<T>>, NoMemory>
     requires some { 0 < length items.old.items }
     requires within { place ≤ length items.old.items }
-    requires fits { length items.old.items + 1 < 2 ^ 32 }
+    requires few { length items.old.items ≤ full }
     ensures ok { IfOk result (λ node. items.new.items ++ node.value.item ∷ node.value.right.items ≡ insert items.old.items place item) }
     ensures right { IfOk result (λ node. node.value.right.nodes ≡ 0) }
     ensures left { IfOk result (λ node. node.value.left ≡ no_part) }
+    ensures few { length items.new.items ≤ full }
     ensures err { OnErr result (items.new.items ≡ items.old.items) }
 {
     let cut = cut_at(items.len(), place);

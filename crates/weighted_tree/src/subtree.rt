@@ -1,7 +1,7 @@
 ghost use Rattle.std.specs.Prelude.{◌≡◌, ◌+◌, ◌^◌, ◌<◌, ◌≤◌, [], length, MatchOption};
 ghost use Rattle.weighted_tree.specs.Balance.{no_part, weight};
 ghost use Rattle.weighted_tree.specs.Measures.{measure_in, measure_seen};
-ghost use Rattle.weighted_tree.specs.Nodes.{node_items, node_part, HasBalance, IsRoot};
+ghost use Rattle.weighted_tree.specs.Nodes.{full, node_items, node_part, HasBalance, IsRoot};
 ghost use Rattle.weighted_tree.specs.Sides.{join_from, seen_from};
 
 use crate::closed::{Closed, ClosedItems};
@@ -151,7 +151,7 @@ impl<T: Measured> Subtree<T> {
     /// Visits the leaf, where there is no node.
     pub(crate) fn leaf<L: Ledger>(&self, steps: &mut Steps<L>) -> Option<&[T]>
         requires leaf { self.now.nodes ≡ 0 }
-        ensures { MatchOption result ((self.now.items ≡ []) × (steps.new ≡ steps.old)) (λ items. (items.now ≡ self.now.items) × (steps.new ≡ steps.old + 1) × (length items.now < 2 ^ 32)) }
+        ensures { MatchOption result ((self.now.items ≡ []) × (steps.new ≡ steps.old)) (λ items. (items.now ≡ self.now.items) × (steps.new ≡ steps.old + 1) × (length items.now ≤ full)) }
     {
         match &self.link {
             Link::Empty => None,
@@ -164,7 +164,7 @@ impl<T: Measured> Subtree<T> {
     pub(crate) fn take_leaf<L: Ledger>(&mut self, steps: &mut Steps<L>) -> Option<Vec<T>>
         requires leaf { self.old.nodes ≡ 0 }
         ensures taken { MatchOption result ((self.old.items ≡ []) × (steps.new ≡ steps.old)) (λ items. (items.items ≡ self.old.items) × (steps.new ≡ steps.old + 1)) }
-        ensures fits { length self.old.items < 2 ^ 32 }
+        ensures few { length self.old.items ≤ full }
         ensures rest { self.new ≡ no_part }
     {
         match mem::replace(&mut self.link, Link::Empty) {
@@ -176,7 +176,7 @@ impl<T: Measured> Subtree<T> {
 
     /// The leaf of these items, and closed from now on.
     pub(crate) fn of_items(items: Vec<T>) -> Subtree<T>
-        requires fits { length items.items < 2 ^ 32 }
+        requires few { length items.items ≤ full }
         ensures items { result.items ≡ items.items }
         ensures leaf { result.nodes ≡ 0 }
     {

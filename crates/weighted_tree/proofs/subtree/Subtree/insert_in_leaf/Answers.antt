@@ -7,7 +7,7 @@ of_items-requires-in-Ok-divide g c =
     let node = c.in-Ok-divide.node.value in
     let same = ap length c.take_or_new-items.ensures.items in
     record {
-      fits = omega (
+      few = omega (
         arith,
         ap length c.in-Ok-divide.ensures.ok,
         length-append c.divide.new.items.items (node.item ∷ node.right.items),

@@ -16,7 +16,7 @@ join-requires g c =
       ap g.T.Measure.Monoid.items_of c.measure.ensures ∙ g.met.T.Measured.single c.args.item,
       whole,
       ap (λ part. length part.items) c.self.view_is,
-      c.requires.fits,
+      c.requires.room,
     )
 
 pub invariant_of-self-2 : goal.invariant_of-self-2
@@ -32,5 +32,5 @@ invariant_of-self-2 g c =
           ∙ ap (g.T.Measure.Monoid.joined (measure_in g.T.Measured g.T.Measure.Monoid items)) c.measure.ensures
           ∙ sym (measure_next g.met.T.Measure.Monoid.laws g.T.Measured.measured items c.args.item)
           ∙ ap (measure_in g.T.Measured g.T.Measure.Monoid) (sym longer);
-      fits = omega (arith, ap length longer, length-append items (c.args.item ∷ []), whole, ap (λ part. length part.items) c.self.view_is, c.requires.fits);
+      few = omega (arith, ap length longer, length-append items (c.args.item ∷ []), whole, ap (λ part. length part.items) c.self.view_is, c.requires.room);
     }

@@ -10,11 +10,11 @@ of_items-requires g c =
     let leaf = ap (λ leaf. length (tail_items leaf)) c.in-Some.is in
     let all = ap length c.self.view_is in
     record {
-      fits = omega (
+      few = omega (
         arith,
         ap length c.shift_in.ensures,
         length-insert c.in-Some-take_leaf.items.items c.args.place c.args.item (omega arith),
-        c.take_leaf.ensures.fits,
+        c.take_leaf.ensures.few,
       );
     }
 
