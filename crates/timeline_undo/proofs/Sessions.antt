@@ -17,7 +17,7 @@ use Rattle.timeline_undo.specs.declared.noted.NotedStep.{NotedStep}
 use Rattle.timeline_undo.specs.declared.turn.Turn.{Turn}
 use Rattle.timeline_undo.specs.declared.edit.Interrupted.{Interrupted}
 use Rattle.timeline_undo.specs.declared.edit.Interrupted.TheVariants.{AtOnce, Midway}
-use Rattle.timeline_undo.specs.Session.{CanStand, HasRoom, IsSpentWithin, edit_reported}
+use Rattle.timeline_undo.specs.Session.{SessionState, CanStand, HasRoom, IsSpentWithin, spent_with, edit_reported}
 use Rattle.timeline_undo.specs.Kept.{step_of, latest, latest_undone, StandInTurn, IsLeftMidway, IsSession}
 use Rattle.timeline_undo.proofs.InTurn.{in_turn_first, in_turn_others, inverse_step_twice, step_back, timeline_after}
 use Rattle.timeline_undo.proofs.Rings.{up_to_newest, latest-more, latest_undone-more, latest_undone-kept, few_kept}
@@ -122,12 +122,12 @@ midway_timeline kind next rows after (edit ∷ []) Midway turn is left = absurd 
 midway_timeline kind next rows after (first ∷ second ∷ more) Midway turn is left = rw left turn.0.timeline
 
 -- and the session is spent
-pub midway_spent : (before after : List Row) (edits : Step) (spent : Bool) (place : Interrupted) → place ≡ Midway → IsLeftMidway before edits after place
-    → spent ≡ true → IsSpentWithin before edits after spent
-midway_spent before after edits spent AtOnce is left flag = absurd (cc)
-midway_spent before after [] spent Midway is left flag = left
-midway_spent before after (edit ∷ []) spent Midway is left flag = left
-midway_spent before after (first ∷ second ∷ more) spent Midway is left flag = (left, flag)
+pub midway_spent : (before : SessionState) (after : List Row) (next : ℕ) (edits : Step) (place : Interrupted) → place ≡ Midway
+    → IsLeftMidway before.rows edits after place → IsSpentWithin before edits next (spent_with before after next)
+midway_spent before after next edits AtOnce is left = absurd (cc)
+midway_spent before after next [] Midway is left = left
+midway_spent before after next (edit ∷ []) Midway is left = left
+midway_spent before after next (first ∷ second ∷ more) Midway is left = ap (λ rows. spent_with before rows next) left
 
 -- after an undo
 pub session_undone : (kind : Kind) (old performed rows : List Row) (next : ℕ) (undo redo : Buffer NotedStep) (last back : NotedStep)

@@ -16,7 +16,7 @@ use Rattle.timeline_undo.specs.declared.turn.Turn.{Turn}
 use Rattle.timeline_undo.specs.declared.turn.Turns.{Turns}
 use Rattle.timeline_undo.specs.declared.turn.Turns.TheVariants.{Single, Double}
 use Rattle.timeline_undo.specs.declared.shift.Target.{Target}
-use Rattle.timeline_undo.specs.History.{History, recorded, undone, redone}
+use Rattle.timeline_undo.specs.History.{History, no_history, recorded, undone, redone}
 use Rattle.timeline_undo.specs.Shift.{shift_at}
 
 -- what a session is seen as: a kind, rows, the number that the next row draws, a history, and whether it is spent
@@ -74,20 +74,24 @@ IsStepCause kind rows step edits.NoMemory = IsStepAccepted kind rows step
 abbrev pub IsCause : Kind → List Row → Edit → EditError → Type 0
 IsCause kind rows edit error = IsStepCause kind rows (edit ∷ []) error
 
--- out of memory after the first list edit of a step and before its end: the rows after that edit are left, and the session is spent
-abbrev pub IsSpentWithin : List Row → Step → List Row → Bool → Type 0
-IsSpentWithin rows [] left spent = ⊥
-IsSpentWithin rows (edit ∷ []) left spent = ⊥
-IsSpentWithin rows (first ∷ second ∷ more) left spent = (left ≡ edited rows first) × (spent ≡ true)
+-- a session that is spent: these rows, this number to come next, and no history
+abbrev pub spent_with : SessionState → List Row → ℕ → SessionState
+spent_with session rows next = record session { rows = rows; next = next; history = no_history; spent = true }
 
--- after out of memory all is as before, or the session is spent
-abbrev pub IsLeftWithout : SessionState → Step → SessionState → Type 0
-IsLeftWithout before step after = (after ≡ before) ⊎ IsSpentWithin before.rows step after.rows after.spent
+-- out of memory after the first list edit of a step and before its end: the session is spent, with the rows after that edit
+abbrev pub IsSpentWithin : SessionState → Step → ℕ → SessionState → Type 0
+IsSpentWithin before [] next after = ⊥
+IsSpentWithin before (edit ∷ []) next after = ⊥
+IsSpentWithin before (first ∷ second ∷ more) next after = after ≡ spent_with before (edited before.rows first) next
 
--- what a shift leaves that does not stand
+-- after out of memory all is as before, or the session is spent, and this number comes next
+abbrev pub IsLeftWithout : SessionState → Step → ℕ → SessionState → Type 0
+IsLeftWithout before step next after = (after ≡ before) ⊎ IsSpentWithin before step next after
+
+-- what a shift leaves that does not stand: where it is spent, its row has drawn a number
 abbrev pub IsLeftByShift : SessionState → Step → SessionState → EditError → Type 0
 IsLeftByShift before step after (edits.Fails number time) = after ≡ before
-IsLeftByShift before step after edits.NoMemory = IsLeftWithout before step after
+IsLeftByShift before step after edits.NoMemory = IsLeftWithout before step (before.next + 1) after
 
 -- why the row at a place is not replaced, and what that leaves
 abbrev pub IsUnmade : SessionState → Step → SessionState → EditError → Type 0
@@ -99,7 +103,7 @@ IsShiftUnmade before place target after error = IfSome (shift_at before.rows tar
 -- what an undo or a redo leaves that is not made, where this step is the newest, if there is one
 abbrev pub IsLeftByUndo : SessionState → Option Step → SessionState → UndoError → Type 0
 IsLeftByUndo before step after undos.Nothing = (step ≡ None) × (after ≡ before)
-IsLeftByUndo before step after undos.NoMemory = (newest : Step) × (step ≡ Some newest) × IsLeftWithout before newest after
+IsLeftByUndo before step after undos.NoMemory = (newest : Step) × (step ≡ Some newest) × IsLeftWithout before newest before.next after
 
 -- the list edit that a turn tells
 abbrev pub edit_reported : Turn → Edit

@@ -18,7 +18,7 @@
 //! edited rows do not replay, and `UndoError::Nothing` exactly where there is no such step. That an undo always replays is
 //! no test but a fact, which the invariant keeps: every step leads to rows that stood before. After every error all is as
 //! before, but where `spent` is true afterwards: memory ran out between the two list edits of a step. Such a session has
-//! the rows after the first edit; each call holds of those.
+//! the rows after the first edit, and takes no more calls.
 //!
 //! | Call | Cost |
 //! |---|---|

@@ -28,7 +28,7 @@ use std::marker::Model;
 pub const MAX_STEPS: usize = 1024;
 
 /// A timeline with the structure that performs it, and with what can be undone of it. A session that met out of memory
-/// between the two list edits of a step is spent: it has the rows after the first one, and each call holds of those.
+/// between the two list edits of a step is spent: it has the rows after the first one and no history, and takes no more calls.
 #[derive(Drop)]
 pub struct Session<R: Retro + Drop> {
     timeline: Timeline,
@@ -87,6 +87,7 @@ impl<R: Retro + Drop> Session<R> {
 
     /// The rows.
     pub fn timeline(&self) -> &Timeline
+        requires unspent { self.now.spent ≡ false }
         ensures rows { result.now ≡ self.now.rows }
         ensures timeline { IsTimeline self.now.kind self.now.rows self.now.next }
     {
@@ -95,6 +96,7 @@ impl<R: Retro + Drop> Session<R> {
 
     /// The structure that performs them.
     pub fn structure(&self) -> &R
+        requires unspent { self.now.spent ≡ false }
         ensures kind { R.kind result.now ≡ self.now.kind }
         ensures rows { R.rows result.now ≡ self.now.rows }
     {
@@ -103,6 +105,7 @@ impl<R: Retro + Drop> Session<R> {
 
     /// The number that the next row draws.
     pub fn next(&self) -> u32
+        requires unspent { self.now.spent ≡ false }
         ensures next { result ≡ self.now.next }
         ensures within { (1 ≤ result) × (result ≤ next_limit) }
     {
@@ -111,6 +114,7 @@ impl<R: Retro + Drop> Session<R> {
 
     /// The kind.
     pub fn kind(&self) -> Kind
+        requires unspent { self.now.spent ≡ false }
         ensures { result ≡ self.now.kind }
     {
         self.structure.kind()
@@ -118,6 +122,7 @@ impl<R: Retro + Drop> Session<R> {
 
     /// Puts in a row that draws the next number. After every error all is as before.
     pub fn put(&mut self, place: u32, time: u64, op: Op) -> Result<Put, EditError>
+        requires unspent { self.old.spent ≡ false }
         requires stands { CanStand self.old.rows place time }
         requires room { HasRoom self.old.rows self.old.next }
         requires of_kind { kind_of op ≡ self.old.kind }
@@ -148,6 +153,7 @@ impl<R: Retro + Drop> Session<R> {
     /// Appends a row that has a number already, as one of a block that is read has. It is no step of the history,
     /// which has none. After `NoMemory` all is as before.
     pub fn append(&mut self, row: Row) -> Result<Change, NoMemory>
+        requires unspent { self.old.spent ≡ false }
         requires timeline { IsTimeline self.old.kind (self.old.rows ++ row ∷ []) self.old.next }
         requires history { self.old.history ≡ no_history }
         ensures session { OnOk result (self.new ≡ record self.old { rows = self.old.rows ++ row ∷ [] }) }
@@ -162,7 +168,8 @@ impl<R: Retro + Drop> Session<R> {
 
     /// Takes the row at a place out. After every error all is as before.
     pub fn cut(&mut self, place: u32) -> Result<Turn, EditError>
-        requires { place < length self.old.rows }
+        requires unspent { self.old.spent ≡ false }
+        requires within { place < length self.old.rows }
         ensures row { IfOk result (λ turn. slice_get self.old.rows place ≡ Some turn.row) }
         ensures reported { IfOk result (λ turn. edit_reported turn ≡ cut place turn.row) }
         ensures accepted { IfOk result (λ turn. IsAccepted self.old.kind self.old.rows (cut place turn.row)) }
@@ -185,6 +192,7 @@ impl<R: Retro + Drop> Session<R> {
     /// is found before anything is edited, which takes no memory: by one search of the structure, where that shows that they do, and
     /// else by a walk over the rows. After `Fails` all is as before; after `NoMemory` it is so too, or the session is spent.
     pub fn shift(&mut self, place: u32, target: Target) -> Result<Shift, EditError>
+        requires unspent { self.old.spent ≡ false }
         requires within { place < length self.old.rows }
         requires room { HasRoom self.old.rows self.old.next }
         requires of_kind { IsTargetOf self.old.kind target }
@@ -227,6 +235,7 @@ impl<R: Retro + Drop> Session<R> {
     /// Takes the newest step back, all its list edits. After `Nothing` all is as before; after `NoMemory` it is so too, or the session
     /// is spent.
     pub fn undo(&mut self) -> Result<Turns, UndoError>
+        requires unspent { self.old.spent ≡ false }
         ensures step { IfOk result (λ turns. (step : Step) × (newest_step self.old.history.undo ≡ Some step) × (inverse_step step ≡ step_reported turns) × (self.new ≡ with_undo self.old step)) }
         ensures made { IfOk result (AreMade self.old.kind self.old.rows) }
         ensures nothing { IsErrOf result UndoError.Nothing ↔ (self.old.history.undo ≡ []) }
@@ -252,6 +261,7 @@ impl<R: Retro + Drop> Session<R> {
     /// Makes the step again that was taken back last, all its list edits. After `Nothing` all is as before; after `NoMemory` it is so
     /// too, or the session is spent.
     pub fn redo(&mut self) -> Result<Turns, UndoError>
+        requires unspent { self.old.spent ≡ false }
         ensures step { IfOk result (λ turns. (newest_step self.old.history.redo ≡ Some (step_reported turns)) × (self.new ≡ with_redo self.old (step_reported turns))) }
         ensures made { IfOk result (AreMade self.old.kind self.old.rows) }
         ensures nothing { IsErrOf result UndoError.Nothing ↔ (self.old.history.redo ≡ []) }
@@ -276,7 +286,8 @@ impl<R: Retro + Drop> Session<R> {
 
     /// The answer to a question about the present.
     pub fn ask_now(&self, question: Question) -> Answer
-        requires { suits question self.now.kind ≡ true }
+        requires unspent { self.now.spent ≡ false }
+        requires suited { suits question self.now.kind ≡ true }
         ensures { result ≡ answer_of (present self.now.kind self.now.rows) question }
     {
         self.structure.ask_now(question)
@@ -284,6 +295,7 @@ impl<R: Retro + Drop> Session<R> {
 
     /// The answer to a question about a place. The session is unchanged, whatever the answer.
     pub fn ask(&mut self, place: u32, question: Question) -> Result<Answer, NoMemory>
+        requires unspent { self.old.spent ≡ false }
         requires within { place ≤ length self.old.rows }
         requires suited { suits question self.old.kind ≡ true }
         ensures unchanged { self.new ≡ self.old }
@@ -294,7 +306,8 @@ impl<R: Retro + Drop> Session<R> {
 
     /// The whole content at a place. The session is unchanged, whatever the answer.
     pub fn all(&mut self, place: u32) -> Result<Listing, NoMemory>
-        requires { place ≤ length self.old.rows }
+        requires unspent { self.old.spent ≡ false }
+        requires within { place ≤ length self.old.rows }
         ensures unchanged { self.new ≡ self.old }
         ensures content { IfOk result (λ listing. listing ≡ content (state_at self.old.kind self.old.rows place)) }
     {

@@ -1,7 +1,7 @@
 use Rattle.std.proofs.Common.{◌+◌, true, [], ◌∷◌, Some, inl, inr, ap, refl, sym, ◌∙◌, subst}
 use Rattle.std.specs.Option.{option_map}
 use Rattle.timeline_undo.specs.Kept.{edit_of}
-use Rattle.timeline_undo.specs.Session.{IsSpentWithin}
+use Rattle.timeline_undo.specs.Session.{IsSpentWithin, spent_with}
 use Rattle.timeline_undo.specs.declared.error.EditError.TheVariants.{Fails, NoMemory}
 use Rattle.timeline_undo.specs.Shift.{shift_of}
 use Rattle.timeline_undo.specs.declared.replacement.Replacement.{Replacement}
@@ -104,14 +104,14 @@ returns-in-Err-Midway-clause-err g c =
     let kind = g.R.Retro.kind c.self.inside.structure in
     let before = seen kind c.self.inside.timeline c.self.inside.next c.self.inside.undo c.self.inside.redo c.self.inside.spent in
     let edits = edit_of c.edits-first.result.0 ∷ edit_of c.edits-first.result.1 ∷ [] in
-    let after = seen (g.R.Retro.kind c.make_both.new.structure) c.make_both.new.timeline (c.self.inside.next + 1) c.forget.new.undo c.forget.new.redo true in
-    rw (← c.self.view_is)
+    let after = spent_with before c.make_both.new.timeline (c.self.inside.next + 1) in
+    rw (← c.self.view_is, c.in-Err-Midway.ensures.kind, c.forget.ensures.undo, c.forget.ensures.redo)
     (unmade before after c.args.target c.args.place c.row_at-old.result NoMemory c.row_at-old.ensures
     (none_failing _ _ c.self.inside.next c.args.target c.args.place c.row_at-old.result c.of-replacement.result c.failing_after.result
     (may_shift _ _ _ c.args.target _ _ c.self.invariant.timeline (rw (← c.self.view_is) at c.requires.room)
     (rw (← c.self.view_is) at c.requires.of_kind) c.row_at-old.ensures)
     c.of-replacement.ensures c.failing_after.ensures c.in_default.is)
-    (inr (subst (λ step. IsSpentWithin c.self.inside.timeline step c.make_both.new.timeline true)
+    (inr (subst (λ step. IsSpentWithin before step (c.self.inside.next + 1) after)
     (edits_are_shift _ c.args.target c.self.inside.next c.args.place c.row_at-old.result c.of-replacement.result edits
     c.self.invariant.timeline.in_order c.row_at-old.ensures c.of-replacement.ensures c.edits-first.ensures)
-    (midway_spent c.self.inside.timeline c.make_both.new.timeline edits true c.in-Err-Midway.field-0 c.in-Err-Midway.field-0-is c.in-Err-Midway.ensures.err refl))))
+    (midway_spent before c.make_both.new.timeline (c.self.inside.next + 1) edits c.in-Err-Midway.field-0 c.in-Err-Midway.field-0-is c.in-Err-Midway.ensures.err))))

@@ -5,6 +5,7 @@ use Rattle.timeline_undo.specs.Kept.{step_of}
 use Rattle.timeline_undo.proofs.InTurn.{in_turn_first, ready}
 use Rattle.timeline_undo.proofs.Rings.{steps-older, steps-more, steps-newest, no_newest}
 use Rattle.timeline_undo.proofs.Sessions.{at_once, midway_spent, midway_timeline, session_spent, session_undone, undo_stands}
+use Rattle.timeline_undo.proofs.Shifts.{seen}
 use Rattle.timeline_undo.proofs.session.Session.undo.Goals as goal
 
 pub returns-in_default-clause-nothing : goal.returns-in_default-clause-nothing
@@ -46,8 +47,12 @@ returns-in-Err-AtOnce-clause-err g c = (
 )
 
 pub returns-in-Err-Midway-clause-err : goal.returns-in-Err-Midway-clause-err
-returns-in-Err-Midway-clause-err g c = (
-  inverse_step (step_of c.in-Some.step),
-  rw (← c.self.view_is) (ap (option_map inverse_step) (steps-newest c.self.inside.undo.items _ (sym c.newest.ensures ∙ c.in-Some.is))),
-  inr (rw (← c.self.view_is) (midway_spent _ _ _ _ c.in-Err-Midway.field-0 c.in-Err-Midway.field-0-is (rw c.inverse.ensures at c.in-Err-Midway.ensures.err) refl)),
-)
+returns-in-Err-Midway-clause-err g c =
+    let before = seen (g.R.Retro.kind c.self.inside.structure) c.self.inside.timeline c.self.inside.next c.self.inside.undo c.self.inside.redo c.self.inside.spent in
+    (
+      inverse_step (step_of c.in-Some.step),
+      rw (← c.self.view_is) (ap (option_map inverse_step) (steps-newest c.self.inside.undo.items _ (sym c.newest.ensures ∙ c.in-Some.is))),
+      inr (rw (← c.self.view_is, c.in-Err-Midway.ensures.kind, c.forget.ensures.undo, c.forget.ensures.redo)
+      (midway_spent before _ c.self.inside.next (inverse_step (step_of c.in-Some.step)) c.in-Err-Midway.field-0 c.in-Err-Midway.field-0-is
+      (rw c.inverse.ensures at c.in-Err-Midway.ensures.err))),
+    )
