@@ -38,10 +38,6 @@ pub trait Decomposable {
     fn empty() -> Self::Part
         ensures { result ≡ empty_part };
 
-    /// The answer over one item.
-    fn ask_one(item: &Self::Item, query: Self::Query) -> Self::Part
-        ensures { result ≡ answer (item.now ∷ []) query };
-
     /// The answer over these items.
     fn ask(items: &Tree<Self::Item>, query: Self::Query) -> Self::Part
         requires lawful { IsLawful stands_before items.now }
@@ -57,4 +53,11 @@ pub trait Decomposable {
 
     /// Answers combine, in any order, and `empty` changes nothing.
     ghost laws: { SearchLaws stands_before answer empty_part combined };
+}
+
+/// A search that answers over one item without a tree of it: a span that keeps few lifetimes is asked so.
+pub trait AnswersOfOne: Decomposable {
+    /// The answer over one item.
+    fn ask_one(item: &Self::Item, query: Self::Query) -> Self::Part
+        ensures { result ≡ Self.answer (item.now ∷ []) query };
 }

@@ -3,7 +3,8 @@
 //! A search is decomposable where its answer over some items is combined of its answers over two parts of them, as a
 //! count, a sum or the least item is (Bentley and Saxe 1980). [`Decomposable`] is such a search with its laws, which each
 //! implementation proves, and [`Segments`] answers it over the items of all lifetimes that hold a label, for every one
-//! of them, and gives these items. Where nothing is asked but at the last label, the items alone serve better.
+//! of them, and gives these items. For its question it asks for [`AnswersOfOne`] too, since a span may keep few lifetimes as they
+//! are. Where nothing is asked but at the last label, the items alone serve better.
 //!
 //! `Segments` is a segment tree (Bentley 1977) over labels of 40 bits. The spans of labels are dyadic: that of the root
 //! has all labels, and each has two halves. While the lifetimes in a span are few, it keeps them as they are, cut off where
@@ -32,7 +33,7 @@
 //! specs/Lawful.antt, and the laws of lists in their order in specs/OrderedLaws.antt and specs/LifetimeLaws.antt. So a
 //! caller with a list of its own says that what is held is that list `in_order`.
 //!
-//! - `decomposable`: the trait. `segments`: the type and its calls. `lifetime`: what lies in a span, and what in its halves.
+//! - `decomposable`: the traits. `segments`: the type and its calls. `lifetime`: what lies in a span, and what in its halves.
 //! - `trie`: the spans. `edit`: putting a lifetime in, moving its end and taking it out. `search`: the way to a label.
 //!   `collect`: the items on this way.
 //! - `sorted`: trees that keep their items in an order.
@@ -47,6 +48,6 @@ mod segments;
 mod sorted;
 mod trie;
 
-pub use decomposable::Decomposable;
+pub use decomposable::{AnswersOfOne, Decomposable};
 pub use lifetime::Lifetime;
 pub use segments::Segments;

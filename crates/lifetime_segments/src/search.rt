@@ -5,7 +5,7 @@ ghost use Rattle.lifetime_segments.specs.Lifetimes.{items_at};
 ghost use Rattle.lifetime_segments.specs.Ordered.{in_order};
 ghost use Rattle.lifetime_segments.specs.Tries.{Has, NodeHas, AnswersAt, NodeAnswersAt};
 
-use crate::decomposable::Decomposable;
+use crate::decomposable::AnswersOfOne;
 use crate::lifetime::{Lifetime, labels};
 use crate::trie::{Node, Trie};
 use retro_base::Steps;
@@ -13,7 +13,7 @@ use std::sync::ledger::{Blank, Ledger};
 use weighted_tree::Tree;
 
 /// The answer over the items that are there at a label.
-pub(crate) fn asked<D: Decomposable, L: Ledger>(
+pub(crate) fn asked<D: AnswersOfOne, L: Ledger>(
     root: &Trie<D::Item>,
     level: u32,
     label: u64,
@@ -32,7 +32,7 @@ pub(crate) fn asked<D: Decomposable, L: Ledger>(
 
 /// The answer over the items in the spans above a label, and over those of few lifetimes there.
 #[cycle(ask)]
-fn ask<D: Decomposable, L: Ledger>(
+fn ask<D: AnswersOfOne, L: Ledger>(
     trie: &Trie<D::Item>,
     level: u32,
     label: u64,
@@ -57,7 +57,7 @@ fn ask<D: Decomposable, L: Ledger>(
 
 /// The answer over the items in the spans below a node and above a label.
 #[cycle(ask)]
-fn ask_half<D: Decomposable, L: Ledger>(
+fn ask_half<D: AnswersOfOne, L: Ledger>(
     node: &Node<D::Item>,
     level: u32,
     label: u64,
@@ -78,7 +78,7 @@ fn ask_half<D: Decomposable, L: Ledger>(
 }
 
 /// The answer over the items of those of a few lifetimes that hold a label.
-fn ask_few<D: Decomposable, L: Ledger>(
+fn ask_few<D: AnswersOfOne, L: Ledger>(
     few: &Tree<Lifetime<D::Item>>,
     label: u64,
     query: D::Query,

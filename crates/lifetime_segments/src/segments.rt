@@ -7,7 +7,7 @@ ghost use Rattle.lifetime_segments.specs.Ordered.{AreInOrder, put_in, in_order, 
 ghost use Rattle.lifetime_segments.specs.Tries.{AreHeld, ending};
 
 use crate::collect::collected;
-use crate::decomposable::Decomposable;
+use crate::decomposable::{AnswersOfOne, Decomposable};
 use crate::edit;
 use crate::lifetime::Lifetime;
 use crate::search::asked;
@@ -102,14 +102,6 @@ impl<D: Decomposable> Segments<D> {
         take_held::<D, Brand>(&mut self.held, &mut self.root, life, Blank::new(1))
     }
 
-    /// The answer over the items of all lifetimes that hold the label. It takes no memory.
-    pub fn ask(&self, label: u64, query: D::Query) -> D::Part
-        requires within { label < label_end }
-        ensures { result ≡ D.answer (in_order D.stands_before (items_at label self.now)) query }
-    {
-        asked::<D, Brand>(&self.root, LEVELS, label, query, Blank::new(1))
-    }
-
     /// The items of all lifetimes that hold the label, in no order of their own.
     pub fn items_at(&self, label: u64) -> Result<Vec<D::Item>, NoMemory>
         requires within { label < label_end }
@@ -118,6 +110,16 @@ impl<D: Decomposable> Segments<D> {
     {
         let alloc = self.held.alloc();
         collected::<D, Brand>(&self.root, LEVELS, label, alloc, Blank::new(1))
+    }
+}
+
+impl<D: AnswersOfOne> Segments<D> {
+    /// The answer over the items of all lifetimes that hold the label. It takes no memory.
+    pub fn ask(&self, label: u64, query: D::Query) -> D::Part
+        requires within { label < label_end }
+        ensures { result ≡ D.answer (in_order D.stands_before (items_at label self.now)) query }
+    {
+        asked::<D, Brand>(&self.root, LEVELS, label, query, Blank::new(1))
     }
 }
 

@@ -7,7 +7,9 @@ use Rattle.std.proofs.lemmas.List.Edits.{length-insert, length-remove}
 use Rattle.retro_base.specs.declared.row.Row.{Row}
 use Rattle.retro_base.specs.Timeline.{IsFresh, HaveOwnNumbers}
 use Rattle.order_timeline.specs.Numbers.{IsNamed, Pages, Changes, Writes, WritesRun, written}
-use Rattle.order_timeline.specs.Runs.{rows_in, start_of, beside, IsInRun, TakesRow, IsInRuns, RepresentsRows}
+use Rattle.order_timeline.specs.Runs.{rows_in, start_of, beside, divided, IsInRun, TakesRow, IsInRuns, HasRoom, RepresentsRows}
+use Rattle.retro_base.specs.Limits.{most_rows}
+use Rattle.order_timeline.proofs.FilledRuns.{filled_more, fewer_runs, first_of_divided, second_of_divided, start_before_divided}
 use Rattle.order_timeline.specs.Rows.{MayCome}
 use Rattle.retro_base.specs.EditedLists.{remove-insert}
 use Rattle.order_timeline.proofs.Rows.{ordered_more}
@@ -102,9 +104,6 @@ start_divided [] index count half long = cc
 start_divided (run ∷ runs) zero count half long = omega arith
 start_divided (run ∷ runs) (suc index) count half long = omega (arith, start_divided runs index count half long)
 
-abbrev pub divided : List ℕ → ℕ → ℕ → ℕ → List ℕ
-divided runs index count half = slice_set (insert runs (index + 1) (count - half)) index half
-
 divided_next : (runs : List ℕ) (index count half : ℕ) → divided runs index count half ≡ slice_set (insert runs (suc index) (count - half)) index half
 divided_next runs index count half = ap (λ n. slice_set (insert runs n (count - half)) index half) (add-one index)
 
@@ -150,19 +149,59 @@ in_runs_put rows more runs longer names before after index place row item count 
     (in_runs_with rows runs names before after index place row count name is within fresh takes long there writes))
 
 -- a timeline with a row more
-pub kept_put : (rows more : List Row) (first firsts runs longer names : List ℕ) (before after : Pages) (index place : ℕ) (row item : Row)
-    (count name run : ℕ) → RepresentsRows rows first firsts before → MayCome rows place row
-    → length names ≡ length runs → beside runs names ≡ beside first firsts → TakesRow runs index place → slice_get runs index ≡ Some count → slice_get names index ≡ Some name → Writes before after row.number name
+pub kept_put : (rows more : List Row) (runs longer names : List ℕ) (before after : Pages) (index place : ℕ) (row item : Row)
+    (count name run : ℕ) → RepresentsRows rows runs names before → MayCome rows place row
+    → TakesRow runs index place → HasRoom runs index → slice_get runs index ≡ Some count → slice_get names index ≡ Some name → Writes before after row.number name
     → item ≡ row → more ≡ insert rows place item → run ≡ count + 1 → longer ≡ slice_set runs index run → RepresentsRows more longer names after
-kept_put rows more first firsts runs longer names before after index place row item count name run kept comes each same takes long there writes item_is more_is run_is longer_is = record {
+kept_put rows more runs longer names before after index place row item count name run kept comes takes room long there writes item_is more_is run_is longer_is = record {
   ordered = ordered_more rows more place row item item_is more_is kept.ordered comes.within comes.room comes.fresh comes.fits;
-  in_runs = in_runs_put rows more runs longer names before after index place row item count name run (in_runs_same rows first firsts runs names before kept.in_runs each same)
+  in_runs = in_runs_put rows more runs longer names before after index place row item count name run kept.in_runs
       comes.within comes.fresh takes long there writes item_is more_is run_is longer_is;
+  filled = rw (longer_is ∙ ap (slice_set runs index) run_is) (filled_more runs index count kept.filled long room);
 }
 
 -- a timeline as before, once a number was noted and forgotten
-pub kept_again : (rows more : List Row) (first firsts runs names : List ℕ) (before after : Pages) (number : ℕ) → RepresentsRows rows first firsts before → IsFresh number rows
-    → length names ≡ length runs → beside runs names ≡ beside first firsts → more ≡ rows → Changes before after number None → RepresentsRows more runs names after
-kept_again rows more first firsts runs names before after number kept fresh each same same_rows changes =
+pub kept_again : (rows more : List Row) (runs names : List ℕ) (before after : Pages) (number : ℕ) → RepresentsRows rows runs names before → IsFresh number rows
+    → more ≡ rows → Changes before after number None → RepresentsRows more runs names after
+kept_again rows more runs names before after number kept fresh same_rows changes =
     subst (λ xs. RepresentsRows xs runs names after) (sym same_rows)
-    (record { ordered = kept.ordered; in_runs = in_runs_again rows runs names before after number fresh (in_runs_same rows first firsts runs names before kept.in_runs each same) changes })
+    (record { ordered = kept.ordered; in_runs = in_runs_again rows runs names before after number fresh kept.in_runs changes; filled = kept.filled })
+
+-- which of the two runs takes a row, once the run that took it is divided
+pub first_takes : (runs more : List ℕ) (index count half place : ℕ) → TakesRow runs index place → slice_get runs index ≡ Some count → half ≤ count
+    → more ≡ divided runs index count half → place ≤ start_of runs index + half → TakesRow more index place
+first_takes runs more index count half place takes long within is near = record {
+  there = omega (arith, takes.there, ap length is, length-set (insert runs (index + 1) (count - half)) index half, length-insert runs (index + 1) (count - half) (omega (arith, takes.there)));
+  begun = omega (arith, takes.begun, start_before_divided runs more index count half takes.there is);
+  lasts = omega (arith, near, start_before_divided runs more index count half takes.there is, read_index more index half (first_of_divided runs more index count half takes.there is));
+}
+
+pub second_takes : (runs more : List ℕ) (index count half place : ℕ) → TakesRow runs index place → slice_get runs index ≡ Some count → half ≤ count
+    → more ≡ divided runs index count half → start_of runs index + half < place → TakesRow more (index + 1) place
+second_takes runs more index count half place takes long within is far = record {
+  there = omega (arith, takes.there, ap length is, length-set (insert runs (index + 1) (count - half)) index half, length-insert runs (index + 1) (count - half) (omega (arith, takes.there)));
+  begun = omega (arith, far, start_of_divided runs more index count half long is);
+  lasts = omega (arith, takes.lasts, read_index runs index count long, within, start_of_divided runs more index count half long is,
+      read_index more (index + 1) (count - half) (second_of_divided runs more index count half takes.there is));
+}
+
+-- there are fewer runs than a timeline may have rows, where one of them has two
+there_within : (xs : List ℕ) (index x : ℕ) → slice_get xs index ≡ Some x → index < length xs
+there_within [] index x there = absurd (cc)
+there_within (y ∷ xs) zero x there = omega arith
+there_within (y ∷ xs) (suc index) x there = omega (arith, there_within xs index x there)
+
+pub record AreFew (runs names : List ℕ) (index : ℕ) : Type 0 where
+  pub there : index < length runs
+  pub runs_few : length runs < most_rows
+  pub names_few : length names < most_rows
+
+pub few_divided : (rows : List Row) (runs names : List ℕ) (numbers : Pages) (index count : ℕ) → RepresentsRows rows runs names numbers → slice_get runs index ≡ Some count → 1 < count
+    → AreFew runs names index
+few_divided rows runs names numbers index count kept long more =
+    let fewer : length runs < most_rows = omega (arith, fewer_runs runs index count kept.filled long more, all_rows rows runs names numbers kept.in_runs, kept.ordered.few) in
+    record {
+      there = there_within runs index count long;
+      runs_few = fewer;
+      names_few = omega (arith, fewer, kept.in_runs.each);
+    }

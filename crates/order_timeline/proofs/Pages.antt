@@ -1,5 +1,5 @@
 -- What a table in pages has at a number.
-use Rattle.std.proofs.Common.{◌≡◌, ◌≢◌, ℕ, zero, suc, ◌/◌, ◌%◌, ◌<◌, ◌≤◌, true, cond, Option, Some, None, IsSome, List, [], ◌∷◌, ◌++◌, length}
+use Rattle.std.proofs.Common.{◌≡◌, ◌≢◌, ℕ, zero, suc, ◌/◌, ◌%◌, ◌<◌, ◌≤◌, true, cond, Option, Some, None, IsSome, List, [], ◌∷◌, ◌++◌, length, inl}
 use Rattle.std.proofs.Common.{get_or, set, ◌==◌, refl, sym, ap, ◌∙◌, subst, arith, inl, inr, eqb-true}
 use Rattle.std.proofs.lemmas.Bool.{cases_Bool, eqb-false}
 use Rattle.std.proofs.lemmas.List.{get_or-set_same, get_or-set_other}
@@ -142,4 +142,4 @@ page_same pages now number page new seen within is same other =
 -- a timeline without rows
 pub nobody : RepresentsRows [] [] [] []
 unfolding name_in
-nobody = record { ordered = record { few = omega arith; in_order = tt; own_numbers = tt }; in_runs = record { each = refl; named = record { beside = refl; filed = λ number. refl } } }
+nobody = record { ordered = record { few = omega arith; in_order = tt; own_numbers = tt }; in_runs = record { each = refl; named = record { beside = refl; filed = λ number. refl } }; filled = inl tt }

@@ -1,6 +1,6 @@
 -- Rows in runs of neighbours, each with a name.
-use Rattle.std.specs.Prelude.{◌≡◌, ℕ, ◌+◌, ◌<◌, ◌≤◌, List, [], ◌∷◌, ◌++◌, length, take, replicate, slice_index, ◌==◌}
-use Rattle.std.specs.List.{position_or_len}
+use Rattle.std.specs.Prelude.{◌≡◌, ℕ, ◌+◌, ◌-◌, ◌<◌, ◌≤◌, ◌⊎◌, List, [], ◌∷◌, ◌++◌, length, take, replicate, slice_get, slice_index, slice_set, IfSome, ◌==◌}
+use Rattle.std.specs.List.{insert, position_or_len, AllByRecursion}
 use Rattle.retro_base.specs.declared.row.Row.{Row}
 use Rattle.order_timeline.specs.Numbers.{IsNamed, Pages}
 use Rattle.order_timeline.specs.Rows.{IsOrdered}
@@ -37,10 +37,32 @@ pub record IsInRuns (rows : List Row) (runs names : List ℕ) (numbers : Pages) 
   pub each : length names ≡ length runs
   pub named : IsNamed rows (beside runs names) numbers
 
--- what a timeline keeps: rows in order, in runs
+-- the most rows of a run
+abbrev pub longest_run : ℕ
+longest_run = 32
+
+-- a run has rows, and no more than that
+pub record IsFilled (run : ℕ) : Type 0 where
+  pub some : 1 ≤ run
+  pub few : run ≤ longest_run
+
+-- each run is filled, or there is one that waits for the first row
+abbrev pub AreFilled : List ℕ → Type 0
+AreFilled runs = AllByRecursion IsFilled runs ⊎ (runs ≡ 0 ∷ [])
+
+-- the run with this index has room for one row more
+abbrev pub HasRoom : List ℕ → ℕ → Type 0
+HasRoom runs index = IfSome (slice_get runs index) (λ run. run < longest_run)
+
+-- the runs where the one with this index, which has so many rows, is divided: so many stay
+abbrev pub divided : List ℕ → ℕ → ℕ → ℕ → List ℕ
+divided runs index count half = slice_set (insert runs (index + 1) (count - half)) index half
+
+-- what a timeline keeps: rows in order, in runs that are filled
 pub record RepresentsRows (rows : List Row) (runs names : List ℕ) (numbers : Pages) : Type 0 where
   pub ordered : IsOrdered rows
   pub in_runs : IsInRuns rows runs names numbers
+  pub filled : AreFilled runs
 
 -- no row before the place has the number
 abbrev pub IsNotBefore : List Row → ℕ → ℕ → Type 0

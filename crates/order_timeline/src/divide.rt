@@ -1,51 +1,46 @@
-ghost use Rattle.std.specs.Prelude.{◌≡◌, ◌<◌, ◌≤◌, length};
-ghost use Rattle.order_timeline.specs.Kept.{AreInRuns};
-ghost use Rattle.retro_base.specs.Limits.{most_rows};
-ghost use Rattle.retro_base.specs.Timeline.{HaveOwnNumbers};
+ghost use Rattle.std.specs.Prelude.{◌≡◌, ◌<◌, ◌≤◌, slice_get, Some, IfOk};
+ghost use Rattle.order_timeline.specs.Kept.{KeepsRows};
+ghost use Rattle.order_timeline.specs.Runs.{divided};
 
 use crate::kept::Kept;
 use crate::numbers::write_run;
 use crate::run::Run;
 use crate::runs::start_of;
-use retro_base::{MAX_ROWS, NoMemory, Steps};
+use retro_base::{NoMemory, Steps};
 use std::sync::ledger::Ledger;
 
-/// A run that is longer is divided.
+/// The most rows of a run; a full one is divided where one more comes in.
 pub(crate) const LONGEST_RUN: u32 = 32;
 
 /// How many rows stay where a run is divided: half of them, but of the last run, where most rows come in one after the other,
 /// all but the last one.
 fn first_part(count: u32, is_last: bool) -> u32
-    ensures { result ≤ count }
+    requires { 1 < count }
+    ensures some { 1 ≤ result }
+    ensures less { result < count }
 {
-    if is_last {
-        count.saturating_sub(1)
-    } else {
-        count / 2
-    }
+    if is_last { count - 1 } else { count / 2 }
 }
 
-/// Divides a run. Where there is no memory for another run, all stays.
-pub(crate) fn divide<L: Ledger>(kept: &mut Kept, run: u32, steps: &mut Steps<L>)
-    requires in_runs { AreInRuns kept.old }
-    requires there { run < length kept.old.runs }
-    requires few { length kept.old.rows ≤ most_rows }
-    requires own { HaveOwnNumbers kept.old.rows }
+/// Divides a run that has so many rows, and tells how many of them stay. After `NoMemory` all is as before.
+pub(crate) fn divide<L: Ledger>(
+    kept: &mut Kept,
+    run: u32,
+    count: u32,
+    steps: &mut Steps<L>,
+) -> Result<u32, NoMemory>
+    requires kept { KeepsRows kept.old }
+    requires there { slice_get kept.old.runs run ≡ Some count }
+    requires more { 1 < count }
+    ensures kept { KeepsRows kept.new }
     ensures rows { kept.new.rows ≡ kept.old.rows }
-    ensures in_runs { AreInRuns kept.new }
+    ensures some { IfOk result (λ half. 1 ≤ half) }
+    ensures less { IfOk result (λ half. half < count) }
+    ensures runs { IfOk result (λ half. kept.new.runs ≡ divided kept.old.runs run count half) }
 {
-    if kept.names.len() >= MAX_ROWS {
-        return;
-    }
-    let count = kept.runs.get(run, steps).rows();
     let half = first_part(count, run + 1 == kept.runs.len());
-    if kept
-        .runs
-        .insert(run + 1, Run::new(count - half), steps)
-        .is_err()
-    {
-        return;
-    }
+    kept.runs
+        .insert(run + 1, Run::new(count - half), steps)?;
     match kept.names.insert(run + 1, steps) {
         Ok(name) => {
             kept.runs.replace(run, Run::new(half), steps);
@@ -58,9 +53,11 @@ pub(crate) fn divide<L: Ledger>(kept: &mut Kept, run: u32, steps: &mut Steps<L>)
                 name,
                 steps,
             );
+            Ok(half)
         }
         Err(NoMemory) => {
             kept.runs.remove(run + 1, steps);
+            Err(NoMemory)
         }
     }
 }

@@ -6,7 +6,7 @@ ghost use Rattle.retro_dictionary.specs.PairSearch.{pair_before, found_in, found
 ghost use Rattle.retro_dictionary.specs.Bounds.{reaches};
 
 use crate::pairs::{Found, KeyPair, KeyRange};
-use lifetime_segments::Decomposable;
+use lifetime_segments::{AnswersOfOne, Decomposable};
 use retro_base::Steps;
 use std::marker::Brand;
 use std::sync::ledger::{Blank, Ledger};
@@ -51,18 +51,6 @@ impl Decomposable for PairSearch {
         }
     }
 
-    fn ask_one(item: &KeyPair, query: KeyRange) -> Found {
-        if item.key < query.low || query.high < item.key {
-            return PairSearch::empty();
-        }
-        Found {
-            count: 1,
-            sum: i128::from(item.value),
-            least: Some(*item),
-            greatest: Some(*item),
-        }
-    }
-
     fn ask(items: &Tree<KeyPair>, query: KeyRange) -> Found {
         found_in::<Brand>(items, query, Blank::new(1))
     }
@@ -73,6 +61,20 @@ impl Decomposable for PairSearch {
             sum: first.sum.wrapping_add(second.sum),
             least: lesser(first.least, second.least),
             greatest: greater(first.greatest, second.greatest),
+        }
+    }
+}
+
+impl AnswersOfOne for PairSearch {
+    fn ask_one(item: &KeyPair, query: KeyRange) -> Found {
+        if item.key < query.low || query.high < item.key {
+            return PairSearch::empty();
+        }
+        Found {
+            count: 1,
+            sum: i128::from(item.value),
+            least: Some(*item),
+            greatest: Some(*item),
         }
     }
 }

@@ -5,7 +5,7 @@ ghost use Rattle.lifetime_segments.specs.Lifetimes.{label_end, lifetime, stands_
 ghost use Rattle.lifetime_segments.specs.Ordered.{put_in};
 ghost use Rattle.tree_tests.specs.Totals.{total_of};
 
-use lifetime_segments::{Decomposable, Segments};
+use lifetime_segments::{AnswersOfOne, Decomposable, Segments};
 use monoid_laws::{Count, Measured};
 use retro_base::Steps;
 use std::marker::{Brand, Model};
@@ -94,13 +94,6 @@ impl Decomposable for Totals {
         Total { count: 0, sum: 0 }
     }
 
-    fn ask_one(item: &Amount, _query: ()) -> Total {
-        Total {
-            count: 1,
-            sum: u64::from(item.value),
-        }
-    }
-
     fn ask(items: &Tree<Amount>, _query: ()) -> Total {
         counted::<Brand>(items, Blank::new(1))
     }
@@ -109,6 +102,15 @@ impl Decomposable for Totals {
         Total {
             count: first.count + second.count,
             sum: first.sum.saturating_add(second.sum),
+        }
+    }
+}
+
+impl AnswersOfOne for Totals {
+    fn ask_one(item: &Amount, _query: ()) -> Total {
+        Total {
+            count: 1,
+            sum: u64::from(item.value),
         }
     }
 }

@@ -3,6 +3,7 @@ use Rattle.std.specs.List.{remove}
 use Rattle.order_timeline.specs.Runs.{IsInRuns}
 use Rattle.order_timeline.specs.Rows.{IsOrdered}
 use Rattle.order_timeline.proofs.InRuns.{all_rows, read_index, in_runs_without, in_runs_gone}
+use Rattle.order_timeline.proofs.FilledRuns.{filled_gone, filled_less}
 use Rattle.order_timeline.proofs.Rows.{ordered_without}
 use Rattle.order_timeline.proofs.edit.take_out.Goals as goal
 
@@ -22,7 +23,12 @@ returns-then-count-eq1-clause-kept g c =
     subst (λ rows. IsInRuns rows c.remove-then-count-eq1.new.self c.remove-then-count-eq1-2.new.self c.forget.new.numbers) (sym c.remove.ensures.items)
     (subst (λ runs. IsInRuns (remove c.args.kept.now.rows c.args.place) runs c.remove-then-count-eq1-2.new.self c.forget.new.numbers) (sym c.remove-then-count-eq1.ensures.items)
     (subst (λ names. IsInRuns (remove c.args.kept.now.rows c.args.place) (remove c.args.kept.now.runs c.run_of-run.result) names c.forget.new.numbers) (sym c.remove-then-count-eq1-2.ensures) gone))
-    in record { ordered = ordered; in_runs = in_runs }
+    in
+    record {
+      ordered = ordered;
+      in_runs = in_runs;
+      filled = rw c.remove-then-count-eq1.ensures.items (filled_gone c.args.kept.now.runs c.run_of-run.result c.args.place c.requires.kept.filled c.run_of-run.ensures);
+    }
 
 pub returns-clause-kept : goal.returns-clause-kept
 returns-clause-kept g c =
@@ -34,4 +40,10 @@ returns-clause-kept g c =
     subst (λ rows. IsInRuns rows c.replace.new.self c.args.kept.now.names c.forget.new.numbers) (sym c.remove.ensures.items)
     (subst (λ runs. IsInRuns (remove c.args.kept.now.rows c.args.place) runs c.args.kept.now.names c.forget.new.numbers)
     (sym (c.replace.ensures.items ∙ ap (slice_set c.args.kept.now.runs c.run_of-run.result) c.new.ensures)) stays)
-    in record { ordered = ordered; in_runs = in_runs }
+    in
+    record {
+      ordered = ordered;
+      in_runs = in_runs;
+      filled = rw (c.replace.ensures.items, c.new.ensures) (filled_less c.args.kept.now.runs c.run_of-run.result c.args.place c.rows-count.result c.requires.kept.filled c.run_of-run.ensures
+          (c.get.ensures.item ∙ ap Some (sym c.rows-count.ensures)) c.if-count-eq1.false);
+    }
