@@ -102,8 +102,8 @@ def a_timeline_of_many_rows():
 
 
 def labels_of_runs_that_are_used_up():
-    """A run of rows is divided at the 33rd row and at each 17th after that, and forty divisions in the same gap use up the 40 bits of a
-    label: so the runs are given new labels at row 696."""
+    """A full run of rows is divided where one more comes in: here at the 33rd row, the 34th, and each 16th after that. Forty divisions in
+    the same gap use up the 40 bits of a label: so the runs are given new labels at row 642."""
     rows = 1_000
     yield "new q queue", "ok"
     yield "q at 5 enq 1", "ok #1"
@@ -210,6 +210,68 @@ def a_checkpoint_too_many():
         yield "p ask at %d size" % place, "= %d" % place
 
 
+def a_full_priority_queue():
+    """Of as many rows as a timeline may have, all of which stay: a question about its past makes its checkpoints, at the greatest width."""
+    yield from entries(ROWS)
+    yield "p at 1 ins 0", "refused full"
+    for place in (0, 1, 4_095, 4_096, 4_097, 65_536, 100_000, 131_071, ROWS):
+        yield "p ask at %d size" % place, "= %d" % place
+        yield "p ask at %d nth %d" % (place, place), "= none"
+        yield "p ask at %d min" % place, "= 1" if place > 0 else "= none"
+    yield "p delete #1", "edit p cut 0 #1 ins 1 bridge none lose #1 1"
+    yield "p ask at 65536 size", "= 65535"
+    yield "p ask at 65536 min", "= 2"
+    last = ROWS + 1
+    yield "p at 0 ins 5", "edit p add 0 #%d ins 5 bridge 0 gain #%d 5" % (last, last)
+    yield "p ask at 65536 size", "= 65536"
+    yield "p at 1 ins 0", "refused full"
+
+
+def a_full_dictionary():
+    """Of as many rows as a timeline may have: a row at each time puts that time at one of a thousand keys."""
+    yield "timeline d dict next %d" % (ROWS + 1), None
+    for time in range(1, ROWS + 1):
+        yield "#%d %d put %d %d" % (time, time, time % 1_000, time), None
+    yield "end", "ok"
+    yield "d at 5 put 1 1", "refused full"
+    for time in (999, 65_535, 65_536, 65_537, 131_071, ROWS):
+        yield "d ask at %d get %d" % (time, time % 1_000), "= %d" % time
+        yield "d ask at %d size" % time, "= %d" % min(time, 1_000)
+        yield "d ask at %d sum 0 999" % time, "= %d" % (sum(range(max(1, time - 999), time + 1)))
+    # A row in the middle goes, and another comes at a key that no row has.
+    yield "d delete #70000", "ok"
+    yield "d ask at 70500 get 0", "= 69000"
+    yield "d ask at 70500 size", "= 1000"
+    yield "d at 70000 put 5000 3", "ok #%d" % (ROWS + 1)
+    yield "d ask at 70000 succ 1000", "= 5000:3"
+    yield "d ask at 69999 succ 1000", "= none"
+    yield "d ask size", "= 1001"
+    yield "d at 70000 put 5000 3", "refused full"
+
+
+def a_timeline_that_is_filled_and_emptied():
+    """Seventy thousand times, with a run of rows that is made and dropped each time."""
+    yield "new q queue", "ok"
+    for number in range(1, 70_001):
+        yield "q at 1 enq %d" % number, "ok #%d" % number
+        yield "q delete #%d" % number, "ok"
+    yield "q at 1 enq 7", "ok #70001"
+    yield "q ask front", "= 7"
+    yield "q ask at 0 size", "= 0"
+
+
+def many_lifetimes_at_one_moment():
+    """A hundred keys, each put by a row of its own and none deleted, so that all their lifetimes last to the end."""
+    yield "new d dict", "ok"
+    for key in range(100):
+        yield "d at %d put %d %d" % (key, key, key * key), "ok #%d" % (key + 1)
+    for time in range(100):
+        yield "d ask at %d size" % time, "= %d" % (time + 1)
+        yield "d ask at %d get %d" % (time, time), "= %d" % (time * time)
+        yield "d ask at %d succ %d" % (time, time + 1), "= none"
+        yield "d ask at %d sum 0 99" % time, "= %d" % sum(key * key for key in range(time + 1))
+
+
 SCRIPTS = [
     more_steps_than_are_kept,
     lines_that_are_too_long,
@@ -225,6 +287,10 @@ SCRIPTS = [
     a_gap_between_checkpoints_that_is_split,
     checkpoints_that_go_where_rows_go,
     a_checkpoint_too_many,
+    a_full_priority_queue,
+    a_full_dictionary,
+    a_timeline_that_is_filled_and_emptied,
+    many_lifetimes_at_one_moment,
 ]
 
 # Evidence with a line of more than 4,096 bytes: a line of evidence is none then, and another one is passed over, however long it is.

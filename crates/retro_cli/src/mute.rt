@@ -53,7 +53,7 @@ fn number_muted(line: &[u8], long: bool, bench: &Bench) -> Option<u32>
         return None;
     }
     match read_line(line, long) {
-        Ok(Command::Mute { number }) => Some(number),
+        Ok(Command::Mute { index }) => Some(index),
         _ => None,
     }
 }

@@ -60,7 +60,7 @@ pub enum Command {
     },
     /// Asks a follower for its report, and takes no further event to it.
     Mute {
-        number: u32,
+        index: u32,
     },
     /// Opens the block of a timeline, which draws this number next. With `rows` it has so many row lines.
     Header {

@@ -135,8 +135,8 @@ fn read_save(mut words: Words) -> Option<Command>
 fn read_mute(mut words: Words) -> Option<Command>
     ensures { result ≡ mute_of words.entry }
 {
-    let number = read_follower(words.next_word()?)?;
-    words.is_empty().then_some(Command::Mute { number })
+    let index = read_follower(words.next_word()?)?;
+    words.is_empty().then_some(Command::Mute { index })
 }
 
 fn read_about(name: Name, mut words: Words) -> Option<Command>

@@ -139,8 +139,8 @@ fn commands(rt: HostRuntime) -> Result<(), Fail> {
                 fused: true,
             },
         ),
-        (b"mute 0", Command::Mute { number: 0 }),
-        (b" mute  04294967295 ", Command::Mute { number: u32::MAX }),
+        (b"mute 0", Command::Mute { index: 0 }),
+        (b" mute  04294967295 ", Command::Mute { index: u32::MAX }),
         (b"save q", Command::Save { name: q }),
         (
             b"timeline at queue next 016777216",

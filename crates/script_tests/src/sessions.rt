@@ -14,6 +14,7 @@ fn put_at(
     time: u64,
     op: Op,
 ) -> Result<Put, EditError> {
+    assert!(rt; !session.spent());
     assert!(rt; op.kind() == session.kind());
     assert!(rt; session.next() < MAX_NEXT);
     assert!(rt; session.timeline().len() < MAX_ROWS);
@@ -27,6 +28,7 @@ fn cut_row(
     session: &mut Session<PlainList>,
     number: u32,
 ) -> Result<Turn, EditError> {
+    assert!(rt; !session.spent());
     let place = session
         .timeline()
         .place_of(number)
@@ -36,11 +38,18 @@ fn cut_row(
 
 /// The numbers of the rows are these, in this order.
 fn expect_numbers(rt: &impl Abort, session: &Session<PlainList>, numbers: &[u32]) {
+    assert!(rt; !session.spent());
     assert_eq!(rt; session.timeline().len() as usize, numbers.len());
     for (place, number) in numbers.iter().enumerate() {
         assert!(rt; place < session.timeline().len() as usize);
         assert_eq!(rt; session.timeline().row_at(place as u32).number, *number);
     }
+}
+
+/// The number that the next row draws.
+fn expect_next(rt: &impl Abort, session: &Session<PlainList>, number: u32) {
+    assert!(rt; !session.spent());
+    assert_eq!(rt; session.next(), number);
 }
 
 fn turn(added: bool, place: u32, number: u32, time: u64, op: Op) -> Turn {
@@ -66,6 +75,7 @@ fn shift_row(
     number: u32,
     target: Target,
 ) -> Result<Shift, EditError> {
+    assert!(rt; !session.spent());
     if let Target::Into { op } = target {
         assert!(rt; op.kind() == session.kind());
     }
@@ -105,6 +115,7 @@ fn expect_undone(
     steps: &[Result<Turns, UndoError>],
 ) {
     for expected in steps {
+        assert!(rt; !session.spent());
         assert_eq!(rt; session.undo(), *expected);
     }
 }
@@ -115,6 +126,7 @@ fn expect_redone(
     steps: &[Result<Turns, UndoError>],
 ) {
     for expected in steps {
+        assert!(rt; !session.spent());
         assert_eq!(rt; session.redo(), *expected);
     }
 }
@@ -154,7 +166,7 @@ fn expect_steps(rt: &impl Abort, session: &mut Session<PlainList>) {
     expect_redone(rt, session, &[nothing]);
     expect_undone(rt, session, &[Ok(again)]);
     expect_numbers(rt, session, &[1]);
-    assert_eq!(rt; session.next(), 3);
+    expect_next(rt, session, 3);
 }
 
 #[test]
@@ -217,8 +229,7 @@ fn rows_are_replaced_in_one_step(rt: HostRuntime) {
     let mut session = push_and_pop(&rt, rt.alloc());
     expect_shifts(&rt, &mut session);
     expect_both_edits(&rt, &mut session);
-    assert_eq!(rt; session.next(), 5);
-    assert!(rt; !session.spent());
+    expect_next(&rt, &session, 5);
 }
 
 /// What is asked of a place, and the whole content there.
@@ -228,6 +239,7 @@ fn expect_at(
     place: u32,
     (top, items): (Answer, &[Item]),
 ) {
+    assert!(rt; !session.spent());
     assert!(rt; place <= session.timeline().len());
     assert!(rt; Question::Top.suits(session.kind()));
     assert_eq!(rt; session.ask(place, Question::Top).expect(rt, "memory"), top);

@@ -96,6 +96,27 @@ fn a_row_comes_in_between(rt: HostRuntime) {
     expect_present(&rt, &mut history);
 }
 
+/// Rows that each come in before all others, so many that they do not all halve the first label.
+fn rows_that_come_first(rt: &impl Abort, alloc: Global) -> Dictionary {
+    let mut history = History::new(RetroDictionary::new(alloc));
+    for value in 0..41 {
+        history.put(rt, 0, 0, Op::Put { key: 1, value });
+    }
+    history
+}
+
+#[test]
+fn rows_come_in_before_all_others(rt: HostRuntime) {
+    let mut history = rows_that_come_first(&rt, rt.alloc());
+    let answers = [
+        (0, GET, Answer::Nothing),
+        (1, GET, number(40)),
+        (20, GET, number(21)),
+        (41, GET, number(0)),
+    ];
+    expect_answers(&rt, &mut history, &answers);
+}
+
 const LOW: i64 = i64::MIN;
 
 const HIGH: i64 = i64::MAX;

@@ -1,5 +1,7 @@
 pub mod Named
+pub mod Kept
 pub mod TimelineEffects
+pub mod Memory
 pub mod Refusals
 pub mod OpenBlocks
 pub mod Names

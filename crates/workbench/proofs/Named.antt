@@ -9,7 +9,7 @@ use Rattle.workbench.specs.declared.outcome.Outcome.TheVariants.{Refused}
 use Rattle.workbench.specs.declared.outcome.Refusal.TheVariants as refusals
 use Rattle.std.proofs.lemmas.Slice.Eq.{bytes_eq-Decides}
 use Rattle.timeline_undo.specs.Session.{SessionState}
-use Rattle.workbench.specs.Bench.{NamedTimeline, is_named, has_timeline, named, timeline_of}
+use Rattle.workbench.specs.Bench.{KeptTimeline, NamedTimeline, is_named, has_timeline, named, shown, timeline_of}
 use Rattle.workbench.specs.Reaction.{Effect, leaves, if_startable, with_first, on_named}
 use Rattle.workbench.specs.TimelineEffects.{TimelineEffect, unchanged}
 
@@ -37,7 +37,7 @@ on_named_at name effect (first ∷ bench) zero d below is others = rw is refl
 on_named_at name effect (first ∷ bench) (suc index) d below is others =
     rw (others 0 (omega arith)) (ap (with_first first) (on_named_at name effect bench index d (omega arith) is (λ k less. others (suc k) (omega arith))))
 
-on_named_found : (name : List ℕ) (effect : NamedTimeline → TimelineEffect) (bench : List NamedTimeline) (index : ℕ) (d : NamedTimeline) → position (is_named name) bench ≡ Some index
+pub on_named_found : (name : List ℕ) (effect : NamedTimeline → TimelineEffect) (bench : List NamedTimeline) (index : ℕ) (d : NamedTimeline) → position (is_named name) bench ≡ Some index
     → on_named name effect bench ≡ record { timelines = set bench index (effect (get_or bench index d)).timeline; outcome = (effect (get_or bench index d)).outcome }
 on_named_found name effect bench index d at =
     let first = position-Some (is_named name) bench index d at in

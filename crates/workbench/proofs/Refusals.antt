@@ -52,7 +52,7 @@ keeps_accepted_or_refused timeline after outcome None accepted = λ refused. abs
 keeps_accepted_or_refused timeline after outcome (Some index) accepted = λ refused. refl
 
 -- what is reported of an accepted step is no refusal
-reported_is_no_refusal : (name : List ℕ) (kind : Kind) (rows : List Row) (step : Step) (plain : Outcome) → is_refusal plain ≡ false
+pub reported_is_no_refusal : (name : List ℕ) (kind : Kind) (rows : List Row) (step : Step) (plain : Outcome) → is_refusal plain ≡ false
     → is_refusal (reported name kind rows step plain) ≡ false
 reported_is_no_refusal name Queue rows step plain accepted = accepted
 reported_is_no_refusal name Stack rows step plain accepted = accepted

@@ -99,13 +99,13 @@ pub shifts_makes : (t : NamedTimeline) (step : Step) → nat_le most_rows (lengt
 shifts_makes t step room number = rw (room, number) refl
 
 -- an index without an element is past the end
-slice_get_none : {X : Type 0} (xs : List X) (i : ℕ) → slice_get xs i ≡ None → length xs ≤ i
+pub slice_get_none : {X : Type 0} (xs : List X) (i : ℕ) → slice_get xs i ≡ None → length xs ≤ i
 slice_get_none [] i none = omega arith
 slice_get_none (x ∷ xs) zero none = absurd (cc)
 slice_get_none (x ∷ xs) (suc i) none = omega (arith, slice_get_none xs i none)
 
 -- a step stands there
-step_there : (t : NamedTimeline) (target : Target) (place : ℕ) → place < length t.rows → (step : Step) × (shift_at t.rows target t.next place ≡ Some step)
+pub step_there : (t : NamedTimeline) (target : Target) (place : ℕ) → place < length t.rows → (step : Step) × (shift_at t.rows target t.next place ≡ Some step)
 step_there t target place within =
     elim (slice_get t.rows place) as (λ o. slice_get t.rows place ≡ o → (step : Step) × (shift_at t.rows target t.next place ≡ Some step)) [
       | None ↦ λ none. absurd (omega (arith, slice_get_none t.rows place none))
@@ -129,10 +129,10 @@ shifted_ok (Ok outcome) t after number place target there within leads = shifts_
 shifted_ok (Err e) t after number place target there within leads = tt
 
 -- what holds of the step that is there
-same_step : {X : Type 0} (o : Option X) (x y : X) → o ≡ Some x → o ≡ Some y → x ≡ y
+pub same_step : {X : Type 0} (o : Option X) (x y : X) → o ≡ Some x → o ≡ Some y → x ≡ y
 same_step o x y e f = cc
 
-at_step : (P : Step → Type 0) (step : Step) (found : Option Step) → found ≡ Some step → IfSome found P → P step
+pub at_step : (P : Step → Type 0) (step : Step) (found : Option Step) → found ≡ Some step → IfSome found P → P step
 at_step P step None same holds = absurd (cc)
 at_step P step (Some other) same holds = let is : other ≡ step = cc in subst P is holds
 

@@ -1,5 +1,5 @@
 -- The bench: the timelines that a script has made, in the order in which it made them, and the block that is being read.
-use Rattle.std.specs.Prelude.{ℕ, Bool, false, List, [], length, Option, None}
+use Rattle.std.specs.Prelude.{◌≡◌, ℕ, Bool, false, List, [], map, length, Option, None}
 use Rattle.std.specs.List.{find, list_any}
 use Rattle.std.specs.Str.{bytes_eq}
 use Rattle.retro_base.specs.declared.kind.Kind.{Kind}
@@ -17,6 +17,19 @@ pub record NamedTimeline : Type 0 where
   pub rows : List Row
   pub next : ℕ
   pub history : History
+
+-- a timeline that the bench keeps, and whether its session met out of memory within a step
+pub record KeptTimeline : Type 0 where
+  pub timeline : NamedTimeline
+  pub spent : Bool
+
+-- it did not
+abbrev pub IsUnspent : KeptTimeline → Type 0
+IsUnspent kept = kept.spent ≡ false
+
+-- kept timelines, as they are seen
+abbrev pub shown : List KeptTimeline → List NamedTimeline
+shown kept = map (λ timeline. timeline.timeline) kept
 
 -- the timeline of this name over a session
 abbrev pub named : List ℕ → SessionState → NamedTimeline
@@ -45,6 +58,14 @@ pub record BenchState : Type 0 where
 abbrev pub with_rows : List ℕ → Kind → ℕ → List Row → NamedTimeline
 with_rows name kind next rows = record { name = name; kind = kind; rows = rows; next = next; history = no_history }
 
+-- the timeline of this name over a session, as the bench keeps it
+abbrev pub kept_over : List ℕ → SessionState → KeptTimeline
+kept_over name session = record { timeline = named name session; spent = session.spent }
+
+-- a timeline of a session that met none
+abbrev pub unspent : NamedTimeline → KeptTimeline
+unspent timeline = record { timeline = timeline; spent = false }
+
 -- the session of such a timeline
 abbrev pub loaded_session : Kind → ℕ → List Row → SessionState
 loaded_session kind next rows = record { kind = kind; rows = rows; next = next; history = no_history; spent = false }
@@ -56,6 +77,10 @@ fresh name kind = with_rows name kind 1 []
 -- a timeline has the name
 abbrev pub is_named : List ℕ → NamedTimeline → Bool
 is_named name timeline = bytes_eq timeline.name name
+
+-- a kept one has it
+abbrev pub is_kept_as : List ℕ → KeptTimeline → Bool
+is_kept_as name kept = is_named name kept.timeline
 
 -- the timeline of the name, where one has it
 abbrev pub timeline_of : List ℕ → List NamedTimeline → Option NamedTimeline

@@ -4,13 +4,13 @@ use Rattle.retro_base.specs.declared.row.Row.{Row}
 use Rattle.timeline_file.specs.declared.block.BlockError.{BlockError}
 use Rattle.timeline_file.specs.Block.{finished}
 use Rattle.workbench.specs.declared.named_timeline.LoadedTimeline.{LoadedTimeline}
-use Rattle.workbench.specs.Bench.{OpenBlock}
+use Rattle.workbench.specs.Bench.{OpenBlock, unspent}
 use Rattle.workbench.specs.Reaction.{of_block}
 use Rattle.workbench.specs.Reported.{loaded_evidence}
 
 -- the timeline of the rows that the block comes to, or what is wrong with it
 abbrev pub ComesToTimeline : OpenBlock → Bool → Result LoadedTimeline BlockError → Type 0
 ComesToTimeline unclosed ended (Ok loaded) =
-    (rows : List Row) × (finished unclosed.block ended ≡ Ok rows) × (loaded.timeline ≡ of_block unclosed rows)
+    (rows : List Row) × (finished unclosed.block ended ≡ Ok rows) × (loaded.timeline ≡ unspent (of_block unclosed rows))
     × (loaded.evidence ≡ loaded_evidence unclosed.name unclosed.block.kind rows)
 ComesToTimeline unclosed ended (Err error) = finished unclosed.block ended ≡ Err error

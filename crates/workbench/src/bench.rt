@@ -107,7 +107,7 @@ impl Bench {
     pub fn session(&self, name: &Name) -> Option<&Session<Engine>>
         requires { self.now.spent ≡ false }
         ensures { MatchOption result (timeline_of name.now self.now.bench.timelines ≡ None)
-            (λ session. timeline_of name.now self.now.bench.timelines ≡ Some (named name.now session.now)) }
+            (λ session. (timeline_of name.now self.now.bench.timelines ≡ Some (named name.now session.now)) × (session.now.spent ≡ false)) }
     {
         self.timelines.session(*name)
     }
@@ -162,8 +162,9 @@ impl Bench {
     fn obey(&mut self, line: &[u8], long: bool) -> Result<Outcome, NoMemory>
         requires within { length line.now ≤ longest_line }
         requires full { IsTrue long → length line.now ≡ longest_line }
-        ensures { IfOk result (λ outcome. happens self.old.bench.timelines self.old.bench.block line.now long
+        ensures ok { IfOk result (λ outcome. happens self.old.bench.timelines self.old.bench.block line.now long
             ≡ record { bench = self.new.bench; outcome = outcome }) }
+        ensures memory { OnErr result (is_refusal (happens self.old.bench.timelines self.old.bench.block line.now long).outcome ≡ false) }
     {
         if self.block.is_none() {
             return self.obey_outside(read_line(line, long));
@@ -178,8 +179,9 @@ impl Bench {
     /// Does what a line outside a block asks for.
     fn obey_outside(&mut self, line: Result<Command, LineError>) -> Result<Outcome, NoMemory>
         requires { IfOk line IsProper }
-        ensures { IfOk result (λ outcome. outside self.old.bench.timelines line
+        ensures ok { IfOk result (λ outcome. outside self.old.bench.timelines line
             ≡ record { bench = self.new.bench; outcome = outcome }) }
+        ensures memory { OnErr result (is_refusal (outside self.old.bench.timelines line).outcome ≡ false) }
     {
         self.block = opened(self.alloc, &line);
         self.timelines.obey(line)
@@ -190,6 +192,7 @@ impl Bench {
         ensures ok { IfOk result (λ outcome. ends self.old.bench.timelines self.old.bench.block ended
             ≡ record { bench = self.new.bench; outcome = outcome }) }
         ensures err { OnErr result (self.new.bench.timelines ≡ self.old.bench.timelines) }
+        ensures memory { OnErr result (is_refusal (ends self.old.bench.timelines self.old.bench.block ended).outcome ≡ false) }
     {
         match self.block.take() {
             Some(unclosed) => self.timelines.close(unclosed, ended),
@@ -231,6 +234,7 @@ fn opened(alloc: Global, line: &Result<Command, LineError>) -> Option<OpenBlock>
 
 /// How many items, pairs or entries a session holds at present.
 fn size_of(session: &Session<Engine>) -> u32
+    requires { session.now.spent ≡ false }
     ensures { result ≡ size_of (present session.now.kind session.now.rows) }
 {
     let _rows = session.timeline().len();

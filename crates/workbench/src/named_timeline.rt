@@ -1,4 +1,4 @@
-ghost use Rattle.std.specs.Prelude.{◌≡◌, ◌≤◌, ◌<◌, true, length, List, Some, [], ◌∷◌, IfOk, OnErr, OnOk};
+ghost use Rattle.std.specs.Prelude.{◌≡◌, ◌≤◌, ◌<◌, true, false, length, List, Some, [], ◌∷◌, IfOk, OnErr, OnOk};
 ghost use Rattle.retro_base.specs.Kind.{kind_of, same_kind};
 ghost use Rattle.retro_base.specs.Answers.{content};
 ghost use Rattle.retro_base.specs.declared.row.Row.{Row};
@@ -65,16 +65,17 @@ pub(crate) struct LoadedTimeline {
 }
 
 impl Model for NamedTimeline {
-    ghost use Rattle.workbench.specs.Bench.{NamedTimeline, named};
+    ghost use Rattle.workbench.specs.Bench.{KeptTimeline, kept_over};
 
-    ghost Value = { NamedTimeline };
+    ghost Value = { KeptTimeline };
 
-    ghost view = { λ t. named t.name t.session };
+    ghost view = { λ t. kept_over t.name t.session };
 }
 
 impl NamedTimeline {
-    ghost use Rattle.workbench.specs.Bench.{fresh, named, with_rows};
-    ghost use Rattle.workbench.specs.TimelineEffects.{changes, deletes, inserts, inserts_there, moves, shifts, shifts_there, unchanged, answers, answers_fate, undoes, redoes, saves};
+    ghost use Rattle.workbench.specs.Bench.{IsUnspent, fresh, kept_over, unspent, with_rows};
+    ghost use Rattle.workbench.specs.Outcome.{is_refusal};
+    ghost use Rattle.workbench.specs.TimelineEffects.{changes, deletes, inserts, inserts_there, moves, shifts, shifts_there, answers, answers_fate, undoes, redoes, saves};
 
     /// A timeline without rows. A fused one is a priority queue that is held as a product of pieces.
     pub(crate) fn new(
@@ -84,7 +85,7 @@ impl NamedTimeline {
         fused: bool,
     ) -> Result<NamedTimeline, NoMemory>
         requires { fused ≡ true → kind ≡ Kind.Pq }
-        ensures { IfOk result (λ timeline. timeline ≡ fresh name kind) }
+        ensures { IfOk result (λ timeline. timeline ≡ unspent (fresh name kind)) }
     {
         let session = Session::new(alloc, structure_of(alloc, kind, fused), 1)?;
         Ok(NamedTimeline {
@@ -103,7 +104,7 @@ impl NamedTimeline {
         rows: &Rows,
     ) -> Result<LoadedTimeline, NoMemory>
         requires { IsTimeline kind rows.now next }
-        ensures timeline { IfOk result (λ loaded. loaded.timeline ≡ with_rows name kind next rows.now) }
+        ensures timeline { IfOk result (λ loaded. loaded.timeline ≡ unspent (with_rows name kind next rows.now)) }
         ensures evidence { IfOk result (λ loaded. loaded.evidence ≡ loaded_evidence name kind rows.now) }
     {
         let mut evidence = EvidenceLines::new(alloc);
@@ -119,23 +120,33 @@ impl NamedTimeline {
 
     /// The name.
     pub(crate) fn name(&self) -> Name
-        ensures { result ≡ self.now.name }
+        ensures { result ≡ self.now.timeline.name }
     {
         self.name
     }
 
     /// The session that keeps and performs the rows.
     pub(crate) fn session(&self) -> &Session<Engine>
-        ensures { self.now ≡ named self.now.name result.now }
+        ensures { self.now ≡ kept_over self.now.timeline.name result.now }
     {
         &self.session
+    }
+
+    /// Whether the session met out of memory within a step.
+    pub(crate) fn spent(&self) -> bool
+        ensures { result ≡ self.now.spent }
+    {
+        self.session.spent()
     }
 
     /// Puts a row in at a spot, where the edited rows replay whole. After a refusal and after `NoMemory`
     /// all is as before.
     pub(crate) fn insert(&mut self, spot: Spot, op: Op) -> Result<Outcome, NoMemory>
-        ensures ok { IfOk result (λ outcome. inserts self.old spot op ≡ record { timeline = self.new; outcome = outcome }) }
+        requires unspent { IsUnspent self.old }
+        ensures ok { IfOk result (λ outcome. inserts self.old.timeline spot op ≡ record { timeline = self.new.timeline; outcome = outcome }) }
+        ensures unspent { IsUnspent self.new }
         ensures err { OnErr result (self.new ≡ self.old) }
+        ensures memory { OnErr result (is_refusal (inserts self.old.timeline spot op).outcome ≡ false) }
     {
         if !self.takes(op) {
             return Ok(Outcome::refused(Refusal::Kind));
@@ -148,18 +159,22 @@ impl NamedTimeline {
 
     /// Whether the operation is of the timeline's kind.
     fn takes(&self, op: Op) -> bool
-        ensures { result ≡ same_kind (kind_of op) self.now.kind }
+        requires unspent { IsUnspent self.now }
+        ensures { result ≡ same_kind (kind_of op) self.now.timeline.kind }
     {
         op.kind() == self.session.kind()
     }
 
     /// Puts a row in at a position, where there is room and the edited rows replay whole.
     fn insert_at(&mut self, position: Position, op: Op) -> Result<Outcome, NoMemory>
-        requires of_kind { kind_of op ≡ self.old.kind }
-        requires within { position.place ≤ length self.old.rows }
-        requires fits { Fits self.old.rows position.place position.time }
-        ensures ok { IfOk result (λ outcome. inserts_there self.old op position ≡ record { timeline = self.new; outcome = outcome }) }
+        requires unspent { IsUnspent self.old }
+        requires of_kind { kind_of op ≡ self.old.timeline.kind }
+        requires within { position.place ≤ length self.old.timeline.rows }
+        requires fits { Fits self.old.timeline.rows position.place position.time }
+        ensures ok { IfOk result (λ outcome. inserts_there self.old.timeline op position ≡ record { timeline = self.new.timeline; outcome = outcome }) }
+        ensures unspent { IsUnspent self.new }
         ensures err { OnErr result (self.new ≡ self.old) }
+        ensures memory { OnErr result (is_refusal (inserts_there self.old.timeline op position).outcome ≡ false) }
     {
         if self.session.timeline().len() >= MAX_ROWS {
             return Ok(Outcome::refused(Refusal::Full));
@@ -185,8 +200,11 @@ impl NamedTimeline {
     /// Takes the row with this number out, where the edited rows replay whole. After a refusal and after
     /// `NoMemory` all is as before.
     pub(crate) fn delete(&mut self, number: u32) -> Result<Outcome, NoMemory>
-        ensures ok { IfOk result (λ outcome. deletes self.old number ≡ record { timeline = self.new; outcome = outcome }) }
+        requires unspent { IsUnspent self.old }
+        ensures ok { IfOk result (λ outcome. deletes self.old.timeline number ≡ record { timeline = self.new.timeline; outcome = outcome }) }
+        ensures unspent { IsUnspent self.new }
         ensures err { OnErr result (self.new ≡ self.old) }
+        ensures memory { OnErr result (is_refusal (deletes self.old.timeline number).outcome ≡ false) }
     {
         let Some(place) = self.session.timeline().place_of(number) else {
             return Ok(no_row(number));
@@ -200,7 +218,10 @@ impl NamedTimeline {
     /// Puts the row with this number at another time, as a row that draws the next number, where the rows replay whole
     /// after that. After a refusal all is as before.
     pub(crate) fn move_row(&mut self, number: u32, time: u64) -> Result<Outcome, NoMemory>
-        ensures { IfOk result (λ outcome. moves self.old number time ≡ record { timeline = self.new; outcome = outcome }) }
+        requires unspent { IsUnspent self.old }
+        ensures ok { IfOk result (λ outcome. moves self.old.timeline number time ≡ record { timeline = self.new.timeline; outcome = outcome }) }
+        ensures unspent { OnOk result (IsUnspent self.new) }
+        ensures memory { OnErr result (is_refusal (moves self.old.timeline number time).outcome ≡ false) }
     {
         self.shift(number, Target::At { time })
     }
@@ -208,7 +229,10 @@ impl NamedTimeline {
     /// Gives the row with this number another operation, as a row that draws the next number, where the rows replay whole
     /// after that. After a refusal all is as before.
     pub(crate) fn change(&mut self, number: u32, op: Op) -> Result<Outcome, NoMemory>
-        ensures { IfOk result (λ outcome. changes self.old number op ≡ record { timeline = self.new; outcome = outcome }) }
+        requires unspent { IsUnspent self.old }
+        ensures ok { IfOk result (λ outcome. changes self.old.timeline number op ≡ record { timeline = self.new.timeline; outcome = outcome }) }
+        ensures unspent { OnOk result (IsUnspent self.new) }
+        ensures memory { OnErr result (is_refusal (changes self.old.timeline number op).outcome ≡ false) }
     {
         if !self.takes(op) {
             return Ok(Outcome::refused(Refusal::Kind));
@@ -218,8 +242,11 @@ impl NamedTimeline {
 
     /// Replaces the row with this number.
     fn shift(&mut self, number: u32, target: Target) -> Result<Outcome, NoMemory>
-        requires { IsTargetOf self.old.kind target }
-        ensures { IfOk result (λ outcome. shifts self.old number target ≡ record { timeline = self.new; outcome = outcome }) }
+        requires unspent { IsUnspent self.old }
+        requires of_kind { IsTargetOf self.old.timeline.kind target }
+        ensures ok { IfOk result (λ outcome. shifts self.old.timeline number target ≡ record { timeline = self.new.timeline; outcome = outcome }) }
+        ensures unspent { OnOk result (IsUnspent self.new) }
+        ensures memory { OnErr result (is_refusal (shifts self.old.timeline number target).outcome ≡ false) }
     {
         match self.session.timeline().place_of(number) {
             Some(place) => self.shift_at(place, target),
@@ -229,10 +256,14 @@ impl NamedTimeline {
 
     /// Replaces the row at a place, where there is room and a number.
     fn shift_at(&mut self, place: u32, target: Target) -> Result<Outcome, NoMemory>
-        requires within { place < length self.old.rows }
-        requires of_kind { IsTargetOf self.old.kind target }
-        ensures { IfOk result (λ outcome. (step : Step) → shift_at self.old.rows target self.old.next place ≡ Some step
-            → shifts_there self.old step ≡ record { timeline = self.new; outcome = outcome }) }
+        requires unspent { IsUnspent self.old }
+        requires within { place < length self.old.timeline.rows }
+        requires of_kind { IsTargetOf self.old.timeline.kind target }
+        ensures ok { IfOk result (λ outcome. (step : Step) → shift_at self.old.timeline.rows target self.old.timeline.next place ≡ Some step
+            → shifts_there self.old.timeline step ≡ record { timeline = self.new.timeline; outcome = outcome }) }
+        ensures unspent { OnOk result (IsUnspent self.new) }
+        ensures memory { OnErr result ((step : Step) → shift_at self.old.timeline.rows target self.old.timeline.next place ≡ Some step
+            → is_refusal (shifts_there self.old.timeline step).outcome ≡ false) }
     {
         if self.session.timeline().len() >= MAX_ROWS {
             return Ok(Outcome::refused(Refusal::Full));
@@ -251,7 +282,10 @@ impl NamedTimeline {
 
     /// Undoes the newest step. After a refusal all is as before.
     pub(crate) fn undo(&mut self) -> Result<Outcome, NoMemory>
-        ensures { IfOk result (λ outcome. undoes self.old ≡ record { timeline = self.new; outcome = outcome }) }
+        requires unspent { IsUnspent self.old }
+        ensures ok { IfOk result (λ outcome. undoes self.old.timeline ≡ record { timeline = self.new.timeline; outcome = outcome }) }
+        ensures unspent { OnOk result (IsUnspent self.new) }
+        ensures memory { OnErr result (is_refusal (undoes self.old.timeline).outcome ≡ false) }
     {
         match self.session.undo() {
             Ok(turns) => self.tell_all(turns),
@@ -262,7 +296,10 @@ impl NamedTimeline {
 
     /// Makes the step again that was undone last. After a refusal all is as before.
     pub(crate) fn redo(&mut self) -> Result<Outcome, NoMemory>
-        ensures { IfOk result (λ outcome. redoes self.old ≡ record { timeline = self.new; outcome = outcome }) }
+        requires unspent { IsUnspent self.old }
+        ensures ok { IfOk result (λ outcome. redoes self.old.timeline ≡ record { timeline = self.new.timeline; outcome = outcome }) }
+        ensures unspent { OnOk result (IsUnspent self.new) }
+        ensures memory { OnErr result (is_refusal (redoes self.old.timeline).outcome ≡ false) }
     {
         match self.session.redo() {
             Ok(turns) => self.tell_all(turns),
@@ -273,16 +310,18 @@ impl NamedTimeline {
 
     /// The outcome of an accepted list edit.
     fn tell(&self, turn: Turn, plain: Outcome) -> Outcome
-        ensures { (rows : List Row) → IsMade self.now.kind rows (edit_reported turn) turn.change
-            → result ≡ reported self.now.name self.now.kind rows (edit_reported turn ∷ []) plain }
+        requires unspent { IsUnspent self.now }
+        ensures { (rows : List Row) → IsMade self.now.timeline.kind rows (edit_reported turn) turn.change
+            → result ≡ reported self.now.timeline.name self.now.timeline.kind rows (edit_reported turn ∷ []) plain }
     {
         reported(self.alloc, self.name, self.session.kind(), turn, plain)
     }
 
     /// The outcome of two list edits that were accepted as one step.
     fn tell_both(&self, first: Turn, second: Turn, plain: Outcome) -> Result<Outcome, NoMemory>
-        ensures { (rows : List Row) → AreMade self.now.kind rows (Double first second)
-            → IfOk result (λ outcome. outcome ≡ reported self.now.name self.now.kind rows (step_reported (Double first second)) plain) }
+        requires unspent { IsUnspent self.now }
+        ensures { (rows : List Row) → AreMade self.now.timeline.kind rows (Double first second)
+            → IfOk result (λ outcome. outcome ≡ reported self.now.timeline.name self.now.timeline.kind rows (step_reported (Double first second)) plain) }
     {
         reported_both(
             self.alloc,
@@ -296,8 +335,9 @@ impl NamedTimeline {
 
     /// The outcome of the list edits of an undo or a redo.
     fn tell_all(&self, turns: Turns) -> Result<Outcome, NoMemory>
-        ensures { (rows : List Row) → AreMade self.now.kind rows turns
-            → IfOk result (λ outcome. outcome ≡ reported self.now.name self.now.kind rows (step_reported turns) Accepted) }
+        requires unspent { IsUnspent self.now }
+        ensures { (rows : List Row) → AreMade self.now.timeline.kind rows turns
+            → IfOk result (λ outcome. outcome ≡ reported self.now.timeline.name self.now.timeline.kind rows (step_reported turns) Accepted) }
     {
         match turns {
             Turns::Single { turn } => Ok(self.tell(turn, Outcome::Accepted)),
@@ -307,8 +347,10 @@ impl NamedTimeline {
 
     /// The answer at a moment. The timeline stays as it is, whatever the answer.
     pub(crate) fn ask(&mut self, moment: Moment, query: Query) -> Result<Outcome, NoMemory>
+        requires unspent { IsUnspent self.old }
         ensures unchanged { self.new ≡ self.old }
-        ensures ok { IfOk result (λ outcome. outcome ≡ answers self.old moment query) }
+        ensures ok { IfOk result (λ outcome. outcome ≡ answers self.old.timeline moment query) }
+        ensures memory { OnErr result (is_refusal (answers self.old.timeline moment query) ≡ false) }
     {
         match query {
             Query::One { question } => self.ask_one(moment, question),
@@ -318,8 +360,10 @@ impl NamedTimeline {
 
     /// The answer to one question, where it suits the kind. The present is answered from what is kept.
     fn ask_one(&mut self, moment: Moment, question: Question) -> Result<Outcome, NoMemory>
+        requires unspent { IsUnspent self.old }
         ensures unchanged { self.new ≡ self.old }
-        ensures ok { IfOk result (λ outcome. outcome ≡ answers self.old moment (One question)) }
+        ensures ok { IfOk result (λ outcome. outcome ≡ answers self.old.timeline moment (One question)) }
+        ensures memory { OnErr result (is_refusal (answers self.old.timeline moment (One question)) ≡ false) }
     {
         if !question.suits(self.session.kind()) {
             return Ok(Outcome::refused(Refusal::Kind));
@@ -334,9 +378,11 @@ impl NamedTimeline {
 
     /// The answer to a question about the past, where the spot has a place.
     fn ask_at(&mut self, spot: Spot, question: Question) -> Result<Outcome, NoMemory>
-        requires { suits question self.old.kind ≡ true }
+        requires unspent { IsUnspent self.old }
+        requires suited { suits question self.old.timeline.kind ≡ true }
         ensures unchanged { self.new ≡ self.old }
-        ensures ok { IfOk result (λ outcome. outcome ≡ answers self.old (Then spot) (One question)) }
+        ensures ok { IfOk result (λ outcome. outcome ≡ answers self.old.timeline (Then spot) (One question)) }
+        ensures memory { OnErr result (is_refusal (answers self.old.timeline (Then spot) (One question)) ≡ false) }
     {
         match position_of(self.session.timeline(), spot) {
             Some(position) => {
@@ -349,8 +395,10 @@ impl NamedTimeline {
 
     /// The whole content at a moment, where it has a place.
     fn list(&mut self, moment: Moment) -> Result<Outcome, NoMemory>
+        requires unspent { IsUnspent self.old }
         ensures unchanged { self.new ≡ self.old }
-        ensures ok { IfOk result (λ outcome. outcome ≡ answers self.old moment All) }
+        ensures ok { IfOk result (λ outcome. outcome ≡ answers self.old.timeline moment All) }
+        ensures memory { OnErr result (is_refusal (answers self.old.timeline moment All) ≡ false) }
     {
         match moment {
             Moment::Now => {
@@ -366,9 +414,10 @@ impl NamedTimeline {
 
     /// The whole content at a place.
     fn list_at(&mut self, place: u32) -> Result<Outcome, NoMemory>
-        requires { place ≤ length self.old.rows }
+        requires unspent { IsUnspent self.old }
+        requires within { place ≤ length self.old.timeline.rows }
         ensures unchanged { self.new ≡ self.old }
-        ensures ok { IfOk result (λ outcome. outcome ≡ Listed (content (state_at self.old.kind self.old.rows place))) }
+        ensures ok { IfOk result (λ outcome. outcome ≡ Listed (content (state_at self.old.timeline.kind self.old.timeline.rows place))) }
     {
         let listing = self.session.all(place)?;
         Ok(Outcome::Listed { listing })
@@ -376,7 +425,8 @@ impl NamedTimeline {
 
     /// What became of what the row with this number put in.
     pub(crate) fn fate(&self, number: u32) -> Outcome
-        ensures { result ≡ answers_fate self.now number }
+        requires unspent { IsUnspent self.now }
+        ensures { result ≡ answers_fate self.now.timeline number }
     {
         let timeline = self.session.timeline();
         let Some(place) = timeline.place_of(number) else {
@@ -394,7 +444,8 @@ impl NamedTimeline {
 
     /// What is saved of the timeline.
     pub(crate) fn save(&self, alloc: Global) -> Result<Outcome, NoMemory>
-        ensures { IfOk result (λ outcome. outcome ≡ saves self.now) }
+        requires unspent { IsUnspent self.now }
+        ensures { IfOk result (λ outcome. outcome ≡ saves self.now.timeline) }
     {
         let rows = rows_of(alloc, self.session.timeline())?;
         Ok(Outcome::Saved {

@@ -1,6 +1,6 @@
-ghost use Rattle.std.specs.Prelude.{◌≡◌, ◌≤◌, length, IsTrue, IfOk, OnOk, OnErr, Ok, Err};
+ghost use Rattle.std.specs.Prelude.{◌≡◌, ◌≤◌, length, true, is_ok, IsTrue, IfOk, OnOk, OnErr, Ok, Err};
 ghost use Rattle.retro_base.specs.Limits.{longest_line, next_limit};
-ghost use Rattle.timeline_file.specs.Block.{begun};
+ghost use Rattle.timeline_file.specs.Block.{begun, finished};
 ghost use Rattle.workbench.specs.Reaction.{of_block, with_line};
 ghost use Rattle.workbench.specs.OpenBlocks.{ComesToTimeline};
 
@@ -71,7 +71,8 @@ impl OpenBlock {
         alloc: Global,
         ended: bool,
     ) -> Result<Result<LoadedTimeline, BlockError>, NoMemory>
-        ensures { IfOk result (ComesToTimeline self ended) }
+        ensures ok { IfOk result (ComesToTimeline self ended) }
+        ensures memory { OnErr result (is_ok (finished self.block ended) ≡ true) }
     {
         let name = self.name;
         let kind = self.reader.kind();

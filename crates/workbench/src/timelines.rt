@@ -1,8 +1,10 @@
-ghost use Rattle.std.specs.Prelude.{◌≡◌, [], length, true, nat_le, position, Ok, Some, None, IfOk, OnErr, MatchOption};
+ghost use Rattle.std.specs.Prelude.{◌≡◌, ◌<◌, [], length, true, false, nat_le, position, slice_get, Ok, Some, None, IfOk, IfSome, OnErr, MatchOption};
+ghost use Rattle.std.specs.List.{list_any, remove, AllByRecursion};
 ghost use Rattle.retro_base.specs.Limits.{most_timelines};
 ghost use Rattle.script_grammar.specs.Command.{IsProper};
 ghost use Rattle.timeline_file.specs.Block.{finished};
-ghost use Rattle.workbench.specs.Bench.{has_timeline, is_named, named, timeline_of};
+ghost use Rattle.workbench.specs.Bench.{IsUnspent, has_timeline, is_kept_as, is_named, named, timeline_of};
+ghost use Rattle.workbench.specs.Outcome.{is_refusal};
 ghost use Rattle.workbench.specs.Reaction.{closes, loads, obeys, of_block, on_named, starts};
 ghost use Rattle.workbench.specs.TimelineEffects.{changes, moves, answers, answers_fate, deletes, inserts, redoes, saves, undoes, unchanged};
 
@@ -28,11 +30,14 @@ pub(crate) struct Timelines {
 
 impl Model for Timelines {
     ghost use Rattle.std.specs.Prelude.{List};
-    ghost use Rattle.workbench.specs.Bench.{NamedTimeline};
+    ghost use Rattle.std.specs.List.{AllByRecursion};
+    ghost use Rattle.workbench.specs.Bench.{IsUnspent, NamedTimeline, shown};
 
     ghost Value = { List NamedTimeline };
 
-    ghost view = { λ t. t.timelines.items };
+    ghost view = { λ t. shown t.timelines.items };
+
+    ghost invariant = { λ t. AllByRecursion IsUnspent t.timelines.items };
 }
 
 impl Timelines {
@@ -49,7 +54,8 @@ impl Timelines {
     /// Does what a command asks for, or refuses a line that has none. After a refusal all is as before.
     pub(crate) fn obey(&mut self, line: Result<Command, LineError>) -> Result<Outcome, NoMemory>
         requires { IfOk line IsProper }
-        ensures { IfOk result (λ outcome. obeys self.old line ≡ record { timelines = self.new; outcome = outcome }) }
+        ensures ok { IfOk result (λ outcome. obeys self.old line ≡ record { timelines = self.new; outcome = outcome }) }
+        ensures memory { OnErr result (is_refusal (obeys self.old line).outcome ≡ false) }
     {
         match line {
             Err(LineError::Long) => Ok(Outcome::refused(Refusal::Long)),
@@ -61,7 +67,8 @@ impl Timelines {
     /// Does what a command asks for, by its form.
     fn perform(&mut self, command: &Command) -> Result<Outcome, NoMemory>
         requires { IsProper command.now }
-        ensures { IfOk result (λ outcome. obeys self.old (Ok command.now) ≡ record { timelines = self.new; outcome = outcome }) }
+        ensures ok { IfOk result (λ outcome. obeys self.old (Ok command.now) ≡ record { timelines = self.new; outcome = outcome }) }
+        ensures memory { OnErr result (is_refusal (obeys self.old (Ok command.now)).outcome ≡ false) }
     {
         match command {
             Command::Nothing => Ok(Outcome::Silent),
@@ -79,9 +86,7 @@ impl Timelines {
             Command::Undo { name } => self.undo(*name),
             Command::Redo { name } => self.redo(*name),
             Command::Save { name } => self.save(*name),
-            Command::Mute { number } => Ok(Outcome::refused(Refusal::NoFollower {
-                number: *number,
-            })),
+            Command::Mute { index } => Ok(Outcome::refused(Refusal::NoFollower { number: *index })),
             Command::Header { .. } => Ok(Outcome::Silent),
         }
     }
@@ -91,6 +96,7 @@ impl Timelines {
         requires { fused ≡ true → kind ≡ Kind.Pq }
         ensures ok { IfOk result (λ outcome. starts self.old name kind ≡ record { timelines = self.new; outcome = outcome }) }
         ensures err { OnErr result (self.new ≡ self.old) }
+        ensures memory { OnErr result (is_refusal (starts self.old name kind).outcome ≡ false) }
     {
         if self.has(name) {
             return Ok(Outcome::refused(Refusal::NameTaken));
@@ -107,6 +113,7 @@ impl Timelines {
     fn insert(&mut self, name: Name, spot: Spot, op: Op) -> Result<Outcome, NoMemory>
         ensures ok { IfOk result (λ outcome. on_named name (λ timeline. inserts timeline spot op) self.old ≡ record { timelines = self.new; outcome = outcome }) }
         ensures err { OnErr result (self.new ≡ self.old) }
+        ensures memory { OnErr result (is_refusal (on_named name (λ timeline. inserts timeline spot op) self.old).outcome ≡ false) }
     {
         match self.index_of(name) {
             Some(index) => self.timelines[index].insert(spot, op),
@@ -118,6 +125,7 @@ impl Timelines {
     fn delete(&mut self, name: Name, number: u32) -> Result<Outcome, NoMemory>
         ensures ok { IfOk result (λ outcome. on_named name (λ timeline. deletes timeline number) self.old ≡ record { timelines = self.new; outcome = outcome }) }
         ensures err { OnErr result (self.new ≡ self.old) }
+        ensures memory { OnErr result (is_refusal (on_named name (λ timeline. deletes timeline number) self.old).outcome ≡ false) }
     {
         match self.index_of(name) {
             Some(index) => self.timelines[index].delete(number),
@@ -127,40 +135,60 @@ impl Timelines {
 
     /// Puts a row of the timeline of this name at another time.
     fn move_row(&mut self, name: Name, number: u32, time: u64) -> Result<Outcome, NoMemory>
-        ensures { IfOk result (λ outcome. on_named name (λ timeline. moves timeline number time) self.old ≡ record { timelines = self.new; outcome = outcome }) }
+        ensures ok { IfOk result (λ outcome. on_named name (λ timeline. moves timeline number time) self.old ≡ record { timelines = self.new; outcome = outcome }) }
+        ensures memory { OnErr result (is_refusal (on_named name (λ timeline. moves timeline number time) self.old).outcome ≡ false) }
     {
         match self.index_of(name) {
-            Some(index) => self.timelines[index].move_row(number, time),
+            Some(index) => {
+                let outcome = self.timelines[index].move_row(number, time);
+                let_go_if_spent(&mut self.timelines, index);
+                outcome
+            }
             None => Ok(Outcome::refused(Refusal::NoTimeline { name })),
         }
     }
 
     /// Gives a row of the timeline of this name another operation.
     fn change(&mut self, name: Name, number: u32, op: Op) -> Result<Outcome, NoMemory>
-        ensures { IfOk result (λ outcome. on_named name (λ timeline. changes timeline number op) self.old ≡ record { timelines = self.new; outcome = outcome }) }
+        ensures ok { IfOk result (λ outcome. on_named name (λ timeline. changes timeline number op) self.old ≡ record { timelines = self.new; outcome = outcome }) }
+        ensures memory { OnErr result (is_refusal (on_named name (λ timeline. changes timeline number op) self.old).outcome ≡ false) }
     {
         match self.index_of(name) {
-            Some(index) => self.timelines[index].change(number, op),
+            Some(index) => {
+                let outcome = self.timelines[index].change(number, op);
+                let_go_if_spent(&mut self.timelines, index);
+                outcome
+            }
             None => Ok(Outcome::refused(Refusal::NoTimeline { name })),
         }
     }
 
     /// Undoes the newest step of the timeline of this name.
     fn undo(&mut self, name: Name) -> Result<Outcome, NoMemory>
-        ensures { IfOk result (λ outcome. on_named name undoes self.old ≡ record { timelines = self.new; outcome = outcome }) }
+        ensures ok { IfOk result (λ outcome. on_named name undoes self.old ≡ record { timelines = self.new; outcome = outcome }) }
+        ensures memory { OnErr result (is_refusal (on_named name undoes self.old).outcome ≡ false) }
     {
         match self.index_of(name) {
-            Some(index) => self.timelines[index].undo(),
+            Some(index) => {
+                let outcome = self.timelines[index].undo();
+                let_go_if_spent(&mut self.timelines, index);
+                outcome
+            }
             None => Ok(Outcome::refused(Refusal::NoTimeline { name })),
         }
     }
 
     /// Makes the step of the timeline of this name again that was undone last.
     fn redo(&mut self, name: Name) -> Result<Outcome, NoMemory>
-        ensures { IfOk result (λ outcome. on_named name redoes self.old ≡ record { timelines = self.new; outcome = outcome }) }
+        ensures ok { IfOk result (λ outcome. on_named name redoes self.old ≡ record { timelines = self.new; outcome = outcome }) }
+        ensures memory { OnErr result (is_refusal (on_named name redoes self.old).outcome ≡ false) }
     {
         match self.index_of(name) {
-            Some(index) => self.timelines[index].redo(),
+            Some(index) => {
+                let outcome = self.timelines[index].redo();
+                let_go_if_spent(&mut self.timelines, index);
+                outcome
+            }
             None => Ok(Outcome::refused(Refusal::NoTimeline { name })),
         }
     }
@@ -169,6 +197,7 @@ impl Timelines {
     fn ask(&mut self, name: Name, moment: Moment, query: Query) -> Result<Outcome, NoMemory>
         ensures ok { IfOk result (λ outcome. on_named name (λ timeline. unchanged timeline (answers timeline moment query)) self.old ≡ record { timelines = self.new; outcome = outcome }) }
         ensures err { OnErr result (self.new ≡ self.old) }
+        ensures memory { OnErr result (is_refusal (on_named name (λ timeline. unchanged timeline (answers timeline moment query)) self.old).outcome ≡ false) }
     {
         match self.index_of(name) {
             Some(index) => self.timelines[index].ask(moment, query),
@@ -191,6 +220,7 @@ impl Timelines {
     pub(crate) fn close(&mut self, unclosed: OpenBlock, ended: bool) -> Result<Outcome, NoMemory>
         ensures ok { IfOk result (λ outcome. closes self.old unclosed ended ≡ record { timelines = self.new; outcome = outcome }) }
         ensures err { OnErr result (self.new ≡ self.old) }
+        ensures memory { OnErr result (is_refusal (closes self.old unclosed ended).outcome ≡ false) }
     {
         if self.has(unclosed.name()) {
             return Ok(Outcome::refused(Refusal::NameTaken));
@@ -205,6 +235,7 @@ impl Timelines {
     fn load(&mut self, unclosed: OpenBlock, ended: bool) -> Result<Outcome, NoMemory>
         ensures ok { IfOk result (λ outcome. loads self.old unclosed (finished unclosed.block ended) ≡ record { timelines = self.new; outcome = outcome }) }
         ensures err { OnErr result (self.new ≡ self.old) }
+        ensures memory { OnErr result (is_refusal (loads self.old unclosed (finished unclosed.block ended)).outcome ≡ false) }
     {
         match unclosed.into_timeline(self.alloc, ended)? {
             Ok(loaded) => {
@@ -221,6 +252,7 @@ impl Timelines {
     fn save(&mut self, name: Name) -> Result<Outcome, NoMemory>
         ensures ok { IfOk result (λ outcome. on_named name (λ timeline. unchanged timeline (saves timeline)) self.old ≡ record { timelines = self.new; outcome = outcome }) }
         ensures err { OnErr result (self.new ≡ self.old) }
+        ensures memory { OnErr result (is_refusal (on_named name (λ timeline. unchanged timeline (saves timeline)) self.old).outcome ≡ false) }
     {
         let alloc = self.alloc;
         match self.index_of(name) {
@@ -232,7 +264,7 @@ impl Timelines {
     /// The session of the timeline of this name.
     pub(crate) fn session(&self, name: Name) -> Option<&Session<Engine>>
         ensures { MatchOption result (timeline_of name self.now ≡ None)
-            (λ session. timeline_of name self.now ≡ Some (named name session.now)) }
+            (λ session. (timeline_of name self.now ≡ Some (named name session.now)) × (session.now.spent ≡ false)) }
     {
         match self.index_of(name) {
             Some(index) => Some(self.timelines[index].session()),
@@ -244,9 +276,7 @@ impl Timelines {
     fn has(&self, name: Name) -> bool
         ensures { result ≡ has_timeline name self.now }
     {
-        self.timelines
-            .iter()
-            .any(|timeline| timeline.name() == name)
+        has_name(self.timelines.as_slice(), name)
     }
 
     /// Whether there are as many timelines as there may be.
@@ -260,8 +290,34 @@ impl Timelines {
     fn index_of(&self, name: Name) -> Option<usize>
         ensures { result ≡ position (is_named name) self.now }
     {
-        self.timelines
-            .iter()
-            .position(|timeline| timeline.name() == name)
+        index_named(self.timelines.as_slice(), name)
+    }
+}
+
+/// Whether one of the timelines has the name.
+fn has_name(timelines: &[NamedTimeline], name: Name) -> bool
+    ensures { result ≡ list_any (is_kept_as name) timelines.now }
+{
+    timelines.iter().any(|timeline| timeline.name() == name)
+}
+
+/// The index of the first one that has it.
+fn index_named(timelines: &[NamedTimeline], name: Name) -> Option<usize>
+    ensures { result ≡ position (is_kept_as name) timelines.now }
+{
+    timelines
+        .iter()
+        .position(|timeline| timeline.name() == name)
+}
+
+/// Lets a timeline go whose session met out of memory within a step: the bench is spent then, and nobody asks for it again.
+fn let_go_if_spent(timelines: &mut Vec<NamedTimeline>, index: usize)
+    requires there { index < length timelines.old.items }
+    requires others { AllByRecursion IsUnspent (remove timelines.old.items index) }
+    ensures unspent { AllByRecursion IsUnspent timelines.new.items }
+    ensures same { IfSome (slice_get timelines.old.items index) IsUnspent → timelines.new.items ≡ timelines.old.items }
+{
+    if timelines[index].spent() {
+        timelines.remove(index);
     }
 }

@@ -2,6 +2,7 @@ use Rattle.std.proofs.Common.{sym, ◌∙◌}
 use Rattle.retro_base.specs.Edits.{cut}
 use Rattle.workbench.specs.Bench.{named}
 use Rattle.workbench.specs.declared.outcome.Outcome.TheVariants.{Accepted}
+use Rattle.workbench.proofs.Memory.{delete_memory}
 use Rattle.workbench.proofs.TimelineEffects.{deletes_nothing, deletes_there, deletes_refused, edits_accepted}
 use Rattle.workbench.proofs.named_timeline.NamedTimeline.delete.Goals as goal
 
@@ -23,3 +24,9 @@ returns-in-Err-clause-ok c =
     let there = rw c.timeline.ensures.rows at (sym c.place_of.ensures.place ∙ c.in-Some.is) in
     rw (← c.self.view_is, c.in-Err.ensures.err)
     (deletes_refused _ c.args.number c.in-Some.place _ _ there (rw c.timeline.ensures.rows at c.in-Some.ensures.within) c.in-Err.ensures.cause c.refused_by.ensures)
+
+pub returns-in-Err-clause-memory : goal.returns-in-Err-clause-memory
+returns-in-Err-clause-memory c =
+    let there = rw c.timeline.ensures.rows at (sym c.place_of.ensures.place ∙ c.in-Some.is) in
+    rw (← c.self.view_is)
+    (delete_memory _ c.args.number c.in-Some.place _ _ there (rw c.timeline.ensures.rows at c.in-Some.ensures.within) c.in-Err.ensures.cause c.refused_by.ensures)

@@ -1,0 +1,10 @@
+use Rattle.std.proofs.Common.{ap, ◌∙◌}
+use Rattle.std.specs.List.{list_any}
+use Rattle.workbench.specs.Bench.{is_kept_as}
+use Rattle.workbench.proofs.Kept.{any_shown}
+use Rattle.workbench.proofs.timelines.Timelines.has.Goals as goal
+
+pub returns : goal.returns
+returns c =
+    rw (← c.self.view_is)
+    (c.has_name.ensures ∙ ap (list_any (is_kept_as c.args.name)) c.as_slice.ensures.value ∙ any_shown c.args.name c.self.inside.timelines.items)
