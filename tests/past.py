@@ -14,7 +14,7 @@ import subprocess
 import sys
 import tempfile
 
-ROWS = 65_536
+ROWS = 131_072
 QUESTIONS = 500_000
 NEAREST = 1_000  # the questions are about the last rows, as many as this
 SECONDS = 60  # of processor time
