@@ -8,7 +8,7 @@ ghost use Rattle.retro_base.specs.Visits.{OpensCounter};
 ghost use Rattle.retro_dictionary.specs.Edited.{CanPut, CanCut, CanRemove, IsBetween, left_of, next_of, cut_by, joined_by};
 ghost use Rattle.retro_dictionary.specs.Ready.{IsKept, IsReadyFor};
 ghost use Rattle.retro_dictionary.specs.RelabellingLaw.{counted_by, one_more};
-ghost use Rattle.retro_dictionary.specs.RowLabels.{row_rule};
+ghost use Rattle.retro_dictionary.specs.RowLabels.{lately_beside, row_rule};
 
 use crate::beside::{free_label, one_more};
 use crate::kept::Kept;
@@ -119,6 +119,7 @@ pub(crate) fn put<L: Ledger>(
 ) -> Result<(), NoMemory>
     requires counter { OpensCounter blank.name L.name blank.parts L.parts }
     requires ready { IsReadyFor kept.old place row }
+    requires lately { lately ≡ lately_beside kept.old.rows place row.number }
     ensures rows { OnOk result (kept.new.rows ≡ insert kept.old.rows place row) }
     ensures labels { OnOk result (kept.new.labels ≡ inserted_by (row_rule lately kept.old.since) kept.old.labels place) }
     ensures since { OnOk result (kept.new.since ≡ counted_by (row_rule lately) kept.old.since kept.old.labels place) }
