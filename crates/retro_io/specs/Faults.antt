@@ -13,10 +13,10 @@ count_after count more = max count (min (count + more) last_count)
 abbrev pub HasRisen : ℕ → ℕ → Type 0
 HasRisen before after = (before < after) ⊎ (after ≡ last_count)
 
--- what a call does to a count of faults: one that fails raises it, and any other leaves it as it was
+-- what a call does to a count of faults: the count never falls, and where the call fails it rises
 abbrev pub CountsFaults : Bool → ℕ → ℕ → Type 0
 CountsFaults true before after = (before ≤ after) × HasRisen before after
-CountsFaults false before after = after ≡ before
+CountsFaults false before after = before ≤ after
 
 -- a count of faults after a call: one that fails counts
 abbrev pub faults_after : {V E : Type 0} → ℕ → Result V E → ℕ

@@ -1,24 +1,33 @@
--- Whether a sink was flushed, after calls that append.
+-- Whether a sink was flushed, after calls that append. What a send does is left open, so that of a sink that is only written to and flushed
+-- the same is said with no sends.
 use Rattle.std.specs.Prelude.{◌≡◌, ℕ, ◌<◌, ◌⊎◌, Bool, false, List, length, Result, Ok, Err, is_ok}
 use Rattle.retro_io.specs.declared.sink.Sink.{Ghosts}
 use Rattle.retro_io.specs.declared.source.Failed.{Failed}
 use Rattle.retro_io.specs.Sink.{Appends}
 
-module _ {S : Type 0} (G : Ghosts S) where
+-- what a send does to a sink
+abbrev pub Sends : Type 0 → Type 1
+Sends S = S → Result (Unit {0}) Failed → S → Type 0
+
+-- no send is made
+abbrev pub no_sends : {S : Type 0} → Sends S
+no_sends before answer after = ⊥
+
+module _ {S : Type 0} (G : Ghosts S) (sends : Sends S) where
   -- nothing was called but sends that succeeded
   pub data IsSent (before : S) : S → Type 0 where
     start : IsSent before before
-    send : (answer : Unit {0}) (middle after : S) → IsSent before middle → G.sends middle (Ok answer) after → IsSent before after
+    send : (answer : Unit {0}) (middle after : S) → IsSent before middle → sends middle (Ok answer) after → IsSent before after
 
   -- nothing was called but writes and sends that succeeded, each write of a piece that is not empty
   pub data IsWritten (before : S) : S → Type 0 where
     start : IsWritten before before
     write : (piece : List ℕ) (count : ℕ) (middle after : S) → IsWritten before middle → 0 < length piece → G.writes middle piece (Ok count) after → IsWritten before after
-    send : (answer : Unit {0}) (middle after : S) → IsWritten before middle → G.sends middle (Ok answer) after → IsWritten before after
+    send : (answer : Unit {0}) (middle after : S) → IsWritten before middle → sends middle (Ok answer) after → IsWritten before after
 
   -- nothing was appended or flushed, and nothing was called but sends
   pub record IsOnlySent (before after : S) : Type 0 where
-    pub sends : IsSent before after
+    pub calls : IsSent before after
     pub written : G.written after ≡ G.written before
     pub flushed : G.flushed after ≡ G.flushed before
 
@@ -56,4 +65,4 @@ module _ {S : Type 0} (G : Ghosts S) where
     pub middle : S
     pub fault : Failed
     pub wrote : StaysUnflushed before middle
-    pub failed : G.sends middle (Err fault) after
+    pub failed : sends middle (Err fault) after

@@ -1,5 +1,8 @@
+pub mod BehindLaws
+pub mod DirectSink
 pub mod DueReads
 pub mod Faults
+pub mod FaultLaws
 pub mod Flushes
 pub mod FlushLaws
 pub mod Known

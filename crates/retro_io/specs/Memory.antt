@@ -49,10 +49,6 @@ WritesRoomed before piece answer after =
     × (after.faults ≡ faults_after before.faults answer)
     × (after.room ≡ before.room) × (after.piece ≡ before.piece) × (after.failing ≡ before.failing)
 
--- a send never fails, and changes nothing
-abbrev pub SendsRoomed : {E : Type 0} → Roomed → Result (Unit {0}) E → Roomed → Type 0
-SendsRoomed before answer after = IsOk answer × (after ≡ before)
-
 -- a flush never fails, and changes nothing but that the sink is flushed
 abbrev pub FlushesRoomed : {E : Type 0} → Roomed → Result (Unit {0}) E → Roomed → Type 0
 FlushesRoomed before answer after = IsOk answer × (after ≡ record before { flushed = true })

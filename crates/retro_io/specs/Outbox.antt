@@ -1,5 +1,5 @@
 -- What contracts see of an outbox, and what its calls do to the sink that it sends to.
-use Rattle.std.specs.Prelude.{◌≡◌, ◌⊎◌, ℕ, Bool, true, false, List, ◌++◌, drop, length, Option, None, Some, Result, is_ok, is_err, IfOk, OnOk, OnErr}
+use Rattle.std.specs.Prelude.{◌≡◌, ◌⊎◌, ℕ, Bool, true, false, List, [], ◌++◌, drop, length, Option, None, Some, Result, is_ok, is_err, IfOk, OnOk, OnErr}
 use Rattle.retro_io.specs.declared.outbox.Outbox.{Outbox}
 use Rattle.retro_io.specs.declared.sink.Sink.{Ghosts}
 use Rattle.retro_io.specs.declared.source.Failed.{Failed}
@@ -39,19 +39,19 @@ module _ {K : Type 0} (G : Ghosts K) where
     pub cut_off : after.failed ≡ true → before.failed ≡ false → HandsOnUntilFault before (sink_of after)
     pub counts : before.failed ≡ false → CountsFaults after.failed (G.faults (sink_of before)) (G.faults (sink_of after))
 
-  -- an outbox fails exactly where the sink's count of faults rises in the call, or it failed before; from then on it leaves the sink alone
+  -- an outbox fails only where the sink's count of faults rises in the call, or it failed before; from then on it leaves the sink alone
   pub record FailsWithSink (before : Outbox K) (fails : Bool) (after : Outbox K) : Type 0 where
     pub failed : after.failed ≡ fails
     pub at_once : before.failed ≡ false → CountsFaults fails (G.faults (sink_of before)) (G.faults (sink_of after))
     pub for_good : before.failed ≡ true → (fails ≡ true) × (sink_of after ≡ sink_of before)
 
-  -- all that waits was handed on, and then one such call of the sink was made
-  pub record HandsOnAndCalls (call : K → Result (Unit {0}) Failed → K → Type 0) (before : Outbox K) (succeeds : Bool) (after : K) : Type 0 where
+  -- all that waits was handed on, and then the sink was flushed
+  pub record HandsOnAndFlushes (before : Outbox K) (succeeds : Bool) (after : K) : Type 0 where
     pub middle : K
     pub handed : HandsOn before middle
     pub answer : Result (Unit {0}) Failed
     pub is : is_ok answer ≡ succeeds
-    pub called : call middle answer after
+    pub flush : G.flushes middle answer after
 
   -- what a write does: nothing to the sink where there is room, and else all that waits is handed on first; it takes the whole piece, or as
   -- much as there is room for
@@ -62,9 +62,17 @@ module _ {K : Type 0} (G : Ghosts K) where
       × OnErr answer (before.failed ≡ false → HandsOnUntilFault before (sink_of after))
       × IfOk answer (λ count. (count ≡ length piece) ⊎ (length after.waiting.items ≡ outbox_size))
 
-  -- what a send or a flush does: all that waits is handed on, and then one such call of the sink is made, unless a write of these fails
-  abbrev pub PassesOn : (K → Result (Unit {0}) Failed → K → Type 0) → Outbox K → Result (Unit {0}) Failed → Outbox K → Type 0
-  PassesOn call before answer after =
+  -- what a send does: all that waits is handed on, unless a write of these fails
+  abbrev pub SendsOn : Outbox K → Result (Unit {0}) Failed → Outbox K → Type 0
+  SendsOn before answer after =
       FailsWithSink before (is_err answer) after × (after.faults ≡ faults_after before.faults answer)
-      × OnOk answer (HandsOnAndCalls call before true (sink_of after))
-      × OnErr answer (before.failed ≡ false → HandsOnUntilFault before (sink_of after) ⊎ HandsOnAndCalls call before false (sink_of after))
+      × OnOk answer (HandsOn before (sink_of after))
+      × OnErr answer (before.failed ≡ false → HandsOnUntilFault before (sink_of after))
+
+  -- what a flush does: all that waits is handed on, and then the sink is flushed, unless a write of these fails; where that succeeds, nothing
+  -- waits
+  abbrev pub FlushesOn : Outbox K → Result (Unit {0}) Failed → Outbox K → Type 0
+  FlushesOn before answer after =
+      FailsWithSink before (is_err answer) after × (after.faults ≡ faults_after before.faults answer)
+      × OnOk answer (HandsOnAndFlushes before true (sink_of after) × (waiting_of after ≡ []))
+      × OnErr answer (before.failed ≡ false → HandsOnUntilFault before (sink_of after) ⊎ HandsOnAndFlushes before false (sink_of after))

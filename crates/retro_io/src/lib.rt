@@ -12,23 +12,27 @@
 //! more is kept than is shown, so that reading takes no memory.
 //!
 //! An [`Outbox`] is a sink before another one: what was written to it is what that one got and what waits. Whoever writes
-//! to it sends it where an answer is waited for, by the sink's third call, which every sink has.
+//! to it sends it where an answer is waited for: it is a [`SendingSink`], and so is any sink behind a [`DirectSink`], where
+//! nothing ever waits.
 //!
 //! - `source`, `sink`: the two traits, and `put_all`.
 //! - `line_reader`, `line_buffer`, `mark`: the reader, the buffer that it cuts lines from, and what it answers.
 //! - `memory_source`, `whole_source`, `memory_sink`, `stock`: sources and a sink in memory, which tell their bytes, and
 //!   of which chosen calls fail.
-//! - `outbox`: a sink that gathers what is written, and sends it to another one.
+//! - `sending_sink`, `outbox`, `direct_sink`: sinks at which bytes may wait; one that gathers what is written, and sends it to
+//!   another one; and any sink, as one at which nothing waits.
 //! - `std_source`, `std_sink`: those over std's readers and writers. Nothing is known of what such a reader gives or such
 //!   a writer does with what it takes.
 #![tactic(auto)]
 
+mod direct_sink;
 mod line_buffer;
 mod line_reader;
 mod mark;
 mod memory_sink;
 mod memory_source;
 mod outbox;
+mod sending_sink;
 mod sink;
 mod source;
 mod std_sink;
@@ -36,12 +40,14 @@ mod std_source;
 mod stock;
 mod whole_source;
 
+pub use direct_sink::DirectSink;
 pub use line_buffer::LineBuffer;
 pub use line_reader::LineReader;
 pub use mark::{Mark, ReadError};
 pub use memory_sink::MemorySink;
 pub use memory_source::MemorySource;
 pub use outbox::Outbox;
+pub use sending_sink::SendingSink;
 pub use sink::{Sink, WriteFault, put_all};
 pub use source::{Failed, Source};
 pub use std_sink::StdSink;

@@ -1,6 +1,6 @@
 ghost use Rattle.std.specs.Prelude.{◌≡◌, ◌≤◌, ◌<◌, ◌==◌, ◌-◌, ◌||◌, [], true, false, length, take, min, Some, is_ok, is_err, IfOk, MatchResult};
 ghost use Rattle.retro_io.specs.Faults.{CountsFaults, last_count};
-ghost use Rattle.retro_io.specs.Memory.{FlushesRoomed, SendsRoomed, WritesRoomed};
+ghost use Rattle.retro_io.specs.Memory.{FlushesRoomed, WritesRoomed};
 ghost use Rattle.retro_io.specs.Sink.{Appends};
 
 use crate::stock::is_among;
@@ -81,15 +81,11 @@ impl MemorySink {
 impl Sink for MemorySink {
     ghost written = { λ s. Some s.written };
 
-    ghost waiting = { λ _. [] };
-
     ghost flushed = { λ s. s.flushed };
 
     ghost faults = { λ s. s.faults };
 
     ghost writes = { WritesRoomed };
-
-    ghost sends = { SendsRoomed };
 
     ghost flushes = { FlushesRoomed };
 
@@ -117,10 +113,6 @@ impl Sink for MemorySink {
         let count = (self.piece as usize).min(piece.len()).min(room);
         self.bytes.extend_from_slice(&piece[..count]).unwrap();
         Ok(count)
-    }
-
-    fn send(&mut self) -> Result<(), Failed> {
-        Ok(())
     }
 
     /// Always succeeds, and changes nothing else.

@@ -2,7 +2,7 @@ ghost use Rattle.std.specs.Prelude.{◌≡◌, ◌≤◌, ◌<◌, ◌++◌, [],
 ghost use Rattle.retro_io.specs.Faults.{CountsFaults, count_after, last_count};
 
 use crate::sink::put_until_fault;
-use crate::{Failed, Sink};
+use crate::{Failed, SendingSink, Sink};
 use retro_base::NoMemory;
 use std::alloc::Global;
 
@@ -97,11 +97,9 @@ impl<K: Sink + Drop> Outbox<K> {
 }
 
 impl<K: Sink + Drop> Sink for Outbox<K> {
-    ghost use Rattle.retro_io.specs.Outbox.{Gathers, PassesOn, sink_of, then_waiting, waiting_of};
+    ghost use Rattle.retro_io.specs.Outbox.{FlushesOn, Gathers, sink_of, then_waiting, waiting_of};
 
     ghost written = { λ o. then_waiting (K.written (sink_of o)) (waiting_of o) };
-
-    ghost waiting = { λ o. K.waiting (sink_of o) ++ waiting_of o };
 
     ghost flushed = { λ o. o.flushed };
 
@@ -109,9 +107,7 @@ impl<K: Sink + Drop> Sink for Outbox<K> {
 
     ghost writes = { Gathers ⟦<K as Sink>⟧ };
 
-    ghost sends = { PassesOn ⟦<K as Sink>⟧ K.sends };
-
-    ghost flushes = { PassesOn ⟦<K as Sink>⟧ K.flushes };
+    ghost flushes = { FlushesOn ⟦<K as Sink>⟧ };
 
     fn write(&mut self, piece: &[u8]) -> Result<usize, Failed> {
         if self.waiting.len() == CAPACITY {
@@ -126,14 +122,6 @@ impl<K: Sink + Drop> Sink for Outbox<K> {
         Ok(count)
     }
 
-    fn send(&mut self) -> Result<(), Failed> {
-        self.hand_on();
-        if self.failed || self.sink.send().is_err() {
-            return Err(self.fail());
-        }
-        Ok(())
-    }
-
     fn flush(&mut self) -> Result<(), Failed> {
         self.hand_on();
         self.flushed = false;
@@ -141,6 +129,24 @@ impl<K: Sink + Drop> Sink for Outbox<K> {
             return Err(self.fail());
         }
         self.flushed = true;
+        Ok(())
+    }
+}
+
+impl<K: Sink + Drop> SendingSink for Outbox<K> {
+    ghost use Rattle.retro_io.specs.Outbox.{SendsOn, waiting_of};
+
+    ghost waiting = { λ o. waiting_of o };
+
+    ghost sends = { SendsOn ⟦<K as Sink>⟧ };
+
+    ghost flush_sends = { λ _ _ _ flushes. flushes.2.1 };
+
+    fn send(&mut self) -> Result<(), Failed> {
+        self.hand_on();
+        if self.failed {
+            return Err(self.fail());
+        }
         Ok(())
     }
 }

@@ -1,31 +1,25 @@
-ghost use Rattle.std.specs.Prelude.{◌≡◌, ℕ, Bool, false, List, Option, ◌≤◌, ◌<◌, length, take, Result, [], is_ok, is_err, IfOk, IfErr, OnErr, OnOk, MatchResult};
+ghost use Rattle.std.specs.Prelude.{◌≡◌, ℕ, Bool, false, List, Option, ◌≤◌, ◌<◌, length, take, Result, is_ok, is_err, IfOk, IfErr, MatchResult};
 ghost use Rattle.retro_io.specs.Faults.{CountsFaults, last_count};
 ghost use Rattle.retro_io.specs.Sink.{Appends, AppendsProperPrefix, HandsAll, HandsAllUntilFault};
 ghost use Rattle.retro_io.specs.declared.source.Failed.{Failed};
 
 use crate::Failed;
 
-/// Where bytes go. A sink may tell contracts what was written to it; one over a file or a pipe tells nothing. It may gather
-/// what is written, and then lets it go on at a send or a flush at the latest.
+/// Where bytes go. A sink may tell contracts what was written to it; one over a file or a pipe tells nothing.
 pub trait Sink {
     /// The bytes written, where the sink tells them.
     ghost written: { Self → Option (List ℕ) };
 
-    /// The bytes written that have not gone on yet. A sink that passes on each write at once has none.
-    ghost waiting: { Self → List ℕ };
-
-    /// Whether the last call but for sends was a flush that succeeded.
+    /// Whether the last call was a flush that succeeded.
     ghost flushed: { Self → Bool };
 
-    /// A count of faults. It never falls, and stands still at its last value.
+    /// A count of faults. It never falls, and stands still at its last value. A call that fails raises it; one that succeeds may
+    /// have met faults as well.
     ghost faults: { Self → ℕ };
 
     /// What a write may do: how the sink stood before it, the piece that it was handed, its answer, and how the sink stands
     /// after it.
     ghost writes: { Self → List ℕ → Result ℕ Failed → Self → Type 0 };
-
-    /// What a send may do: how the sink stood before it, its answer, and how the sink stands after it.
-    ghost sends: { Self → Result (Unit {0}) Failed → Self → Type 0 };
 
     /// What a flush may do: how the sink stood before it, its answer, and how the sink stands after it.
     ghost flushes: { Self → Result (Unit {0}) Failed → Self → Type 0 };
@@ -43,19 +37,9 @@ pub trait Sink {
         ensures counts { CountsFaults (is_err result) (faults self.old) (faults self.new) }
         ensures counted { faults self.new ≤ last_count };
 
-    /// Lets go on what waits. A sink at which nothing ever waits answers Ok and does nothing.
-    fn send(&mut self) -> Result<(), Failed>
-        ensures written { written self.new ≡ written self.old }
-        ensures sent { OnOk result (waiting self.new ≡ []) }
-        ensures flushed { flushed self.new ≡ flushed self.old }
-        ensures does { sends self.old result self.new }
-        ensures counts { CountsFaults (is_err result) (faults self.old) (faults self.new) }
-        ensures counted { OnErr result (faults self.new ≤ last_count) };
-
     /// Sees to it that what was written arrives.
     fn flush(&mut self) -> Result<(), Failed>
         ensures written { written self.new ≡ written self.old }
-        ensures sent { OnOk result (waiting self.new ≡ []) }
         ensures flushed { flushed self.new ≡ is_ok result }
         ensures does { flushes self.old result self.new }
         ensures counts { CountsFaults (is_err result) (faults self.old) (faults self.new) }

@@ -18,7 +18,8 @@ pub trait Source {
     /// Whether the last read into a buffer that is not empty gave nothing.
     ghost ended: { Self → Bool };
 
-    /// A count of faults. It never falls, and stands still at its last value.
+    /// A count of faults. It never falls, and stands still at its last value. A read that fails raises it; one that succeeds may
+    /// have met faults as well.
     ghost faults: { Self → ℕ };
 
     /// What a read may do: how the source stood before it, how many bytes the buffer has that it was offered, the bytes that

@@ -1,4 +1,4 @@
-ghost use Rattle.std.specs.Prelude.{◌≡◌, ◌≤◌, [], true, false, None, IsOk};
+ghost use Rattle.std.specs.Prelude.{◌≡◌, ◌≤◌, true, false, None};
 ghost use Rattle.std.specs.Io.KnownBytes.{Keeps, WriteAppends};
 ghost use Rattle.retro_io.specs.Faults.{CountsFaults, count_after, faults_after, last_count};
 
@@ -48,8 +48,6 @@ impl<W: Write> Sink for StdSink<W> {
 
     ghost written = { λ _. None };
 
-    ghost waiting = { λ _. [] };
-
     ghost flushed = { λ s. s.flushed };
 
     ghost faults = { λ s. s.faults };
@@ -57,8 +55,6 @@ impl<W: Write> Sink for StdSink<W> {
     ghost writes = { λ before piece answer after.
         WriteAppends (W.contents (writer_of before)) (W.contents (writer_of after)) answer piece
         × (after.faults ≡ faults_after before.faults answer) };
-
-    ghost sends = { λ before answer after. IsOk answer × (after ≡ before) };
 
     ghost flushes = { λ before answer after.
         Keeps (W.contents (writer_of before)) (W.contents (writer_of after))
@@ -71,10 +67,6 @@ impl<W: Write> Sink for StdSink<W> {
             Ok(count) => Ok(count),
             Err(_) => Err(self.fail()),
         }
-    }
-
-    fn send(&mut self) -> Result<(), Failed> {
-        Ok(())
     }
 
     fn flush(&mut self) -> Result<(), Failed> {

@@ -1,5 +1,5 @@
 -- A write is handed the bytes after those that were appended, and appends some of them.
-use Rattle.std.proofs.Common.{◌≡◌, ◌<◌, ◌-◌, Ok, Err, length, drop, take, ap, ◌∙◌, subst, refl, arith}
+use Rattle.std.proofs.Common.{◌≡◌, ◌<◌, ◌-◌, Ok, Err, length, drop, take, ap, subst, refl, arith}
 use Rattle.std.proofs.lemmas.List.{take_rest, length-drop}
 use Rattle.retro_io.specs.Sink.{Appends, HandsAll}
 use Rattle.retro_io.specs.SinkLaws.{Appends-none}
@@ -13,7 +13,7 @@ loop-appended-init g c = record {
   handed = HandsAll.start;
   untouched = λ _. refl;
   flushed = λ some. absurd (omega (arith, some));
-  faults = refl;
+  faults = omega arith;
 }
 
 pub loop-appended-preserved : goal.loop-appended-preserved
@@ -34,7 +34,7 @@ loop-appended-preserved g c =
           (subst (λ xs. g.K.Sink.writes c.loop-appended.sink xs (Ok count) c.write.new.self) piece c.in-Ok.ensures.does);
       untouched = λ none. absurd (omega arith);
       flushed = λ _. c.in-Ok.ensures.flushed;
-      faults = c.in-Ok.ensures.counts ∙ c.loop-appended.invariant.faults;
+      faults = omega (arith, c.in-Ok.ensures.counts, c.loop-appended.invariant.faults);
     }
 
 pub returns-in-Err-clause-appended : goal.returns-in-Err-clause-appended

@@ -9,7 +9,7 @@ invariant-loop-appended g l = record {
   handed : HandsAll g.K.Sink.writes l.bytes l.initial.sink l.appended l.sink;
   untouched : l.appended ≡ 0 → l.sink ≡ l.initial.sink;
   flushed : 0 < l.appended → g.K.Sink.flushed l.sink ≡ false;
-  faults : g.K.Sink.faults l.sink ≡ g.K.Sink.faults l.initial.sink;
+  faults : g.K.Sink.faults l.initial.sink ≤ g.K.Sink.faults l.sink;
 }
 
 abbrev pub decreases-loop-appended : goal.decreases-loop-appended

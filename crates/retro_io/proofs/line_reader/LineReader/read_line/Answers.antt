@@ -1,5 +1,5 @@
 -- The bytes held are those held first and all that came since.
-use Rattle.std.proofs.Common.{◌≡◌, ◌-◌, ℕ, List, false, ◌∷◌, ◌++◌, Result, Ok, Err, length, take, drop, sym, ap, ◌∙◌, refl, inl, subst, arith}
+use Rattle.std.proofs.Common.{◌≡◌, ◌-◌, ℕ, List, false, ◌∷◌, ◌++◌, Result, Ok, Err, length, take, drop, sym, ap, ◌∙◌, inl, subst, arith}
 use Rattle.std.proofs.lemmas.List.{append-nil}
 use Rattle.std.proofs.lemmas.Result.{err_from_is_err_and}
 use Rattle.retro_io.specs.declared.mark.ReadError.{ReadError}
@@ -36,7 +36,7 @@ loop-self-init g c = record {
   ended = c.requires.ended;
   unbroken = c.requires.unbroken;
   in_limit = c.args.self.now.in_limit c.requires.failed;
-  source_faults = refl;
+  source_faults = omega arith;
   took = Took-none _ _ _ (omega arith) (sym (append-nil c.args.self.now.buffer.held), ReadsDue.none);
 }
 
@@ -117,7 +117,7 @@ loop-self-preserved g c =
       ended = c.fill.ensures.ended;
       unbroken = c.in_default.ensures;
       in_limit = c.fill.new.self.in_limit c.in_ok-fill.ensures.failed;
-      source_faults = c.in_ok-fill.ensures.source_faults ∙ c.loop-self.invariant.source_faults;
+      source_faults = omega (arith, c.in_ok-fill.ensures.source_faults, c.loop-self.invariant.source_faults);
       took = Took-due-on g.S.Source.reads _ _ _ _ held _ _ _ _ _ _ (λ xs. before ≡ held ++ xs) (λ xs. now ≡ held ++ xs) came
           c.loop-self.invariant.took c.fill.ensures.gives (omega (arith, count, c.fill.ensures.moves.more, c.loop-self.invariant.moves.more))
           (omega (arith, c.loop-self.invariant.moves.limit, c.loop-self.invariant.moves.more)) (held_unbroken g (goal.at.loop-self-preserved g c).After-fill) c.fill.ensures.reads

@@ -13,7 +13,7 @@ invariant-loop-self g l = record {
   ended : l.self.ended ≡ false;
   unbroken : has_line_feed l.self.buffer.held ≡ false;
   in_limit : l.self.taken ≤ l.self.limit;
-  source_faults : g.S.Source.faults l.self.source.now ≡ g.S.Source.faults l.initial.self.source.now;
+  source_faults : g.S.Source.faults l.initial.self.source.now ≤ g.S.Source.faults l.self.source.now;
   took : Took (g.S.Source.left l.initial.self.source.now) (g.S.Source.left l.self.source.now) (l.self.taken - l.initial.self.taken)
       (λ (got : List ℕ). (l.self.buffer.held ≡ l.initial.self.buffer.held ++ got)
       × ReadsDue g.S.Source.reads (l.initial.self.limit - l.initial.self.taken) l.initial.self.buffer.held false l.initial.self.source.now

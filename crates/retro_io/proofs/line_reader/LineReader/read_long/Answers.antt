@@ -85,7 +85,7 @@ loop-self-init g c = record {
   long = omega (arith, c.requires.long);
   prefix = refl;
   in_limit = c.args.self.now.in_limit c.requires.failed;
-  source_faults = refl;
+  source_faults = omega arith;
   took = Took-none _ _ _ (omega arith) (refl, ReadsDue.none);
 }
 
@@ -192,7 +192,7 @@ loop-self-preserved g c =
       long = omega (arith, c.fill.ensures.length, c.keep_prefix.ensures.length);
       prefix = prefix g at_fill;
       in_limit = c.fill.new.self.in_limit c.in_ok-fill.ensures.failed;
-      source_faults = c.in_ok-fill.ensures.source_faults ∙ c.loop-self.invariant.source_faults;
+      source_faults = omega (arith, c.in_ok-fill.ensures.source_faults, c.loop-self.invariant.source_faults);
       took = Took-due-on g.S.Source.reads _ _ _ _ c.args.self.now.buffer.held _ _ _ _ _ _ (λ xs. has_line_feed xs ≡ false) (λ xs. has_line_feed xs ≡ false) came
           c.loop-self.invariant.took c.fill.ensures.gives (omega (arith, count, c.fill.ensures.moves.more, c.loop-self.invariant.moves.more))
           (omega (arith, c.loop-self.invariant.moves.limit, c.loop-self.invariant.moves.more)) (held_unbroken g at_fill) c.fill.ensures.reads

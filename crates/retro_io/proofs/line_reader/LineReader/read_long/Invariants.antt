@@ -14,7 +14,7 @@ invariant-loop-self g l = record {
   long : longest_line ≤ length l.self.buffer.held;
   prefix : take longest_line l.self.buffer.held ≡ take longest_line l.initial.self.buffer.held;
   in_limit : l.self.taken ≤ l.self.limit;
-  source_faults : g.S.Source.faults l.self.source.now ≡ g.S.Source.faults l.initial.self.source.now;
+  source_faults : g.S.Source.faults l.initial.self.source.now ≤ g.S.Source.faults l.self.source.now;
   took : Took (g.S.Source.left l.initial.self.source.now) (g.S.Source.left l.self.source.now) (l.self.taken - l.initial.self.taken)
       (λ (got : List ℕ). (has_line_feed got ≡ false)
       × ReadsDue g.S.Source.reads (l.initial.self.limit - l.initial.self.taken) l.initial.self.buffer.held false l.initial.self.source.now
