@@ -1,89 +1,88 @@
--- Laws of a sink behind another one that only passes calls on: what is said of the outer one, with its sends, is true of the inner one, with
--- none. The proofs of the layer above may cite them.
-use Rattle.std.proofs.Common.{◌≡◌, ℕ, List, Bool, Result, Ok, Err, refl, sym, ◌∙◌, subst, inl, inr}
+-- Laws of the sink behind one at which nothing waits: what is said of the calls of the outer one, whose sends do nothing, is true of the inner
+-- one, with no sends. The proofs of the layer above may cite them.
+use Rattle.std.proofs.Common.{◌≡◌, Bool, List, Ok, Err, refl, sym, ◌∙◌, subst, ap, inl, inr}
 use Rattle.std.proofs.lemmas.Bool.{false≢true}
+use Rattle.std.specs.Borrow.{GName}
 use Rattle.std.specs.Prelude.{IsOk}
+use Rattle.retro_io.specs.declared.direct_sink.DirectSink.{DirectSink}
 use Rattle.retro_io.specs.declared.sink.Sink.{Ghosts}
-use Rattle.retro_io.specs.declared.source.Failed.{Failed}
-use Rattle.retro_io.specs.Flushes.{Sends, no_sends, IsSent, IsWritten, StaysUnflushed, EndsWithFlush, EndsWithFailedSend, EndsWithFailedWrite}
+use Rattle.retro_io.specs.DirectSink.{reference_behind, sink_behind}
+use Rattle.retro_io.specs.Flushes.{Sends, no_sends, IsSent, IsWritten, AppendsUnflushed, StaysUnflushed, EndsWithFlush, EndsWithFailedSend, EndsWithFailedWrite}
 
--- what an outer sink is of the inner one: it has the same meanings, each call of it is one of the inner one, and a send of it is none
-pub record PassesOn {T K : Type 0} (O : Ghosts T) (sends : Sends T) (G : Ghosts K) (inner : T → K) : Type 0 where
-  pub written : (t : T) → O.written t ≡ G.written (inner t)
-  pub flushed : (t : T) → O.flushed t ≡ G.flushed (inner t)
-  pub writes : (a b : T) (piece : List ℕ) (answer : Result ℕ Failed) → O.writes a piece answer b → G.writes (inner a) piece answer (inner b)
-  pub flushes : (a b : T) (answer : Result (Unit {0}) Failed) → O.flushes a answer b → G.flushes (inner a) answer (inner b)
-  pub sends_none : (a b : T) (answer : Result (Unit {0}) Failed) → sends a answer b → IsOk answer × (inner b ≡ inner a)
+-- the meanings of the outer one
+abbrev pub direct : {K : Type 0} → Ghosts K → Ghosts (DirectSink K)
+direct G = record {
+  written = λ s. G.written (sink_behind s);
+  flushed = λ s. G.flushed (sink_behind s);
+  faults = λ s. G.faults (sink_behind s);
+  writes = λ before piece answer after. G.writes (sink_behind before) piece answer (sink_behind after) × (reference_behind after ≡ reference_behind before);
+  flushes = λ before answer after. G.flushes (sink_behind before) answer (sink_behind after) × (reference_behind after ≡ reference_behind before);
+}
 
-module _ {T K : Type 0} {O : Ghosts T} {sends : Sends T} {G : Ghosts K} {inner : T → K} (passes : PassesOn O sends G inner) where
-  IsSent-behind : (a b : T) → IsSent O sends a b → inner b ≡ inner a
+-- and what its sends do
+abbrev pub direct_sends : {K : Type 0} → Sends (DirectSink K)
+direct_sends before answer after = IsOk answer × (after ≡ before)
+
+module _ {K : Type 0} (G : Ghosts K) where
+  IsSent-behind : (a b : DirectSink K) → IsSent (direct G) direct_sends a b → b ≡ a
   IsSent-behind a b IsSent.start = refl
-  IsSent-behind a b (IsSent.send answer middle after p done) = (passes.sends_none middle after (Ok answer) done).1 ∙ IsSent-behind a middle p
+  IsSent-behind a b (IsSent.send answer middle after p done) = done.1 ∙ IsSent-behind a middle p
 
-  IsWritten-behind : (a b : T) → IsWritten O sends a b → IsWritten G no_sends (inner a) (inner b)
+  IsWritten-behind : (a b : DirectSink K) → IsWritten (direct G) direct_sends a b → IsWritten G no_sends (sink_behind a) (sink_behind b)
   IsWritten-behind a b IsWritten.start = IsWritten.start
   IsWritten-behind a b (IsWritten.write piece count middle after p some done) =
-      IsWritten.write piece count (inner middle) (inner after) (IsWritten-behind a middle p) some (passes.writes middle after piece (Ok count) done)
+      IsWritten.write piece count (sink_behind middle) (sink_behind after) (IsWritten-behind a middle p) some done.0
   IsWritten-behind a b (IsWritten.send answer middle after p done) =
-      subst (λ s. IsWritten G no_sends (inner a) s) (sym (passes.sends_none middle after (Ok answer) done).1) (IsWritten-behind a middle p)
+      subst (λ s. IsWritten G no_sends (sink_behind a) (sink_behind s)) (sym done.1) (IsWritten-behind a middle p)
 
-  pub StaysUnflushed-behind : (a b : T) → StaysUnflushed O sends a b → StaysUnflushed G no_sends (inner a) (inner b)
+  pub StaysUnflushed-behind : (a b : DirectSink K) → StaysUnflushed (direct G) direct_sends a b → StaysUnflushed G no_sends (sink_behind a) (sink_behind b)
   StaysUnflushed-behind a b (inl p) =
-      let same = IsSent-behind a b p.calls in
-      subst (λ s. StaysUnflushed G no_sends (inner a) s) (sym same) (inl record { calls = IsSent.start; written = refl; flushed = refl })
+      subst (λ s. StaysUnflushed G no_sends (sink_behind a) (sink_behind s)) (sym (IsSent-behind a b p.calls))
+      (inl record { calls = IsSent.start; written = refl; flushed = refl })
   StaysUnflushed-behind a b (inr p) = inr record {
     text = p.text;
     some = p.some;
-    appended = rw (← passes.written a, ← passes.written b) p.appended;
+    appended = p.appended;
     writes = IsWritten-behind a b p.writes;
-    unflushed = sym (passes.flushed b) ∙ p.unflushed;
+    unflushed = p.unflushed;
   }
 
-  pub EndsWithFlush-behind : (a b : T) (succeeds : Bool) → EndsWithFlush O sends a succeeds b → EndsWithFlush G no_sends (inner a) succeeds (inner b)
-  EndsWithFlush-behind a b succeeds p = record {
-    middle = inner p.middle;
+  pub EndsWithFlush-behind : (a : DirectSink K) (succeeds : Bool) (b : DirectSink K) → EndsWithFlush (direct G) direct_sends a succeeds b
+      → EndsWithFlush G no_sends (sink_behind a) succeeds (sink_behind b)
+  EndsWithFlush-behind a succeeds b p = record {
+    middle = sink_behind p.middle;
     wrote = StaysUnflushed-behind a p.middle p.wrote;
     answer = p.answer;
     is = p.is;
-    flush = passes.flushes p.middle b p.answer p.flush;
+    flush = p.flush.0;
   }
 
-  pub EndsWithFailedWrite-behind : (a b : T) → EndsWithFailedWrite O sends a b → EndsWithFailedWrite G no_sends (inner a) (inner b)
+  pub EndsWithFailedWrite-behind : (a b : DirectSink K) → EndsWithFailedWrite (direct G) direct_sends a b → EndsWithFailedWrite G no_sends (sink_behind a) (sink_behind b)
   EndsWithFailedWrite-behind a b p = record {
-    middle = inner p.middle;
+    middle = sink_behind p.middle;
     piece = p.piece;
     fault = p.fault;
     wrote = IsWritten-behind a p.middle p.wrote;
     some = p.some;
-    failed = passes.writes p.middle b p.piece (Err p.fault) p.failed;
+    failed = p.failed.0;
   }
 
-  pub no_failed_send-behind : (a b : T) → EndsWithFailedSend O sends a b → ⊥
-  no_failed_send-behind a b p = false≢true (passes.sends_none p.middle b (Err p.fault) p.failed).0
+  pub no_failed_send-behind : (a b : DirectSink K) → EndsWithFailedSend (direct G) direct_sends a b → ⊥
+  no_failed_send-behind a b p = false≢true p.failed.0
 
--- what each call of a sink leaves as it was, all of them do
-module _ {T A : Type 0} (O : Ghosts T) (sends : Sends T) (of : T → A)
-    (writes : (a b : T) (piece : List ℕ) (answer : Result ℕ Failed) → O.writes a piece answer b → of b ≡ of a)
-    (flushes : (a b : T) (answer : Result (Unit {0}) Failed) → O.flushes a answer b → of b ≡ of a)
-    (sends_keep : (a b : T) (answer : Result (Unit {0}) Failed) → sends a answer b → of b ≡ of a) where
-  IsSent-keeps : (a b : T) → IsSent O sends a b → of b ≡ of a
-  IsSent-keeps a b IsSent.start = refl
-  IsSent-keeps a b (IsSent.send answer middle after p done) = sends_keep middle after (Ok answer) done ∙ IsSent-keeps a middle p
+  -- it is the sink that it was
+  IsWritten-reference : (a b : DirectSink K) → IsWritten (direct G) direct_sends a b → reference_behind b ≡ reference_behind a
+  IsWritten-reference a b IsWritten.start = refl
+  IsWritten-reference a b (IsWritten.write piece count middle after p some done) = done.1 ∙ IsWritten-reference a middle p
+  IsWritten-reference a b (IsWritten.send answer middle after p done) = ap (λ s. reference_behind s) done.1 ∙ IsWritten-reference a middle p
 
-  IsWritten-keeps : (a b : T) → IsWritten O sends a b → of b ≡ of a
-  IsWritten-keeps a b IsWritten.start = refl
-  IsWritten-keeps a b (IsWritten.write piece count middle after p some done) = writes middle after piece (Ok count) done ∙ IsWritten-keeps a middle p
-  IsWritten-keeps a b (IsWritten.send answer middle after p done) = sends_keep middle after (Ok answer) done ∙ IsWritten-keeps a middle p
+  pub StaysUnflushed-reference : (a b : DirectSink K) → StaysUnflushed (direct G) direct_sends a b → reference_behind b ≡ reference_behind a
+  StaysUnflushed-reference a b (inl p) = ap (λ s. reference_behind s) (IsSent-behind a b p.calls)
+  StaysUnflushed-reference a b (inr p) = IsWritten-reference a b p.writes
 
-  pub StaysUnflushed-keeps : (a b : T) → StaysUnflushed O sends a b → of b ≡ of a
-  StaysUnflushed-keeps a b (inl p) = IsSent-keeps a b p.calls
-  StaysUnflushed-keeps a b (inr p) = IsWritten-keeps a b p.writes
+  pub EndsWithFlush-reference : (a : DirectSink K) (succeeds : Bool) (b : DirectSink K) → EndsWithFlush (direct G) direct_sends a succeeds b
+      → reference_behind b ≡ reference_behind a
+  EndsWithFlush-reference a succeeds b p = p.flush.1 ∙ StaysUnflushed-reference a p.middle p.wrote
 
-  pub EndsWithFlush-keeps : (a b : T) (succeeds : Bool) → EndsWithFlush O sends a succeeds b → of b ≡ of a
-  EndsWithFlush-keeps a b succeeds p = flushes p.middle b p.answer p.flush ∙ StaysUnflushed-keeps a p.middle p.wrote
-
-  pub EndsWithFailedWrite-keeps : (a b : T) → EndsWithFailedWrite O sends a b → of b ≡ of a
-  EndsWithFailedWrite-keeps a b p = writes p.middle b p.piece (Err p.fault) p.failed ∙ IsWritten-keeps a p.middle p.wrote
-
-  pub EndsWithFailedSend-keeps : (a b : T) → EndsWithFailedSend O sends a b → of b ≡ of a
-  EndsWithFailedSend-keeps a b p = sends_keep p.middle b (Err p.fault) p.failed ∙ StaysUnflushed-keeps a p.middle p.wrote
+  pub EndsWithFailedWrite-reference : (a b : DirectSink K) → EndsWithFailedWrite (direct G) direct_sends a b → reference_behind b ≡ reference_behind a
+  EndsWithFailedWrite-reference a b p = p.failed.1 ∙ IsWritten-reference a p.middle p.wrote
