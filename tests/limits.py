@@ -228,10 +228,18 @@ SCRIPTS = [
 ]
 
 # Evidence with a line of more than 4,096 bytes: a line of evidence is none then, and another one is passed over, however long it is.
+# Behind it stands true evidence of three edits.
 LONG_EVIDENCE = [
     (b"edit ", "refused line 1 syntax", 1),
-    (b"edits", "accepted 0", 0),
+    (b"edits", "accepted 3", 0),
 ]
+EVIDENCE = b"""ok
+edit p add 0 #1 ins 4 bridge 0 gain #1 4
+edit p add 1 #2 delmin bridge 1 lose #1 4
+edit p add 0 #3 ins 2 bridge 0 gain #1 4
+= 4
+= 2
+"""
 
 
 def answers_of(program, words, given):
@@ -263,8 +271,11 @@ def results(program):
         given = "\n".join(line for line, _ in lines).encode()
         yield passes(script.__name__, answers_of(program, ["run"], given), (wanted, status))
     for begin, judgement, status in LONG_EVIDENCE:
-        found = answers_of(program, ["check"], begin + 4_100 * b" " + b"\n")
+        found = answers_of(program, ["check"], begin + 4_096 * b" " + b"\n" + EVIDENCE)
         yield passes("a long line of evidence", found, ([judgement], status))
+    first, second = (answers_of(program, ["gen", "pq", "20000", "7"], b"") for _ in range(2))
+    yield passes("a long generated script", second, first)
+    yield passes("its lines", (first[0][0].split()[:2], first[1]), (["lines", "20001"], 0))
 
 
 def main():

@@ -1,7 +1,7 @@
 ghost use Rattle.std.specs.Prelude.{◌≤◌, None};
 ghost use Rattle.retro_io.specs.Faults.{last_count};
 
-use retro_io::{Failed, MemorySink, Outbox, Sink, put_all};
+use retro_io::{Failed, MemorySink, Outbox, SendingSink, Sink, put_all};
 use std::alloc::Global;
 use std::process::Abort;
 
@@ -106,11 +106,7 @@ struct FirstFlushFails {
 }
 
 impl Sink for FirstFlushFails {
-    ghost use Rattle.std.specs.Prelude.{[]};
-
     ghost written = { λ _. None };
-
-    ghost waiting = { λ _. [] };
 
     ghost flushed = { λ s. s.flushed };
 
@@ -118,17 +114,11 @@ impl Sink for FirstFlushFails {
 
     ghost writes = { λ _ _ _ _. Unit {0} };
 
-    ghost sends = { λ _ _ _. Unit {0} };
-
     ghost flushes = { λ _ _ _. Unit {0} };
 
     fn write(&mut self, piece: &[u8]) -> Result<usize, Failed> {
         self.flushed = false;
         Ok(piece.len())
-    }
-
-    fn send(&mut self) -> Result<(), Failed> {
-        Ok(())
     }
 
     fn flush(&mut self) -> Result<(), Failed> {

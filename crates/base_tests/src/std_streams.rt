@@ -1,17 +1,67 @@
 use retro_io::{Failed, Sink, Source, StdSink, StdSource};
 use std::io::{self, ErrorKind, Read, Write};
+use std::process::Abort;
 
-/// A stream whose first call of each kind fails, and which then gives what is asked for and takes what it is handed.
+/// Every kind of error that std names.
+const KINDS: [ErrorKind; 42] = [
+    ErrorKind::NotFound,
+    ErrorKind::PermissionDenied,
+    ErrorKind::ConnectionRefused,
+    ErrorKind::ConnectionReset,
+    ErrorKind::HostUnreachable,
+    ErrorKind::NetworkUnreachable,
+    ErrorKind::ConnectionAborted,
+    ErrorKind::NotConnected,
+    ErrorKind::AddrInUse,
+    ErrorKind::AddrNotAvailable,
+    ErrorKind::NetworkDown,
+    ErrorKind::BrokenPipe,
+    ErrorKind::AlreadyExists,
+    ErrorKind::WouldBlock,
+    ErrorKind::NotADirectory,
+    ErrorKind::IsADirectory,
+    ErrorKind::DirectoryNotEmpty,
+    ErrorKind::ReadOnlyFilesystem,
+    ErrorKind::FilesystemLoop,
+    ErrorKind::StaleNetworkFileHandle,
+    ErrorKind::InvalidInput,
+    ErrorKind::InvalidData,
+    ErrorKind::TimedOut,
+    ErrorKind::WriteZero,
+    ErrorKind::StorageFull,
+    ErrorKind::NotSeekable,
+    ErrorKind::QuotaExceeded,
+    ErrorKind::FileTooLarge,
+    ErrorKind::ResourceBusy,
+    ErrorKind::ExecutableFileBusy,
+    ErrorKind::Deadlock,
+    ErrorKind::CrossesDevices,
+    ErrorKind::TooManyLinks,
+    ErrorKind::InvalidFilename,
+    ErrorKind::ArgumentListTooLong,
+    ErrorKind::Interrupted,
+    ErrorKind::Unsupported,
+    ErrorKind::UnexpectedEof,
+    ErrorKind::OutOfMemory,
+    ErrorKind::InProgress,
+    ErrorKind::Other,
+    ErrorKind::Uncategorized,
+];
+
+/// A stream whose first call of each sort fails with an error of this kind, and which then gives what is asked for and takes what it is
+/// handed.
 #[derive(Drop)]
 struct FailsOnce {
+    kind: ErrorKind,
     read: bool,
     written: bool,
     flushed: bool,
 }
 
 impl FailsOnce {
-    fn new() -> FailsOnce {
+    fn new(kind: ErrorKind) -> FailsOnce {
         FailsOnce {
+            kind,
             read: false,
             written: false,
             flushed: false,
@@ -19,44 +69,50 @@ impl FailsOnce {
     }
 }
 
-/// An error at the first call, which this notes.
-fn fail_once(before: &mut bool) -> io::Result<()> {
+/// An error of this kind at the first call, which this notes.
+fn fail_once(kind: ErrorKind, before: &mut bool) -> io::Result<()> {
     if *before {
         return Ok(());
     }
     *before = true;
-    Err(ErrorKind::Interrupted.into())
+    Err(kind.into())
 }
 
 impl Read for FailsOnce {
     fn read(&mut self, buffer: &mut [u8]) -> io::Result<usize> {
-        fail_once(&mut self.read)?;
+        fail_once(self.kind, &mut self.read)?;
         Ok(buffer.len())
     }
 }
 
 impl Write for FailsOnce {
     fn write(&mut self, piece: &[u8]) -> io::Result<usize> {
-        fail_once(&mut self.written)?;
+        fail_once(self.kind, &mut self.written)?;
         Ok(piece.len())
     }
 
     fn flush(&mut self) -> io::Result<()> {
-        fail_once(&mut self.flushed)
+        fail_once(self.kind, &mut self.flushed)
     }
 }
 
-#[test]
-fn a_call_that_fails_is_not_tried_again(rt: HostRuntime) {
-    let mut source = StdSource::new(FailsOnce::new());
+fn expect_one_failure(rt: &impl Abort, kind: ErrorKind) {
+    let mut source = StdSource::new(FailsOnce::new(kind));
     assert_eq!(rt; source.read(&mut [0; 16]), Err(Failed));
     assert_eq!(rt; source.read(&mut [0; 16]), Ok(16));
-    let mut sink = StdSink::new(FailsOnce::new());
+    let mut sink = StdSink::new(FailsOnce::new(kind));
     assert_eq!(rt; sink.write(b"abc"), Err(Failed));
     assert_eq!(rt; sink.write(b"abc"), Ok(3));
     // A write flushes nothing, so the first flush is still to come.
     assert_eq!(rt; sink.flush(), Err(Failed));
     assert_eq!(rt; sink.flush(), Ok(()));
+}
+
+#[test]
+fn a_call_that_fails_is_not_tried_again_or_hidden(rt: HostRuntime) {
+    for kind in KINDS {
+        expect_one_failure(&rt, kind);
+    }
 }
 
 /// A stream that answers the end at every second read, and else gives all that it is asked for.

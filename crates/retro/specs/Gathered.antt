@@ -5,7 +5,7 @@ use Rattle.retro_io.specs.declared.outbox.Outbox.{Outbox}
 use Rattle.retro_io.specs.declared.sink.Sink as sinks
 use Rattle.retro_io.specs.declared.source.Source as sources
 use Rattle.retro_io.specs.Faults.{CountsFaults, HasRisen, last_count}
-use Rattle.retro_io.specs.Outbox.{sink_of, waiting_of}
+use Rattle.retro_io.specs.Outbox.{SendsOn, sink_of, waiting_of}
 use Rattle.followers.specs.Followers.{Reporting}
 use Rattle.retro_cli.specs.declared.status.Status.{Status}
 use Rattle.retro_cli.specs.declared.status.Status.TheVariants as statuses
@@ -26,17 +26,17 @@ pub record RunsGathered {S K : Type 0} (I : sources.Ghosts S) (O : sinks.Ghosts 
   -- these followers were handed in
   pub audience : Audience
   pub handed_in : audience ≡ audience_of followers
-  pub runs : RunsFollowed I G audience source source' first outbox status words
-  -- the counts rise where a read or a write failed, and else both stay; without a fault it ends with an output, out of memory, or at an
-  -- input that is too long
+  pub runs : RunsFollowed I G (SendsOn O) audience source source' first outbox status words
+  -- the counts rise where a read or a write failed, and never fall; without a fault it ends with an output, out of memory, or at an input
+  -- that is too long
   pub source_faults : CountsFaults (is_read_fault status) (I.faults source) (I.faults source')
   pub sink_faults : CountsFaults (is_write_fault status) (G.faults first) (G.faults outbox)
   pub complete : HasForm words → (HasRisen (I.faults source) (I.faults source') → ⊥) → (HasRisen (G.faults first) (G.faults outbox) → ⊥)
       → EndsWithoutFault (I.left source) status
   pub too_long : I.taken source' < last_count → (status ≡ statuses.TooLong) ↔ (most_bytes < I.taken source' - I.taken source)
-  -- where no bytes wait at the sink before, nothing waits in the outbox in the end, and all that was written is in the sink, unless that failed
-  pub sent : O.waiting sink ≡ [] → is_write_fault status ≡ false → waiting_of outbox ≡ []
-  pub all : O.waiting sink ≡ [] → is_write_fault status ≡ false → O.written (sink_of outbox) ≡ G.written outbox
+  -- nothing waits in the outbox in the end, and all that was written is in the sink, unless that failed
+  pub sent : is_write_fault status ≡ false → waiting_of outbox ≡ []
+  pub all : is_write_fault status ≡ false → O.written (sink_of outbox) ≡ G.written outbox
 
 -- some run of these words over some streams ended with this status
 abbrev pub EndsARun : {S K : Type 0} → sources.Ghosts S → sinks.Ghosts K → sinks.Ghosts (Outbox K) → Status → List (List ℕ) → Type 0

@@ -1,5 +1,5 @@
 //! The program `retro`: it reads a script from standard input and writes the answers to standard
-//! output. All that it does is the call of `retro_cli::run_followed` on the words of its command line; this is
+//! output. All that it does is the call of `retro_cli::run_sending` on the words of its command line; this is
 //! the one place where the real streams are handed in. It writes to an outbox before standard output, so that answers
 //! go out together, and sends what waits there before each read and where it ends: whoever waits for an answer gets it before
 //! the next line is asked for.
@@ -17,7 +17,7 @@ ghost use Rattle.retro_cli.specs.Status.{code_of};
 
 use followers::{Follower, Mirror, Tally};
 use retro_base::{Name, NoMemory};
-use retro_cli::{Status, Words, run_followed};
+use retro_cli::{Status, Words, run_sending};
 use retro_io::{Outbox, Sink, Source, StdSink, StdSource};
 use std::alloc::Global;
 use std::env::{self, Args};
@@ -128,7 +128,7 @@ fn run_with_mirror<S: Source, K: Sink + Drop>(
     run_before(alloc, words, source, sink, followers)
 }
 
-/// Runs the program with these followers over an outbox before this sink, and gives the outbox back. All that `run_followed` promises
+/// Runs the program with these followers over an outbox before this sink, and gives the outbox back. All that `run_sending` promises
 /// holds of the outbox, and where the sink did not fail, all that was written to it has gone on to the sink. After `NoMemory` nothing was
 /// read.
 fn run_before<S: Source, K: Sink + Drop>(
@@ -145,7 +145,7 @@ fn run_before<S: Source, K: Sink + Drop>(
     ensures err { OnErr result (source.new ≡ source.old) }
 {
     let mut outbox = Outbox::new(alloc, sink)?;
-    let status = run_followed(alloc, words, source, &mut outbox, followers);
+    let status = run_sending(alloc, words, source, &mut outbox, followers);
     Ok((status, outbox))
 }
 

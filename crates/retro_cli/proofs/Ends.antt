@@ -25,8 +25,8 @@ use Rattle.retro_io.specs.declared.mark.ReadError.{ReadError}
 use Rattle.retro_io.specs.declared.mark.ReadError.TheVariants.{ReadFault, TooLong}
 use Rattle.retro_io.specs.declared.sink.Sink.{Ghosts}
 use Rattle.retro_io.specs.FlushLaws.{EndsWithFailedSend-more, EndsWithFailedWrite-more, StaysUnflushed-more}
-use Rattle.retro_io.specs.Flushes.{EndsWithFailedSend, EndsWithFailedWrite, StaysUnflushed}
-use Rattle.retro_cli.specs.Ends.{EndsAfterLine, Stands}
+use Rattle.retro_io.specs.Flushes.{EndsWithFailedSend, EndsWithFailedWrite, Sends, StaysUnflushed}
+use Rattle.retro_cli.specs.Ends.{EndsAfterLine, LinesStand, Stands}
 use Rattle.retro_cli.specs.Followed.{HaveFollowed}
 use Rattle.retro_cli.specs.Stop.{StopsAt, stops_at_write}
 use Rattle.retro_cli.specs.Run.{AppendsAnswersOfFirst, AppendsAnswersOfTaken, AppendsFirstAnswers, AppendsOutput, AppendsProperOutputPrefix, AppendsOutputPrefix, MatchesRefusal}
@@ -239,27 +239,36 @@ module _ (audience : Audience) where
       up_to-unbroken here.past (held ++ last) here.given (here.whole refl) (unbroken-append held last unbroken unbroken') in
       subst (λ ls. Appends first (answers_by (followed audience) ls) written) (sym (ap (λ xs. lines (up_to_last_feed xs)) prefix ∙ given)) here.appended
 
-  module _ {K : Type 0} (G : Ghosts K) where
+  module _ {K : Type 0} (G : Ghosts K) (sends : Sends K) where
     -- whatever stands is a prefix of the output
-    pub prefix_that_stands : (script left : Option (List ℕ)) (limit : ℕ) (before after : K) (stop : Stop) → Stands G (followed audience) script left before after limit stop
+    pub prefix_that_stands : (script left : Option (List ℕ)) (limit : ℕ) (before after : K) (stop : Stop) → Stands G sends (followed audience) script left before after limit stop
         → AppendsOutputPrefix (followed audience) script (G.written before) (G.written after)
     prefix_that_stands script left limit before after stops.ReadFault stands = prefix_of_answers script (G.written before) (G.written after) stands.0.whole
     prefix_that_stands script left limit before after stops.TooLong stands = prefix_of_answers script (G.written before) (G.written after) stands.0.whole
     prefix_that_stands script left limit before after stops.NoMemory stands = prefix_of_answers script (G.written before) (G.written after) stands.whole
-    prefix_that_stands script left limit before after stops.WriteFault (inl part) = prefix_of_part script (G.written before) (G.written after) part.0
-    prefix_that_stands script left limit before after stops.WriteFault (inr (inl all)) = prefix_of_all script (G.written before) (G.written after) all.0
-    prefix_that_stands script left limit before after stops.WriteFault (inr (inr sent)) =
+    prefix_that_stands script left limit before after stops.WriteFault (inl (inl part)) = prefix_of_part script (G.written before) (G.written after) part.0
+    prefix_that_stands script left limit before after stops.WriteFault (inl (inr all)) = prefix_of_all script (G.written before) (G.written after) all.0
+    prefix_that_stands script left limit before after stops.WriteFault (inr sent) =
         prefix_of_answers script (G.written before) (G.written after) sent.0
 
 -- however lines are answered
 module _ (answering : Answering) where
-  module _ {K : Type 0} (G : Ghosts K) where
+  module _ {K : Type 0} (G : Ghosts K) (sends : Sends K) where
+    -- what stands where lines are answered no further stands where the run stops
+    pub stands_of_lines : (script left : Option (List ℕ)) (limit : ℕ) (before after : K) (stop : Stop) → LinesStand G sends answering script left before after limit stop
+        → Stands G sends answering script left before after limit stop
+    stands_of_lines script left limit before after stops.ReadFault stands = stands
+    stands_of_lines script left limit before after stops.TooLong stands = stands
+    stands_of_lines script left limit before after stops.NoMemory stands = stands
+    stands_of_lines script left limit before after stops.WriteFault (inl part) = inl (inl part)
+    stands_of_lines script left limit before after stops.WriteFault (inr sent) = inr sent
+
     -- where no next line was given
     pub stands_at_error : (script left : Option (List ℕ)) (limit : ℕ) (before after : K) (error : ReadError) (stop : Stop) → StopsAt error stop
-        → AppendsFirstAnswers answering script (G.written before) (G.written after) → StaysUnflushed G before after
+        → AppendsFirstAnswers answering script (G.written before) (G.written after) → StaysUnflushed G sends before after
         → (error ≡ ReadFault → AppendsAnswersOfTaken answering script left (G.written before) (G.written after))
         → (error ≡ TooLong → AppendsAnswersOfFirst answering script limit (G.written before) (G.written after))
-        → Stands G answering script left before after limit stop
+        → LinesStand G sends answering script left before after limit stop
     stands_at_error script left limit before after ReadFault stop stops_at whole unflushed taken first =
         rw stops_at (record { whole = whole; unflushed = unflushed }, taken refl)
     stands_at_error script left limit before after TooLong stop stops_at whole unflushed taken first =
@@ -267,30 +276,30 @@ module _ (answering : Answering) where
 
     -- where an answer was not given, or not written
     pub stands_at_answer : (script left : Option (List ℕ)) (limit : ℕ) (before middle after : K) (stop : Stop)
-        → AppendsFirstAnswers answering script (G.written before) (G.written middle) → StaysUnflushed G before middle
+        → AppendsFirstAnswers answering script (G.written before) (G.written middle) → StaysUnflushed G sends before middle
         → (stops_at_write (stop_at stop) ≡ false → after ≡ middle)
         → (stop_at stop ≡ stop_at stops.ReadFault → ⊥) × (stop_at stop ≡ stop_at stops.TooLong → ⊥)
         → (stop_at stop ≡ stop_at stops.WriteFault → AppendsProperOutputPrefix answering script (G.written before) (G.written after))
-        → (stop_at stop ≡ stop_at stops.WriteFault → EndsWithFailedWrite G middle after)
-        → Stands G answering script left before after limit stop
+        → (stop_at stop ≡ stop_at stops.WriteFault → EndsWithFailedWrite G sends middle after)
+        → LinesStand G sends answering script left before after limit stop
     stands_at_answer script left limit before middle after stops.ReadFault whole unflushed same reads part last = absurd (reads.0 refl)
     stands_at_answer script left limit before middle after stops.TooLong whole unflushed same reads part last = absurd (reads.1 refl)
     stands_at_answer script left limit before middle after stops.WriteFault whole unflushed same reads part last =
-        inl (part refl, EndsWithFailedWrite-more G before middle after unflushed (last refl))
+        inl (part refl, EndsWithFailedWrite-more G sends before middle after unflushed (last refl))
     stands_at_answer script left limit before middle after stops.NoMemory whole unflushed same reads part last =
         rw (same refl) record { whole = whole; unflushed = unflushed }
 
     -- where what waits did not go on
     pub stands_at_send : (script left : Option (List ℕ)) (limit : ℕ) (before middle after : K) → AppendsFirstAnswers answering script (G.written before) (G.written middle)
-        → StaysUnflushed G before middle → G.written after ≡ G.written middle → EndsWithFailedSend G middle after
-        → Stands G answering script left before after limit stops.WriteFault
+        → StaysUnflushed G sends before middle → G.written after ≡ G.written middle → EndsWithFailedSend G sends middle after
+        → LinesStand G sends answering script left before after limit stops.WriteFault
     stands_at_send script left limit before middle after whole unflushed same last =
-        inr (inr (subst (λ w. AppendsFirstAnswers answering script (G.written before) w) (sym same) whole, EndsWithFailedSend-more G before middle after unflushed last))
+        inr (subst (λ w. AppendsFirstAnswers answering script (G.written before) w) (sym same) whole, EndsWithFailedSend-more G sends before middle after unflushed last)
 
     -- where memory was short, and then all that waits went on
-    pub ends_sent : (script left left' : Option (List ℕ)) (before middle after : K) → EndsAfterLine G answering script left before middle
-        → G.written after ≡ G.written middle → StaysUnflushed G middle after → EndsAfterLine G answering script left' before after
+    pub ends_sent : (script left left' : Option (List ℕ)) (before middle after : K) → EndsAfterLine G sends answering script left before middle
+        → G.written after ≡ G.written middle → StaysUnflushed G sends middle after → EndsAfterLine G sends answering script left' before after
     ends_sent script left left' before middle after ends same sent = record {
       whole = subst (λ w. AppendsFirstAnswers answering script (G.written before) w) (sym same) ends.whole;
-      unflushed = StaysUnflushed-more G before middle after ends.unflushed sent;
+      unflushed = StaysUnflushed-more G sends before middle after ends.unflushed sent;
     }

@@ -1,26 +1,24 @@
 -- What stands in the sink where a followed run ends.
-use Rattle.std.proofs.Common.{◌≡◌, ℕ, ◌+◌, ◌-◌, ◌⊎◌, true, false, List, [], ◌++◌, length, get_or, take, drop, refl, sym, ap, ◌∙◌, subst, append_assoc, append-nil, Option, Some, None, inl, inr}
-use Rattle.std.specs.Ffi.{without_last}
+use Rattle.std.proofs.Common.{◌≡◌, ℕ, ◌+◌, true, List, [], ◌++◌, get_or, take, drop, refl, sym, ap, ◌∙◌, subst, append_assoc, append-nil, Option, Some, None, inl, inr}
 use Rattle.std.specs.Prelude.{IsSome}
-use Rattle.std.proofs.lemmas.List.{take-append-drop}
 use Rattle.retro_base.specs.Limits.{most_bytes}
 use Rattle.retro_io.specs.declared.sink.Sink as sinks
 use Rattle.retro_io.specs.declared.source.Source as sources
 use Rattle.retro_io.specs.FlushLaws.{EndsWithFailedSend-more, EndsWithFailedWrite-more, StaysUnflushed-more}
-use Rattle.retro_io.specs.Flushes.{EndsWithFailedSend, EndsWithFailedWrite, EndsWithFlush, StaysUnflushed}
+use Rattle.retro_io.specs.Flushes.{EndsWithFailedSend, Sends, StaysUnflushed}
 use Rattle.retro_io.specs.Lines.{lines}
 use Rattle.retro_io.specs.Sink.{Appends, AppendsProperPrefix}
-use Rattle.retro_io.specs.SinkLaws.{Appends-append, AppendsPrefixOf-from, AppendsPrefixOf-parts}
+use Rattle.retro_io.specs.SinkLaws.{Appends-append, Appends-none, AppendsPrefixOf-from, AppendsPrefixOf-parts}
 use Rattle.retro_cli.specs.declared.stop.Stop.{Stop}
 use Rattle.retro_cli.specs.declared.stop.Stop.TheVariants as stops
-use Rattle.retro_cli.specs.Ends.{EndsAtSink, Stands}
+use Rattle.retro_cli.specs.Ends.{LinesStand}
 use Rattle.retro_cli.specs.Events.{AppendsFirstReports, ReportsStand, report_lines}
 use Rattle.retro_cli.specs.Audience.{Audience, followed}
-use Rattle.retro_cli.specs.Followed.{AppendsFollowed, AppendsFollowedPrefix, AppendsSomeReports, FollowedStands, HaveFollowed, followed_output, texts_after, texts_of}
+use Rattle.retro_cli.specs.Followed.{AppendsFollowed, AppendsFollowedPart, AppendsFollowedPrefix, AppendsSomeReports, FollowedStands, HaveFollowed, followed_output, texts_after, texts_of}
 use Rattle.retro_cli.specs.OutOfMemory.{AppendsAnswersOfEarlier}
 use Rattle.retro_cli.specs.Output.{output_by}
-use Rattle.retro_cli.specs.Run.{AppendsFirstAnswers, AppendsOutput, AppendsOutputPrefix}
-use Rattle.retro_cli.proofs.Ends.{prefix_of_answers, prefix_that_stands, stop_at}
+use Rattle.retro_cli.specs.Run.{AppendsFirstAnswers, AppendsOutput, AppendsOutputPrefix, AppendsProperOutputPrefix}
+use Rattle.retro_cli.proofs.Ends.{prefix_between, prefix_of_answers, stop_at}
 use Rattle.retro_cli.proofs.Reports.{cut_after}
 
 -- what those report who have followed a script
@@ -34,12 +32,7 @@ appends_followed None before now first middle last taken answered reported = tt
 appends_followed (Some bytes) before now first middle last taken answered reported =
     Appends-append first middle last (output_by (followed before) bytes) _ answered (subst (λ texts. Appends middle (report_lines 0 texts) last) (texts_are bytes before now taken) reported)
 
--- the whole is a prefix of itself, and so is a prefix of the output
-pub followed_whole : (script : Option (List ℕ)) (before : Audience) (first last : Option (List ℕ)) → AppendsFollowed before script first last → AppendsFollowedPrefix before script first last
-followed_whole None before first last all = tt
-followed_whole (Some bytes) before first last all =
-    AppendsPrefixOf-from first (followed_output before bytes) (followed_output before bytes) [] last (sym (append-nil (followed_output before bytes))) all
-
+-- a prefix of the output is one of the whole
 prefix_of_output : (script : Option (List ℕ)) (before : Audience) (first last : Option (List ℕ)) → AppendsOutputPrefix (followed before) script first last → AppendsFollowedPrefix before script first last
 prefix_of_output None before first last part = tt
 prefix_of_output (Some bytes) before first last part =
@@ -48,20 +41,22 @@ prefix_of_output (Some bytes) before first last part =
     AppendsPrefixOf-from first (followed_output before bytes) parts.0 (parts.1 ++ rest) last
     (ap (λ xs. xs ++ rest) parts.2 ∙ append_assoc parts.0 parts.1 rest) parts.3
 
--- the output, and then a prefix of the reports
-prefix_of_reports : (script : Option (List ℕ)) (before now : Audience) (first middle last : Option (List ℕ)) → HaveFollowed script before now
-    → AppendsOutput (followed before) script first middle → AppendsProperPrefix middle (report_lines 0 (texts_of now)) last → AppendsFollowedPrefix before script first last
-prefix_of_reports None before now first middle last taken answered part = tt
-prefix_of_reports (Some bytes) before now first middle last taken answered part =
-    let all = report_lines 0 (texts_after (lines bytes) before) in
-    let whole = subst (λ texts. AppendsProperPrefix middle (report_lines 0 texts) last) (texts_are bytes before now taken) part in
-    let parts = AppendsPrefixOf-parts middle (without_last all) last whole.1 in
-    let tail = drop (length all - 1) all in
-    let all_is : all ≡ parts.0 ++ (parts.1 ++ tail) =
-    sym (take-append-drop (length all - 1) all) ∙ ap (λ xs. xs ++ tail) parts.2 ∙ append_assoc parts.0 parts.1 tail in
-    AppendsPrefixOf-from first (followed_output before bytes) (output_by (followed before) bytes ++ parts.0) (parts.1 ++ tail) last
-    (ap (λ xs. output_by (followed before) bytes ++ xs) all_is ∙ sym (append_assoc (output_by (followed before) bytes) parts.0 (parts.1 ++ tail)))
-    (Appends-append first middle last (output_by (followed before) bytes) parts.0 answered parts.3)
+-- a part of the output is one of the whole
+part_of_output : (script : Option (List ℕ)) (before : Audience) (first last : Option (List ℕ)) → AppendsProperOutputPrefix (followed before) script first last
+    → AppendsFollowedPart before script first last
+part_of_output None before first last part = tt
+part_of_output (Some bytes) before first last part =
+    prefix_between first first last [] (output_by (followed before) bytes) (report_lines 0 (texts_after (lines bytes) before)) (followed_output before bytes)
+    refl (Appends-none first) part
+
+-- and so is the output with a part of the reports
+part_of_reports : (script : Option (List ℕ)) (before now : Audience) (first middle last : Option (List ℕ)) → HaveFollowed script before now
+    → AppendsOutput (followed before) script first middle → AppendsProperPrefix middle (report_lines 0 (texts_of now)) last → AppendsFollowedPart before script first last
+part_of_reports None before now first middle last taken answered part = tt
+part_of_reports (Some bytes) before now first middle last taken answered part =
+    prefix_between first middle last (output_by (followed before) bytes) (report_lines 0 (texts_after (lines bytes) before)) [] (followed_output before bytes)
+    (sym (append-nil (followed_output before bytes))) answered
+    (subst (λ texts. AppendsProperPrefix middle (report_lines 0 texts) last) (texts_are bytes before now taken) part)
 
 -- the output, and then some whole reports
 some_reports : (script : Option (List ℕ)) (before now : Audience) (first middle last : Option (List ℕ)) → HaveFollowed script before now
@@ -85,70 +80,67 @@ prefix_of_some (Some bytes) before first last some =
     AppendsPrefixOf-from first (followed_output before bytes) (output_by (followed before) bytes ++ front) back last
     (ap (λ xs. output_by (followed before) bytes ++ xs) (cut_after texts 0 some.count) ∙ sym (append_assoc (output_by (followed before) bytes) front back)) some.appended
 
-module _ {S K : Type 0} (I : sources.Ghosts S) (O : sinks.Ghosts K) (audience : Audience) (source source' : S) where
-  last_of : (script left : Option (List ℕ)) (before after : K) → EndsAtSink O (followed audience) script left before after → EndsWithFailedWrite O before after
-      ⊎ (EndsWithFlush O before false after ⊎ EndsWithFailedSend O before after)
-  last_of script left before after (inl part) = inl part.1
-  last_of script left before after (inr (inl all)) = inr (inl all.1)
-  last_of script left before after (inr (inr sent)) = inr (inr sent.1)
-
+module _ {S K : Type 0} (I : sources.Ghosts S) (O : sinks.Ghosts K) (sends : Sends K) (audience : Audience) (source source' : S) where
   first_of_earlier : (script left before after : Option (List ℕ)) → AppendsAnswersOfEarlier I (followed audience) source source' script left before after → AppendsFirstAnswers (followed audience) script before after
   first_of_earlier None left before after earlier = tt
   first_of_earlier (Some script) None before after earlier = absurd earlier
   first_of_earlier (Some script) (Some left) before after earlier = earlier.answers
 
   -- where the answers stop
-  pub stands_at_answers : (before after : K) (stop : Stop) → Stands O (followed audience) (I.left source) (I.left source') before after most_bytes stop
+  pub stands_at_answers : (before after : K) (stop : Stop) → LinesStand O sends (followed audience) (I.left source) (I.left source') before after most_bytes stop
       → (stop_at stop ≡ stop_at stops.NoMemory → AppendsAnswersOfEarlier I (followed audience) source source' (I.left source) (I.left source') (O.written before) (O.written after))
-      → FollowedStands I O audience source source' before after stop
+      → FollowedStands I O sends audience source source' before after stop
   stands_at_answers before after stops.ReadFault stands earlier = stands
   stands_at_answers before after stops.TooLong stands earlier = stands
   stands_at_answers before after stops.NoMemory stands earlier = inl record { earlier = earlier refl; unflushed = stands.unflushed }
-  stands_at_answers before after stops.WriteFault stands earlier = record {
-    prefix = prefix_of_output (I.left source) audience (O.written before) (O.written after)
-        (prefix_that_stands audience O (I.left source) (I.left source') most_bytes before after stops.WriteFault stands);
-    last = last_of (I.left source) (I.left source') before after stands;
-  }
+  stands_at_answers before after stops.WriteFault (inl part) earlier =
+      inl (inl (part_of_output (I.left source) audience (O.written before) (O.written after) part.0, part.1))
+  stands_at_answers before after stops.WriteFault (inr sent) earlier =
+      inr (
+        prefix_of_output (I.left source) audience (O.written before) (O.written after) (prefix_of_answers audience (I.left source) (O.written before) (O.written after) sent.0),
+        sent.1,
+      )
 
   -- where the reports stop
   pub stands_at_reports : (now : Audience) (before middle after : K) (stop : Stop) → HaveFollowed (I.left source) audience now → I.ended source' ≡ true
-      → AppendsOutput (followed audience) (I.left source) (O.written before) (O.written middle) → StaysUnflushed O before middle → ReportsStand O (texts_of now) middle after stop
-      → FollowedStands I O audience source source' before after stop
+      → AppendsOutput (followed audience) (I.left source) (O.written before) (O.written middle) → StaysUnflushed O sends before middle → ReportsStand O sends (texts_of now) middle after stop
+      → FollowedStands I O sends audience source source' before after stop
   stands_at_reports now before middle after stops.ReadFault taken ended answered unflushed stands = absurd stands
   stands_at_reports now before middle after stops.TooLong taken ended answered unflushed stands = absurd stands
   stands_at_reports now before middle after stops.NoMemory taken ended answered unflushed stands = inr record {
     ended = ended;
     whole = some_reports (I.left source) audience now (O.written before) (O.written middle) (O.written after) taken answered stands.whole;
-    unflushed = StaysUnflushed-more O before middle after unflushed stands.unflushed;
+    unflushed = StaysUnflushed-more O sends before middle after unflushed stands.unflushed;
   }
-  stands_at_reports now before middle after stops.WriteFault taken ended answered unflushed stands = record {
-    prefix = prefix_of_reports (I.left source) audience now (O.written before) (O.written middle) (O.written after) taken answered stands.part;
-    last = inl (EndsWithFailedWrite-more O before middle after unflushed stands.last);
-  }
+  stands_at_reports now before middle after stops.WriteFault taken ended answered unflushed stands =
+      inl (inl (
+        part_of_reports (I.left source) audience now (O.written before) (O.written middle) (O.written after) taken answered stands.part,
+        EndsWithFailedWrite-more O sends before middle after unflushed stands.last,
+      ))
 
   -- where memory was short, and then all that waits went on, or did not
-  pub stands_sent : (before middle after : K) → FollowedStands I O audience source source' before middle stops.NoMemory
-      → O.written after ≡ O.written middle → StaysUnflushed O middle after → FollowedStands I O audience source source' before after stops.NoMemory
+  pub stands_sent : (before middle after : K) → FollowedStands I O sends audience source source' before middle stops.NoMemory
+      → O.written after ≡ O.written middle → StaysUnflushed O sends middle after → FollowedStands I O sends audience source source' before after stops.NoMemory
   stands_sent before middle after (inl at) same sent = inl record {
     earlier = subst (λ w. AppendsAnswersOfEarlier I (followed audience) source source' (I.left source) (I.left source') (O.written before) w) (sym same) at.earlier;
-    unflushed = StaysUnflushed-more O before middle after at.unflushed sent;
+    unflushed = StaysUnflushed-more O sends before middle after at.unflushed sent;
   }
   stands_sent before middle after (inr at) same sent = inr record {
     ended = at.ended;
     whole = subst (λ w. AppendsSomeReports audience (I.left source) (O.written before) w) (sym same) at.whole;
-    unflushed = StaysUnflushed-more O before middle after at.unflushed sent;
+    unflushed = StaysUnflushed-more O sends before middle after at.unflushed sent;
   }
 
-  pub stands_unsent : (before middle after : K) → FollowedStands I O audience source source' before middle stops.NoMemory
-      → O.written after ≡ O.written middle → EndsWithFailedSend O middle after → FollowedStands I O audience source source' before after stops.WriteFault
-  stands_unsent before middle after (inl at) same failed = record {
-    prefix = subst (λ w. AppendsFollowedPrefix audience (I.left source) (O.written before) w) (sym same)
+  pub stands_unsent : (before middle after : K) → FollowedStands I O sends audience source source' before middle stops.NoMemory
+      → O.written after ≡ O.written middle → EndsWithFailedSend O sends middle after → FollowedStands I O sends audience source source' before after stops.WriteFault
+  stands_unsent before middle after (inl at) same failed = inr (
+    subst (λ w. AppendsFollowedPrefix audience (I.left source) (O.written before) w) (sym same)
         (prefix_of_output (I.left source) audience (O.written before) (O.written middle)
-        (prefix_of_answers audience (I.left source) (O.written before) (O.written middle) (first_of_earlier (I.left source) (I.left source') (O.written before) (O.written middle) at.earlier)));
-    last = inr (inr (EndsWithFailedSend-more O before middle after at.unflushed failed));
-  }
-  stands_unsent before middle after (inr at) same failed = record {
-    prefix = subst (λ w. AppendsFollowedPrefix audience (I.left source) (O.written before) w) (sym same)
-        (prefix_of_some (I.left source) audience (O.written before) (O.written middle) at.whole);
-    last = inr (inr (EndsWithFailedSend-more O before middle after at.unflushed failed));
-  }
+        (prefix_of_answers audience (I.left source) (O.written before) (O.written middle) (first_of_earlier (I.left source) (I.left source') (O.written before) (O.written middle) at.earlier))),
+    EndsWithFailedSend-more O sends before middle after at.unflushed failed,
+  )
+  stands_unsent before middle after (inr at) same failed = inr (
+    subst (λ w. AppendsFollowedPrefix audience (I.left source) (O.written before) w) (sym same)
+        (prefix_of_some (I.left source) audience (O.written before) (O.written middle) at.whole),
+    EndsWithFailedSend-more O sends before middle after at.unflushed failed,
+  )

@@ -3,7 +3,7 @@ use Rattle.std.proofs.Common.{◌≡◌, ◌⊎◌, Bool, true, false, Ok, Err, 
 use Rattle.std.specs.Prelude.{IfErr, IfOk, OnOk}
 use Rattle.retro_io.specs.declared.sink.Sink as sinks
 use Rattle.retro_io.specs.declared.source.Source as sources
-use Rattle.retro_io.specs.Flushes.{StaysUnflushed}
+use Rattle.retro_io.specs.Flushes.{Sends, StaysUnflushed}
 use Rattle.retro_cli.specs.Audience.{Audience, followed}
 use Rattle.retro_cli.specs.declared.status.Status.TheVariants as statuses
 use Rattle.retro_cli.specs.declared.stop.Stop.{Stop}
@@ -23,9 +23,9 @@ never_words (Err stops.WriteFault) e = cc
 never_words (Err stops.NoMemory) e = cc
 never_words (Err stops.TooLong) e = cc
 
-module _ {S K : Type 0} (I : sources.Ghosts S) (O : sinks.Ghosts K) (audience : Audience) (source source' : S) (sink sink' : K) where
-  answered : (refused : Bool) → (I.ended source' ≡ true) × (O.flushed sink' ≡ true) → AnswersFollowed I O audience source source' sink sink' refused
-      → FollowsScript I O audience source source' sink sink' (status_of refused)
+module _ {S K : Type 0} (I : sources.Ghosts S) (O : sinks.Ghosts K) (sends : Sends K) (audience : Audience) (source source' : S) (sink sink' : K) where
+  answered : (refused : Bool) → (I.ended source' ≡ true) × (O.flushed sink' ≡ true) → AnswersFollowed I O sends audience source source' sink sink' refused
+      → FollowsScript I O sends audience source source' sink sink' (status_of refused)
   answered false ended answers = record {
     ended = λ _. ended;
     answered = λ _. answers.output;
@@ -49,11 +49,11 @@ module _ {S K : Type 0} (I : sources.Ghosts S) (O : sinks.Ghosts K) (audience : 
     short = λ e. absurd (cc);
   }
 
-  unflushed_at : EndsAtLine I O audience source source' sink sink' ⊎ EndsAtReport I O audience source source' sink sink' → StaysUnflushed O sink sink'
+  unflushed_at : EndsAtLine I O sends audience source source' sink sink' ⊎ EndsAtReport I O sends audience source source' sink sink' → StaysUnflushed O sends sink sink'
   unflushed_at (inl at) = at.unflushed
   unflushed_at (inr at) = at.unflushed
 
-  stopped : (stop : Stop) → FollowedStands I O audience source source' sink sink' stop → FollowsScript I O audience source source' sink sink' (status_after (ended_at stop))
+  stopped : (stop : Stop) → FollowedStands I O sends audience source source' sink sink' stop → FollowsScript I O sends audience source source' sink sink' (status_after (ended_at stop))
   stopped stops.ReadFault stands = record {
     ended = λ none. absurd none;
     answered = λ none. absurd none;
@@ -100,8 +100,8 @@ module _ {S K : Type 0} (I : sources.Ghosts S) (O : sinks.Ghosts K) (audience : 
   }
 
   pub follows_script : (outcome : Outcome) → OnOk outcome ((I.ended source' ≡ true) × (O.flushed sink' ≡ true))
-      → IfOk outcome (AnswersFollowed I O audience source source' sink sink') → IfErr outcome (FollowedStands I O audience source source' sink sink')
-      → FollowsScript I O audience source source' sink sink' (status_after outcome)
+      → IfOk outcome (AnswersFollowed I O sends audience source source' sink sink') → IfErr outcome (FollowedStands I O sends audience source source' sink sink')
+      → FollowsScript I O sends audience source source' sink sink' (status_after outcome)
   follows_script (Ok false) ended answers stands = answered false ended answers
   follows_script (Ok true) ended answers stands = answered true ended answers
   follows_script (Err stop) ended answers stands = stopped stop stands

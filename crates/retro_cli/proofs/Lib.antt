@@ -20,6 +20,7 @@ pub mod Handed
 pub mod Reports
 pub mod FollowedEnds
 pub mod FollowedStatuses
+pub mod Behind
 pub mod Numbered
 pub mod Muted
 pub mod Heard

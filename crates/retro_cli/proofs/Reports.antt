@@ -5,7 +5,7 @@ use Rattle.std.specs.Prelude.{option_map, IsSome}
 use Rattle.std.proofs.lemmas.List.{get_or-map, length-map}
 use Rattle.retro_io.specs.declared.sink.Sink.{Ghosts}
 use Rattle.retro_io.specs.FlushLaws.{EndsWithFailedWrite-more}
-use Rattle.retro_io.specs.Flushes.{EndsWithFailedWrite, StaysUnflushed}
+use Rattle.retro_io.specs.Flushes.{EndsWithFailedWrite, Sends, StaysUnflushed}
 use Rattle.retro_io.specs.Sink.{Appends, AppendsProperPrefix}
 use Rattle.followers.specs.Followers.{Reporting}
 use Rattle.retro_cli.specs.declared.stop.Stop.{Stop}
@@ -68,21 +68,21 @@ module _ {F : Type 0} (seen : F → Option Reporting) (followers : List F) (i : 
       ap (λ n. report_lines 0 (take n texts)) (add-one i) ∙ one_more texts 0 i None (omega (arith, as_many))
       ∙ ap (λ text. report_lines 0 (take i texts) ++ line_of (0 + i) text) text_is ∙ ap (λ n. report_lines 0 (take i texts) ++ line_of n own) (zero-add i)
 
-  pub reports_stand : {K : Type 0} (G : Ghosts K) (before middle after : K) (stop : Stop) → IsSome own → Appends (G.written before) (report_lines 0 (take i texts)) (G.written middle)
-      → StaysUnflushed G before middle → (stops_at_write (stopped_at stop) ≡ false → after ≡ middle)
+  pub reports_stand : {K : Type 0} (G : Ghosts K) (sends : Sends K) (before middle after : K) (stop : Stop) → IsSome own → Appends (G.written before) (report_lines 0 (take i texts)) (G.written middle)
+      → StaysUnflushed G sends before middle → (stops_at_write (stopped_at stop) ≡ false → after ≡ middle)
       → (stopped_at stop ≡ stopped_at stops.ReadFault → ⊥) × (stopped_at stop ≡ stopped_at stops.TooLong → ⊥)
       → (stopped_at stop ≡ stopped_at stops.WriteFault → AppendsProperPrefix (G.written middle) (line_of i own) (G.written after))
-      → (stopped_at stop ≡ stopped_at stops.WriteFault → EndsWithFailedWrite G middle after) → ReportsStand G texts before after stop
-  reports_stand G before middle after stops.ReadFault asked appended unflushed same reads part last = absurd (reads.0 refl)
-  reports_stand G before middle after stops.TooLong asked appended unflushed same reads part last = absurd (reads.1 refl)
-  reports_stand G before middle after stops.NoMemory asked appended unflushed same reads part last =
+      → (stopped_at stop ≡ stopped_at stops.WriteFault → EndsWithFailedWrite G sends middle after) → ReportsStand G sends texts before after stop
+  reports_stand G sends before middle after stops.ReadFault asked appended unflushed same reads part last = absurd (reads.0 refl)
+  reports_stand G sends before middle after stops.TooLong asked appended unflushed same reads part last = absurd (reads.1 refl)
+  reports_stand G sends before middle after stops.NoMemory asked appended unflushed same reads part last =
       rw (same refl) record { whole = record { count = i; asked = subst IsSome (sym text_is) asked; appended = appended }; unflushed = unflushed }
-  reports_stand G before middle after stops.WriteFault asked appended unflushed same reads part last = record {
+  reports_stand G sends before middle after stops.WriteFault asked appended unflushed same reads part last = record {
     part = prefix_between (G.written before) (G.written middle) (G.written after) (report_lines 0 (take i texts)) (line_of i own)
         (report_lines (0 + suc i) (drop (suc i) texts)) (report_lines 0 texts)
         (around texts 0 i None (omega (arith, as_many))
         ∙ ap (λ text. (report_lines 0 (take i texts) ++ line_of (0 + i) text) ++ report_lines (0 + suc i) (drop (suc i) texts)) text_is
         ∙ ap (λ n. (report_lines 0 (take i texts) ++ line_of n own) ++ report_lines (0 + suc i) (drop (suc i) texts)) (zero-add i))
         appended (part refl);
-    last = EndsWithFailedWrite-more G before middle after unflushed (last refl);
+    last = EndsWithFailedWrite-more G sends before middle after unflushed (last refl);
   }

@@ -6,6 +6,7 @@ use Rattle.retro_base.specs.Limits.{most_bytes}
 use Rattle.retro_io.specs.declared.sink.Sink as sinks
 use Rattle.retro_io.specs.declared.source.Source as sources
 use Rattle.retro_io.specs.Faults.{CountsFaults, HasRisen}
+use Rattle.retro_io.specs.Flushes.{Sends}
 use Rattle.retro_cli.specs.declared.form.Form.{Form}
 use Rattle.retro_base.specs.declared.kind.Kind.{Kind}
 use Rattle.retro_cli.specs.declared.status.Status.TheVariants as statuses
@@ -80,7 +81,7 @@ pub matches : (answering : Answering) (script : Option (List ℕ)) (refused : Bo
 matches answering None refused is = tt
 matches answering (Some bytes) refused is = ap status_of is
 
-module _ {S K : Type 0} (I : sources.Ghosts S) (O : sinks.Ghosts K) (source source' : S) (sink sink' : K) where
+module _ {S K : Type 0} (I : sources.Ghosts S) (O : sinks.Ghosts K) (sends : Sends K) (source source' : S) (sink sink' : K) where
   -- the bench alone answers as it does where nobody follows
   prefix_of_whole : AppendsOutput alone (I.left source) (O.written sink) (O.written sink') → AppendsOutputPrefix alone (I.left source) (O.written sink) (O.written sink')
   prefix_of_whole all =
@@ -88,15 +89,15 @@ module _ {S K : Type 0} (I : sources.Ghosts S) (O : sinks.Ghosts K) (source sour
       (prefix_of_all [] (I.left source) (O.written sink) (O.written sink')
       (subst (λ a. AppendsOutput a (I.left source) (O.written sink) (O.written sink')) (sym nobody_follows) all))
 
-  prefix_of_stands : (stop : Stop) → Stands O alone (I.left source) (I.left source') sink sink' most_bytes stop → AppendsOutputPrefix alone (I.left source) (O.written sink) (O.written sink')
+  prefix_of_stands : (stop : Stop) → Stands O sends alone (I.left source) (I.left source') sink sink' most_bytes stop → AppendsOutputPrefix alone (I.left source) (O.written sink) (O.written sink')
   prefix_of_stands stop stands =
       subst (λ a. AppendsOutputPrefix a (I.left source) (O.written sink) (O.written sink')) nobody_follows
-      (prefix_that_stands [] O (I.left source) (I.left source') most_bytes sink sink' stop
-      (subst (λ a. Stands O a (I.left source) (I.left source') sink sink' most_bytes stop) (sym nobody_follows) stands))
+      (prefix_that_stands [] O sends (I.left source) (I.left source') most_bytes sink sink' stop
+      (subst (λ a. Stands O sends a (I.left source) (I.left source') sink sink' most_bytes stop) (sym nobody_follows) stands))
 
   -- a script was answered
-  script_answered : (refused : Bool) → (I.ended source' ≡ true) × (O.flushed sink' ≡ true) → Answers O alone (I.left source) (I.left source') sink sink' refused
-      → AnswersScript I O source source' sink sink' (status_of refused)
+  script_answered : (refused : Bool) → (I.ended source' ≡ true) × (O.flushed sink' ≡ true) → Answers O sends alone (I.left source) (I.left source') sink sink' refused
+      → AnswersScript I O sends source source' sink sink' (status_of refused)
   script_answered false ended answers = record {
     ended = λ _. ended;
     answered = λ _. answers.output;
@@ -124,10 +125,10 @@ module _ {S K : Type 0} (I : sources.Ghosts S) (O : sinks.Ghosts K) (source sour
     of_earlier = λ e. cc;
   }
 
-  script_stopped : (stop : Stop) → Stands O alone (I.left source) (I.left source') sink sink' most_bytes stop
+  script_stopped : (stop : Stop) → Stands O sends alone (I.left source) (I.left source') sink sink' most_bytes stop
       → (ended_at stop ≡ ended_at stops.NoMemory
       → AppendsAnswersOfEarlier I alone source source' (I.left source) (I.left source') (O.written sink) (O.written sink'))
-      → AnswersScript I O source source' sink sink' (status_after (ended_at stop))
+      → AnswersScript I O sends source source' sink sink' (status_after (ended_at stop))
   script_stopped stops.ReadFault stands memory = record {
     ended = λ none. absurd none;
     answered = λ none. absurd none;
@@ -182,17 +183,17 @@ module _ {S K : Type 0} (I : sources.Ghosts S) (O : sinks.Ghosts K) (source sour
   }
 
   pub answers_script : (outcome : Outcome) → OnOk outcome ((I.ended source' ≡ true) × (O.flushed sink' ≡ true))
-      → IfOk outcome (Answers O alone (I.left source) (I.left source') sink sink') → IfErr outcome (Stands O alone (I.left source) (I.left source') sink sink' most_bytes)
+      → IfOk outcome (Answers O sends alone (I.left source) (I.left source') sink sink') → IfErr outcome (Stands O sends alone (I.left source) (I.left source') sink sink' most_bytes)
       → (outcome ≡ ended_at stops.NoMemory
       → AppendsAnswersOfEarlier I alone source source' (I.left source) (I.left source') (O.written sink) (O.written sink'))
-      → AnswersScript I O source source' sink sink' (status_after outcome)
+      → AnswersScript I O sends source source' sink sink' (status_after outcome)
   answers_script (Ok false) ended answers stands memory = script_answered false ended answers
   answers_script (Ok true) ended answers stands memory = script_answered true ended answers
   answers_script (Err stop) ended answers stands memory = script_stopped stop stands memory
 
   -- evidence was judged
   abbrev Judges : Outcome → Type 0
-  Judges outcome = JudgesEvidence I O source source' sink sink' (status_after outcome)
+  Judges outcome = JudgesEvidence I O sends source source' sink sink' (status_after outcome)
 
   judged : (text : Option (List ℕ)) (refused : Bool) → IfSome text (λ bytes. refused ≡ is_refusal (judgement_of bytes))
       → IfSome text (λ bytes. status_of refused ≡ status_of (is_refusal (judgement_of bytes)))
@@ -200,7 +201,7 @@ module _ {S K : Type 0} (I : sources.Ghosts S) (O : sinks.Ghosts K) (source sour
   judged (Some bytes) refused is = ap status_of is
 
   pub judges_evidence : (outcome : Outcome) → OnOk outcome (I.ended source' ≡ true)
-      → StandsAt O (option_map judged_output (I.left source)) sink sink' outcome
+      → StandsAt O sends (option_map judged_output (I.left source)) sink sink' outcome
       → IfOk outcome (λ refused. IfSome (I.left source) (λ bytes. refused ≡ is_refusal (judgement_of bytes)))
       → Judges outcome
   judges_evidence (Ok false) ended stands refusal = record {
@@ -247,9 +248,9 @@ module _ {S K : Type 0} (I : sources.Ghosts S) (O : sinks.Ghosts K) (source sour
   }
 
   -- a generated script was summed up, which reads nothing and is never refused
-  pub sums_up : (kind : Kind) (lines start : ℕ) (outcome : Outcome) → source' ≡ source → StandsAt O (Some (summary kind lines start)) sink sink' outcome
+  pub sums_up : (kind : Kind) (lines start : ℕ) (outcome : Outcome) → source' ≡ source → StandsAt O sends (Some (summary kind lines start)) sink sink' outcome
       → IfOk outcome (λ refused. refused ≡ false) → stops_at_read outcome ≡ false → (outcome ≡ ended_at stops.TooLong → ⊥)
-      → SumsUp I O source source' sink sink' (status_after outcome) kind lines start
+      → SumsUp I O sends source source' sink sink' (status_after outcome) kind lines start
   sums_up kind lines start (Ok false) same stands refusal reads longer = record {
     untouched = same;
     output = λ _. (refl, stands);

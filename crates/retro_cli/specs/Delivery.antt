@@ -1,7 +1,7 @@
 -- What stands in the sink where a run writes one text, at its end, and nothing else.
 use Rattle.std.specs.Prelude.{◌≡◌, ◌⊎◌, ℕ, true, false, List, Option, None, Some, Result, Ok, Err}
 use Rattle.retro_io.specs.declared.sink.Sink.{Ghosts}
-use Rattle.retro_io.specs.Flushes.{EndsWithFailedWrite, EndsWithFlush}
+use Rattle.retro_io.specs.Flushes.{EndsWithFailedWrite, EndsWithFlush, Sends}
 use Rattle.retro_io.specs.Sink.{Appends, AppendsProperPrefix}
 use Rattle.retro_cli.specs.declared.stop.Stop.{Stop}
 use Rattle.retro_cli.specs.declared.stop.Stop.TheVariants as stops
@@ -16,18 +16,18 @@ abbrev pub AppendsPart : Option (List ℕ) → Option (List ℕ) → Option (Lis
 AppendsPart None before after = Unit {0}
 AppendsPart (Some text) before after = AppendsProperPrefix before text after
 
--- the text, where it is known, and the sink before and after
-module _ {K : Type 0} (G : Ghosts K) (text : Option (List ℕ)) (before after : K) where
+-- what a send does, the text, where it is known, and the sink before and after
+module _ {K : Type 0} (G : Ghosts K) (sends : Sends K) (text : Option (List ℕ)) (before after : K) where
   -- exactly the text was appended, and it was flushed last of all
   pub record Arrives : Type 0 where
     pub appended : AppendsText text (G.written before) (G.written after)
-    pub flush : EndsWithFlush G before true after
+    pub flush : EndsWithFlush G sends before true after
     pub flushed : G.flushed after ≡ true
 
   -- a write failed within the text, or the flush after all of it, and that was the last call
   abbrev pub IsCutOff : Type 0
-  IsCutOff = (AppendsPart text (G.written before) (G.written after) × EndsWithFailedWrite G before after)
-      ⊎ (AppendsText text (G.written before) (G.written after) × EndsWithFlush G before false after)
+  IsCutOff = (AppendsPart text (G.written before) (G.written after) × EndsWithFailedWrite G sends before after)
+      ⊎ (AppendsText text (G.written before) (G.written after) × EndsWithFlush G sends before false after)
 
   -- what stands where a run ends so: the text, a part of it, or nothing new
   abbrev pub StandsAt : {V : Type 0} → Result V Stop → Type 0

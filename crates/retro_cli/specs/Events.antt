@@ -1,7 +1,7 @@
 -- The events among answers, and the lines in which followers report of them.
 use Rattle.std.specs.Prelude.{ℕ, ◌+◌, List, [], ◌∷◌, ◌++◌, get_or, take, codes, decimal, filter_map, Option, None, Some, IsSome}
 use Rattle.retro_io.specs.declared.sink.Sink.{Ghosts}
-use Rattle.retro_io.specs.Flushes.{EndsWithFailedWrite, StaysUnflushed}
+use Rattle.retro_io.specs.Flushes.{EndsWithFailedWrite, Sends, StaysUnflushed}
 use Rattle.retro_io.specs.Lines.{line_feed, lines}
 use Rattle.retro_io.specs.Sink.{Appends, AppendsProperPrefix}
 use Rattle.evidence.specs.declared.evidence.Evidence.{Evidence}
@@ -37,17 +37,17 @@ pub record AppendsFirstReports (texts : List (Option (List ℕ))) (before after 
   pub asked : IsSome (get_or texts count None)
   pub appended : Appends before (report_lines 0 (take count texts)) after
 
--- the sink before the reports and where they stop
-module _ {K : Type 0} (G : Ghosts K) (texts : List (Option (List ℕ))) (before after : K) where
+-- what a send does, the sink before the reports and where they stop
+module _ {K : Type 0} (G : Ghosts K) (sends : Sends K) (texts : List (Option (List ℕ))) (before after : K) where
   -- some first reports were appended, and not flushed
   pub record StopsAfterReport : Type 0 where
     pub whole : AppendsFirstReports texts (G.written before) (G.written after)
-    pub unflushed : StaysUnflushed G before after
+    pub unflushed : StaysUnflushed G sends before after
 
   -- a write failed within the reports, and that was the last call
   pub record StopsWithinReport : Type 0 where
     pub part : AppendsProperPrefix (G.written before) (report_lines 0 texts) (G.written after)
-    pub last : EndsWithFailedWrite G before after
+    pub last : EndsWithFailedWrite G sends before after
 
   -- what stands where the reports stop so: nothing is read for them
   abbrev pub ReportsStand : Stop → Type 0

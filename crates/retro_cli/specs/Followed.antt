@@ -3,9 +3,9 @@ use Rattle.std.specs.Prelude.{◌≡◌, ℕ, Bool, true, false, ◌⊎◌, List
 use Rattle.retro_base.specs.Limits.{most_bytes}
 use Rattle.retro_io.specs.declared.sink.Sink as sinks
 use Rattle.retro_io.specs.declared.source.Source as sources
-use Rattle.retro_io.specs.Flushes.{EndsWithFailedSend, EndsWithFailedWrite, EndsWithFlush, StaysUnflushed}
+use Rattle.retro_io.specs.Flushes.{EndsWithFailedSend, EndsWithFailedWrite, EndsWithFlush, Sends, StaysUnflushed}
 use Rattle.retro_io.specs.Lines.{lines}
-use Rattle.retro_io.specs.Sink.{Appends, AppendsPrefixOf}
+use Rattle.retro_io.specs.Sink.{Appends, AppendsPrefixOf, AppendsProperPrefix}
 use Rattle.evidence.specs.declared.evidence.Evidence.{Evidence}
 use Rattle.followers.specs.Followers.{Reporting}
 use Rattle.workbench.specs.Answers.{reactions}
@@ -15,7 +15,7 @@ use Rattle.retro_cli.specs.Audience.{Audience, audience_after, followed}
 use Rattle.retro_cli.specs.Events.{events_among, report_lines}
 use Rattle.retro_cli.specs.declared.stop.Stop.{Stop}
 use Rattle.retro_cli.specs.declared.stop.Stop.TheVariants as stops
-use Rattle.retro_cli.specs.Ends.{Stands}
+use Rattle.retro_cli.specs.Ends.{LinesStand}
 use Rattle.retro_cli.specs.OutOfMemory.{AppendsAnswersOfEarlier}
 use Rattle.retro_cli.specs.Output.{output_by}
 use Rattle.retro_cli.specs.Run.{MatchesRefusal}
@@ -46,10 +46,14 @@ abbrev pub AppendsFollowed : Audience → Option (List ℕ) → Option (List ℕ
 AppendsFollowed audience None before after = Unit {0}
 AppendsFollowed audience (Some bytes) before after = Appends before (followed_output audience bytes) after
 
--- a prefix of the whole was appended
+-- a prefix of the whole was appended, and one that is not all of it
 abbrev pub AppendsFollowedPrefix : Audience → Option (List ℕ) → Option (List ℕ) → Option (List ℕ) → Type 0
 AppendsFollowedPrefix audience None before after = Unit {0}
 AppendsFollowedPrefix audience (Some bytes) before after = AppendsPrefixOf before (followed_output audience bytes) after
+
+abbrev pub AppendsFollowedPart : Audience → Option (List ℕ) → Option (List ℕ) → Option (List ℕ) → Type 0
+AppendsFollowedPart audience None before after = Unit {0}
+AppendsFollowedPart audience (Some bytes) before after = AppendsProperPrefix before (followed_output audience bytes) after
 
 -- the output was appended, and the whole lines of some first reports, up to a follower that is left
 pub record AppendsReportsToOne (audience : Audience) (bytes : List ℕ) (before after : Option (List ℕ)) : Type 0 where
@@ -62,33 +66,37 @@ abbrev pub AppendsSomeReports : Audience → Option (List ℕ) → Option (List 
 AppendsSomeReports audience None before after = Unit {0}
 AppendsSomeReports audience (Some bytes) before after = AppendsReportsToOne audience bytes before after
 
--- who follows at the start, the source before and after, and the sink before and after
-module _ {S K : Type 0} (I : sources.Ghosts S) (O : sinks.Ghosts K) (audience : Audience) (source source' : S) (before after : K) where
+-- what a send does, who follows at the start, the source before and after, and the sink before and after
+module _ {S K : Type 0} (I : sources.Ghosts S) (O : sinks.Ghosts K) (sends : Sends K) (audience : Audience) (source source' : S) (before after : K) where
   -- the whole was appended, it was flushed last of all, and whether a line was refused is known
   pub record AnswersFollowed (refused : Bool) : Type 0 where
     pub output : AppendsFollowed audience (I.left source) (O.written before) (O.written after)
-    pub flush : EndsWithFlush O before true after
+    pub flush : EndsWithFlush O sends before true after
     pub refusal : MatchesRefusal (followed audience) (I.left source) refused
 
   -- memory ran out before a line was answered: the answers to those before it were appended, and no report after the output
   pub record EndsAtLine : Type 0 where
     pub earlier : AppendsAnswersOfEarlier I (followed audience) source source' (I.left source) (I.left source') (O.written before) (O.written after)
-    pub unflushed : StaysUnflushed O before after
+    pub unflushed : StaysUnflushed O sends before after
 
   -- memory ran out at a report after the output: it and the whole reports before that one were appended
   pub record EndsAtReport : Type 0 where
     pub ended : I.ended source' ≡ true
     pub whole : AppendsSomeReports audience (I.left source) (O.written before) (O.written after)
-    pub unflushed : StaysUnflushed O before after
+    pub unflushed : StaysUnflushed O sends before after
 
-  -- a write, the flush or a send failed, which was the last call, and a prefix of the whole was appended
-  pub record EndsAtFault : Type 0 where
-    pub prefix : AppendsFollowedPrefix audience (I.left source) (O.written before) (O.written after)
-    pub last : EndsWithFailedWrite O before after ⊎ (EndsWithFlush O before false after ⊎ EndsWithFailedSend O before after)
+  -- a write failed within the whole, or the flush after all of it, and that was the last call
+  abbrev pub EndsAtFault : Type 0
+  EndsAtFault = (AppendsFollowedPart audience (I.left source) (O.written before) (O.written after) × EndsWithFailedWrite O sends before after)
+      ⊎ (AppendsFollowed audience (I.left source) (O.written before) (O.written after) × EndsWithFlush O sends before false after)
+
+  -- a send failed after a prefix of the whole, and that was the last call
+  abbrev pub EndsAtFailedSend : Type 0
+  EndsAtFailedSend = AppendsFollowedPrefix audience (I.left source) (O.written before) (O.written after) × EndsWithFailedSend O sends before after
 
   -- what stands where a followed run stops so: where reading stops, the answers so far, and no report after the output
   abbrev pub FollowedStands : Stop → Type 0
-  FollowedStands stops.ReadFault = Stands O (followed audience) (I.left source) (I.left source') before after most_bytes stops.ReadFault
-  FollowedStands stops.TooLong = Stands O (followed audience) (I.left source) (I.left source') before after most_bytes stops.TooLong
+  FollowedStands stops.ReadFault = LinesStand O sends (followed audience) (I.left source) (I.left source') before after most_bytes stops.ReadFault
+  FollowedStands stops.TooLong = LinesStand O sends (followed audience) (I.left source) (I.left source') before after most_bytes stops.TooLong
   FollowedStands stops.NoMemory = EndsAtLine ⊎ EndsAtReport
-  FollowedStands stops.WriteFault = EndsAtFault
+  FollowedStands stops.WriteFault = EndsAtFault ⊎ EndsAtFailedSend

@@ -19,5 +19,6 @@ pub mod Events
 pub mod Audience
 pub mod Followed
 pub mod FollowedProgram
+pub mod Unsent
 pub mod Mirrored
 pub mod Heard

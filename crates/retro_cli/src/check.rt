@@ -12,7 +12,7 @@ use crate::deliver::deliver;
 use crate::judging::Judging;
 use crate::stop::Stop;
 use retro_base::Text;
-use retro_io::{LineBuffer, LineReader, Mark, Sink, Source};
+use retro_io::{LineBuffer, LineReader, Mark, SendingSink, Sink, Source};
 use std::alloc::Global;
 
 /// Judges the evidence among the lines that a reader gives, up to the end of the input.
@@ -38,13 +38,13 @@ fn judge_lines<S: Source>(alloc: Global, reader: &mut LineReader<'_, S>) -> Resu
 }
 
 /// Judges the evidence of a source, and writes the judgement: the answer tells whether a line was refused.
-pub(crate) fn run_check<S: Source, K: Sink>(
+pub(crate) fn run_check<S: Source, K: SendingSink>(
     alloc: Global,
     source: &mut S,
     sink: &mut K,
 ) -> Result<bool, Stop>
     ensures ended { OnOk result (S.ended source.new ≡ true) }
-    ensures stands { StandsAt ⟦<K as Sink>⟧ (option_map judged_output (S.left source.old)) sink.old sink.new result }
+    ensures stands { StandsAt ⟦<K as Sink>⟧ K.sends (option_map judged_output (S.left source.old)) sink.old sink.new result }
     ensures refusal { IfOk result (λ refused. IfSome (S.left source.old) (λ bytes. refused ≡ is_refusal (judgement_of bytes))) }
     ensures source_faults { CountsFaults (stops_at_read result) (S.faults source.old) (S.faults source.new) }
     ensures sink_faults { CountsFaults (stops_at_write result) (K.faults sink.old) (K.faults sink.new) }

@@ -14,7 +14,7 @@ use crate::stop::Stop;
 use evidence::{Evidence, read_evidence};
 use followers::Follower;
 use retro_base::{NoMemory, Text};
-use retro_io::Sink;
+use retro_io::{SendingSink, Sink};
 use std::alloc::Global;
 
 /// Hands the events among the lines of an answer to the followers that are left, one after another.
@@ -106,14 +106,14 @@ fn without_return(line: &[u8]) -> &[u8]
 }
 
 /// Writes a line for each follower that is left, with its number and what it reports.
-pub(crate) fn write_reports<K: Sink>(
+pub(crate) fn write_reports<K: SendingSink>(
     alloc: Global,
     followers: &[Option<Box<dyn Follower>>],
     sink: &mut K,
 ) -> Result<(), Stop>
     ensures appended { OnOk result (Appends (K.written sink.old) (report_lines 0 (texts_of (map (option_map (λ f. report_after f)) followers.now))) (K.written sink.new)) }
-    ensures unflushed { OnOk result (StaysUnflushed ⟦<K as Sink>⟧ sink.old sink.new) }
-    ensures stands { IfErr result (ReportsStand ⟦<K as Sink>⟧ (texts_of (map (option_map (λ f. report_after f)) followers.now)) sink.old sink.new) }
+    ensures unflushed { OnOk result (StaysUnflushed ⟦<K as Sink>⟧ K.sends sink.old sink.new) }
+    ensures stands { IfErr result (ReportsStand ⟦<K as Sink>⟧ K.sends (texts_of (map (option_map (λ f. report_after f)) followers.now)) sink.old sink.new) }
     ensures sink_faults { CountsFaults (stops_at_write result) (K.faults sink.old) (K.faults sink.new) }
 {
     for (number, follower) in followers.iter().enumerate() {
@@ -123,7 +123,7 @@ pub(crate) fn write_reports<K: Sink>(
 }
 
 /// Writes the line of one follower, if it is left.
-fn write_report_left<K: Sink>(
+fn write_report_left<K: SendingSink>(
     alloc: Global,
     number: usize,
     follower: &Option<Box<dyn Follower>>,
@@ -133,8 +133,8 @@ fn write_report_left<K: Sink>(
     ensures part { IsErrOf result Stop.WriteFault → AppendsProperPrefix (K.written sink.old) (line_of number (option_map (λ report. report []) (option_map (λ f. report_after f) follower.now))) (K.written sink.new) }
     ensures asked { OnErr result (IsSome (option_map (λ report. report []) (option_map (λ f. report_after f) follower.now))) }
     ensures untouched { OnErr result (stops_at_write result ≡ false → sink.new ≡ sink.old) }
-    ensures unflushed { OnOk result (StaysUnflushed ⟦<K as Sink>⟧ sink.old sink.new) }
-    ensures last { IsErrOf result Stop.WriteFault → EndsWithFailedWrite ⟦<K as Sink>⟧ sink.old sink.new }
+    ensures unflushed { OnOk result (StaysUnflushed ⟦<K as Sink>⟧ K.sends sink.old sink.new) }
+    ensures last { IsErrOf result Stop.WriteFault → EndsWithFailedWrite ⟦<K as Sink>⟧ K.sends sink.old sink.new }
     ensures sink_faults { CountsFaults (stops_at_write result) (K.faults sink.old) (K.faults sink.new) }
     ensures reads_nothing { (IsErrOf result Stop.ReadFault → ⊥) × (IsErrOf result Stop.TooLong → ⊥) }
 {
@@ -145,7 +145,7 @@ fn write_report_left<K: Sink>(
 }
 
 /// Writes the line of one follower.
-pub(crate) fn write_report<K: Sink>(
+pub(crate) fn write_report<K: SendingSink>(
     alloc: Global,
     number: usize,
     follower: &Box<dyn Follower>,
@@ -154,8 +154,8 @@ pub(crate) fn write_report<K: Sink>(
     ensures appended { OnOk result (Appends (K.written sink.old) (report_line number (report_after follower.now [])) (K.written sink.new)) }
     ensures part { IsErrOf result Stop.WriteFault → AppendsProperPrefix (K.written sink.old) (report_line number (report_after follower.now [])) (K.written sink.new) }
     ensures untouched { OnErr result (stops_at_write result ≡ false → sink.new ≡ sink.old) }
-    ensures unflushed { OnOk result (StaysUnflushed ⟦<K as Sink>⟧ sink.old sink.new) }
-    ensures last { IsErrOf result Stop.WriteFault → EndsWithFailedWrite ⟦<K as Sink>⟧ sink.old sink.new }
+    ensures unflushed { OnOk result (StaysUnflushed ⟦<K as Sink>⟧ K.sends sink.old sink.new) }
+    ensures last { IsErrOf result Stop.WriteFault → EndsWithFailedWrite ⟦<K as Sink>⟧ K.sends sink.old sink.new }
     ensures sink_faults { CountsFaults (stops_at_write result) (K.faults sink.old) (K.faults sink.new) }
     ensures reads_nothing { (IsErrOf result Stop.ReadFault → ⊥) × (IsErrOf result Stop.TooLong → ⊥) }
 {

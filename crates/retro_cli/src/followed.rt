@@ -13,11 +13,11 @@ use crate::script::answer_source;
 use crate::stop::Stop;
 use followers::Follower;
 use retro_base::NoMemory;
-use retro_io::{Failed, Sink, Source};
+use retro_io::{Failed, SendingSink, Sink, Source};
 use std::alloc::Global;
 
 /// Reads a script and answers its lines, whose events the followers are handed, and then writes what each of them reports.
-fn answer_and_report<S: Source, K: Sink>(
+fn answer_and_report<S: Source, K: SendingSink>(
     alloc: Global,
     source: &mut S,
     followers: &mut [Option<Box<dyn Follower>>],
@@ -26,8 +26,8 @@ fn answer_and_report<S: Source, K: Sink>(
     ensures ended { OnOk result (S.ended source.new ≡ true) }
     ensures output { OnOk result (AppendsFollowed (map (option_map (λ f. report_after f)) followers.old) (S.left source.old) (K.written sink.old) (K.written sink.new)) }
     ensures refusal { IfOk result (MatchesRefusal (followed (map (option_map (λ f. report_after f)) followers.old)) (S.left source.old)) }
-    ensures unflushed { OnOk result (StaysUnflushed ⟦<K as Sink>⟧ sink.old sink.new) }
-    ensures stands { IfErr result (FollowedStands ⟦<S as Source>⟧ ⟦<K as Sink>⟧ (map (option_map (λ f. report_after f)) followers.old)
+    ensures unflushed { OnOk result (StaysUnflushed ⟦<K as Sink>⟧ K.sends sink.old sink.new) }
+    ensures stands { IfErr result (FollowedStands ⟦<S as Source>⟧ ⟦<K as Sink>⟧ K.sends (map (option_map (λ f. report_after f)) followers.old)
         source.old source.new sink.old sink.new) }
     ensures source_faults { CountsFaults (stops_at_read result) (S.faults source.old) (S.faults source.new) }
     ensures sink_faults { CountsFaults (stops_at_write result) (K.faults sink.old) (K.faults sink.new) }
@@ -42,16 +42,16 @@ fn answer_and_report<S: Source, K: Sink>(
 
 /// Reads a script, answers its lines, reports, and sees to it that all arrives. Where it ends early, what was written whole before has
 /// gone on, unless the sink fails.
-pub(crate) fn follow_script<S: Source, K: Sink>(
+pub(crate) fn follow_script<S: Source, K: SendingSink>(
     alloc: Global,
     source: &mut S,
     followers: &mut [Option<Box<dyn Follower>>],
     sink: &mut K,
 ) -> Result<bool, Stop>
     ensures ended { OnOk result ((S.ended source.new ≡ true) × (K.flushed sink.new ≡ true)) }
-    ensures answers { IfOk result (AnswersFollowed ⟦<S as Source>⟧ ⟦<K as Sink>⟧ (map (option_map (λ f. report_after f)) followers.old)
+    ensures answers { IfOk result (AnswersFollowed ⟦<S as Source>⟧ ⟦<K as Sink>⟧ K.sends (map (option_map (λ f. report_after f)) followers.old)
         source.old source.new sink.old sink.new) }
-    ensures stands { IfErr result (FollowedStands ⟦<S as Source>⟧ ⟦<K as Sink>⟧ (map (option_map (λ f. report_after f)) followers.old)
+    ensures stands { IfErr result (FollowedStands ⟦<S as Source>⟧ ⟦<K as Sink>⟧ K.sends (map (option_map (λ f. report_after f)) followers.old)
         source.old source.new sink.old sink.new) }
     ensures source_faults { CountsFaults (stops_at_read result) (S.faults source.old) (S.faults source.new) }
     ensures sink_faults { CountsFaults (stops_at_write result) (K.faults sink.old) (K.faults sink.new) }
@@ -75,16 +75,16 @@ pub(crate) fn follow_script<S: Source, K: Sink>(
 }
 
 /// Gives the followers their numbers, and follows a script with them.
-pub(crate) fn follow_from_start<S: Source, K: Sink>(
+pub(crate) fn follow_from_start<S: Source, K: SendingSink>(
     alloc: Global,
     source: &mut S,
     followers: Vec<Box<dyn Follower>>,
     sink: &mut K,
 ) -> Result<bool, Stop>
     ensures ended { OnOk result ((S.ended source.new ≡ true) × (K.flushed sink.new ≡ true)) }
-    ensures answers { IfOk result (AnswersFollowed ⟦<S as Source>⟧ ⟦<K as Sink>⟧ (audience_of (map (λ f. report_after f) followers.items))
+    ensures answers { IfOk result (AnswersFollowed ⟦<S as Source>⟧ ⟦<K as Sink>⟧ K.sends (audience_of (map (λ f. report_after f) followers.items))
         source.old source.new sink.old sink.new) }
-    ensures stands { IfErr result (FollowedStands ⟦<S as Source>⟧ ⟦<K as Sink>⟧ (audience_of (map (λ f. report_after f) followers.items))
+    ensures stands { IfErr result (FollowedStands ⟦<S as Source>⟧ ⟦<K as Sink>⟧ K.sends (audience_of (map (λ f. report_after f) followers.items))
         source.old source.new sink.old sink.new) }
     ensures source_faults { CountsFaults (stops_at_read result) (S.faults source.old) (S.faults source.new) }
     ensures sink_faults { CountsFaults (stops_at_write result) (K.faults sink.old) (K.faults sink.new) }

@@ -10,7 +10,7 @@ ghost use Rattle.retro_cli.specs.Summary.{of_generated, refusals, summary, summa
 use crate::deliver::deliver;
 use crate::stop::Stop;
 use retro_base::{Kind, Name, NoMemory, Text};
-use retro_io::Sink;
+use retro_io::{SendingSink, Sink};
 use script_gen::ScriptGen;
 use std::alloc::Global;
 use workbench::Bench;
@@ -98,7 +98,7 @@ fn sum_up(alloc: Global, kind: Kind, lines: u32, start: u64) -> Result<Summary, 
 }
 
 /// Answers a generated script, and writes what it comes to. Nothing is read.
-pub(crate) fn run_generated<K: Sink>(
+pub(crate) fn run_generated<K: SendingSink>(
     alloc: Global,
     kind: Kind,
     lines: u32,
@@ -106,7 +106,7 @@ pub(crate) fn run_generated<K: Sink>(
     sink: &mut K,
 ) -> Result<bool, Stop>
     requires { lines ≤ most_generated }
-    ensures stands { StandsAt ⟦<K as Sink>⟧ (Some (summary kind lines start)) sink.old sink.new result }
+    ensures stands { StandsAt ⟦<K as Sink>⟧ K.sends (Some (summary kind lines start)) sink.old sink.new result }
     ensures refusal { IfOk result (λ refused. refused ≡ false) }
     ensures reads_nothing { stops_at_read result ≡ false }
     ensures in_time { IsErrOf result Stop.TooLong → ⊥ }

@@ -29,6 +29,7 @@
 
 mod check;
 mod deliver;
+mod direct;
 mod follow;
 mod followed;
 mod form;
@@ -42,7 +43,7 @@ mod status;
 mod stop;
 mod words;
 
-pub use program::{run, run_followed};
+pub use program::{run, run_followed, run_sending};
 pub use status::Status;
 pub use words::Words;
 

@@ -11,7 +11,7 @@ ghost use Rattle.retro_cli.specs.Stop.{stops_at_write};
 use crate::follow::write_report;
 use crate::stop::Stop;
 use followers::Follower;
-use retro_io::Sink;
+use retro_io::{SendingSink, Sink};
 use script_grammar::{Command, read_line};
 use std::alloc::Global;
 use workbench::Bench;
@@ -80,7 +80,7 @@ fn as_left(follower: &Option<Box<dyn Follower>>) -> Option<&Box<dyn Follower>>
 }
 
 /// Writes what the follower with this number reports, if it is left, and lets it go. The answer tells that no line was refused.
-pub(crate) fn answer_by_follower<K: Sink>(
+pub(crate) fn answer_by_follower<K: SendingSink>(
     alloc: Global,
     number: u32,
     followers: &mut [Option<Box<dyn Follower>>],
@@ -92,8 +92,8 @@ pub(crate) fn answer_by_follower<K: Sink>(
     ensures part { IsErrOf result Stop.WriteFault → IfSome (follower_at (map (option_map (λ f. report_after f)) followers.old) number) (λ report.
         AppendsProperPrefix (K.written sink.old) (report_line number (report [])) (K.written sink.new)) }
     ensures untouched { OnErr result (stops_at_write result ≡ false → sink.new ≡ sink.old) }
-    ensures unflushed { OnOk result (StaysUnflushed ⟦<K as Sink>⟧ sink.old sink.new) }
-    ensures last { IsErrOf result Stop.WriteFault → EndsWithFailedWrite ⟦<K as Sink>⟧ sink.old sink.new }
+    ensures unflushed { OnOk result (StaysUnflushed ⟦<K as Sink>⟧ K.sends sink.old sink.new) }
+    ensures last { IsErrOf result Stop.WriteFault → EndsWithFailedWrite ⟦<K as Sink>⟧ K.sends sink.old sink.new }
     ensures sink_faults { CountsFaults (stops_at_write result) (K.faults sink.old) (K.faults sink.new) }
     ensures reads_nothing { (IsErrOf result Stop.ReadFault → ⊥) × (IsErrOf result Stop.TooLong → ⊥) }
 {

@@ -1,14 +1,17 @@
 ghost use Rattle.std.specs.Prelude.{◌≡◌, ◌-◌, ◌<◌, ◌≤◌, ◌↔◌, [], false, length, map, IsSome, None};
 ghost use Rattle.retro_base.specs.Limits.{most_bytes};
 ghost use Rattle.retro_io.specs.Faults.{CountsFaults, HasRisen, last_count};
+ghost use Rattle.retro_io.specs.Flushes.{no_sends};
 ghost use Rattle.retro_cli.specs.Audience.{audience_of};
 ghost use Rattle.retro_cli.specs.FollowedProgram.{HasForm, HasNoForm, RunsFollowed, most_followers};
-ghost use Rattle.retro_cli.specs.Forms.{form_of};
+ghost use Rattle.retro_cli.specs.Forms.{form_of, is_follow};
 ghost use Rattle.retro_cli.specs.Program.{Runs};
 ghost use Rattle.retro_cli.specs.Run.{EndsWithoutFault, is_read_fault, is_write_fault};
 ghost use Rattle.retro_cli.specs.Stop.{status_after};
+ghost use Rattle.retro_cli.specs.Unsent.{EndsUnsent, EndsUnsentBy};
 
 use crate::check::run_check;
+use crate::direct::{follow_direct, run_direct};
 use crate::followed::follow_from_start;
 use crate::form::{Form, form_of, is_follow};
 use crate::generated::run_generated;
@@ -16,16 +19,20 @@ use crate::script::run_script;
 use crate::stop::Stop;
 use crate::{Status, Words};
 use followers::Follower;
-use retro_io::{Sink, Source};
+use retro_io::{DirectSink, SendingSink, Sink, Source};
 use std::alloc::Global;
+use std::mem;
 
 /// Runs the program. With the word `run` it reads a script from the source and writes the answer to each line to the
-/// sink, before it reads the next one; what waits at the sink is sent before each read of the source and where the run ends. With `check` it reads lines of evidence and writes their judgement; with
+/// sink, before it reads the next one. With `check` it reads lines of evidence and writes their judgement; with
 /// `gen KIND N START` it reads nothing, answers a generated script and writes what it comes to. With other words it reads
 /// and writes nothing.
 pub fn run<S: Source, K: Sink>(alloc: Global, words: &Words, source: &mut S, sink: &mut K) -> Status
     // What stands at each status, by the form of the words: the output of the script, the judgement or the summary.
-    ensures form { Runs ⟦<S as Source>⟧ ⟦<K as Sink>⟧ source.old source.new sink.old sink.new result (form_of words.now) }
+    ensures form { Runs ⟦<S as Source>⟧ ⟦<K as Sink>⟧ no_sends source.old source.new sink.old sink.new result (form_of words.now) }
+    // At a fault of the sink, less than all of it at a write that failed, and all of it only at a flush that failed.
+    ensures fault { result ≡ Status.WriteFault
+        → EndsUnsent ⟦<S as Source>⟧ ⟦<K as Sink>⟧ source.old source.new sink.old sink.new (form_of words.now) }
     // When each other status comes.
     ensures words { (result ≡ Status.Words) ↔ (form_of words.now ≡ None) }
     ensures too_long { S.taken source.new < last_count →
@@ -34,20 +41,14 @@ pub fn run<S: Source, K: Sink>(alloc: Global, words: &Words, source: &mut S, sin
     ensures complete { IsSome (form_of words.now)
         → (HasRisen (S.faults source.old) (S.faults source.new) → ⊥) → (HasRisen (K.faults sink.old) (K.faults sink.new) → ⊥)
         → EndsWithoutFault (S.left source.old) result }
-    // The source's count of faults rises at a failed read, the sink's at a failed write or flush, and else both stay.
+    // The source's count of faults rises at a failed read, the sink's at a failed write or flush, and neither falls.
     ensures source_faults { CountsFaults (is_read_fault result) (S.faults source.old) (S.faults source.new) }
     ensures sink_faults { CountsFaults (is_write_fault result) (K.faults sink.old) (K.faults sink.new) }
-    // Where nothing waits at the sink before, nothing waits where the run ends, unless the sink failed.
-    ensures sent { K.waiting sink.old ≡ [] → is_write_fault result ≡ false → K.waiting sink.new ≡ [] }
 {
-    match form_of(words) {
-        Some(Form::Run) => status_after(run_script(alloc, source, sink)),
-        Some(Form::Check) => status_after(run_check(alloc, source, sink)),
-        Some(Form::Gen { kind, lines, start }) => {
-            status_after(run_generated(alloc, kind, lines, start, sink))
-        }
-        None => Status::Words,
-    }
+    let mut direct = DirectSink::new(sink);
+    let status = run_direct(alloc, words, source, &mut direct);
+    let _sink = direct.into_inner();
+    status
 }
 
 /// Runs the program as `run` does, and with the words `follow` and `follow NAME` as with the word `run`, but that the followers are
@@ -62,9 +63,66 @@ pub fn run_followed<S: Source, K: Sink>(
 ) -> Status
     requires { length followers.items ≤ most_followers }
     // What stands at each status: of a followed run the output and the reports, else what a run leaves.
-    ensures form { RunsFollowed ⟦<S as Source>⟧ ⟦<K as Sink>⟧ (audience_of (map (λ f. report_after f) followers.items))
+    ensures form { RunsFollowed ⟦<S as Source>⟧ ⟦<K as Sink>⟧ no_sends (audience_of (map (λ f. report_after f) followers.items))
+        source.old source.new sink.old sink.new result words.now }
+    ensures fault { result ≡ Status.WriteFault
+        → EndsUnsentBy ⟦<S as Source>⟧ ⟦<K as Sink>⟧ source.old source.new sink.old sink.new (audience_of (map (λ f. report_after f) followers.items))
+        (is_follow words.now) (form_of words.now) }
+    // When each other status comes, as of a run.
+    ensures words { (result ≡ Status.Words) ↔ HasNoForm words.now }
+    ensures too_long { S.taken source.new < last_count →
+        ((result ≡ Status.TooLong) ↔ (most_bytes < S.taken source.new - S.taken source.old)) }
+    ensures complete { HasForm words.now
+        → (HasRisen (S.faults source.old) (S.faults source.new) → ⊥) → (HasRisen (K.faults sink.old) (K.faults sink.new) → ⊥)
+        → EndsWithoutFault (S.left source.old) result }
+    ensures source_faults { CountsFaults (is_read_fault result) (S.faults source.old) (S.faults source.new) }
+    ensures sink_faults { CountsFaults (is_write_fault result) (K.faults sink.old) (K.faults sink.new) }
+{
+    let mut direct = DirectSink::new(sink);
+    let status = follow_direct(alloc, words, source, &mut direct, followers);
+    let _sink = direct.into_inner();
+    status
+}
+
+/// Runs the program as `run_followed` does over a sink at which bytes may wait. What waits there is sent before each read of the
+/// source for a line, and where the run ends. A send that fails ends the run as a write that fails does.
+pub fn run_sending<S: Source, K: SendingSink>(
+    alloc: Global,
+    words: &Words,
+    source: &mut S,
+    sink: &mut K,
+    followers: Vec<Box<dyn Follower>>,
+) -> Status
+    requires { length followers.items ≤ most_followers }
+    ensures form { RunsFollowed ⟦<S as Source>⟧ ⟦<K as Sink>⟧ K.sends (audience_of (map (λ f. report_after f) followers.items))
         source.old source.new sink.old sink.new result words.now }
     // When each other status comes, as of a run.
+    ensures words { (result ≡ Status.Words) ↔ HasNoForm words.now }
+    ensures too_long { S.taken source.new < last_count →
+        ((result ≡ Status.TooLong) ↔ (most_bytes < S.taken source.new - S.taken source.old)) }
+    ensures complete { HasForm words.now
+        → (HasRisen (S.faults source.old) (S.faults source.new) → ⊥) → (HasRisen (K.faults sink.old) (K.faults sink.new) → ⊥)
+        → EndsWithoutFault (S.left source.old) result }
+    ensures source_faults { CountsFaults (is_read_fault result) (S.faults source.old) (S.faults source.new) }
+    ensures sink_faults { CountsFaults (is_write_fault result) (K.faults sink.old) (K.faults sink.new) }
+    // Where nothing waits at the sink before, nothing waits where the run ends, unless the sink failed.
+    ensures sent { K.waiting sink.old ≡ [] → is_write_fault result ≡ false → K.waiting sink.new ≡ [] }
+{
+    let mut followers = followers;
+    run_by_words(alloc, words, source, sink, &mut followers)
+}
+
+/// The same. With other words than those of a followed run the followers are left as they were.
+fn run_by_words<S: Source, K: SendingSink>(
+    alloc: Global,
+    words: &Words,
+    source: &mut S,
+    sink: &mut K,
+    followers: &mut Vec<Box<dyn Follower>>,
+) -> Status
+    ensures form { RunsFollowed ⟦<S as Source>⟧ ⟦<K as Sink>⟧ K.sends (audience_of (map (λ f. report_after f) followers.old.items))
+        source.old source.new sink.old sink.new result words.now }
+    ensures left { is_follow words.now ≡ false → map (λ f. report_after f) followers.new.items ≡ map (λ f. report_after f) followers.old.items }
     ensures words { (result ≡ Status.Words) ↔ HasNoForm words.now }
     ensures too_long { S.taken source.new < last_count →
         ((result ≡ Status.TooLong) ↔ (most_bytes < S.taken source.new - S.taken source.old)) }
@@ -76,9 +134,38 @@ pub fn run_followed<S: Source, K: Sink>(
     ensures sent { K.waiting sink.old ≡ [] → is_write_fault result ≡ false → K.waiting sink.new ≡ [] }
 {
     if is_follow(words) {
-        status_after(follow_from_start(alloc, source, followers, sink))
+        let all = mem::replace(followers, Vec::new(alloc));
+        status_after(follow_from_start(alloc, source, all, sink))
     } else {
-        run(alloc, words, source, sink)
+        run_by_form(alloc, words, source, sink)
+    }
+}
+
+/// Runs the program as `run` does, and sends what waits.
+pub(crate) fn run_by_form<S: Source, K: SendingSink>(
+    alloc: Global,
+    words: &Words,
+    source: &mut S,
+    sink: &mut K,
+) -> Status
+    ensures form { Runs ⟦<S as Source>⟧ ⟦<K as Sink>⟧ K.sends source.old source.new sink.old sink.new result (form_of words.now) }
+    ensures words { (result ≡ Status.Words) ↔ (form_of words.now ≡ None) }
+    ensures too_long { S.taken source.new < last_count →
+        ((result ≡ Status.TooLong) ↔ (most_bytes < S.taken source.new - S.taken source.old)) }
+    ensures complete { IsSome (form_of words.now)
+        → (HasRisen (S.faults source.old) (S.faults source.new) → ⊥) → (HasRisen (K.faults sink.old) (K.faults sink.new) → ⊥)
+        → EndsWithoutFault (S.left source.old) result }
+    ensures source_faults { CountsFaults (is_read_fault result) (S.faults source.old) (S.faults source.new) }
+    ensures sink_faults { CountsFaults (is_write_fault result) (K.faults sink.old) (K.faults sink.new) }
+    ensures sent { K.waiting sink.old ≡ [] → is_write_fault result ≡ false → K.waiting sink.new ≡ [] }
+{
+    match form_of(words) {
+        Some(Form::Run) => status_after(run_script(alloc, source, sink)),
+        Some(Form::Check) => status_after(run_check(alloc, source, sink)),
+        Some(Form::Gen { kind, lines, start }) => {
+            status_after(run_generated(alloc, kind, lines, start, sink))
+        }
+        None => Status::Words,
     }
 }
 

@@ -6,7 +6,7 @@ ghost use Rattle.retro_io.specs.Flushes.{EndsWithFailedSend, EndsWithFailedWrite
 ghost use Rattle.retro_io.specs.LineReader.{GivesLine, KeepsSource, MovesOn, ShowsErrors, StopsAt, TookForLine, given, has_failed, held, limit_of, rest_of, source_of, taken};
 ghost use Rattle.retro_io.specs.Lines.{has_line_feed};
 ghost use Rattle.retro_io.specs.Marks.{is_fault};
-ghost use Rattle.retro_cli.specs.Ends.{Answers, Stands};
+ghost use Rattle.retro_cli.specs.Ends.{Answers, LinesStand, Stands};
 ghost use Rattle.retro_cli.specs.Audience.{followed, follows_to, hears};
 ghost use Rattle.retro_cli.specs.Events.{events_among};
 ghost use Rattle.retro_cli.specs.Followed.{HaveFollowed};
@@ -22,12 +22,12 @@ use crate::follow::hand_on;
 use crate::mute::{answer_by_follower, muted};
 use crate::stop::Stop;
 use followers::Follower;
-use retro_io::{Failed, LineBuffer, LineReader, Mark, ReadError, Sink, Source};
+use retro_io::{Failed, LineBuffer, LineReader, Mark, ReadError, SendingSink, Sink, Source};
 use std::alloc::Global;
 use workbench::Bench;
 
 /// Answers one line: by the follower that it mutes, or by the bench, whose events the followers are handed.
-fn answer_line<K: Sink>(
+fn answer_line<K: SendingSink>(
     alloc: Global,
     line: &[u8],
     long: bool,
@@ -45,8 +45,8 @@ fn answer_line<K: Sink>(
     ensures part { IsErrOf result Stop.WriteFault → (let turn = follows_to bench.old.bench (map (option_map (λ f. report_after f)) followers.old) line.now long in
         AppendsProperPrefix (K.written sink.old) turn.reaction.answer (K.written sink.new)) }
     ensures untouched { OnErr result (stops_at_write result ≡ false → sink.new ≡ sink.old) }
-    ensures unflushed { OnOk result (StaysUnflushed ⟦<K as Sink>⟧ sink.old sink.new) }
-    ensures last { IsErrOf result Stop.WriteFault → EndsWithFailedWrite ⟦<K as Sink>⟧ sink.old sink.new }
+    ensures unflushed { OnOk result (StaysUnflushed ⟦<K as Sink>⟧ K.sends sink.old sink.new) }
+    ensures last { IsErrOf result Stop.WriteFault → EndsWithFailedWrite ⟦<K as Sink>⟧ K.sends sink.old sink.new }
     ensures sink_faults { CountsFaults (stops_at_write result) (K.faults sink.old) (K.faults sink.new) }
     ensures reads_nothing { (IsErrOf result Stop.ReadFault → ⊥) × (IsErrOf result Stop.TooLong → ⊥) }
 {
@@ -57,7 +57,7 @@ fn answer_line<K: Sink>(
 }
 
 /// Does what one line asks for, hands the events of the answer to the followers, and writes it.
-fn answer_by_bench<K: Sink>(
+fn answer_by_bench<K: SendingSink>(
     line: &[u8],
     long: bool,
     bench: &mut Bench,
@@ -75,8 +75,8 @@ fn answer_by_bench<K: Sink>(
     ensures part { IsErrOf result Stop.WriteFault → (let reaction = reacts_to bench.old.bench line.now long in
         AppendsProperPrefix (K.written sink.old) reaction.answer (K.written sink.new)) }
     ensures untouched { OnErr result (stops_at_write result ≡ false → sink.new ≡ sink.old) }
-    ensures unflushed { OnOk result (StaysUnflushed ⟦<K as Sink>⟧ sink.old sink.new) }
-    ensures last { IsErrOf result Stop.WriteFault → EndsWithFailedWrite ⟦<K as Sink>⟧ sink.old sink.new }
+    ensures unflushed { OnOk result (StaysUnflushed ⟦<K as Sink>⟧ K.sends sink.old sink.new) }
+    ensures last { IsErrOf result Stop.WriteFault → EndsWithFailedWrite ⟦<K as Sink>⟧ K.sends sink.old sink.new }
     ensures sink_faults { CountsFaults (stops_at_write result) (K.faults sink.old) (K.faults sink.new) }
     ensures reads_nothing { (IsErrOf result Stop.ReadFault → ⊥) × (IsErrOf result Stop.TooLong → ⊥) }
 {
@@ -87,15 +87,15 @@ fn answer_by_bench<K: Sink>(
 }
 
 /// Closes the block that is being read, if there is one, and writes the answer.
-fn answer_end<K: Sink>(bench: &mut Bench, sink: &mut K) -> Result<bool, Stop>
+fn answer_end<K: SendingSink>(bench: &mut Bench, sink: &mut K) -> Result<bool, Stop>
     requires { bench.old.spent ≡ false }
     ensures answered { IfOk result (λ refused. let reaction = closing bench.old.bench in
         (refused ≡ reaction.refused) × Appends (K.written sink.old) reaction.answer (K.written sink.new)) }
     ensures part { IsErrOf result Stop.WriteFault → (let reaction = closing bench.old.bench in
         AppendsProperPrefix (K.written sink.old) reaction.answer (K.written sink.new)) }
     ensures untouched { OnErr result (stops_at_write result ≡ false → sink.new ≡ sink.old) }
-    ensures unflushed { OnOk result (StaysUnflushed ⟦<K as Sink>⟧ sink.old sink.new) }
-    ensures last { IsErrOf result Stop.WriteFault → EndsWithFailedWrite ⟦<K as Sink>⟧ sink.old sink.new }
+    ensures unflushed { OnOk result (StaysUnflushed ⟦<K as Sink>⟧ K.sends sink.old sink.new) }
+    ensures last { IsErrOf result Stop.WriteFault → EndsWithFailedWrite ⟦<K as Sink>⟧ K.sends sink.old sink.new }
     ensures sink_faults { CountsFaults (stops_at_write result) (K.faults sink.old) (K.faults sink.new) }
     ensures reads_nothing { (IsErrOf result Stop.ReadFault → ⊥) × (IsErrOf result Stop.TooLong → ⊥) }
 {
@@ -105,15 +105,15 @@ fn answer_end<K: Sink>(bench: &mut Bench, sink: &mut K) -> Result<bool, Stop>
 }
 
 /// Lets go on what waits at the sink, unless the reader holds a whole line and so makes no read for the next one.
-fn send_before_read<S: Source, K: Sink>(
+fn send_before_read<S: Source, K: SendingSink>(
     reader: &LineReader<'_, S>,
     sink: &mut K,
 ) -> Result<(), Stop>
     ensures written { K.written sink.new ≡ K.written sink.old }
     ensures sent { OnOk result (has_line_feed (held reader.now) ≡ false → K.waiting sink.new ≡ []) }
-    ensures unflushed { OnOk result (StaysUnflushed ⟦<K as Sink>⟧ sink.old sink.new) }
+    ensures unflushed { OnOk result (StaysUnflushed ⟦<K as Sink>⟧ K.sends sink.old sink.new) }
     ensures failed { IfErr result (λ stop. stop ≡ Stop.WriteFault) }
-    ensures last { OnErr result (EndsWithFailedSend ⟦<K as Sink>⟧ sink.old sink.new) }
+    ensures last { OnErr result (EndsWithFailedSend ⟦<K as Sink>⟧ K.sends sink.old sink.new) }
     ensures sink_faults { CountsFaults (stops_at_write result) (K.faults sink.old) (K.faults sink.new) }
 {
     if reader.holds_line() {
@@ -125,7 +125,7 @@ fn send_before_read<S: Source, K: Sink>(
 
 /// Moves to the next line, as the reader does. Where the reader holds no whole line, and so may read, nothing may wait at the sink:
 /// whoever waits for an answer has it before more is asked for. The sink is there for this condition alone.
-fn next_line<S: Source, K: Sink>(
+fn next_line<S: Source, K: SendingSink>(
     reader: &mut LineReader<'_, S>,
     _sink: &K,
 ) -> Result<Mark, ReadError>
@@ -144,7 +144,7 @@ fn next_line<S: Source, K: Sink>(
 
 /// Answers the lines that a reader gives, up to the end of the input. The answer to each is written before the next one is read,
 /// and where the source is read for that, it is sent before.
-fn answer_lines<S: Source, K: Sink>(
+fn answer_lines<S: Source, K: SendingSink>(
     alloc: Global,
     reader: &mut LineReader<'_, S>,
     followers: &mut [Option<Box<dyn Follower>>],
@@ -157,8 +157,8 @@ fn answer_lines<S: Source, K: Sink>(
     ensures output { OnOk result (AppendsOutput (followed (map (option_map (λ f. report_after f)) followers.old)) (rest_of reader.old) (K.written sink.old) (K.written sink.new)) }
     ensures refusal { IfOk result (MatchesRefusal (followed (map (option_map (λ f. report_after f)) followers.old)) (rest_of reader.old)) }
     ensures handed { OnOk result (HaveFollowed (rest_of reader.old) (map (option_map (λ f. report_after f)) followers.old) (map (option_map (λ f. report_after f)) followers.new)) }
-    ensures unflushed { OnOk result (StaysUnflushed ⟦<K as Sink>⟧ sink.old sink.new) }
-    ensures stands { IfErr result (Stands ⟦<K as Sink>⟧ (followed (map (option_map (λ f. report_after f)) followers.old)) (rest_of reader.old) (S.left (source_of reader.new)) sink.old sink.new
+    ensures unflushed { OnOk result (StaysUnflushed ⟦<K as Sink>⟧ K.sends sink.old sink.new) }
+    ensures stands { IfErr result (LinesStand ⟦<K as Sink>⟧ K.sends (followed (map (option_map (λ f. report_after f)) followers.old)) (rest_of reader.old) (S.left (source_of reader.new)) sink.old sink.new
         (limit_of reader.old - given reader.old)) }
     ensures earlier { IsErrOf result Stop.NoMemory → AppendsAnswersOfEarlier ⟦<S as Source>⟧ (followed (map (option_map (λ f. report_after f)) followers.old)) (source_of reader.old) (source_of reader.new)
         (S.left (source_of reader.old)) (S.left (source_of reader.new)) (K.written sink.old) (K.written sink.new) }
@@ -184,7 +184,7 @@ fn answer_lines<S: Source, K: Sink>(
 }
 
 /// Reads a script and answers its lines, whose events the followers are handed.
-pub(crate) fn answer_source<S: Source, K: Sink>(
+pub(crate) fn answer_source<S: Source, K: SendingSink>(
     alloc: Global,
     source: &mut S,
     followers: &mut [Option<Box<dyn Follower>>],
@@ -194,8 +194,8 @@ pub(crate) fn answer_source<S: Source, K: Sink>(
     ensures output { OnOk result (AppendsOutput (followed (map (option_map (λ f. report_after f)) followers.old)) (S.left source.old) (K.written sink.old) (K.written sink.new)) }
     ensures refusal { IfOk result (MatchesRefusal (followed (map (option_map (λ f. report_after f)) followers.old)) (S.left source.old)) }
     ensures handed { OnOk result (HaveFollowed (S.left source.old) (map (option_map (λ f. report_after f)) followers.old) (map (option_map (λ f. report_after f)) followers.new)) }
-    ensures unflushed { OnOk result (StaysUnflushed ⟦<K as Sink>⟧ sink.old sink.new) }
-    ensures stands { IfErr result (Stands ⟦<K as Sink>⟧ (followed (map (option_map (λ f. report_after f)) followers.old)) (S.left source.old) (S.left source.new) sink.old sink.new most_bytes) }
+    ensures unflushed { OnOk result (StaysUnflushed ⟦<K as Sink>⟧ K.sends sink.old sink.new) }
+    ensures stands { IfErr result (LinesStand ⟦<K as Sink>⟧ K.sends (followed (map (option_map (λ f. report_after f)) followers.old)) (S.left source.old) (S.left source.new) sink.old sink.new most_bytes) }
     ensures earlier { IsErrOf result Stop.NoMemory → AppendsAnswersOfEarlier ⟦<S as Source>⟧ (followed (map (option_map (λ f. report_after f)) followers.old)) source.old source.new (S.left source.old) (S.left source.new)
         (K.written sink.old) (K.written sink.new) }
     ensures source_faults { CountsFaults (stops_at_read result) (S.faults source.old) (S.faults source.new) }
@@ -212,7 +212,7 @@ pub(crate) fn answer_source<S: Source, K: Sink>(
 }
 
 /// Reads a script and answers its lines; nobody follows it.
-fn answer_alone<S: Source, K: Sink>(
+fn answer_alone<S: Source, K: SendingSink>(
     alloc: Global,
     source: &mut S,
     sink: &mut K,
@@ -220,8 +220,8 @@ fn answer_alone<S: Source, K: Sink>(
     ensures ended { OnOk result (S.ended source.new ≡ true) }
     ensures output { OnOk result (AppendsOutput alone (S.left source.old) (K.written sink.old) (K.written sink.new)) }
     ensures refusal { IfOk result (MatchesRefusal alone (S.left source.old)) }
-    ensures unflushed { OnOk result (StaysUnflushed ⟦<K as Sink>⟧ sink.old sink.new) }
-    ensures stands { IfErr result (Stands ⟦<K as Sink>⟧ alone (S.left source.old) (S.left source.new) sink.old sink.new most_bytes) }
+    ensures unflushed { OnOk result (StaysUnflushed ⟦<K as Sink>⟧ K.sends sink.old sink.new) }
+    ensures stands { IfErr result (LinesStand ⟦<K as Sink>⟧ K.sends alone (S.left source.old) (S.left source.new) sink.old sink.new most_bytes) }
     ensures earlier { IsErrOf result Stop.NoMemory → AppendsAnswersOfEarlier ⟦<S as Source>⟧ alone source.old source.new (S.left source.old) (S.left source.new)
         (K.written sink.old) (K.written sink.new) }
     ensures source_faults { CountsFaults (stops_at_read result) (S.faults source.old) (S.faults source.new) }
@@ -235,14 +235,14 @@ fn answer_alone<S: Source, K: Sink>(
 
 /// Reads a script, answers its lines and sees to it that the answers arrive. Where it ends early, the whole answers before have
 /// gone on, unless the sink fails.
-pub(crate) fn run_script<S: Source, K: Sink>(
+pub(crate) fn run_script<S: Source, K: SendingSink>(
     alloc: Global,
     source: &mut S,
     sink: &mut K,
 ) -> Result<bool, Stop>
     ensures ended { OnOk result ((S.ended source.new ≡ true) × (K.flushed sink.new ≡ true)) }
-    ensures answers { IfOk result (Answers ⟦<K as Sink>⟧ alone (S.left source.old) (S.left source.new) sink.old sink.new) }
-    ensures stands { IfErr result (Stands ⟦<K as Sink>⟧ alone (S.left source.old) (S.left source.new) sink.old sink.new most_bytes) }
+    ensures answers { IfOk result (Answers ⟦<K as Sink>⟧ K.sends alone (S.left source.old) (S.left source.new) sink.old sink.new) }
+    ensures stands { IfErr result (Stands ⟦<K as Sink>⟧ K.sends alone (S.left source.old) (S.left source.new) sink.old sink.new most_bytes) }
     ensures earlier { IsErrOf result Stop.NoMemory → AppendsAnswersOfEarlier ⟦<S as Source>⟧ alone source.old source.new (S.left source.old) (S.left source.new)
         (K.written sink.old) (K.written sink.new) }
     ensures source_faults { CountsFaults (stops_at_read result) (S.faults source.old) (S.faults source.new) }

@@ -4,7 +4,7 @@ use retro_base::{Name, Text};
 use std::alloc::Global;
 use std::process::Abort;
 
-/// What two tallies and the mirrors of `p` and `q` report after these lines of evidence; an empty one is none.
+/// What three tallies and the mirrors of `p` and `q` report after these lines of evidence; an empty one is none.
 const REPORTED: [([&[u8]; 5], &[u8], &[u8], &[u8]); 4] = [
     (
         [b"", b"", b"", b"", b""],
@@ -53,12 +53,12 @@ const REPORTED: [([&[u8]; 5], &[u8], &[u8], &[u8]); 4] = [
     ),
 ];
 
-/// Hands some lines of evidence to two tallies and the mirrors of `p` and `q`, and sees what each reports.
-fn expect_reports(rt: &impl Abort, alloc: Global, lines: &[&[u8]], reports: [&[u8]; 4]) {
+/// Hands some lines of evidence to three tallies and the mirrors of `p` and `q`, and sees what each reports.
+fn expect_reports(rt: &impl Abort, alloc: Global, lines: &[&[u8]], reports: [&[u8]; 5]) {
     let p = Name::read(b"p").expect(rt, "a name");
     let q = Name::read(b"q").expect(rt, "a name");
     let mut followers: Vec<Box<dyn Follower>> = Vec::new(alloc);
-    for _ in 0..2 {
+    for _ in 0..3 {
         let tally = Box::new(alloc, Tally::new()).expect(rt, "memory");
         followers.push(tally).expect(rt, "memory");
     }
@@ -82,6 +82,6 @@ fn expect_reports(rt: &impl Abort, alloc: Global, lines: &[&[u8]], reports: [&[u
 #[test]
 fn followers_report_what_they_took(rt: HostRuntime) {
     for (lines, tally, of_p, of_q) in REPORTED {
-        expect_reports(&rt, rt.alloc(), &lines, [tally, tally, of_p, of_q]);
+        expect_reports(&rt, rt.alloc(), &lines, [tally, tally, tally, of_p, of_q]);
     }
 }

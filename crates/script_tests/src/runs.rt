@@ -1,19 +1,21 @@
-ghost use Rattle.std.specs.Prelude.{◌≤◌, None, []};
+ghost use Rattle.std.specs.Prelude.{◌≤◌, None};
 ghost use Rattle.retro_io.specs.Faults.{last_count};
 
 use followers::{Follower, Mirror, Tally};
 use retro_base::Name;
-use retro_cli::{Status, Words, run, run_followed};
+use retro_cli::{Status, Words, run, run_followed, run_sending};
 use retro_io::{Failed, MemorySink, MemorySource, Outbox, Sink};
 use std::alloc::Global;
 use std::process::Abort;
 
-/// What the program is run on: its words, what its source gives and in which pieces, and which calls of the streams fail.
+/// What the program is run on: its words, what its source gives and in which pieces, in which pieces its sink takes what it is handed, and
+/// which calls of the streams fail.
 #[derive(Clone, Copy)]
 struct Given<'a> {
     words: &'a [&'a [u8]],
     script: &'a [u8],
     piece: u32,
+    taking: u32,
     reads: &'a [u32],
     writes: &'a [u32],
 }
@@ -33,7 +35,8 @@ fn source_of(rt: &impl Abort, alloc: Global, given: &Given<'_>) -> MemorySource 
 }
 
 fn sink_of(rt: &impl Abort, alloc: Global, given: &Given<'_>) -> MemorySink {
-    MemorySink::new(alloc, 65536, 4096, given.writes).expect(rt, "memory")
+    assert!(rt; 0 < given.taking);
+    MemorySink::new(alloc, 65536, given.taking, given.writes).expect(rt, "memory")
 }
 
 fn run_over<K: Sink>(rt: &impl Abort, alloc: Global, given: &Given<'_>, sink: &mut K) -> Status {
@@ -54,15 +57,17 @@ fn expect_run(
     assert_eq!(rt; ended, status);
 }
 
-/// The same over an outbox before the sink.
+/// The same over an outbox before the sink, which is sent.
 fn expect_gathered(
     rt: &impl Abort,
     alloc: Global,
     given: &Given<'_>,
     (answers, status): (&[u8], Status),
 ) {
+    let words = words_of(rt, alloc, given);
+    let mut source = source_of(rt, alloc, given);
     let mut outbox = Outbox::new(alloc, sink_of(rt, alloc, given)).expect(rt, "memory");
-    let ended = run_over(rt, alloc, given, &mut outbox);
+    let ended = run_sending(alloc, &words, &mut source, &mut outbox, Vec::new(alloc));
     assert_eq!(rt; outbox.sink().written(), answers);
     assert_eq!(rt; ended, status);
 }
@@ -100,6 +105,7 @@ fn expect_fault(
         words: RUN,
         script: SCRIPT,
         piece: 1,
+        taking: 4096,
         reads,
         writes,
     };
@@ -132,6 +138,58 @@ fn a_fault_leaves_the_answers_before_it(rt: HostRuntime) {
     }
 }
 
+/// A call after the last one is never made: the read behind the end, and the write behind the last answer.
+#[test]
+fn no_call_comes_after_the_last_one(rt: HostRuntime) {
+    expect_fault(&rt, rt.alloc(), (&[102], &[8]), (ANSWERS, Status::Done));
+}
+
+/// Of a sink that takes one byte a write, each write fails in turn, and the one after the last byte is never made.
+#[test]
+fn a_write_that_fails_leaves_the_bytes_before_it(rt: HostRuntime) {
+    for write in 0..40 {
+        let given = Given {
+            words: RUN,
+            script: SCRIPT,
+            piece: 512,
+            taking: 1,
+            reads: &[],
+            writes: &[write],
+        };
+        let size = write as usize;
+        assert!(rt; size <= ANSWERS.len());
+        let status = if size < ANSWERS.len() {
+            Status::WriteFault
+        } else {
+            Status::Done
+        };
+        expect_run(&rt, rt.alloc(), &given, (&ANSWERS[..size], status));
+        expect_gathered(&rt, rt.alloc(), &given, (&ANSWERS[..size], status));
+    }
+}
+
+/// A read fails after an answer, and within a block, which has no answer then.
+#[test]
+fn a_read_that_fails_leaves_an_open_block_unanswered(rt: HostRuntime) {
+    let table: [(&[u8], u32, u32, &[u8]); 2] = [
+        (b"new q queue\nq ask size\n", 16, 1, b"ok\n"),
+        (b"timeline q queue next 3\n#1 10 enq 5\n", 1, 36, b""),
+    ];
+    for (script, piece, read, answers) in table {
+        let given = Given {
+            words: RUN,
+            script,
+            piece,
+            taking: 4096,
+            reads: &[read],
+            writes: &[],
+        };
+        let ended = (answers, Status::ReadFault);
+        expect_run(&rt, rt.alloc(), &given, ended);
+        expect_gathered(&rt, rt.alloc(), &given, ended);
+    }
+}
+
 /// Where all lines come in one read, their answers go on in one write: the second one would fail.
 #[test]
 fn held_lines_are_answered_in_one_write(rt: HostRuntime) {
@@ -139,6 +197,7 @@ fn held_lines_are_answered_in_one_write(rt: HostRuntime) {
         words: RUN,
         script: SCRIPT,
         piece: 512,
+        taking: 4096,
         reads: &[],
         writes: &[1],
     };
@@ -185,6 +244,7 @@ fn each_status_has_its_code(rt: HostRuntime) {
             words,
             script,
             piece: 3,
+            taking: 4096,
             reads,
             writes,
         };
@@ -205,25 +265,17 @@ struct FirstFlushFails {
 impl Sink for FirstFlushFails {
     ghost written = { λ _. None };
 
-    ghost waiting = { λ _. [] };
-
     ghost flushed = { λ s. s.flushed };
 
     ghost faults = { λ s. s.faults };
 
     ghost writes = { λ _ _ _ _. Unit {0} };
 
-    ghost sends = { λ _ _ _. Unit {0} };
-
     ghost flushes = { λ _ _ _. Unit {0} };
 
     fn write(&mut self, piece: &[u8]) -> Result<usize, Failed> {
         self.flushed = false;
         Ok(piece.len())
-    }
-
-    fn send(&mut self) -> Result<(), Failed> {
-        Ok(())
     }
 
     fn flush(&mut self) -> Result<(), Failed> {
@@ -243,6 +295,7 @@ fn a_flush_that_fails_is_not_tried_again(rt: HostRuntime) {
         words: RUN,
         script: SCRIPT,
         piece: 512,
+        taking: 4096,
         reads: &[],
         writes: &[],
     };
@@ -349,9 +402,46 @@ fn followers_report_in_a_run(rt: HostRuntime) {
             words,
             script,
             piece: 16,
+            taking: 4096,
             reads,
             writes,
         };
         expect_followed(&rt, rt.alloc(), &given, (answers, status));
+    }
+}
+
+/// So many tallies as followers.
+fn tallies(rt: &impl Abort, alloc: Global, count: u32) -> Vec<Box<dyn Follower>> {
+    let mut followers: Vec<Box<dyn Follower>> = Vec::new(alloc);
+    for _ in 0..count {
+        let tally = Box::new(alloc, Tally::new()).expect(rt, "memory");
+        followers.push(tally).expect(rt, "memory");
+    }
+    followers
+}
+
+/// Each follower reports, also of a script that changes no priority queue, and where there is none nothing is reported.
+#[test]
+fn each_follower_reports(rt: HostRuntime) {
+    let given = Given {
+        words: &[b"follow"],
+        script: SCRIPT,
+        piece: 512,
+        taking: 4096,
+        reads: &[],
+        writes: &[],
+    };
+    let reports: &[u8] = b"report 0 gains 0 losses 0 sum 0\nreport 1 gains 0 losses 0 sum 0\n";
+    for (count, reported) in [(0, b"".as_slice()), (2, reports)] {
+        let words = words_of(&rt, rt.alloc(), &given);
+        let mut source = source_of(&rt, rt.alloc(), &given);
+        let mut sink = sink_of(&rt, rt.alloc(), &given);
+        let followers = tallies(&rt, rt.alloc(), count);
+        assert!(rt; followers.len() <= 1024);
+        let ended = run_followed(rt.alloc(), &words, &mut source, &mut sink, followers);
+        assert_eq!(rt; ended, Status::Done);
+        assert!(rt; ANSWERS.len() <= sink.written().len());
+        assert_eq!(rt; &sink.written()[..ANSWERS.len()], ANSWERS);
+        assert_eq!(rt; &sink.written()[ANSWERS.len()..], reported);
     }
 }

@@ -1,7 +1,7 @@
 -- The run is over the outbox that was made, and what waits there has gone on.
 use Rattle.std.proofs.Common.{refl, map}
 use Rattle.retro_cli.specs.Audience.{audience_of}
-use Rattle.retro.proofs.Waiting.{all_is_in, none_and_none, second_is_none}
+use Rattle.retro.proofs.Waiting.{all_is_in}
 use Rattle.retro.proofs.run_before.Goals as goal
 
 pub returns-clause-runs : goal.returns-clause-runs
@@ -14,17 +14,17 @@ returns-clause-runs g c =
       no_faults = c.in_ok-outbox.ensures.faults;
       audience = audience_of (map (λ f. (goal.Follower-dyn g (f.vtable, f.value)).report_after f.value) c.args.followers.items);
       handed_in = refl;
-      runs = c.run_followed-status.ensures.form;
-      source_faults = c.run_followed-status.ensures.source_faults;
-      sink_faults = c.run_followed-status.ensures.sink_faults;
-      complete = c.run_followed-status.ensures.complete;
-      too_long = c.run_followed-status.ensures.too_long;
-      sent = λ none succeeds. second_is_none _ _ (c.run_followed-status.ensures.sent (none_and_none _ _ (rw c.in_ok-outbox.ensures.sink none) c.in_ok-outbox.ensures.waiting) succeeds);
-      all = λ none succeeds. all_is_in _ _ _ (c.run_followed-status.ensures.sent (none_and_none _ _ (rw c.in_ok-outbox.ensures.sink none) c.in_ok-outbox.ensures.waiting) succeeds);
+      runs = c.run_sending-status.ensures.form;
+      source_faults = c.run_sending-status.ensures.source_faults;
+      sink_faults = c.run_sending-status.ensures.sink_faults;
+      complete = c.run_sending-status.ensures.complete;
+      too_long = c.run_sending-status.ensures.too_long;
+      sent = λ succeeds. c.run_sending-status.ensures.sent c.in_ok-outbox.ensures.waiting succeeds;
+      all = λ succeeds. all_is_in _ _ (c.run_sending-status.ensures.sent c.in_ok-outbox.ensures.waiting succeeds);
     }
 
 pub returns-clause-words : goal.returns-clause-words
-returns-clause-words g c = c.run_followed-status.ensures.words
+returns-clause-words g c = c.run_sending-status.ensures.words
 
 pub returns-clause-err : goal.returns-clause-err
 returns-clause-err g c = tt

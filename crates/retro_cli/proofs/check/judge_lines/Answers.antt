@@ -1,4 +1,4 @@
-use Rattle.std.proofs.Common.{arith, ◌∙◌}
+use Rattle.std.proofs.Common.{arith}
 use Rattle.retro_io.specs.LineReader.{line_of, has_ended}
 use Rattle.retro_io.specs.ReaderLaws.{MovesOn-then}
 use Rattle.retro_cli.proofs.GoesOn.{GivenAs}
@@ -21,7 +21,7 @@ loop-judging-preserved g c =
     record {
       moves = MovesOn-then c.args.reader.now c.loop-judging.reader c.next.new.self c.loop-judging.invariant.moves c.in_ok-next.ensures.moves;
       failed = c.in_ok-next.ensures.shows.0;
-      source_faults = c.in_ok-next.ensures.source_faults ∙ c.loop-judging.invariant.source_faults;
+      source_faults = omega (arith, c.in_ok-next.ensures.source_faults, c.loop-judging.invariant.source_faults);
       count = rw took (omega (arith, one, more, c.loop-judging.invariant.count));
       judges = λ bytes e.
           rw took

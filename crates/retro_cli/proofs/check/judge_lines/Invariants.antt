@@ -9,7 +9,7 @@ abbrev pub invariant-loop-judging : goal.invariant-loop-judging
 invariant-loop-judging g l = record {
   moves : MovesOn l.fn.reader l.reader;
   failed : has_failed l.reader ≡ false;
-  source_faults : g.S.Source.faults (source_of l.reader) ≡ g.S.Source.faults (source_of l.fn.reader);
+  source_faults : g.S.Source.faults (source_of l.fn.reader) ≤ g.S.Source.faults (source_of l.reader);
   count : lines_read l.judging ≤ given l.reader;
   judges : (bytes : List ℕ) → rest_of l.fn.reader ≡ Some bytes → JudgesOn bytes l.judging (rest_of l.reader);
 }

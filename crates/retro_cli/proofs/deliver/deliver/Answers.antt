@@ -26,3 +26,6 @@ returns-in-Err-clause-stands g c = inr (
     flush = c.in-Err.ensures.does;
   },
 )
+
+pub returns-in-Ok-clause-sent : goal.returns-in-Ok-clause-sent
+returns-in-Ok-clause-sent g c = g.met.K.SendingSink.flush_sends _ _ c.in-Ok.field-0 c.in-Ok.ensures.does

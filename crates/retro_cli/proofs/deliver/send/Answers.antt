@@ -4,7 +4,7 @@ use Rattle.retro_cli.proofs.deliver.send.Goals as goal
 
 pub returns-in-Ok-clause-unflushed : goal.returns-in-Ok-clause-unflushed
 returns-in-Ok-clause-unflushed g c =
-    StaysUnflushed-send g.K.Sink _ _ c.in-Ok.field-0 c.in-Ok.ensures.does c.in-Ok.ensures.written c.in-Ok.ensures.flushed
+    StaysUnflushed-send g.K.Sink g.K.SendingSink.sends _ _ c.in-Ok.field-0 c.in-Ok.ensures.does c.in-Ok.ensures.written c.in-Ok.ensures.flushed
 
 pub returns-in-Err-clause-last : goal.returns-in-Err-clause-last
-returns-in-Err-clause-last g c = EndsWithFailedSend-at g.K.Sink _ _ c.in-Err.field-0 c.in-Err.ensures.does
+returns-in-Err-clause-last g c = EndsWithFailedSend-at g.K.Sink g.K.SendingSink.sends _ _ c.in-Err.field-0 c.in-Err.ensures.does

@@ -1,5 +1,5 @@
 -- One report after another is appended.
-use Rattle.std.proofs.Common.{refl, sym, subst, ◌∙◌, rules}
+use Rattle.std.proofs.Common.{sym, subst, rules, arith}
 use Rattle.std.specs.Prelude.{option_map}
 use Rattle.std.proofs.lemmas.Result.{err_from_is_err_and}
 use Rattle.retro_io.specs.FlushLaws.{StaysUnflushed-none, StaysUnflushed-more}
@@ -9,7 +9,7 @@ use Rattle.retro_cli.proofs.Reports.{next_report, reports_stand}
 use Rattle.retro_cli.proofs.follow.write_reports.Goals as goal
 
 pub loop-number-init : goal.loop-number-init
-loop-number-init g c = record { appended = Appends-none _; unflushed = StaysUnflushed-none g.K.Sink _; sink_faults = refl }
+loop-number-init g c = record { appended = Appends-none _; unflushed = StaysUnflushed-none g.K.Sink g.K.SendingSink.sends _; sink_faults = omega arith }
 
 pub loop-number-preserved : goal.loop-number-preserved
 loop-number-preserved g c = record {
@@ -17,8 +17,8 @@ loop-number-preserved g c = record {
       (sym (next_report (λ f. option_map (λ b. (goal.Follower-dyn g (b.vtable, b.value)).report_after b.value) f) c.args.followers.now c.loop-number.number c.index-followers-number.result
       (search rules) c.index-followers-number.is))
       (Appends-append _ (g.K.Sink.written c.loop-number.sink) _ _ _ c.loop-number.invariant.appended c.in_ok-write_report_left.ensures.appended);
-  unflushed = StaysUnflushed-more g.K.Sink _ _ _ c.loop-number.invariant.unflushed c.in_ok-write_report_left.ensures.unflushed;
-  sink_faults = c.in_ok-write_report_left.ensures.sink_faults ∙ c.loop-number.invariant.sink_faults;
+  unflushed = StaysUnflushed-more g.K.Sink g.K.SendingSink.sends _ _ _ c.loop-number.invariant.unflushed c.in_ok-write_report_left.ensures.unflushed;
+  sink_faults = omega (arith, c.in_ok-write_report_left.ensures.sink_faults, c.loop-number.invariant.sink_faults);
 }
 
 pub returns-in_err-write_report_left-clause-stands : goal.returns-in_err-write_report_left-clause-stands
@@ -27,5 +27,5 @@ returns-in_err-write_report_left-clause-stands g c =
     let failed = c.in_err-write_report_left.ensures in
     rw (p.1, p.2)
     (reports_stand (λ f. option_map (λ b. (goal.Follower-dyn g (b.vtable, b.value)).report_after b.value) f) c.args.followers.now c.loop-number.number c.index-followers-number.result
-    (search rules) c.index-followers-number.is g.K.Sink _ _ _ c.in_err-write_report_left.field-0.0 failed.asked c.loop-number.invariant.appended c.loop-number.invariant.unflushed
+    (search rules) c.index-followers-number.is g.K.Sink g.K.SendingSink.sends _ _ _ c.in_err-write_report_left.field-0.0 failed.asked c.loop-number.invariant.appended c.loop-number.invariant.unflushed
     failed.untouched failed.reads_nothing failed.part failed.last)

@@ -1,4 +1,4 @@
-use Rattle.std.proofs.Common.{◌≡◌, map, take}
+use Rattle.std.proofs.Common.{map, take, ◌≤◌}
 use Rattle.std.specs.Prelude.{option_map}
 use Rattle.retro_io.specs.Flushes.{StaysUnflushed}
 use Rattle.retro_io.specs.Sink.{Appends}
@@ -11,6 +11,6 @@ invariant-loop-number g l = record {
   appended : Appends (g.K.Sink.written l.fn.sink)
       (report_lines 0 (take l.number (texts_of (map (λ f. option_map (λ b. (goal.Follower-dyn g (b.vtable, b.value)).report_after b.value) f) l.followers))))
       (g.K.Sink.written l.sink);
-  unflushed : StaysUnflushed g.K.Sink l.fn.sink l.sink;
-  sink_faults : g.K.Sink.faults l.sink ≡ g.K.Sink.faults l.fn.sink;
+  unflushed : StaysUnflushed g.K.Sink g.K.SendingSink.sends l.fn.sink l.sink;
+  sink_faults : g.K.Sink.faults l.fn.sink ≤ g.K.Sink.faults l.sink;
 }

@@ -8,4 +8,4 @@ use Rattle.retro_cli.proofs.followed.follow_from_start.Goals as goal
 pub returns-in_err-numbered-clause-stands : goal.returns-in_err-numbered-clause-stands
 returns-in_err-numbered-clause-stands g c =
     let p = err_from_is_err_and c.from_residual.result c.from_residual.ensures.1 in
-    rw (p.1, p.2) (inl record { earlier = at_start g.S.Source _ c.args.source.now _ _; unflushed = StaysUnflushed-none g.K.Sink _ })
+    rw (p.1, p.2) (inl record { earlier = at_start g.S.Source _ c.args.source.now _ _; unflushed = StaysUnflushed-none g.K.Sink g.K.SendingSink.sends _ })

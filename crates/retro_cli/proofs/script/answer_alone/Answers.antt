@@ -3,7 +3,7 @@ use Rattle.std.proofs.Common.{subst}
 use Rattle.std.specs.Prelude.{IfErr, IfOk, IsErrOf, OnOk}
 use Rattle.retro_base.specs.Limits.{most_bytes}
 use Rattle.retro_cli.specs.declared.stop.Stop.TheVariants as stops
-use Rattle.retro_cli.specs.Ends.{Stands}
+use Rattle.retro_cli.specs.Ends.{LinesStand}
 use Rattle.retro_cli.specs.OutOfMemory.{AppendsAnswersOfEarlier}
 use Rattle.retro_cli.specs.Run.{AppendsOutput, MatchesRefusal}
 use Rattle.retro_cli.proofs.Reactions.{nobody_follows}
@@ -20,7 +20,7 @@ returns-clause-refusal g c =
 
 pub returns-clause-stands : goal.returns-clause-stands
 returns-clause-stands g c =
-    subst (λ a. IfErr c.answer_source.result (Stands g.K.Sink a (g.S.Source.left c.args.source.now) (g.S.Source.left c.answer_source.new.source) c.args.sink.now c.answer_source.new.sink most_bytes))
+    subst (λ a. IfErr c.answer_source.result (LinesStand g.K.Sink g.K.SendingSink.sends a (g.S.Source.left c.args.source.now) (g.S.Source.left c.answer_source.new.source) c.args.sink.now c.answer_source.new.sink most_bytes))
     nobody_follows c.answer_source.ensures.stands
 
 pub returns-clause-earlier : goal.returns-clause-earlier

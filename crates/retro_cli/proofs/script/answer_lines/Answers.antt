@@ -1,4 +1,4 @@
-use Rattle.std.proofs.Common.{◌≡◌, ◌++◌, false, inl, inr, refl, subst, sym, ◌∙◌, None}
+use Rattle.std.proofs.Common.{◌≡◌, ◌++◌, false, inl, inr, refl, subst, sym, ◌∙◌, None, arith}
 use Rattle.std.proofs.lemmas.Result.{err_from_is_err_and}
 use Rattle.retro_io.specs.FlushLaws.{StaysUnflushed-more, StaysUnflushed-none}
 use Rattle.retro_io.specs.LineReader.{held, line_of, has_ended, source_of, taken}
@@ -28,9 +28,9 @@ returns-in_err-next_line-clause-stands g c =
     let not_ended : has_ended c.loop-bench.reader ≡ false = open_before_error _ _ c.in_err-next_line.ensures.kept.end in
     let answers = before_end _ _ _ _ _ _ _ _ _ not_ended (goes_on_sent _ _ _ _ _ _ _ _ _ _ c.send_before_read.ensures.written c.loop-bench.invariant.answers) in
     rw p.1
-    (stands_at_error _ g.K.Sink _ _ _ _ _ c.in_err-next_line.field-0.0 p.0 p.2
+    (stands_at_error _ g.K.Sink g.K.SendingSink.sends _ _ _ _ _ c.in_err-next_line.field-0.0 p.0 p.2
     (first_answers _ _ _ _ _ _ _ _ _ (goes_on_sent _ _ _ _ _ _ _ _ _ _ c.send_before_read.ensures.written c.loop-bench.invariant.answers))
-    (StaysUnflushed-more g.K.Sink _ _ _ c.loop-bench.invariant.unflushed c.in_ok-send_before_read.ensures.unflushed)
+    (StaysUnflushed-more g.K.Sink g.K.SendingSink.sends _ _ _ c.loop-bench.invariant.unflushed c.in_ok-send_before_read.ensures.unflushed)
     (λ fault. answers_of_taken _ _ _ _ _ _ (held c.loop-bench.reader) _ _ _ _ answers stops.unbroken c.in_err-next_line.ensures.moves.left (stops.unbroken_taken fault))
     (λ too_long. rw (← moves.limit)
     (answers_of_first _ _ _ _ _ (held c.args.reader.now) (held c.loop-bench.reader) _ _ (taken c.args.reader.now) (taken c.loop-bench.reader) _ _
@@ -44,9 +44,9 @@ returns-in_err-refused-clause-stands g c =
     elim c.match-branch-3.branch [ in-Whole w ↦ rw w.in-Whole.is w.long-is | in-Long w ↦ rw w.in-Long.is w.long-is ] in
     let not_ended : has_ended c.loop-bench.reader ≡ false = open_before_line _ _ _ as_given c.in_ok-next_line.ensures.kept.end in
     rw (p.1, p.2)
-    (stands_at_answer _ g.K.Sink _ _ _ _ _ _ c.in_err-refused.field-0.0
+    (stands_at_answer _ g.K.Sink g.K.SendingSink.sends _ _ _ _ _ _ c.in_err-refused.field-0.0
     (first_answers _ _ _ _ _ _ _ _ _ (goes_on_sent _ _ _ _ _ _ _ _ _ _ c.send_before_read.ensures.written c.loop-bench.invariant.answers))
-    (StaysUnflushed-more g.K.Sink _ _ _ c.loop-bench.invariant.unflushed c.in_ok-send_before_read.ensures.unflushed) c.in_err-refused.ensures.untouched
+    (StaysUnflushed-more g.K.Sink g.K.SendingSink.sends _ _ _ c.loop-bench.invariant.unflushed c.in_ok-send_before_read.ensures.unflushed) c.in_err-refused.ensures.untouched
     c.in_err-refused.ensures.reads_nothing
     (λ is. part_in_line _ _ _ _ _ _ c.in_ok-next_line.field-0 c.match-branch-3.long (line_of c.next_line.new.reader) (has_ended c.next_line.new.reader) _ _ _ _
     as_given c.in_ok-next_line.ensures.gives.lines (before_end _ _ _ _ _ _ _ _ _ not_ended
@@ -59,9 +59,9 @@ returns-in_err-refused-in-End-clause-stands g c =
     let p = err_from_is_err_and c.from_residual-in_err-refused-in-End.result c.from_residual-in_err-refused-in-End.ensures.1 in
     let failed = c.in_err-refused-in-End.ensures in
     rw (p.1, p.2)
-    (stands_at_answer _ g.K.Sink _ _ _ _ _ _ c.in_err-refused-in-End.field-0.0
+    (stands_at_answer _ g.K.Sink g.K.SendingSink.sends _ _ _ _ _ _ c.in_err-refused-in-End.field-0.0
     (first_answers _ _ _ _ _ _ _ _ _ (goes_on_sent _ _ _ _ _ _ _ _ _ _ c.send_before_read.ensures.written c.loop-bench.invariant.answers))
-    (StaysUnflushed-more g.K.Sink _ _ _ c.loop-bench.invariant.unflushed c.in_ok-send_before_read.ensures.unflushed) failed.untouched failed.reads_nothing
+    (StaysUnflushed-more g.K.Sink g.K.SendingSink.sends _ _ _ c.loop-bench.invariant.unflushed c.in_ok-send_before_read.ensures.unflushed) failed.untouched failed.reads_nothing
     (λ is. part_at_end _ _ _ _ _ _ _ _ _ _ _ (line_of c.next_line.new.reader) (has_ended c.next_line.new.reader) (goes_on_sent _ _ _ _ _ _ _ _ _ _ c.send_before_read.ensures.written c.loop-bench.invariant.answers)
     (rw c.in-End.is at c.in_ok-next_line.ensures.gives.lines) (failed.part is))
     failed.last)
@@ -127,15 +127,15 @@ returns-in-End-clause-handed g c =
     (goes_on_sent _ _ _ _ _ _ _ _ _ _ c.send_before_read.ensures.written c.loop-bench.invariant.answers) (rw c.in-End.is at c.in_ok-next_line.ensures.gives.lines)
 
 pub returns-in-End-clause-unflushed : goal.returns-in-End-clause-unflushed
-returns-in-End-clause-unflushed g c = StaysUnflushed-more g.K.Sink _ _ _
-    (StaysUnflushed-more g.K.Sink _ _ _ c.loop-bench.invariant.unflushed c.in_ok-send_before_read.ensures.unflushed) c.in_ok-refused-in-End.ensures.unflushed
+returns-in-End-clause-unflushed g c = StaysUnflushed-more g.K.Sink g.K.SendingSink.sends _ _ _
+    (StaysUnflushed-more g.K.Sink g.K.SendingSink.sends _ _ _ c.loop-bench.invariant.unflushed c.in_ok-send_before_read.ensures.unflushed) c.in_ok-refused-in-End.ensures.unflushed
 
 pub returns-in_err-send_before_read-clause-stands : goal.returns-in_err-send_before_read-clause-stands
 returns-in_err-send_before_read-clause-stands g c =
     let p = err_from_is_err_and c.from_residual.result c.from_residual.ensures.1 in
     let failed = c.in_err-send_before_read.ensures in
     rw (p.1, p.2, failed.failed)
-    (stands_at_send _ g.K.Sink _ None 0 _ _ _ (first_answers _ _ _ _ _ _ _ _ _ c.loop-bench.invariant.answers) c.loop-bench.invariant.unflushed failed.written failed.last)
+    (stands_at_send _ g.K.Sink g.K.SendingSink.sends _ None 0 _ _ _ (first_answers _ _ _ _ _ _ _ _ _ c.loop-bench.invariant.answers) c.loop-bench.invariant.unflushed failed.written failed.last)
 
 pub next_line-requires-clause-sent : goal.next_line-requires-clause-sent
 next_line-requires-clause-sent g c = c.in_ok-send_before_read.ensures.sent
@@ -145,9 +145,9 @@ loop-bench-init g c = record {
   moves = MovesOn-none c.args.reader.now c.args.reader.now.within;
   unspent = rw c.new-bench.ensures refl;
   failed = c.requires.open;
-  source_faults = refl;
-  sink_faults = refl;
-  unflushed = StaysUnflushed-none g.K.Sink _;
+  source_faults = omega arith;
+  sink_faults = omega arith;
+  unflushed = StaysUnflushed-none g.K.Sink g.K.SendingSink.sends _;
   answers = λ bytes e. rw c.new-bench.ensures (goes_on_first _ bytes _ _ _ e);
   so_far = λ script left from at. inl (refl, c.requires.fresh);
 }
@@ -162,9 +162,9 @@ loop-bench-preserved g c =
       moves = MovesOn-then c.args.reader.now c.loop-bench.reader c.next_line.new.reader c.loop-bench.invariant.moves c.in_ok-next_line.ensures.moves;
       unspent = rw answered.0 refl;
       failed = c.in_ok-next_line.ensures.shows.0;
-      source_faults = c.in_ok-next_line.ensures.source_faults ∙ c.loop-bench.invariant.source_faults;
-      sink_faults = c.in_ok-refused.ensures.sink_faults ∙ c.in_ok-send_before_read.ensures.sink_faults ∙ c.loop-bench.invariant.sink_faults;
-      unflushed = StaysUnflushed-more g.K.Sink _ _ _ (StaysUnflushed-more g.K.Sink _ _ _ c.loop-bench.invariant.unflushed c.in_ok-send_before_read.ensures.unflushed) c.in_ok-refused.ensures.unflushed;
+      source_faults = omega (arith, c.in_ok-next_line.ensures.source_faults, c.loop-bench.invariant.source_faults);
+      sink_faults = omega (arith, c.in_ok-refused.ensures.sink_faults, c.in_ok-send_before_read.ensures.sink_faults, c.loop-bench.invariant.sink_faults);
+      unflushed = StaysUnflushed-more g.K.Sink g.K.SendingSink.sends _ _ _ (StaysUnflushed-more g.K.Sink g.K.SendingSink.sends _ _ _ c.loop-bench.invariant.unflushed c.in_ok-send_before_read.ensures.unflushed) c.in_ok-refused.ensures.unflushed;
       answers = λ bytes e.
           goes_on_answered _ c.in_ok-next_line.field-0 c.match-branch-3.long (line_of c.next_line.new.reader) (has_ended c.next_line.new.reader) bytes _ _ _ _ _ _ _ _
           c.answer_line.new.bench _ _ as_given c.in_ok-next_line.ensures.gives.lines

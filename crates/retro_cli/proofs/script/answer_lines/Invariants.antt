@@ -1,5 +1,5 @@
 -- The lines given so far are the first ones of the script, and were answered.
-use Rattle.std.proofs.Common.{◌≡◌, ℕ, ◌+◌, ◌-◌, List, map, Some, false}
+use Rattle.std.proofs.Common.{◌≡◌, ℕ, ◌+◌, ◌-◌, ◌≤◌, List, map, Some, false}
 use Rattle.std.specs.Prelude.{option_map}
 use Rattle.retro_io.specs.Flushes.{StaysUnflushed}
 use Rattle.retro_io.specs.LineReader.{MovesOn, given, held, limit_of, has_ended, has_failed, rest_of, source_of}
@@ -12,9 +12,9 @@ invariant-loop-bench g l = record {
   moves : MovesOn l.fn.reader l.reader;
   unspent : l.bench.spent ≡ false;
   failed : has_failed l.reader ≡ false;
-  source_faults : g.S.Source.faults (source_of l.reader) ≡ g.S.Source.faults (source_of l.fn.reader);
-  sink_faults : g.K.Sink.faults l.sink ≡ g.K.Sink.faults l.fn.sink;
-  unflushed : StaysUnflushed g.K.Sink l.fn.sink l.sink;
+  source_faults : g.S.Source.faults (source_of l.fn.reader) ≤ g.S.Source.faults (source_of l.reader);
+  sink_faults : g.K.Sink.faults l.fn.sink ≤ g.K.Sink.faults l.sink;
+  unflushed : StaysUnflushed g.K.Sink g.K.SendingSink.sends l.fn.sink l.sink;
   answers : (bytes : List ℕ) → rest_of l.fn.reader ≡ Some bytes
       → GoesOn (map (λ f. option_map (λ b. (goal.Follower-dyn g (b.vtable, b.value)).report_after b.value) f) l.fn.followers) bytes
       (g.K.Sink.written l.fn.sink) l.bench.bench (map (λ f. option_map (λ b. (goal.Follower-dyn g (b.vtable, b.value)).report_after b.value) f) l.followers)

@@ -8,7 +8,7 @@ use Rattle.retro_cli.proofs.script.answer_source.Goals as goal
 pub returns-in_err-buffer-clause-stands : goal.returns-in_err-buffer-clause-stands
 returns-in_err-buffer-clause-stands g c =
     let p = err_from_is_err_and c.from_residual.result c.from_residual.ensures.1 in
-    rw (p.1, p.2) record { whole = appends_no_answers _ _ _; unflushed = StaysUnflushed-none g.K.Sink _ }
+    rw (p.1, p.2) record { whole = appends_no_answers _ _ _; unflushed = StaysUnflushed-none g.K.Sink g.K.SendingSink.sends _ }
 
 pub returns-in_err-buffer-clause-earlier : goal.returns-in_err-buffer-clause-earlier
 returns-in_err-buffer-clause-earlier g c = λ short. at_start g.S.Source _ c.args.source.now _ _

@@ -3,4 +3,4 @@ use Rattle.retro_io.specs.FlushLaws.{StaysUnflushed-none}
 use Rattle.retro_cli.proofs.script.send_before_read.Goals as goal
 
 pub returns-then-holds_line-clause-unflushed : goal.returns-then-holds_line-clause-unflushed
-returns-then-holds_line-clause-unflushed g c = StaysUnflushed-none g.K.Sink _
+returns-then-holds_line-clause-unflushed g c = StaysUnflushed-none g.K.Sink g.K.SendingSink.sends _
