@@ -119,26 +119,26 @@ def a_failed_write(program):
 
 
 def too_little_memory(program):
-    """The whole answers to some first lines stand there; with all memory the script is answered to its end."""
-    rows = 200_000
-    lines = [b"new q queue"] + [b"q at %d enq %d" % (i, i) for i in range(rows)]
-    answers = [b"ok\n"] + [b"ok #%d\n" % (i + 1) for i in range(rows)]
-    # A timeline has 65,536 rows and no more.
-    answers = answers[:65_537] + [b"refused full\n"] * (rows - 65_536)
-    script = b"".join(line + b"\n" for line in lines)
-    expect("all of it", (b"".join(answers), 1), run(program, ["run"], script))
-    with open("/proc/self/status") as status:
-        pass
-    for megabytes in range(4, 64):
+    """The whole answers to some first lines stand there. How much memory the system takes for a program differs, so the limit is lowered."""
+    rows = 100_000
+    script = b"new q queue\n" + b"".join(b"q at %d enq %d\n" % (i, i) for i in range(rows))
+    wanted = b"ok\n" + b"".join(b"ok #%d\n" % (i + 1) for i in range(rows))
+    expect("whether all of it is answered", True, run(program, ["run"], script) == (wanted, 0))
+    some = False
+    for megabytes in range(24, 2, -1):
         size = megabytes << 20
-        limit = lambda: resource.setrlimit(resource.RLIMIT_AS, (size, size))
-        try:
-            done = subprocess.run(
-                [program, "run"], input=script, stdout=subprocess.PIPE, stderr=subprocess.PIPE, preexec_fn=limit
-            )
-        except OSError:
+        written, status = run(
+            program, ["run"], script, preexec_fn=lambda: resource.setrlimit(resource.RLIMIT_AS, (size, size))
+        )
+        if status == 0:
             continue
-        print(megabytes, done.returncode, len(done.stdout), done.stderr[:100])
+        expect("the status with %d megabytes" % megabytes, 5, status)
+        whole = written == wanted[: len(written)] and (not written or written.endswith(b"\n"))
+        expect("whether whole answers stand there with %d megabytes" % megabytes, True, whole)
+        if some:
+            return
+        some = written != b""
+    raise Wrong("no limit of memory cut a script short")
 
 
 def too_long(program):
