@@ -7,9 +7,9 @@
 //! another, by the workbench's definitions; the loop only follows it. Each other status has its cause in a clause, so that
 //! without a fault every input is answered, as long as memory lasts.
 //!
-//! Whoever waits for an answer has it before the program waits for more: nothing waits at the sink where the source is read
-//! (`next_line` in `script` asks for it), or where a run ends, unless the sink failed. So a sink that gathers what is written is no
-//! other case: the theorem is that of the sink that is handed in.
+//! Over a sink at which bytes may wait, an outbox, the top call is `run_sending`. Whoever waits for an answer has it before the program
+//! waits for more: nothing waits where a run ends, unless the sink failed, nor where the source is read for a line, since the loop moves
+//! its reader by a call that asks for this (`sent_reader`).
 //!
 //! The lines and the faults are those of `retro_io`, what becomes of a line is the workbench's, and whether evidence is true
 //! is said by `evidence_check`, which shares no code with them: this crate holds nothing but the loops between them.
@@ -18,8 +18,9 @@
 //! loop, hands the followers the events among the answers, and writes their reports at the end; with other words it is `run`. A line
 //! `mute I` outside a block is answered by that follower, which then hears and reports nothing more; the others keep their numbers.
 //!
-//! - `program`: the top calls `run` and `run_followed`. `form`, `words`, `status`, `stop`: the words of the command line, and how a run ends.
-//! - `script`: a script is answered, line by line. `follow`: what followers are handed, and their reports. `mute`: who is left, and the line
+//! - `program`: the top calls `run`, `run_followed` and `run_sending`. `direct`: the first two over any sink, by the loops that send.
+//! - `form`, `words`, `status`, `stop`: the words of the command line, and how a run ends.
+//! - `script`, `sent_reader`: a script is answered, line by line. `follow`: what followers are handed, and their reports. `mute`: who is left, and the line
 //!   that lets one go. `followed`: a followed script.
 //! - `check`, `judging`: evidence is judged, up to the first line that is refused.
 //! - `generated`: a generated script is answered and summed up.
@@ -39,6 +40,7 @@ pub mod laws;
 mod mute;
 mod program;
 mod script;
+mod sent_reader;
 mod status;
 mod stop;
 mod words;

@@ -3,9 +3,8 @@ ghost use Rattle.retro_base.specs.Limits.{longest_line, most_bytes};
 ghost use Rattle.retro_io.specs.Faults.{CountsFaults, last_count};
 ghost use Rattle.retro_io.specs.Sink.{Appends, AppendsProperPrefix};
 ghost use Rattle.retro_io.specs.Flushes.{EndsWithFailedSend, EndsWithFailedWrite, StaysUnflushed};
-ghost use Rattle.retro_io.specs.LineReader.{GivesLine, KeepsSource, MovesOn, ShowsErrors, StopsAt, TookForLine, given, has_failed, held, limit_of, rest_of, source_of, taken};
+ghost use Rattle.retro_io.specs.LineReader.{MovesOn, given, has_failed, held, limit_of, rest_of, source_of, taken};
 ghost use Rattle.retro_io.specs.Lines.{has_line_feed};
-ghost use Rattle.retro_io.specs.Marks.{is_fault};
 ghost use Rattle.retro_cli.specs.Ends.{Answers, LinesStand, Stands};
 ghost use Rattle.retro_cli.specs.Audience.{followed, follows_to, hears};
 ghost use Rattle.retro_cli.specs.Events.{events_among};
@@ -20,9 +19,10 @@ use crate::MAX_BYTES;
 use crate::deliver::{append, send};
 use crate::follow::hand_on;
 use crate::mute::{answer_by_follower, muted};
+use crate::sent_reader::SentReader;
 use crate::stop::Stop;
 use followers::Follower;
-use retro_io::{Failed, LineBuffer, LineReader, Mark, ReadError, SendingSink, Sink, Source};
+use retro_io::{Failed, LineBuffer, LineReader, Mark, SendingSink, Sink, Source};
 use std::alloc::Global;
 use workbench::Bench;
 
@@ -106,11 +106,11 @@ fn answer_end<K: SendingSink>(bench: &mut Bench, sink: &mut K) -> Result<bool, S
 
 /// Lets go on what waits at the sink, unless the reader holds a whole line and so makes no read for the next one.
 fn send_before_read<S: Source, K: SendingSink>(
-    reader: &LineReader<'_, S>,
+    reader: &SentReader<'_, S>,
     sink: &mut K,
 ) -> Result<(), Stop>
     ensures written { K.written sink.new ≡ K.written sink.old }
-    ensures sent { OnOk result (has_line_feed (held reader.now) ≡ false → K.waiting sink.new ≡ []) }
+    ensures sent { OnOk result (has_line_feed (held reader.now.reader) ≡ false → K.waiting sink.new ≡ []) }
     ensures unflushed { OnOk result (StaysUnflushed ⟦<K as Sink>⟧ K.sends sink.old sink.new) }
     ensures failed { IfErr result (λ stop. stop ≡ Stop.WriteFault) }
     ensures last { OnErr result (EndsWithFailedSend ⟦<K as Sink>⟧ K.sends sink.old sink.new) }
@@ -123,55 +123,36 @@ fn send_before_read<S: Source, K: SendingSink>(
     }
 }
 
-/// Moves to the next line, as the reader does. Where the reader holds no whole line, and so may read, nothing may wait at the sink:
-/// whoever waits for an answer has it before more is asked for. The sink is there for this condition alone.
-fn next_line<S: Source, K: SendingSink>(
-    reader: &mut LineReader<'_, S>,
-    _sink: &K,
-) -> Result<Mark, ReadError>
-    requires open { has_failed reader.old ≡ false }
-    requires sent { has_line_feed (held reader.old) ≡ false → K.waiting _sink.now ≡ [] }
-    ensures moves { MovesOn reader.old reader.new }
-    ensures shows { ShowsErrors result reader.new }
-    ensures source_faults { CountsFaults (is_fault result) (S.faults (source_of reader.old)) (S.faults (source_of reader.new)) }
-    ensures gives { IfOk result (λ mark. GivesLine mark reader.old reader.new) }
-    ensures stops { IfErr result (λ error. StopsAt error reader.old reader.new) }
-    ensures kept { KeepsSource result reader.old reader.new }
-    ensures took { TookForLine result reader.old reader.new }
-{
-    reader.next()
-}
-
 /// Answers the lines that a reader gives, up to the end of the input. The answer to each is written before the next one is read,
 /// and where the source is read for that, it is sent before.
 fn answer_lines<S: Source, K: SendingSink>(
     alloc: Global,
-    reader: &mut LineReader<'_, S>,
+    reader: &mut SentReader<'_, S>,
     followers: &mut [Option<Box<dyn Follower>>],
     sink: &mut K,
 ) -> Result<bool, Stop>
-    requires open { has_failed reader.old ≡ false }
-    requires fresh { held reader.old ≡ [] }
-    ensures moves { MovesOn reader.old reader.new }
-    ensures ended { OnOk result (S.ended (source_of reader.new) ≡ true) }
-    ensures output { OnOk result (AppendsOutput (followed (map (option_map (λ f. report_after f)) followers.old)) (rest_of reader.old) (K.written sink.old) (K.written sink.new)) }
-    ensures refusal { IfOk result (MatchesRefusal (followed (map (option_map (λ f. report_after f)) followers.old)) (rest_of reader.old)) }
-    ensures handed { OnOk result (HaveFollowed (rest_of reader.old) (map (option_map (λ f. report_after f)) followers.old) (map (option_map (λ f. report_after f)) followers.new)) }
+    requires open { has_failed reader.old.reader ≡ false }
+    requires fresh { held reader.old.reader ≡ [] }
+    ensures moves { MovesOn reader.old.reader reader.new.reader }
+    ensures ended { OnOk result (S.ended (source_of reader.new.reader) ≡ true) }
+    ensures output { OnOk result (AppendsOutput (followed (map (option_map (λ f. report_after f)) followers.old)) (rest_of reader.old.reader) (K.written sink.old) (K.written sink.new)) }
+    ensures refusal { IfOk result (MatchesRefusal (followed (map (option_map (λ f. report_after f)) followers.old)) (rest_of reader.old.reader)) }
+    ensures handed { OnOk result (HaveFollowed (rest_of reader.old.reader) (map (option_map (λ f. report_after f)) followers.old) (map (option_map (λ f. report_after f)) followers.new)) }
     ensures unflushed { OnOk result (StaysUnflushed ⟦<K as Sink>⟧ K.sends sink.old sink.new) }
-    ensures stands { IfErr result (LinesStand ⟦<K as Sink>⟧ K.sends (followed (map (option_map (λ f. report_after f)) followers.old)) (rest_of reader.old) (S.left (source_of reader.new)) sink.old sink.new
-        (limit_of reader.old - given reader.old)) }
-    ensures earlier { IsErrOf result Stop.NoMemory → AppendsAnswersOfEarlier ⟦<S as Source>⟧ (followed (map (option_map (λ f. report_after f)) followers.old)) (source_of reader.old) (source_of reader.new)
-        (S.left (source_of reader.old)) (S.left (source_of reader.new)) (K.written sink.old) (K.written sink.new) }
-    ensures source_faults { CountsFaults (stops_at_read result) (S.faults (source_of reader.old)) (S.faults (source_of reader.new)) }
+    ensures stands { IfErr result (LinesStand ⟦<K as Sink>⟧ K.sends (followed (map (option_map (λ f. report_after f)) followers.old)) (rest_of reader.old.reader) (S.left (source_of reader.new.reader)) sink.old sink.new
+        (limit_of reader.old.reader - given reader.old.reader)) }
+    ensures earlier { IsErrOf result Stop.NoMemory → AppendsAnswersOfEarlier ⟦<S as Source>⟧ (followed (map (option_map (λ f. report_after f)) followers.old)) (source_of reader.old.reader) (source_of reader.new.reader)
+        (S.left (source_of reader.old.reader)) (S.left (source_of reader.new.reader)) (K.written sink.old) (K.written sink.new) }
+    ensures source_faults { CountsFaults (stops_at_read result) (S.faults (source_of reader.old.reader)) (S.faults (source_of reader.new.reader)) }
     ensures sink_faults { CountsFaults (stops_at_write result) (K.faults sink.old) (K.faults sink.new) }
-    ensures too_long { IsErrOf result Stop.TooLong ↔ (taken reader.new ≡ limit_of reader.new + 1) }
+    ensures too_long { IsErrOf result Stop.TooLong ↔ (taken reader.new.reader ≡ limit_of reader.new.reader + 1) }
     ensures sent { IfErr result (λ stop. StopsReading stop → K.waiting sink.new ≡ []) }
 {
     let mut bench = Bench::new(alloc);
     let mut refused = false;
     loop {
         send_before_read(reader, sink)?;
-        let long = match next_line(reader, sink)? {
+        let long = match reader.next_line(sink)? {
             Mark::Whole => false,
             Mark::Long => true,
             Mark::End => {
@@ -205,7 +186,7 @@ pub(crate) fn answer_source<S: Source, K: SendingSink>(
     ensures sent { IfErr result (λ stop. StopsReading stop → K.waiting sink.new ≡ []) }
 {
     let buffer = LineBuffer::new(alloc)?;
-    let mut reader = LineReader::with_buffer(buffer, source, MAX_BYTES);
+    let mut reader = SentReader::new(LineReader::with_buffer(buffer, source, MAX_BYTES));
     let answered = answer_lines(alloc, &mut reader, followers, sink);
     let _source = reader.into_inner();
     answered

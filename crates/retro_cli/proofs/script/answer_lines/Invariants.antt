@@ -9,19 +9,19 @@ use Rattle.retro_cli.proofs.script.answer_lines.Given as goal
 
 abbrev pub invariant-loop-bench : goal.invariant-loop-bench
 invariant-loop-bench g l = record {
-  moves : MovesOn l.fn.reader l.reader;
+  moves : MovesOn l.fn.reader.reader l.reader.reader;
   unspent : l.bench.spent ≡ false;
-  failed : has_failed l.reader ≡ false;
-  source_faults : g.S.Source.faults (source_of l.fn.reader) ≤ g.S.Source.faults (source_of l.reader);
+  failed : has_failed l.reader.reader ≡ false;
+  source_faults : g.S.Source.faults (source_of l.fn.reader.reader) ≤ g.S.Source.faults (source_of l.reader.reader);
   sink_faults : g.K.Sink.faults l.fn.sink ≤ g.K.Sink.faults l.sink;
   unflushed : StaysUnflushed g.K.Sink g.K.SendingSink.sends l.fn.sink l.sink;
-  answers : (bytes : List ℕ) → rest_of l.fn.reader ≡ Some bytes
+  answers : (bytes : List ℕ) → rest_of l.fn.reader.reader ≡ Some bytes
       → GoesOn (map (λ f. option_map (λ b. (goal.Follower-dyn g (b.vtable, b.value)).report_after b.value) f) l.fn.followers) bytes
       (g.K.Sink.written l.fn.sink) l.bench.bench (map (λ f. option_map (λ b. (goal.Follower-dyn g (b.vtable, b.value)).report_after b.value) f) l.followers)
-      l.refused (has_ended l.reader) (rest_of l.reader) (g.K.Sink.written l.sink);
-  so_far : (script left : List ℕ) → g.S.Source.left (source_of l.fn.reader) ≡ Some script → g.S.Source.left (source_of l.reader) ≡ Some left
-      → IsReadSoFar g.S.Source (source_of l.fn.reader) (source_of l.reader) script left (held l.reader);
+      l.refused (has_ended l.reader.reader) (rest_of l.reader.reader) (g.K.Sink.written l.sink);
+  so_far : (script left : List ℕ) → g.S.Source.left (source_of l.fn.reader.reader) ≡ Some script → g.S.Source.left (source_of l.reader.reader) ≡ Some left
+      → IsReadSoFar g.S.Source (source_of l.fn.reader.reader) (source_of l.reader.reader) script left (held l.reader.reader);
 }
 
 abbrev pub decreases-loop-bench : goal.decreases-loop-bench
-decreases-loop-bench g l = limit_of l.reader + 1 - given l.reader
+decreases-loop-bench g l = limit_of l.reader.reader + 1 - given l.reader.reader
