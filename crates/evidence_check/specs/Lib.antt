@@ -5,3 +5,6 @@ pub mod Laws
 pub mod Refused
 pub mod Marks
 pub mod Kept
+pub mod Sums
+pub mod Parts
+pub mod Zeros

@@ -8,21 +8,16 @@ ghost use Rattle.evidence_check.specs.Truth.{cause_of, has_wrong_number, has_wro
 
 use crate::CheckError;
 use crate::changes::change_cause;
-use crate::marked_row::MarkedRow;
 use crate::numbers::{Numbers, has_number};
-use crate::ordered::Survivors;
+use crate::part::Part;
+use crate::rows::Rows;
 use evidence::Evidence;
 use retro_base::{MAX_ROWS, Op};
 
 /// Why evidence is refused after these rows, if it is.
 #[tactic(auto, unfolding(crate::specs::Truth::cause_of))]
-pub(crate) fn cause_of(
-    rows: &[MarkedRow],
-    numbers: &Numbers,
-    survivors: &Survivors,
-    evidence: &Evidence,
-) -> Option<CheckError>
-    requires kept { AreKept rows.now numbers.now survivors.now }
+pub(crate) fn cause_of(rows: &Rows, numbers: &Numbers, evidence: &Evidence) -> Option<CheckError>
+    requires kept { AreKept rows.now numbers.now }
     requires evidence { IsEvidence evidence.now }
     ensures { result ≡ cause_of (rows_of rows.now) evidence.now }
 {
@@ -41,43 +36,37 @@ pub(crate) fn cause_of(
     } else if has_wrong_op(evidence.added, evidence.op, evidence.place, rows) {
         Some(CheckError::Row)
     } else {
-        change_cause(rows, survivors, evidence)
+        change_cause(rows, evidence)
     }
 }
 
 /// Whether there is no room for one more row.
-fn is_full(added: bool, rows: &[MarkedRow]) -> bool
+fn is_full(added: bool, rows: &Rows) -> bool
     ensures { result ≡ is_full added (rows_of rows.now) }
 {
-    added && rows.len() >= MAX_ROWS as usize
+    added && rows.len() >= MAX_ROWS
 }
 
 /// Whether no row can be put in at the place, or none stands there to be taken out.
-fn is_outside(added: bool, place: u32, rows: &[MarkedRow]) -> bool
+fn is_outside(added: bool, place: u32, rows: &Rows) -> bool
     ensures { result ≡ is_outside added place (rows_of rows.now) }
 {
     if added {
-        rows.len() < place as usize
+        rows.len() < place
     } else {
-        rows.len() <= place as usize
+        rows.len() <= place
     }
 }
 
 /// Whether a row that is put in has the number of another one, or the one that is taken out has another number.
-fn has_wrong_number(
-    added: bool,
-    number: u32,
-    place: u32,
-    rows: &[MarkedRow],
-    numbers: &Numbers,
-) -> bool
+fn has_wrong_number(added: bool, number: u32, place: u32, rows: &Rows, numbers: &Numbers) -> bool
     requires { AreNumbers (rows_of rows.now) numbers.now }
     ensures { result ≡ has_wrong_number added number place (rows_of rows.now) }
 {
     if added {
         has_number(number, numbers)
     } else {
-        match rows.get(place as usize) {
+        match rows.row(place) {
             None => true,
             Some(row) => row.number != number,
         }
@@ -85,13 +74,13 @@ fn has_wrong_number(
 }
 
 /// Whether the row that is taken out does something else.
-fn has_wrong_op(added: bool, op: Op, place: u32, rows: &[MarkedRow]) -> bool
+fn has_wrong_op(added: bool, op: Op, place: u32, rows: &Rows) -> bool
     ensures { result ≡ has_wrong_op added op place (rows_of rows.now) }
 {
     if added {
         false
     } else {
-        match rows.get(place as usize) {
+        match rows.row(place) {
             None => true,
             Some(row) => !is_same_op(row.op, op),
         }

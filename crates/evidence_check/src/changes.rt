@@ -4,14 +4,14 @@ ghost use Rattle.std.specs.Prelude.{◌≡◌, ◌≤◌, false, length, take};
 ghost use Rattle.retro_base.specs.Carried.{IsPqEdit};
 ghost use Rattle.retro_base.specs.Weights.{added_as};
 ghost use Rattle.evidence.specs.Evidence.{IsEvidence};
-ghost use Rattle.evidence_check.specs.Kept.{AreSurvivors};
 ghost use Rattle.evidence_check.specs.Marks.{MarksSurvivors, cause_against, gained, is_alive_at, least_alive, lost, marked_change, rows_of};
 ghost use Rattle.evidence_check.specs.Truth.{bridge_of, change_cause, is_outside, same_bridge, same_change, reported_edit};
 
 use crate::CheckError;
-use crate::bridges::{first_bridge, greatest_dead, last_bridge, least_alive};
-use crate::marked_row::{MarkedRow, added_entry, is_same};
-use crate::ordered::{Survivors, least};
+use crate::best::later_of;
+use crate::marked_row::{added_entry, is_same};
+use crate::part::Part;
+use crate::rows::{Rows, first_bridge, last_bridge};
 use evidence::Evidence;
 use retro_base::laws::{
     greatest_from_bridge_is_gained, least_before_bridge_is_lost, one_change_is_named,
@@ -20,13 +20,8 @@ use retro_base::laws::{
 use retro_base::{Change, Entry};
 
 /// Why evidence is refused that tells of an edit which can be made in these rows, if it is.
-pub(crate) fn change_cause(
-    rows: &[MarkedRow],
-    survivors: &Survivors,
-    evidence: &Evidence,
-) -> Option<CheckError>
+pub(crate) fn change_cause(rows: &Rows, evidence: &Evidence) -> Option<CheckError>
     requires kept { MarksSurvivors rows.now }
-    requires survivors { AreSurvivors rows.now survivors.now }
     requires evidence { IsEvidence evidence.now }
     requires possible { IsPqEdit (rows_of rows.now) (reported_edit evidence.now) }
     requires inside { is_outside evidence.now.added evidence.now.place (rows_of rows.now) ≡ false }
@@ -36,7 +31,7 @@ pub(crate) fn change_cause(
     greatest_from_bridge_is_gained();
     least_before_bridge_is_lost();
     one_change_is_named();
-    cause_against(evidence.change, marked_change(rows, survivors, evidence))
+    cause_against(evidence.change, marked_change(rows, evidence))
 }
 
 /// Why a change is refused where this one was read off the marks, or none.
@@ -58,16 +53,15 @@ fn cause_against(stated: Change, read: Option<Change>) -> Option<CheckError>
 }
 
 /// What the edit changes. There is none where the rows after it do not replay.
-fn marked_change(rows: &[MarkedRow], survivors: &Survivors, evidence: &Evidence) -> Option<Change>
+fn marked_change(rows: &Rows, evidence: &Evidence) -> Option<Change>
     requires kept { MarksSurvivors rows.now }
-    requires survivors { AreSurvivors rows.now survivors.now }
     requires inside { is_outside evidence.now.added evidence.now.place (rows_of rows.now) ≡ false }
     ensures { result ≡ marked_change rows.now evidence.now.added evidence.now.place (added_as evidence.now.op evidence.now.number) }
 {
     let place = evidence.place;
     let entry = added_entry(evidence.op, evidence.number);
     match (evidence.added, entry) {
-        (true, None) => lost(rows, survivors, place),
+        (true, None) => lost(rows, place),
         (false, None) => gained(rows, place, None),
         (true, Some(_)) => gained(rows, place, entry),
         (false, Some(entry)) => {
@@ -77,57 +71,42 @@ fn marked_change(rows: &[MarkedRow], survivors: &Survivors, evidence: &Evidence)
                     entry,
                 })
             } else {
-                lost(rows, survivors, place + 1)
+                lost(rows, place + 1)
             }
         }
     }
 }
 
 /// The greatest of an entry and the dead ones from the last bridge up to a place is gained.
-fn gained(rows: &[MarkedRow], place: u32, new: Option<Entry>) -> Option<Change>
+fn gained(rows: &Rows, place: u32, new: Option<Entry>) -> Option<Change>
     requires kept { MarksSurvivors rows.now }
     requires within { place ≤ length rows.now }
     ensures { result ≡ gained rows.now place new }
 {
     let bridge = last_bridge(rows, place);
-    let entry = greatest_dead(new, &rows[bridge as usize..])?;
+    let entry = later_of(new, rows.dead_from(bridge))?;
     Some(Change::Gain { bridge, entry })
 }
 
 /// The least entry that survives from before the first bridge from a place on is lost.
-fn lost(rows: &[MarkedRow], survivors: &Survivors, place: u32) -> Option<Change>
+fn lost(rows: &Rows, place: u32) -> Option<Change>
     requires kept { MarksSurvivors rows.now }
-    requires survivors { AreSurvivors rows.now survivors.now }
     requires within { place ≤ length rows.now }
     ensures { result ≡ lost rows.now place }
 {
     let bridge = first_bridge(rows, place);
-    let entry = least_before(rows, survivors, bridge)?;
+    let entry = rows.alive_to(bridge)?;
     Some(Change::Lose {
         bridge: Some(bridge),
         entry,
     })
 }
 
-/// The least entry that survives from before a bridge: of all survivors where no row stands after it.
-fn least_before(rows: &[MarkedRow], survivors: &Survivors, bridge: u32) -> Option<Entry>
-    requires kept { MarksSurvivors rows.now }
-    requires survivors { AreSurvivors rows.now survivors.now }
-    requires within { bridge ≤ length rows.now }
-    ensures { result ≡ least_alive (take bridge rows.now) }
-{
-    if bridge as usize == rows.len() {
-        least(survivors)
-    } else {
-        least_alive(&rows[..bridge as usize])
-    }
-}
-
 /// Whether the entry of the row at a place survives.
-fn is_alive_at(rows: &[MarkedRow], place: u32) -> bool
+fn is_alive_at(rows: &Rows, place: u32) -> bool
     ensures { result ≡ is_alive_at rows.now place }
 {
-    match rows.get(place as usize) {
+    match rows.row(place) {
         None => false,
         Some(row) => row.alive,
     }

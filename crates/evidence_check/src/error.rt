@@ -1,7 +1,7 @@
 ghost use Rattle.std.specs.Prelude.{◌≡◌};
 ghost use Rattle.evidence_check.specs.declared.error.CheckError.TheVariants as causes;
 
-use std::alloc::AllocFailed;
+use std::alloc::{AllocError, AllocFailed};
 use thiserror::Error;
 
 /// Why a line of evidence is refused. Of several causes the first one is reported.
@@ -43,6 +43,14 @@ impl<T: Drop> From<AllocFailed<T>> for CheckError {
     ghost from_gives = { λ _ error. error ≡ causes.NoMemory };
 
     fn from(_failed: AllocFailed<T>) -> CheckError {
+        CheckError::NoMemory
+    }
+}
+
+impl From<AllocError> for CheckError {
+    ghost from_gives = { λ _ error. error ≡ causes.NoMemory };
+
+    fn from(_failed: AllocError) -> CheckError {
         CheckError::NoMemory
     }
 }

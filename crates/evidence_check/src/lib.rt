@@ -19,7 +19,7 @@
 //! - `laws`: evidence is accepted exactly where it is true.
 #![tactic(auto)]
 
-mod bridges;
+mod best;
 mod causes;
 mod changes;
 mod checker;
@@ -28,8 +28,14 @@ mod error;
 pub mod laws;
 mod marked_row;
 mod numbers;
-mod ordered;
+mod one_row;
+mod pack;
+mod part;
 mod reported;
+mod rows;
+mod search;
+mod splice;
+mod sums;
 
 pub use checker::Checker;
 pub use error::CheckError;

@@ -1,8 +1,8 @@
-ghost use Rattle.std.specs.Prelude.{◌≡◌, ◌+◌, ◌≤◌, None, IsSome};
+ghost use Rattle.std.specs.Prelude.{◌≡◌};
 ghost use Rattle.retro_base.specs.Bridges.{same_entry};
-ghost use Rattle.retro_base.specs.Limits.{most_rows};
 ghost use Rattle.retro_base.specs.Weights.{added_as};
-ghost use Rattle.evidence_check.specs.Marks.{adds, alive_entry, dead_before, dead_entry, entry_of};
+ghost use Rattle.evidence_check.specs.Marks.{alive_entry, dead_entry, entry_of};
+ghost use Rattle.evidence_check.specs.Sums.{weight_of};
 
 use retro_base::{Entry, Op};
 
@@ -37,26 +37,14 @@ impl MarkedRow {
         if self.alive { None } else { self.entry() }
     }
 
-    /// How many dead entries are held in front of the row, if so many are held after it.
-    pub(crate) fn dead_before(self, dead: u32) -> u32
-        requires room { dead ≤ most_rows }
-        requires held { IsSome (dead_entry self) → 1 ≤ dead }
-        ensures { result ≡ dead_before dead self }
+    /// Its weight: 1 where its entry is dead, 0 where it survives, and -1 where it takes one.
+    pub(crate) fn weight(self) -> i32
+        ensures { result ≡ weight_of self }
     {
         match self.entry() {
-            None => dead + 1,
-            Some(_) if self.alive => dead,
-            Some(_) => dead - 1,
-        }
-    }
-
-    /// Whether the row adds this entry.
-    pub(crate) fn adds(self, entry: Entry) -> bool
-        ensures { result ≡ adds entry self }
-    {
-        match self.entry() {
-            None => false,
-            Some(added) => is_same(entry, added),
+            None => -1,
+            Some(_) if self.alive => 0,
+            Some(_) => 1,
         }
     }
 }

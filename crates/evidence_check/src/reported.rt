@@ -5,21 +5,21 @@ ghost use Rattle.evidence_check.specs.Truth.{cause_of, rows_after};
 use crate::CheckError;
 use crate::causes::cause_of;
 use crate::edits::make;
-use crate::marked_row::MarkedRow;
 use crate::numbers::Numbers;
-use crate::ordered::Survivors;
+use crate::pack::Pack;
+use crate::rows::Rows;
 use evidence::Evidence;
 use retro_base::Name;
 use std::alloc::Global;
 use std::marker::Model;
 
-/// What evidence has reported of one timeline: its rows, with their numbers and their survivors beside them.
+/// What evidence has reported of one timeline: its rows, and their numbers beside them.
 #[derive(Drop)]
 pub(crate) struct Reported {
+    alloc: Global,
     name: Name,
-    rows: Vec<MarkedRow>,
+    rows: Rows,
     numbers: Numbers,
-    survivors: Survivors,
 }
 
 impl Model for Reported {
@@ -29,9 +29,9 @@ impl Model for Reported {
 
     ghost Value = { Reported };
 
-    ghost view = { λ t. record { name = t.name; rows = rows_of t.rows.items } };
+    ghost view = { λ t. record { name = t.name; rows = rows_of t.rows } };
 
-    ghost invariant = { λ t. AreKept t.rows.items t.numbers t.survivors };
+    ghost invariant = { λ t. AreKept t.rows t.numbers };
 }
 
 impl Reported {
@@ -42,10 +42,10 @@ impl Reported {
         ensures { result ≡ record { name = name; rows = [] } }
     {
         Reported {
+            alloc,
             name,
-            rows: Vec::new(alloc),
+            rows: Pack::new(alloc),
             numbers: Numbers::new(alloc),
-            survivors: Survivors::new(alloc),
         }
     }
 
@@ -64,14 +64,9 @@ impl Reported {
         ensures err { OnErr result (self.new ≡ self.old) }
         ensures cause { IsRefused result (cause_of self.old.rows evidence.now) }
     {
-        match cause_of(&self.rows, &self.numbers, &self.survivors, evidence) {
+        match cause_of(&self.rows, &self.numbers, evidence) {
             Some(cause) => Err(cause),
-            None => make(
-                &mut self.rows,
-                &mut self.numbers,
-                &mut self.survivors,
-                evidence,
-            ),
+            None => make(&mut self.rows, &mut self.numbers, evidence, self.alloc),
         }
     }
 }

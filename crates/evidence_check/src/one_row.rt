@@ -1,0 +1,80 @@
+//! A row as a part.
+
+use crate::CheckError;
+use crate::marked_row::MarkedRow;
+use crate::part::Part;
+use crate::sums::Sums;
+use retro_base::Entry;
+use std::alloc::Global;
+use std::mem;
+
+impl Part for MarkedRow {
+    ghost use Rattle.std.specs.Prelude.{[], ◌∷◌};
+
+    ghost rows = { λ row. row ∷ [] };
+
+    fn of_row(row: MarkedRow, _alloc: Global) -> Result<MarkedRow, CheckError> {
+        Ok(row)
+    }
+
+    fn sums(&self) -> Sums {
+        Sums::of_row(*self)
+    }
+
+    fn row(&self, place: u32) -> Option<MarkedRow> {
+        if place == 0 { Some(*self) } else { None }
+    }
+
+    fn last_zero(&self, before: i32, to: u32) -> u32 {
+        if to > 0 && before + self.weight() == 0 {
+            1
+        } else {
+            0
+        }
+    }
+
+    fn first_zero(&self, before: i32, from: u32) -> u32 {
+        if from <= 1 && before + self.weight() == 0 {
+            1
+        } else {
+            0
+        }
+    }
+
+    fn dead_from(&self, from: u32) -> Option<Entry> {
+        if from == 0 { self.dead_entry() } else { None }
+    }
+
+    fn alive_to(&self, to: u32) -> Option<Entry> {
+        if to == 0 { None } else { self.alive_entry() }
+    }
+
+    fn dead_place(&self, _from: u32, _entry: Entry) -> u32 {
+        0
+    }
+
+    fn alive_place(&self, _to: u32, _entry: Entry) -> u32 {
+        0
+    }
+
+    fn mark(&mut self, _place: u32, alive: bool) {
+        self.alive = alive;
+    }
+
+    fn insert(
+        &mut self,
+        place: u32,
+        row: MarkedRow,
+        _alloc: Global,
+    ) -> Result<Option<MarkedRow>, CheckError> {
+        if place == 0 {
+            Ok(Some(mem::replace(self, row)))
+        } else {
+            Ok(Some(row))
+        }
+    }
+
+    fn remove(&mut self, _place: u32) {
+        unreachable!()
+    }
+}

@@ -1,0 +1,187 @@
+//! A pack of parts, with the sums of its rows.
+
+ghost use Rattle.std.specs.Prelude.{◌≡◌, ◌<◌, ◌≤◌, [], length, insert, remove, OnErr, OnOk, IfErr};
+ghost use Rattle.retro_base.specs.Limits.{most_rows};
+ghost use Rattle.evidence_check.specs.declared.error.CheckError.TheVariants as causes;
+
+use crate::CheckError;
+use crate::marked_row::MarkedRow;
+use crate::part::Part;
+use crate::search::{
+    alive_among, alive_place_among, dead_among, dead_place_among, first_zero_among,
+    last_zero_among, row_among, sums_among,
+};
+use crate::splice::{ROOM, insert_among, mark_among, remove_among, split};
+use crate::sums::Sums;
+use retro_base::Entry;
+use std::alloc::Global;
+use std::marker::Model;
+
+/// So many parts fill a pack.
+const FULL: usize = 32;
+
+/// Parts that follow one another. Contracts see their rows.
+#[derive(Drop)]
+pub(crate) struct Pack<P: Part> {
+    parts: Vec<P>,
+    sums: Sums,
+}
+
+impl<P: Part> Model for Pack<P> {
+    ghost use Rattle.std.specs.Prelude.{◌≡◌, List};
+    ghost use Rattle.std.specs.List.{flat_map};
+    ghost use Rattle.evidence_check.specs.declared.marked_row.MarkedRow.{MarkedRow};
+    ghost use Rattle.evidence_check.specs.Sums.{sums_of};
+
+    ghost Value = { List MarkedRow };
+
+    ghost view = { λ p. flat_map P.rows p.parts.items };
+
+    ghost invariant = { λ p. p.sums ≡ sums_of (flat_map P.rows p.parts.items) };
+}
+
+impl<P: Part> Pack<P> {
+    /// A pack of no part.
+    pub(crate) fn new(alloc: Global) -> Pack<P>
+        ensures { result ≡ [] }
+    {
+        Pack {
+            parts: Vec::new(alloc),
+            sums: Sums::none(),
+        }
+    }
+
+    /// How many rows there are.
+    pub(crate) fn len(&self) -> u32
+        ensures { result ≡ length self.now }
+    {
+        self.sums.rows
+    }
+
+    /// Puts a row in, whatever the number of parts. Without memory all is as before.
+    pub(crate) fn put_in(
+        &mut self,
+        place: u32,
+        row: MarkedRow,
+        alloc: Global,
+    ) -> Result<(), CheckError>
+        requires few { length self.old < most_rows }
+        requires within { place ≤ length self.old }
+        ensures ok { OnOk result (self.new ≡ insert self.old place row) }
+        ensures err { OnErr result (self.new ≡ self.old) }
+        ensures cause { IfErr result (λ cause. cause ≡ causes.NoMemory) }
+    {
+        insert_among(&mut self.parts, place, row, alloc)?;
+        self.sums = sums_among(&self.parts);
+        Ok(())
+    }
+
+    /// Takes the row at a place out.
+    pub(crate) fn take_out(&mut self, place: u32)
+        requires few { length self.old ≤ most_rows }
+        requires within { place < length self.old }
+        ensures { self.new ≡ remove self.old place }
+    {
+        remove_among(&mut self.parts, place);
+        self.sums = sums_among(&self.parts);
+    }
+}
+
+impl<P: Part> Part for Pack<P> {
+    ghost rows = { λ rows. rows };
+
+    fn of_row(row: MarkedRow, alloc: Global) -> Result<Pack<P>, CheckError> {
+        let mut parts = Vec::with_capacity(alloc, ROOM)?;
+        parts.push(P::of_row(row, alloc)?)?;
+        Ok(Pack {
+            parts,
+            sums: Sums::of_row(row),
+        })
+    }
+
+    fn sums(&self) -> Sums {
+        self.sums
+    }
+
+    fn row(&self, place: u32) -> Option<MarkedRow> {
+        if place < self.sums.rows {
+            row_among(&self.parts, place)
+        } else {
+            None
+        }
+    }
+
+    fn last_zero(&self, before: i32, to: u32) -> u32 {
+        if before + self.sums.low > 0 {
+            return 0;
+        }
+        last_zero_among(&self.parts, self.sums, before, to)
+    }
+
+    fn first_zero(&self, before: i32, from: u32) -> u32 {
+        if before + self.sums.low > 0 || from > self.sums.rows {
+            return 0;
+        }
+        first_zero_among(&self.parts, before, from)
+    }
+
+    fn dead_from(&self, from: u32) -> Option<Entry> {
+        if from == 0 {
+            self.sums.dead
+        } else if from >= self.sums.rows {
+            None
+        } else {
+            dead_among(&self.parts, from)
+        }
+    }
+
+    fn alive_to(&self, to: u32) -> Option<Entry> {
+        if to == 0 {
+            None
+        } else if to >= self.sums.rows {
+            self.sums.alive
+        } else {
+            alive_among(&self.parts, to)
+        }
+    }
+
+    fn dead_place(&self, from: u32, entry: Entry) -> u32 {
+        dead_place_among(&self.parts, from, entry)
+    }
+
+    fn alive_place(&self, to: u32, entry: Entry) -> u32 {
+        alive_place_among(&self.parts, to, entry)
+    }
+
+    fn mark(&mut self, place: u32, alive: bool) {
+        mark_among(&mut self.parts, place, alive);
+        self.sums = sums_among(&self.parts);
+    }
+
+    fn insert(
+        &mut self,
+        place: u32,
+        row: MarkedRow,
+        alloc: Global,
+    ) -> Result<Option<Pack<P>>, CheckError> {
+        let at_end = place == self.sums.rows;
+        insert_among(&mut self.parts, place, row, alloc)?;
+        let rest = if self.parts.len() > FULL {
+            split(&mut self.parts, if at_end { FULL } else { FULL / 2 }, alloc)
+        } else {
+            None
+        };
+        self.sums = sums_among(&self.parts);
+        match rest {
+            None => Ok(None),
+            Some(parts) => {
+                let sums = sums_among(&parts);
+                Ok(Some(Pack { parts, sums }))
+            }
+        }
+    }
+
+    fn remove(&mut self, place: u32) {
+        self.take_out(place);
+    }
+}

@@ -1,0 +1,95 @@
+//! What a part of the rows answers: a row is one, and a pack of parts is one.
+
+ghost use Rattle.std.specs.Prelude.{◌≡◌, ◌+◌, ◌<◌, ◌≤◌, ◌++◌, [], ◌∷◌, List, None, Some, length, take, drop, slice_get, insert, remove, OnErr, IfOk, IfErr};
+ghost use Rattle.retro_base.specs.Limits.{most_rows};
+ghost use Rattle.evidence_check.specs.declared.error.CheckError.TheVariants as causes;
+ghost use Rattle.evidence_check.specs.declared.marked_row.MarkedRow.{MarkedRow};
+ghost use Rattle.evidence_check.specs.Marks.{alive_entry, dead_entry, greatest_dead, least_alive};
+ghost use Rattle.evidence_check.specs.Parts.{marked_at, rest_of, shows_at};
+ghost use Rattle.evidence_check.specs.Sums.{HasRoom, sums_of};
+ghost use Rattle.evidence_check.specs.Zeros.{first_zero, last_zero};
+
+use crate::CheckError;
+use crate::marked_row::MarkedRow;
+use crate::sums::Sums;
+use retro_base::Entry;
+use std::alloc::Global;
+
+/// Rows that follow one another. Places are counted within the part.
+pub(crate) trait Part: Drop {
+    /// The rows in their order.
+    ghost rows: { Self → List MarkedRow };
+
+    /// A part of one row.
+    fn of_row(row: MarkedRow, alloc: Global) -> Result<Self, CheckError>
+        ensures ok { IfOk result (λ part. rows part ≡ row ∷ []) }
+        ensures cause { IfErr result (λ cause. cause ≡ causes.NoMemory) };
+
+    /// The sums of its rows.
+    fn sums(&self) -> Sums
+        requires { length (rows self.now) ≤ most_rows }
+        ensures { result ≡ sums_of (rows self.now) };
+
+    /// The row at a place, where one stands there.
+    fn row(&self, place: u32) -> Option<MarkedRow>
+        requires { length (rows self.now) ≤ most_rows }
+        ensures { result ≡ slice_get (rows self.now) place };
+
+    /// The last place up to `to`, after one of its rows, where the weights add up to 0 from `before` on, or else 0.
+    fn last_zero(&self, before: i32, to: u32) -> u32
+        requires { HasRoom before (length (rows self.now)) }
+        ensures { result ≡ last_zero before to (rows self.now) };
+
+    /// The first such place from `from` on, or else 0.
+    fn first_zero(&self, before: i32, from: u32) -> u32
+        requires { HasRoom before (length (rows self.now)) }
+        ensures { result ≡ first_zero before from (rows self.now) };
+
+    /// The greatest dead entry of its rows from a place on.
+    fn dead_from(&self, from: u32) -> Option<Entry>
+        requires { length (rows self.now) ≤ most_rows }
+        ensures { result ≡ greatest_dead None (drop from (rows self.now)) };
+
+    /// The least entry that survives of its rows before a place.
+    fn alive_to(&self, to: u32) -> Option<Entry>
+        requires { length (rows self.now) ≤ most_rows }
+        ensures { result ≡ least_alive (take to (rows self.now)) };
+
+    /// The place of the row with the greatest dead entry from a place on.
+    fn dead_place(&self, from: u32, entry: Entry) -> u32
+        requires few { length (rows self.now) ≤ most_rows }
+        requires there { greatest_dead None (drop from (rows self.now)) ≡ Some entry }
+        ensures { shows_at dead_entry (rows self.now) result ≡ Some entry };
+
+    /// The place of the row with the least entry that survives before a place.
+    fn alive_place(&self, to: u32, entry: Entry) -> u32
+        requires few { length (rows self.now) ≤ most_rows }
+        requires there { least_alive (take to (rows self.now)) ≡ Some entry }
+        ensures { shows_at alive_entry (rows self.now) result ≡ Some entry };
+
+    /// Marks the row at a place.
+    fn mark(&mut self, place: u32, alive: bool)
+        requires few { length (rows self.old) ≤ most_rows }
+        requires within { place < length (rows self.old) }
+        ensures { rows self.new ≡ marked_at place alive (rows self.old) };
+
+    /// Puts a row in. What no longer fits is given back, as a part that comes after this one.
+    fn insert(
+        &mut self,
+        place: u32,
+        row: MarkedRow,
+        alloc: Global,
+    ) -> Result<Option<Self>, CheckError>
+        requires few { length (rows self.old) < most_rows }
+        requires within { place ≤ length (rows self.old) }
+        ensures ok { IfOk result (λ rest. rows self.new ++ rest_of rows rest ≡ insert (rows self.old) place row) }
+        ensures err { OnErr result (rows self.new ≡ rows self.old) }
+        ensures cause { IfErr result (λ cause. cause ≡ causes.NoMemory) };
+
+    /// Takes out the row at a place, where it is not the only one.
+    fn remove(&mut self, place: u32)
+        requires few { length (rows self.old) ≤ most_rows }
+        requires within { place < length (rows self.old) }
+        requires others { 1 < length (rows self.old) }
+        ensures { rows self.new ≡ remove (rows self.old) place };
+}

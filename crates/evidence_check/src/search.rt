@@ -1,0 +1,182 @@
+//! What is looked for in parts that follow one another: each walk reads their sums, and opens the one or two in question.
+
+ghost use Rattle.std.specs.Prelude.{◌≡◌, ◌+◌, ◌-◌, ◌<◌, ◌≤◌, None, Some, length, take, drop, slice_get};
+ghost use Rattle.std.specs.List.{flat_map};
+ghost use Rattle.retro_base.specs.Limits.{most_rows};
+ghost use Rattle.evidence_check.specs.Marks.{alive_entry, dead_entry, greatest_dead, least_alive};
+ghost use Rattle.evidence_check.specs.Parts.{Holds, is_entry, shows_at};
+ghost use Rattle.evidence_check.specs.Sums.{HasRoom, sums_of};
+ghost use Rattle.evidence_check.specs.Zeros.{first_zero, last_zero};
+
+use crate::best::{earlier_of, later_of};
+use crate::marked_row::{MarkedRow, is_same};
+use crate::part::Part;
+use crate::sums::Sums;
+use retro_base::Entry;
+
+/// The part that holds a row, and how many rows stand before it.
+#[derive(Clone, Copy, Debug)]
+pub(crate) struct Held {
+    pub(crate) index: usize,
+    pub(crate) before: u32,
+}
+
+/// The part that holds the row at a place.
+pub(crate) fn holding<P: Part>(parts: &[P], place: u32) -> Held
+    requires few { length (flat_map P.rows parts.now) ≤ most_rows }
+    requires within { place < length (flat_map P.rows parts.now) }
+    ensures { Holds P.rows parts.now place result }
+{
+    let mut before = 0;
+    for (index, part) in parts.iter().enumerate() {
+        let rows = part.sums().rows;
+        if place - before < rows {
+            return Held { index, before };
+        }
+        before += rows;
+    }
+    unreachable!()
+}
+
+/// The sums of the rows of parts.
+pub(crate) fn sums_among<P: Part>(parts: &[P]) -> Sums
+    requires { length (flat_map P.rows parts.now) ≤ most_rows }
+    ensures { result ≡ sums_of (flat_map P.rows parts.now) }
+{
+    let mut sums = Sums::none();
+    for part in parts {
+        sums = sums.join(part.sums());
+    }
+    sums
+}
+
+/// The row at a place.
+pub(crate) fn row_among<P: Part>(parts: &[P], place: u32) -> Option<MarkedRow>
+    requires few { length (flat_map P.rows parts.now) ≤ most_rows }
+    requires within { place < length (flat_map P.rows parts.now) }
+    ensures { result ≡ slice_get (flat_map P.rows parts.now) place }
+{
+    let held = holding(parts, place);
+    parts[held.index].row(place - held.before)
+}
+
+/// The last place up to `to` where the weights add up to 0 from `before` on, found from the last part back.
+pub(crate) fn last_zero_among<P: Part>(parts: &[P], sums: Sums, before: i32, to: u32) -> u32
+    requires room { HasRoom before (length (flat_map P.rows parts.now)) }
+    requires sums { sums ≡ sums_of (flat_map P.rows parts.now) }
+    ensures { result ≡ last_zero before to (flat_map P.rows parts.now) }
+{
+    let mut passed = sums.rows;
+    let mut sum = before + sums.sum;
+    for index in (0..parts.len()).rev() {
+        let part = &parts[index];
+        let last = part.sums();
+        passed -= last.rows;
+        sum -= last.sum;
+        if passed < to {
+            let found = part.last_zero(sum, to - passed);
+            if found > 0 {
+                return passed + found;
+            }
+        }
+    }
+    0
+}
+
+/// The first place from `from` on where the weights add up to 0 from `before` on.
+pub(crate) fn first_zero_among<P: Part>(parts: &[P], before: i32, from: u32) -> u32
+    requires { HasRoom before (length (flat_map P.rows parts.now)) }
+    ensures { result ≡ first_zero before from (flat_map P.rows parts.now) }
+{
+    let mut passed = 0;
+    let mut sum = before;
+    for part in parts {
+        let found = part.first_zero(sum, beyond(from, passed));
+        if found > 0 {
+            return passed + found;
+        }
+        let next = part.sums();
+        passed += next.rows;
+        sum += next.sum;
+    }
+    0
+}
+
+/// The greatest dead entry from a place on.
+pub(crate) fn dead_among<P: Part>(parts: &[P], from: u32) -> Option<Entry>
+    requires { length (flat_map P.rows parts.now) ≤ most_rows }
+    ensures { result ≡ greatest_dead None (drop from (flat_map P.rows parts.now)) }
+{
+    let mut passed = 0;
+    let mut greatest = None;
+    for part in parts {
+        greatest = later_of(greatest, part.dead_from(beyond(from, passed)));
+        passed += part.sums().rows;
+    }
+    greatest
+}
+
+/// The least entry that survives before a place.
+pub(crate) fn alive_among<P: Part>(parts: &[P], to: u32) -> Option<Entry>
+    requires { length (flat_map P.rows parts.now) ≤ most_rows }
+    ensures { result ≡ least_alive (take to (flat_map P.rows parts.now)) }
+{
+    let mut passed = 0;
+    let mut least = None;
+    for part in parts {
+        least = earlier_of(least, part.alive_to(beyond(to, passed)));
+        passed += part.sums().rows;
+    }
+    least
+}
+
+/// The place of the greatest dead entry from a place on: of the first part that has it.
+pub(crate) fn dead_place_among<P: Part>(parts: &[P], from: u32, entry: Entry) -> u32
+    requires few { length (flat_map P.rows parts.now) ≤ most_rows }
+    requires there { greatest_dead None (drop from (flat_map P.rows parts.now)) ≡ Some entry }
+    ensures { shows_at dead_entry (flat_map P.rows parts.now) result ≡ Some entry }
+{
+    let mut passed = 0;
+    for part in parts {
+        let start = beyond(from, passed);
+        if is_entry(part.dead_from(start), entry) {
+            return passed + part.dead_place(start, entry);
+        }
+        passed += part.sums().rows;
+    }
+    unreachable!()
+}
+
+/// The place of the least entry that survives before a place: of the first part that has it.
+pub(crate) fn alive_place_among<P: Part>(parts: &[P], to: u32, entry: Entry) -> u32
+    requires few { length (flat_map P.rows parts.now) ≤ most_rows }
+    requires there { least_alive (take to (flat_map P.rows parts.now)) ≡ Some entry }
+    ensures { shows_at alive_entry (flat_map P.rows parts.now) result ≡ Some entry }
+{
+    let mut passed = 0;
+    for part in parts {
+        let end = beyond(to, passed);
+        if is_entry(part.alive_to(end), entry) {
+            return passed + part.alive_place(end, entry);
+        }
+        passed += part.sums().rows;
+    }
+    unreachable!()
+}
+
+/// How far a place stands beyond so many rows, or 0.
+fn beyond(place: u32, passed: u32) -> u32
+    ensures { result ≡ place - passed }
+{
+    if place > passed { place - passed } else { 0 }
+}
+
+/// Whether there is one, and it is this entry.
+fn is_entry(found: Option<Entry>, entry: Entry) -> bool
+    ensures { result ≡ is_entry found entry }
+{
+    match found {
+        None => false,
+        Some(other) => is_same(other, entry),
+    }
+}
