@@ -100,18 +100,3 @@ set_marked entry alive (first ∷ others) zero row own there hit =
     rw (same, hit, unmarked_others entry alive others row hit (rw same at own.0)) refl
 set_marked entry alive (first ∷ others) (suc place) row own there hit =
     rw (missed_first entry first row hit (number_at (λ n. n ≢ first.number) others place row own.0 there), set_marked entry alive others place row own.1 there hit) refl
-
--- a walk back from the end that has met no row of the entry
-pub none_after : (f : MarkedRow → MarkedRow) (rows : List MarkedRow) → map f (drop (length rows) rows) ≡ drop (length rows) rows
-none_after f [] = refl
-none_after f (row ∷ rows) = none_after f rows
-
-pub missed_back : (entry : Entry) (alive : Bool) (rows : List MarkedRow) (index after : ℕ) (row : MarkedRow) → suc index ≡ after → slice_get rows index ≡ Some row → adds entry row ≡ false
-    → map (with_mark entry alive) (drop after rows) ≡ drop after rows → map (with_mark entry alive) (drop index rows) ≡ drop index rows
-missed_back entry alive [] index after row next there miss so_far = absurd (cc)
-missed_back entry alive (first ∷ rows) zero after row next there miss so_far =
-    let same : first ≡ row = cc in
-    let rest : map (with_mark entry alive) rows ≡ rows = rw (← next) at so_far in
-    rw (same, miss, rest) refl
-missed_back entry alive (first ∷ rows) (suc index) after row next there miss so_far =
-    missed_back entry alive rows index (suc index) row refl there miss (rw (← next) at so_far)

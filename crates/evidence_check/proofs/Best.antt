@@ -1,5 +1,5 @@
 -- The best one of an entry and those that rows show.
-use Rattle.std.proofs.Common.{◌≡◌, Bool, true, false, List, [], ◌∷◌, refl, sym, ◌∙◌, inl, inr, Option, Some, None}
+use Rattle.std.proofs.Common.{◌≡◌, Bool, true, false, cond, List, [], ◌∷◌, ◌++◌, refl, sym, ap, ◌∙◌, inl, inr, Option, Some, None}
 use Rattle.std.specs.Prelude.{◌⊎◌}
 use Rattle.retro_base.specs.declared.row.Entry.{Entry}
 use Rattle.evidence_check.specs.declared.marked_row.MarkedRow.{MarkedRow}
@@ -87,3 +87,46 @@ module _ (beaten : Entry → Entry → Bool)
           | inr further ↦ rest.1 entry further
         ],
       )
+
+  -- the better one of three, taken two by two from either side
+  pub better-assoc : (a b c : Option Entry) → better_of beaten (better_of beaten a b) c ≡ better_of beaten a (better_of beaten b c)
+  better-assoc a b None = refl
+  better-assoc a None (Some c) = refl
+  better-assoc None (Some b) (Some c) = refl
+  better-assoc (Some a) (Some b) (Some c) =
+      elim (beaten a b) as (λ t. beaten a b ≡ t → better_of beaten (Some (cond t b a)) (Some c) ≡ better_of beaten (Some a) (Some (cond (beaten b c) c b))) [
+        | true ↦ λ ab. elim (beaten b c) as (λ t. beaten b c ≡ t → Some (cond t c b) ≡ better_of beaten (Some a) (Some (cond t c b))) [
+              | true ↦ λ bc. rw (beats a b c ab bc) refl
+              | false ↦ λ bc. rw ab refl
+            ] refl
+        | false ↦ λ ab. elim (beaten b c) as (λ t. beaten b c ≡ t → Some (cond (beaten a c) c a) ≡ better_of beaten (Some a) (Some (cond t c b))) [
+              | true ↦ λ bc. refl
+              | false ↦ λ bc. rw (passed_on a b c ab bc, ab) refl
+            ] refl
+      ] refl
+    where
+      beats : (a b c : Entry) → beaten a b ≡ true → beaten b c ≡ true → beaten a c ≡ true
+      beats a b c ab bc = elim (beaten a c) as (λ t. beaten a c ≡ t → t ≡ true) [
+        | true ↦ λ ac. refl
+        | false ↦ λ ac. sym (passed_on a c b ac (one_way b c bc)) ∙ ab
+      ] refl
+
+  better-none : (o : Option Entry) → better_of beaten None o ≡ o
+  better-none None = refl
+  better-none (Some e) = refl
+
+  -- the best one of some rows and others is the better one of their best
+  pub best-from : (best : Option Entry) (rows : List MarkedRow) → best_among beaten shown best rows ≡ better_of beaten best (best_among beaten shown None rows)
+  best-from best [] = refl
+  best-from best (row ∷ rows) =
+      best-from (better_of beaten best (shown row)) rows
+      ∙ better-assoc best (shown row) (best_among beaten shown None rows)
+      ∙ ap (better_of beaten best) (sym (ap (λ o. best_among beaten shown o rows) (better-none (shown row)) ∙ best-from (shown row) rows))
+
+  best-append : (best : Option Entry) (rows others : List MarkedRow) → best_among beaten shown best (rows ++ others) ≡ best_among beaten shown (best_among beaten shown best rows) others
+  best-append best [] others = refl
+  best-append best (row ∷ rows) others = best-append (better_of beaten best (shown row)) rows others
+
+  pub best-join : (rows others : List MarkedRow)
+      → best_among beaten shown None (rows ++ others) ≡ better_of beaten (best_among beaten shown None rows) (best_among beaten shown None others)
+  best-join rows others = best-append None rows others ∙ best-from (best_among beaten shown None rows) others

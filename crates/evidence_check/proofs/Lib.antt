@@ -16,8 +16,11 @@ pub mod TrueEvidence
 pub mod Timeless
 pub mod EditsReported
 pub mod EditsSpelled
-pub mod Pairs
 pub mod Beside
-pub mod Least
+pub mod SumsJoined
+pub mod Flat
+pub mod Zeros
+pub mod Stored
+pub mod Walks
 pub mod KeptBeside
 mod Examples

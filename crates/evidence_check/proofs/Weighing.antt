@@ -1,17 +1,15 @@
 -- How many dead entries are held, row by row: the marks are the weights.
 use Rattle.std.proofs.Common.{◌≡◌, ◌≢◌, ℕ, zero, suc, ◌+◌, ◌-◌, ◌<◌, ◌≤◌, pos, Bool, true, false, not, ◌&&◌, cond, List, [], ◌∷◌}
-use Rattle.std.proofs.Common.{length, take, refl, sym, ap, ◌∙◌, zero-add, get_or, arith, Option, Some, None, IsSome, inl, inr}
-use Rattle.std.specs.Prelude.{◌==◌, ◌+ℤ◌, slice_get, count_by}
+use Rattle.std.proofs.Common.{length, take, refl, sym, ap, ◌∙◌, zero-add, arith, Option, Some, None, inl, inr}
+use Rattle.std.specs.Prelude.{◌==◌, ℤ, ◌+ℤ◌, slice_get, count_by}
 use Rattle.std.specs.Option.{option_map_or}
 use Rattle.std.specs.List.{AllByRecursion, fold, list_all}
-use Rattle.std.proofs.lemmas.Bool.{ne_eqb}
+use Rattle.std.proofs.lemmas.Bool.{cases_lt, ne_eqb}
 use Rattle.std.proofs.lemmas.Int.{ints}
 use Rattle.std.proofs.lemmas.List.Sums.{sum_by-cons}
-use Rattle.std.proofs.lemmas.Option.{slice_get-map, slice_get-get_or}
 use Rattle.std.specs.Result.{result_unwrap_or}
 use Rattle.std.proofs.lemmas.List.{take_all}
 use Rattle.retro_base.specs.declared.kind.Kind.TheVariants.{Pq}
-use Rattle.retro_base.specs.declared.op.Op.TheVariants.{Enq}
 use Rattle.retro_base.specs.Replay.{run}
 use Rattle.retro_base.specs.State.{empty}
 use Rattle.retro_base.specs.declared.row.Entry.{Entry}
@@ -19,18 +17,13 @@ use Rattle.retro_base.specs.declared.row.Row.{Row}
 use Rattle.retro_base.specs.BridgeLaws.{WeightsCountTheDead}
 use Rattle.retro_base.specs.Bridges.{entries_at, entries_of, is_among, is_bridge, survivors, last_bridge, first_bridge, first_bridge_among}
 use Rattle.retro_base.specs.Carried.{IsPqHistory}
-use Rattle.retro_base.specs.Weights.{dead_at, sum_of_weights, weight, weight_as}
+use Rattle.retro_base.specs.Weights.{added_by, dead_at, weight, weight_as}
 use Rattle.evidence_check.specs.declared.marked_row.MarkedRow.{MarkedRow}
-use Rattle.evidence_check.proofs.Marking.{length_rows}
+use Rattle.evidence_check.proofs.Marking.{length_rows, take_rows}
 use Rattle.evidence_check.proofs.Members.{In, in_is_among}
-use Rattle.evidence_check.specs.Marks.{MarksSurvivors, IsMarked, dead_before, dead_by, dead_entry, entry_of, row_of, rows_of}
-
--- a fold over one element more
-fold_take : {A B : Type 0} (f : B → A → B) (start : B) (xs : List A) (i : ℕ) (x : A) → slice_get xs i ≡ Some x
-    → fold f start (take (suc i) xs) ≡ f (fold f start (take i xs)) x
-fold_take f start [] i x there = absurd (cc)
-fold_take f start (y ∷ ys) zero x there = ap (f start) (let same : y ≡ x = cc in same)
-fold_take f start (y ∷ ys) (suc i) x there = fold_take f (f start y) ys i x there
+use Rattle.evidence_check.specs.Marks.{MarksSurvivors, IsMarked, entry_of, rows_of}
+use Rattle.evidence_check.specs.Sums.{sum_of, weight_by, weight_of}
+use Rattle.evidence_check.specs.Zeros.{IsFirstZero, IsLastZero, IsZero}
 
 -- what holds of all elements holds of each
 pub all_at : {X : Type 0} (P : X → Type 0) (xs : List X) (i : ℕ) (x : X) → AllByRecursion P xs → slice_get xs i ≡ Some x → P x
@@ -44,52 +37,6 @@ history marked kept = record {
   own_numbers = kept.replayable.own_numbers;
   valid = kept.replayable.valid;
 }
-
--- the dead in front of a row, by the weight that its mark says
-pub record Weighed (before after : ℕ) (alive : Bool) (o : Option Entry) : Type 0 where
-  pub earlier : before ≡ dead_by after alive o
-  pub held : IsSome (cond alive None o) → 1 ≤ after
-  pub more : after ≤ suc before
-
-weighed : (survive : List Entry) (before after : ℕ) (alive : Bool) (o : Option Entry) → alive ≡ option_map_or (is_among survive) o false
-    → pos after ≡ pos before +ℤ weight_as survive o → Weighed before after alive o
-weighed survive before after alive None mark sum =
-    let unmarked : alive ≡ false = mark in
-    record { earlier = omega (arith, ints); held = λ some. absurd (let wrong : false ≡ true = rw unmarked at some in cc); more = omega (arith, ints) }
-weighed survive before after alive (Some e) mark sum =
-    elim (is_among survive e) as (λ b. is_among survive e ≡ b → Weighed before after alive (Some e)) [
-      | true ↦ λ among.
-          let marks : alive ≡ true = mark ∙ among in
-          let sums : pos after ≡ pos before +ℤ pos 0 = rw among at sum in
-          record { earlier = rw marks (omega (arith, ints)); held = λ some. absurd (let wrong : false ≡ true = rw marks at some in cc); more = omega (arith, ints) }
-      | false ↦ λ dead.
-          let marks : alive ≡ false = mark ∙ dead in
-          let sums : pos after ≡ pos before +ℤ pos 1 = rw dead at sum in
-          record { earlier = rw marks (omega (arith, ints)); held = λ some. omega (arith, ints); more = omega (arith, ints) }
-    ] refl
-
-module _ (count : WeightsCountTheDead) (marked : List MarkedRow) (kept : MarksSurvivors marked) where
-  -- nothing is held before the first row
-  pub dead_at_start : dead_at (rows_of marked) 0 ≡ 0
-  dead_at_start =
-      let sum : pos 0 ≡ pos (dead_at (rows_of marked) 0) = count (rows_of marked) 0 (history marked kept) in
-      cc
-
-  pub step : (index : ℕ) (row : MarkedRow) → slice_get marked index ≡ Some row → Weighed (dead_at (rows_of marked) index) (dead_at (rows_of marked) (suc index)) row.alive (entry_of row)
-  step index row there =
-      let rows : List Row = rows_of marked in
-      let there_too : slice_get rows index ≡ Some (row_of row) = slice_get-map row_of marked index ∙ rw there refl in
-      let sums : sum_of_weights rows (suc index) ≡ sum_of_weights rows index +ℤ weight rows (row_of row) =
-      fold_take (λ sum r. sum +ℤ weight rows r) (pos 0) rows index (row_of row) there_too in
-      let before = count rows index (history marked kept) in
-      let after = count rows (suc index) (history marked kept) in
-      weighed (survivors rows) (dead_at rows index) (dead_at rows (suc index)) row.alive (entry_of row)
-      (all_at (IsMarked (survivors rows)) marked index row kept.marks there) (sym after ∙ sums ∙ ap (λ sum. sum +ℤ weight rows (row_of row)) before)
-
--- how many dead entries are held up to an index, as a walk over the rows counts them
-pub record Counted (marked : List MarkedRow) (index dead : ℕ) : Type 0 where
-  pub count : dead ≡ dead_at (rows_of marked) index
-  pub few : dead ≤ index
 
 -- a place is a bridge where no dead entry is held
 counts_none : (b all : Bool) (n : ℕ) → all ≡ (n == 0) → (b && all) ≡ (cond (not b) 1 0 + n == 0)
@@ -106,32 +53,6 @@ none_fail test (e ∷ held) =
 pub bridge_by_count : (rows : List Row) (place : ℕ) → is_bridge rows place ≡ (dead_at rows place == 0)
 bridge_by_count rows place = none_fail (λ e. is_among (survivors rows) e) (entries_at rows place)
 
-pub counted_bridge : (marked : List MarkedRow) (index dead : ℕ) → Counted marked index dead → is_bridge (rows_of marked) index ≡ (dead == 0)
-counted_bridge marked index dead counted = bridge_by_count (rows_of marked) index ∙ ap (λ n. n == 0) (sym counted.count)
-
--- the last bridge up to an index, and the first one from a place on that stands at an index or after it
-pub last_here : (rows : List Row) (index : ℕ) → is_bridge rows (suc index) ≡ true → last_bridge rows (suc index) ≡ suc index
-last_here rows index is = rw is refl
-
-pub last_before : (rows : List Row) (index : ℕ) → is_bridge rows (suc index) ≡ false → last_bridge rows (suc index) ≡ last_bridge rows index
-last_before rows index is = rw is refl
-
-from_gap : (rows : List Row) (index gap : ℕ) → length rows - index ≡ suc gap → first_bridge rows index ≡ first_bridge_among (suc gap) rows index
-from_gap rows index gap same = ap (λ n. first_bridge_among n rows index) same
-
-pub first_here : (rows : List Row) (index : ℕ) → index < length rows → is_bridge rows index ≡ true → first_bridge rows index ≡ index
-first_here rows index within is = from_gap rows index (length rows - suc index) (omega arith) ∙ rw is refl
-
-pub first_after : (rows : List Row) (index : ℕ) → index < length rows → is_bridge rows index ≡ false → first_bridge rows index ≡ first_bridge rows (suc index)
-first_after rows index within is = from_gap rows index (length rows - suc index) (omega arith) ∙ rw is refl
-
-pub first_at_end : (rows : List Row) → first_bridge rows (length rows) ≡ length rows
-first_at_end rows = ap (λ n. first_bridge_among n rows (length rows)) (let none : length rows - length rows ≡ 0 = omega arith in none)
-
--- what an index past the end would read
-abbrev pub no_row : MarkedRow
-no_row = record { number = 0; op = Enq (pos 0); alive = false }
-
 -- after all rows nothing dead is held
 none_counted : (all held : List Entry) → ((e : Entry) → In e held → is_among all e ≡ true) → count_by (λ e. not (is_among all e)) held ≡ 0
 none_counted all [] each = refl
@@ -146,55 +67,103 @@ dead_at_end rows =
     ap (λ first. entries_of (result_unwrap_or (run first (empty Pq)) (empty Pq))) (take_all (length rows) rows (omega arith)) in
     ap (λ held. count_by (λ entry. not (is_among (survivors rows) entry)) held) whole ∙ none_counted (survivors rows) (survivors rows) (λ e inside. in_is_among e (survivors rows) inside)
 
--- the walks, one row back
-module _ (law : WeightsCountTheDead) (marked : List MarkedRow) (kept : MarksSurvivors marked) where
-  few_at : (index : ℕ) → index ≤ length marked → dead_at (rows_of marked) index ≤ index
-  few_at zero within = omega (arith, dead_at_start law marked kept)
-  few_at (suc index) within =
-      let before = few_at index (omega arith) in
-      let next = (step law marked kept index (get_or marked index no_row) (slice_get-get_or marked index no_row (omega arith))).more in
-      omega (arith, before, next)
+-- the weight that a mark says is that of the row
+weight_marked : (survive : List Entry) (alive : Bool) (o : Option Entry) → alive ≡ option_map_or (is_among survive) o false → weight_as survive o ≡ weight_by alive o
+weight_marked survive alive None mark = refl
+weight_marked survive alive (Some e) mark = ap (λ b. cond b (pos 0) (pos 1)) (sym mark)
 
-  pub counted_end : Counted marked (length marked) 0
-  counted_end = record { count = sym (ap (dead_at (rows_of marked)) (sym (length_rows marked)) ∙ dead_at_end (rows_of marked)); few = omega arith }
+weights_folded : (survive : List Entry) (start : ℤ) (marked : List MarkedRow) → AllByRecursion (IsMarked survive) marked
+    → fold (λ sum row. sum +ℤ weight_as survive (added_by row)) start (rows_of marked) ≡ start +ℤ sum_of marked
+weights_folded survive start [] all = omega (arith, ints)
+weights_folded survive start (first ∷ others) all =
+    let mark : weight_as survive (entry_of first) ≡ weight_of first = weight_marked survive first.alive (entry_of first) all.0 in
+    let rest = weights_folded survive (start +ℤ weight_as survive (entry_of first)) others all.1 in
+    rest ∙ ap (λ w. (start +ℤ w) +ℤ sum_of others) mark ∙ moved start (weight_of first) (sum_of others)
+  where
+    moved : (a b c : ℤ) → ((a +ℤ b) +ℤ c) ≡ (a +ℤ (b +ℤ c))
+    moved a b c = omega (arith, ints)
 
-  module _ (index after dead : ℕ) (next : suc index ≡ after) (within : index < length marked) (counted : Counted marked after dead) where
-    counted_there : dead ≡ dead_at (rows_of marked) (suc index)
-    counted_there = counted.count ∙ ap (dead_at (rows_of marked)) (sym next)
+all_take : {X : Type 0} (P : X → Type 0) (place : ℕ) (xs : List X) → AllByRecursion P xs → AllByRecursion P (take place xs)
+all_take P zero xs all = tt
+all_take P (suc place) [] all = tt
+all_take P (suc place) (x ∷ xs) all = (all.0, all_take P place xs all.1)
 
-    pub held_there : IsSome (dead_entry (get_or marked index no_row)) → 1 ≤ dead
-    held_there some = rw counted_there ((step law marked kept index (get_or marked index no_row) (slice_get-get_or marked index no_row within)).held some)
+-- the weights of marked rows count the dead
+pub sum_counts : WeightsCountTheDead → (marked : List MarkedRow) → MarksSurvivors marked → (place : ℕ) → (pos 0 +ℤ sum_of (take place marked)) ≡ pos (dead_at (rows_of marked) place)
+sum_counts count marked kept place =
+    sym (weights_folded (survivors (rows_of marked)) (pos 0) (take place marked) (all_take (IsMarked (survivors (rows_of marked))) place marked kept.marks))
+    ∙ ap (fold (λ sum row. sum +ℤ weight (rows_of marked) row) (pos 0)) (sym (take_rows place marked))
+    ∙ count (rows_of marked) place (history marked kept)
 
-    pub next_there : Counted marked index (dead_before dead (get_or marked index no_row))
-    next_there =
-        let row : MarkedRow = get_or marked index no_row in
-        let same : dead_before dead row ≡ dead_at (rows_of marked) index =
-        ap (λ d. dead_before d row) counted_there ∙ sym (step law marked kept index row (slice_get-get_or marked index no_row within)).earlier in
-        record { count = same; few = rw same (few_at index (omega arith)) }
+pub bridge_is_zero : WeightsCountTheDead → (marked : List MarkedRow) → MarksSurvivors marked → (place : ℕ) → IsZero (pos 0) marked place → is_bridge (rows_of marked) place ≡ true
+bridge_is_zero count marked kept place zeroes =
+    let none : pos (dead_at (rows_of marked) place) ≡ pos 0 = sym (sum_counts count marked kept place) ∙ zeroes in
+    let no_dead : dead_at (rows_of marked) place ≡ 0 = omega (arith, ints) in
+    bridge_by_count (rows_of marked) place ∙ ap (λ n. n == 0) no_dead
 
--- the last bridge up to a place, which the walk has come to or not
-module _ (marked : List MarkedRow) (index after dead place : ℕ) (next : suc index ≡ after) (counted : Counted marked after dead) where
-  bridge_there : is_bridge (rows_of marked) (suc index) ≡ (dead == 0)
-  bridge_there = ap (is_bridge (rows_of marked)) next ∙ counted_bridge marked after dead counted
+pub no_bridge : WeightsCountTheDead → (marked : List MarkedRow) → MarksSurvivors marked → (place : ℕ) → ¬ IsZero (pos 0) marked place → is_bridge (rows_of marked) place ≡ false
+no_bridge count marked kept place other =
+    bridge_by_count (rows_of marked) place
+    ∙ ne_eqb (dead_at (rows_of marked) place) 0 (λ none. other (sum_counts count marked kept place ∙ ap (λ n. pos n) none))
 
-  pub last_found : dead ≡ 0 → last_bridge (rows_of marked) place ≡ last_bridge (rows_of marked) after → suc index ≡ last_bridge (rows_of marked) place
-  last_found none same = sym (same ∙ ap (last_bridge (rows_of marked)) (sym next) ∙ last_here (rows_of marked) index (bridge_there ∙ ap (λ n. n == 0) none))
+pub zero_at_end : WeightsCountTheDead → (marked : List MarkedRow) → MarksSurvivors marked → IsZero (pos 0) marked (length marked)
+zero_at_end count marked kept =
+    sum_counts count marked kept (length marked) ∙ ap (λ n. pos (dead_at (rows_of marked) n)) (sym (length_rows marked)) ∙ ap (λ n. pos n) (dead_at_end (rows_of marked))
 
-  pub last_earlier : dead ≢ 0 → last_bridge (rows_of marked) place ≡ last_bridge (rows_of marked) after → last_bridge (rows_of marked) place ≡ last_bridge (rows_of marked) index
-  last_earlier some same = same ∙ ap (last_bridge (rows_of marked)) (sym next) ∙ last_before (rows_of marked) index (bridge_there ∙ ne_eqb dead 0 some)
+-- the last bridge up to a place, and the first one from a place on, are where the weights add up to 0
+last_found : (rows : List Row) (to place : ℕ) → place ≤ to → (1 ≤ place → is_bridge rows place ≡ true) → ((other : ℕ) → suc place ≤ other → other ≤ to → is_bridge rows other ≡ false)
+    → place ≡ last_bridge rows to
+last_found rows zero place within is none = omega arith
+last_found rows (suc to) place within is none =
+    elim (cases_lt place (suc to)) [
+      | inr here ↦
+          let same : place ≡ suc to = omega arith in
+          let bridges : is_bridge rows (suc to) ≡ true = rw same at is (omega arith) in
+          same ∙ rw bridges refl
+      | inl before ↦
+          let misses : is_bridge rows (suc to) ≡ false = none (suc to) (omega arith) (omega arith) in
+          last_found rows to place (omega arith) is (λ other from up. none other from (omega arith)) ∙ rw misses refl
+    ]
 
-pub last_same : (marked : List MarkedRow) (place index : ℕ) → place ≡ index → last_bridge (rows_of marked) place ≡ last_bridge (rows_of marked) index
-last_same marked place index same = ap (last_bridge (rows_of marked)) same
+first_found : (rows : List Row) (more from place : ℕ) → from ≤ place → place ≤ from + more → is_bridge rows place ≡ true → ((other : ℕ) → from ≤ other → other < place → is_bridge rows other ≡ false)
+    → place ≡ first_bridge_among more rows from
+first_found rows zero from place least most is none = omega arith
+first_found rows (suc more) from place least most is none =
+    elim (cases_lt from place) [
+      | inr here ↦
+          let same : place ≡ from = omega arith in
+          let bridges : is_bridge rows from ≡ true = rw same at is in
+          same ∙ rw bridges refl
+      | inl after ↦
+          let misses : is_bridge rows from ≡ false = none from (omega arith) (omega arith) in
+          first_found rows more (suc from) place (omega arith) (omega arith) is (λ other up before. none other (omega arith) before) ∙ rw misses refl
+    ]
 
--- the first bridge from an index on
-module _ (marked : List MarkedRow) (index after dead bridge : ℕ) (next : suc index ≡ after) (within : index < length marked) (counted : Counted marked index dead) where
-  pub first_found : dead ≡ 0 → index ≡ first_bridge (rows_of marked) index
-  first_found none = sym (first_here (rows_of marked) index (omega (arith, length_rows marked)) (counted_bridge marked index dead counted ∙ ap (λ n. n == 0) none))
+module _ (count : WeightsCountTheDead) (marked : List MarkedRow) (kept : MarksSurvivors marked) where
+  pub last_is : (to place : ℕ) → to ≤ length marked → IsLastZero (pos 0) marked to place → place ≡ last_bridge (rows_of marked) to
+  last_is to place within found =
+      last_found (rows_of marked) to place found.within (λ some. bridge_is_zero count marked kept place (found.is_zero some))
+      (λ other from up. no_bridge count marked kept other (found.last other (omega arith) from up (omega arith)))
 
-  pub first_stays : dead ≢ 0 → bridge ≡ first_bridge (rows_of marked) after → bridge ≡ first_bridge (rows_of marked) index
-  first_stays some same =
-      same ∙ ap (first_bridge (rows_of marked)) (sym next)
-      ∙ sym (first_after (rows_of marked) index (omega (arith, length_rows marked)) (counted_bridge marked index dead counted ∙ ne_eqb dead 0 some))
+  -- there is one, since nothing dead is held after all rows
+  first_some : (from place : ℕ) → 1 ≤ from → from ≤ length marked → IsFirstZero (pos 0) marked from place → 1 ≤ place
+  first_some from place some within found =
+      elim (cases_lt 0 place) [
+        | inl one ↦ one
+        | inr none ↦
+            let zeroes : place ≡ 0 = omega arith in
+            absurd (found.none zeroes (length marked) (omega arith) within (omega arith) (omega arith) (zero_at_end count marked kept))
+      ]
 
-pub first_starts : (marked : List MarkedRow) → length marked ≡ first_bridge (rows_of marked) (length marked)
-first_starts marked = sym (ap (first_bridge (rows_of marked)) (sym (length_rows marked)) ∙ first_at_end (rows_of marked) ∙ length_rows marked)
+  pub first_is : (from place : ℕ) → 1 ≤ from → from ≤ length marked → IsFirstZero (pos 0) marked from place → place ≡ first_bridge (rows_of marked) from
+  first_is from place some within found =
+      let one : 1 ≤ place = first_some from place some within found in
+      let least : from ≤ place = found.within one in
+      let inside : place ≤ length marked = found.inside in
+      let long : length (rows_of marked) ≡ length marked = length_rows marked in
+      first_found (rows_of marked) (length (rows_of marked) - from) from place least (omega arith) (bridge_is_zero count marked kept place (found.is_zero one))
+      (λ other up before. no_bridge count marked kept other (found.first one other (omega arith) up (omega arith) (omega arith)))
+
+  pub first_at_start : 0 ≡ first_bridge (rows_of marked) 0
+  first_at_start =
+      first_found (rows_of marked) (length (rows_of marked) - 0) 0 0 (omega arith) (omega arith) (bridge_is_zero count marked kept 0 refl) (λ other up before. absurd (let none : ⊥ = omega arith in none))

@@ -46,14 +46,6 @@ pub record MarksSurvivors (marked : List MarkedRow) : Type 0 where
   pub replayable : IsReplayable Pq (rows_of marked)
   pub marks : AllByRecursion (IsMarked (survivors (rows_of marked))) marked
 
--- how many dead entries are held in front of a row, by how many are held after it
-abbrev pub dead_by : ℕ → Bool → Option Entry → ℕ
-dead_by dead alive None = dead + 1
-dead_by dead alive (Some entry) = if alive then dead else dead - 1
-
-abbrev pub dead_before : ℕ → MarkedRow → ℕ
-dead_before dead marked = dead_by dead marked.alive (entry_of marked)
-
 -- the better one of an entry and another, where there is another
 abbrev pub better_of : (Entry → Entry → Bool) → Option Entry → Option Entry → Option Entry
 better_of beaten_by best None = best

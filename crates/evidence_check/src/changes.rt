@@ -8,7 +8,7 @@ ghost use Rattle.evidence_check.specs.Marks.{MarksSurvivors, cause_against, gain
 ghost use Rattle.evidence_check.specs.Truth.{bridge_of, change_cause, is_outside, same_bridge, same_change, reported_edit};
 
 use crate::CheckError;
-use crate::best::later_of;
+use crate::better::later_of;
 use crate::marked_row::{added_entry, is_same};
 use crate::part::Part;
 use crate::rows::{Rows, first_bridge, last_bridge};

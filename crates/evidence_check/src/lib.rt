@@ -19,7 +19,7 @@
 //! - `laws`: evidence is accepted exactly where it is true.
 #![tactic(auto)]
 
-mod best;
+mod better;
 mod causes;
 mod changes;
 mod checker;

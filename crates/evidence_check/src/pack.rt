@@ -112,7 +112,7 @@ impl<P: Part> Part for Pack<P> {
     }
 
     fn last_zero(&self, before: i32, to: u32) -> u32 {
-        if before + self.sums.low > 0 {
+        if to == 0 || before + self.sums.low > 0 {
             return 0;
         }
         last_zero_among(&self.parts, self.sums, before, to)

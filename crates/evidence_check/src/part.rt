@@ -7,7 +7,7 @@ ghost use Rattle.evidence_check.specs.declared.marked_row.MarkedRow.{MarkedRow};
 ghost use Rattle.evidence_check.specs.Marks.{alive_entry, dead_entry, greatest_dead, least_alive};
 ghost use Rattle.evidence_check.specs.Parts.{marked_at, rest_of, shows_at};
 ghost use Rattle.evidence_check.specs.Sums.{HasRoom, sums_of};
-ghost use Rattle.evidence_check.specs.Zeros.{first_zero, last_zero};
+ghost use Rattle.evidence_check.specs.Zeros.{IsFirstZero, IsLastZero};
 
 use crate::CheckError;
 use crate::marked_row::MarkedRow;
@@ -38,12 +38,12 @@ pub(crate) trait Part: Drop {
     /// The last place up to `to`, after one of its rows, where the weights add up to 0 from `before` on, or else 0.
     fn last_zero(&self, before: i32, to: u32) -> u32
         requires { HasRoom before (length (rows self.now)) }
-        ensures { result ≡ last_zero before to (rows self.now) };
+        ensures { IsLastZero before (rows self.now) to result };
 
     /// The first such place from `from` on, or else 0.
     fn first_zero(&self, before: i32, from: u32) -> u32
         requires { HasRoom before (length (rows self.now)) }
-        ensures { result ≡ first_zero before from (rows self.now) };
+        ensures { IsFirstZero before (rows self.now) from result };
 
     /// The greatest dead entry of its rows from a place on.
     fn dead_from(&self, from: u32) -> Option<Entry>

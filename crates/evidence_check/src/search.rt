@@ -6,9 +6,9 @@ ghost use Rattle.retro_base.specs.Limits.{most_rows};
 ghost use Rattle.evidence_check.specs.Marks.{alive_entry, dead_entry, greatest_dead, least_alive};
 ghost use Rattle.evidence_check.specs.Parts.{Holds, is_entry, shows_at};
 ghost use Rattle.evidence_check.specs.Sums.{HasRoom, sums_of};
-ghost use Rattle.evidence_check.specs.Zeros.{first_zero, last_zero};
+ghost use Rattle.evidence_check.specs.Zeros.{IsFirstZero, IsLastZero};
 
-use crate::best::{earlier_of, later_of};
+use crate::better::{earlier_of, later_of};
 use crate::marked_row::{MarkedRow, is_same};
 use crate::part::Part;
 use crate::sums::Sums;
@@ -64,7 +64,7 @@ pub(crate) fn row_among<P: Part>(parts: &[P], place: u32) -> Option<MarkedRow>
 pub(crate) fn last_zero_among<P: Part>(parts: &[P], sums: Sums, before: i32, to: u32) -> u32
     requires room { HasRoom before (length (flat_map P.rows parts.now)) }
     requires sums { sums ≡ sums_of (flat_map P.rows parts.now) }
-    ensures { result ≡ last_zero before to (flat_map P.rows parts.now) }
+    ensures { IsLastZero before (flat_map P.rows parts.now) to result }
 {
     let mut passed = sums.rows;
     let mut sum = before + sums.sum;
@@ -73,11 +73,9 @@ pub(crate) fn last_zero_among<P: Part>(parts: &[P], sums: Sums, before: i32, to:
         let last = part.sums();
         passed -= last.rows;
         sum -= last.sum;
-        if passed < to {
-            let found = part.last_zero(sum, to - passed);
-            if found > 0 {
-                return passed + found;
-            }
+        let found = part.last_zero(sum, beyond(to, passed));
+        if found > 0 {
+            return passed + found;
         }
     }
     0
@@ -86,7 +84,7 @@ pub(crate) fn last_zero_among<P: Part>(parts: &[P], sums: Sums, before: i32, to:
 /// The first place from `from` on where the weights add up to 0 from `before` on.
 pub(crate) fn first_zero_among<P: Part>(parts: &[P], before: i32, from: u32) -> u32
     requires { HasRoom before (length (flat_map P.rows parts.now)) }
-    ensures { result ≡ first_zero before from (flat_map P.rows parts.now) }
+    ensures { IsFirstZero before (flat_map P.rows parts.now) from result }
 {
     let mut passed = 0;
     let mut sum = before;

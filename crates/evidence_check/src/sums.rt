@@ -4,7 +4,7 @@ ghost use Rattle.std.specs.Prelude.{◌≡◌, ◌+◌, ◌≤◌, [], ◌∷◌
 ghost use Rattle.retro_base.specs.Limits.{most_rows};
 ghost use Rattle.evidence_check.specs.Sums.{AreBounded, joined, lesser, sums_of};
 
-use crate::best::{earlier_of, later_of};
+use crate::better::{earlier_of, later_of};
 use crate::marked_row::MarkedRow;
 use retro_base::Entry;
 

@@ -1,0 +1,251 @@
+-- A walk over parts that follow one another: what holds of the rows passed, after one part more.
+use Rattle.std.proofs.Common.{◌≡◌, ℕ, zero, suc, ◌+◌, ◌-◌, ◌<◌, ◌≤◌, ℤ, pos, w32, SFits, Bool, true, false, cond, List, [], ◌∷◌, ◌++◌, length, take, drop, get_or, refl, sym, ap, ◌∙◌, arith, inl, inr, Option, Some, None}
+use Rattle.std.proofs.Common.{append_assoc, length-append}
+use Rattle.std.specs.Prelude.{◌+ℤ◌, ◌-ℤ◌, ◌≤ℤ◌, slice_get}
+use Rattle.std.specs.List.{flat_map}
+use Rattle.std.specs.Option.{option_and_then}
+use Rattle.std.proofs.lemmas.Bool.{cases_lt}
+use Rattle.std.proofs.lemmas.Int.{ints}
+use Rattle.std.proofs.lemmas.List.{take_all}
+use Rattle.std.proofs.lemmas.Option.{slice_get_read, slice_get_within}
+use Rattle.retro_base.specs.declared.row.Entry.{Entry}
+use Rattle.retro_base.specs.Limits.{most_rows}
+use Rattle.evidence_check.specs.declared.marked_row.MarkedRow.{MarkedRow}
+use Rattle.evidence_check.specs.declared.sums.Sums.{Sums}
+use Rattle.evidence_check.specs.Marks.{better_of, greatest_dead, is_greater, is_less, least_alive}
+use Rattle.evidence_check.specs.Parts.{is_entry, shows_at}
+use Rattle.evidence_check.specs.Sums.{HasRoom, joined, sum_of, sums_of}
+use Rattle.evidence_check.specs.Zeros.{HasNoZero, IsFirstZero, IsLastZero, IsZero}
+use Rattle.evidence_check.proofs.EntryOrder.{is_itself, same_is}
+use Rattle.evidence_check.proofs.Flat.{drop-join, flat_around, flat_next, get_first, get_second, take-join}
+use Rattle.evidence_check.proofs.SumsJoined.{alive-join, dead-join, sum-down, sum-join, sum-up, sums-join}
+use Rattle.evidence_check.proofs.Stored.{within_fits}
+use Rattle.evidence_check.proofs.Zeros.{NoneAfter, NoneBefore, first_zero, none_joined, second_zero, zero_first, zero_second}
+
+-- which entry is found
+pub found_is : (found : Option Entry) (entry : Entry) → is_entry found entry ≡ true → found ≡ Some entry
+found_is None entry is = absurd (let wrong : false ≡ true = is in cc)
+found_is (Some other) entry is = ap Some (same_is other entry is)
+
+pub entry_found : (found : Option Entry) (entry : Entry) → found ≡ Some entry → is_entry found entry ≡ true
+entry_found found entry is = rw is (is_itself entry)
+
+neither : (beaten : Entry → Entry → Bool) (a b : Option Entry) (entry : Entry) → is_entry a entry ≡ false → is_entry b entry ≡ false → is_entry (better_of beaten a b) entry ≡ false
+neither beaten a None entry first second = first
+neither beaten None (Some b) entry first second = second
+neither beaten (Some a) (Some b) entry first second = elim (beaten a b) as (λ t. is_entry (Some (cond t b a)) entry ≡ false) [ true ↦ second | false ↦ first ]
+
+pub shown_within : (shown : MarkedRow → Option Entry) (rows : List MarkedRow) (place : ℕ) (entry : Entry) → shows_at shown rows place ≡ Some entry → place < length rows
+shown_within shown [] place entry is = absurd (cc)
+shown_within shown (first ∷ others) zero entry is = omega arith
+shown_within shown (first ∷ others) (suc place) entry is = let rest = shown_within shown others place entry is in omega (arith, rest)
+
+module _ {P : Type 0} (f : P → List MarkedRow) (parts : List P) (index : ℕ) (part : P) (within : index < length parts) (is : part ≡ get_or parts index part) where
+  abbrev first : List MarkedRow
+  first = flat_map f (take index parts)
+
+  abbrev rest : List MarkedRow
+  rest = flat_map f (drop (suc index) parts)
+
+  pub there : slice_get parts index ≡ Some part
+  there = slice_get_read parts (length parts) index part refl within is
+
+  pub around : flat_map f parts ≡ first ++ (f part ++ rest)
+  around = flat_around f parts index part there
+
+  pub next : flat_map f (take (index + 1) parts) ≡ first ++ f part
+  next = ap (λ n. flat_map f (take n parts)) (let one : index + 1 ≡ suc index = omega arith in one) ∙ flat_next f parts index part there
+
+  around_whole : flat_map f parts ≡ (first ++ f part) ++ rest
+  around_whole = around ∙ sym (append_assoc first (f part) rest)
+
+  pub fits : length first + length (f part) ≤ length (flat_map f parts)
+  fits =
+      let whole : length (flat_map f parts) ≡ length first + (length (f part) + length rest) =
+      ap length around ∙ length-append first (f part ++ rest) ∙ ap (λ n. length first + n) (length-append (f part) rest) in
+      omega (arith, whole)
+
+  pub small : (most : ℕ) → length (flat_map f parts) ≤ most → length (f part) ≤ most
+  small most few = let less = fits in omega (arith, less, few)
+
+  pub passed_next : (passed n : ℕ) → passed ≡ length first → n ≡ length (f part) → passed + n ≡ length (flat_map f (take (index + 1) parts))
+  passed_next passed n long is_n = let whole : length (flat_map f (take (index + 1) parts)) ≡ length first + length (f part) = ap length next ∙ length-append first (f part) in omega (arith, whole)
+
+  pub sums_next : (sums other : Sums) → sums ≡ sums_of first → other ≡ sums_of (f part) → joined sums other ≡ sums_of (flat_map f (take (index + 1) parts))
+  sums_next sums other of_first of_part =
+      ap (λ s. joined s other) of_first ∙ ap (joined (sums_of first)) of_part ∙ sym (sums-join first (f part)) ∙ ap sums_of (sym next)
+
+  pub dead_next : (from passed : ℕ) (greatest found : Option Entry) → passed ≡ length first → greatest ≡ greatest_dead None (drop from first)
+      → found ≡ greatest_dead None (drop (from - passed) (f part)) → better_of is_less greatest found ≡ greatest_dead None (drop from (flat_map f (take (index + 1) parts)))
+  dead_next from passed greatest found long is_greatest is_found =
+      ap (λ o. better_of is_less o found) is_greatest
+      ∙ ap (better_of is_less (greatest_dead None (drop from first))) (is_found ∙ ap (λ n. greatest_dead None (drop (from - n) (f part))) long)
+      ∙ sym (dead-join (drop from first) (drop (from - length first) (f part))) ∙ ap (greatest_dead None) (sym (drop-join from first (f part)))
+      ∙ ap (λ l. greatest_dead None (drop from l)) (sym next)
+
+  pub alive_next : (to passed : ℕ) (least found : Option Entry) → passed ≡ length first → least ≡ least_alive (take to first)
+      → found ≡ least_alive (take (to - passed) (f part)) → better_of is_greater least found ≡ least_alive (take to (flat_map f (take (index + 1) parts)))
+  alive_next to passed least found long is_least is_found =
+      ap (λ o. better_of is_greater o found) is_least
+      ∙ ap (better_of is_greater (least_alive (take to first))) (is_found ∙ ap (λ n. least_alive (take (to - n) (f part))) long)
+      ∙ sym (alive-join (take to first) (take (to - length first) (f part))) ∙ ap least_alive (sym (take-join to first (f part)))
+      ∙ ap (λ l. least_alive (take to l)) (sym next)
+
+  pub no_dead_next : (from passed : ℕ) (entry : Entry) (found : Option Entry) → passed ≡ length first → is_entry (greatest_dead None (drop from first)) entry ≡ false
+      → found ≡ greatest_dead None (drop (from - passed) (f part)) → is_entry found entry ≡ false
+      → is_entry (greatest_dead None (drop from (flat_map f (take (index + 1) parts)))) entry ≡ false
+  no_dead_next from passed entry found long before is_found other =
+      ap (λ o. is_entry o entry) (sym (dead_next from passed (greatest_dead None (drop from first)) found long refl is_found))
+      ∙ neither is_less (greatest_dead None (drop from first)) found entry before other
+
+  pub no_alive_next : (to passed : ℕ) (entry : Entry) (found : Option Entry) → passed ≡ length first → is_entry (least_alive (take to first)) entry ≡ false
+      → found ≡ least_alive (take (to - passed) (f part)) → is_entry found entry ≡ false
+      → is_entry (least_alive (take to (flat_map f (take (index + 1) parts)))) entry ≡ false
+  no_alive_next to passed entry found long before is_found other =
+      ap (λ o. is_entry o entry) (sym (alive_next to passed (least_alive (take to first)) found long refl is_found))
+      ∙ neither is_greater (least_alive (take to first)) found entry before other
+
+  -- what a part shows
+  pub shown_there : (shown : MarkedRow → Option Entry) (passed place : ℕ) (entry : Entry) → passed ≡ length first → shows_at shown (f part) place ≡ Some entry
+      → shows_at shown (flat_map f parts) (passed + place) ≡ Some entry
+  shown_there shown passed place entry long shows =
+      ap (λ l. shows_at shown l (passed + place)) around ∙ ap (λ n. shows_at shown (first ++ (f part ++ rest)) (n + place)) long
+      ∙ ap (option_and_then shown) (get_second first (f part ++ rest) place ∙ get_first (f part) rest place (shown_within shown (f part) place entry shows)) ∙ shows
+
+  pub row_there : (place passed : ℕ) → passed ≡ length first → passed ≤ place → place < passed + length (f part) → slice_get (f part) (place - passed) ≡ slice_get (flat_map f parts) place
+  row_there place passed long from to =
+      let place_is : place ≡ length first + (place - passed) = omega (arith, long) in
+      sym (ap (λ l. slice_get l place) around ∙ ap (slice_get (first ++ (f part ++ rest))) place_is
+      ∙ get_second first (f part ++ rest) (place - passed) ∙ get_first (f part) rest (place - passed) (omega arith))
+
+  -- one part back
+  pub rows_back : (after n : ℕ) → after ≡ length (flat_map f (take (index + 1) parts)) → n ≡ length (f part) → (after - n ≡ length first) × (after ≡ (after - n) + length (f part))
+  rows_back after n long is_n =
+      let whole : after ≡ length first + length (f part) = long ∙ ap length next ∙ length-append first (f part) in
+      (omega (arith, whole, is_n), omega (arith, whole, is_n))
+
+  pub weights_back : (before after s : ℤ) → after ≡ before +ℤ sum_of (flat_map f (take (index + 1) parts)) → s ≡ sum_of (f part) → (after -ℤ s) ≡ before +ℤ sum_of first
+  weights_back before after s whole is_s = back before after s (sum_of first) (sum_of (f part)) (whole ∙ ap (λ l. before +ℤ sum_of l) next ∙ ap (λ t. before +ℤ t) (sum-join first (f part))) is_s
+    where
+      back : (b a s t w : ℤ) → a ≡ b +ℤ (t +ℤ w) → s ≡ w → (a -ℤ s) ≡ b +ℤ t
+      back b a s t w whole is_s = omega (arith, ints)
+
+  module _ (before : ℤ) (room : HasRoom before (length (flat_map f parts))) (sum : ℤ) (weights : sum ≡ before +ℤ sum_of first) where
+    pub room_there : HasRoom sum (length (f part))
+    room_there = record {
+      up = above before (sum_of first) sum (length first) (length (f part)) (length (flat_map f parts)) weights (sum-up first) fits room.up;
+      down = below before (sum_of first) sum (length first) (length (f part)) (length (flat_map f parts)) weights (sum-down first) fits room.down;
+    }
+      where
+        above : (b s t : ℤ) (n m k : ℕ) → t ≡ b +ℤ s → s ≤ℤ pos n → n + m ≤ k → (b +ℤ pos k) ≤ℤ pos most_rows → (t +ℤ pos m) ≤ℤ pos most_rows
+        above b s t n m k whole most less up = omega (arith, ints)
+
+        below : (b s t : ℤ) (n m k : ℕ) → t ≡ b +ℤ s → pos 0 ≤ℤ (s +ℤ pos n) → n + m ≤ k → pos k ≤ℤ (b +ℤ pos most_rows) → pos m ≤ℤ (t +ℤ pos most_rows)
+        below b s t n m k whole most less down = omega (arith, ints)
+
+    -- the sum after the part is small
+    pub next_fits : (s : ℤ) → s ≡ sum_of (f part) → SFits w32 (sum +ℤ s)
+    next_fits s is_s = bounded sum s (sum_of (f part)) (length (f part)) is_s (sum-up (f part)) (sum-down (f part)) room_there.up room_there.down
+      where
+        bounded : (t s w : ℤ) (n : ℕ) → s ≡ w → w ≤ℤ pos n → pos 0 ≤ℤ (w +ℤ pos n) → (t +ℤ pos n) ≤ℤ pos most_rows → pos n ≤ℤ (t +ℤ pos most_rows) → SFits w32 (t +ℤ s)
+        bounded t s w n is most least up down = within_fits (t +ℤ s) (omega (arith, ints)) (omega (arith, ints))
+
+    pub here_fits : SFits w32 sum
+    here_fits = bounded sum (length (f part)) room_there.up room_there.down
+      where
+        bounded : (t : ℤ) (n : ℕ) → (t +ℤ pos n) ≤ℤ pos most_rows → pos n ≤ℤ (t +ℤ pos most_rows) → SFits w32 t
+        bounded t n up down = within_fits t (omega (arith, ints)) (omega (arith, ints))
+
+    -- the walk on
+    none_wide : (from to : ℕ) → HasNoZero before first from (length first) → HasNoZero before first from to
+    none_wide from to none place one up down inside = none place one up inside inside
+
+    second_wide : (from passed to : ℕ) → passed ≡ length first → HasNoZero sum (f part) (from - passed) to → (bound : ℕ) → bound - length first ≤ to
+        → HasNoZero (before +ℤ sum_of first) (f part) (from - length first) (bound - length first)
+    second_wide from passed to long none bound less place one up down inside zeroes =
+        none place one (omega (arith, long, up)) (omega (arith, down, less)) inside (ap (λ n. n +ℤ sum_of (take place (f part))) weights ∙ zeroes)
+
+    pub none_next : (from passed found n : ℕ) (s t : ℤ) → NoneBefore before first from passed sum → found ≡ 0 → IsFirstZero sum (f part) (from - passed) found → n ≡ length (f part)
+        → s ≡ sum_of (f part) → t ≡ sum +ℤ s → NoneBefore before (flat_map f (take (index + 1) parts)) from (passed + n) t
+    none_next from passed found n s t so_far zeroes here is_n is_s is_t = record {
+      rows = passed_next passed n so_far.rows is_n;
+      weights =
+          is_t ∙ ap (λ t. t +ℤ s) weights ∙ ap (λ t. (before +ℤ sum_of first) +ℤ t) is_s ∙ moved before (sum_of first) (sum_of (f part))
+          ∙ ap (λ t. before +ℤ t) (sym (ap sum_of next ∙ sum-join first (f part)));
+      none = rw next
+          (none_joined before first (f part) from (length (first ++ f part)) (none_wide from (length (first ++ f part)) so_far.none)
+          (second_wide from passed (length (f part)) so_far.rows (here.none zeroes) (length (first ++ f part)) (omega (arith, length-append first (f part)))));
+    }
+      where
+        moved : (a b c : ℤ) → ((a +ℤ b) +ℤ c) ≡ (a +ℤ (b +ℤ c))
+        moved a b c = omega (arith, ints)
+
+    -- a place in the part is one in the whole, and the other way round
+    zero_there : (passed k : ℕ) → passed ≡ length first → k ≤ length (f part) → IsZero sum (f part) k → IsZero before (flat_map f parts) (passed + k)
+    zero_there passed k long inside zeroes =
+        let second : IsZero before (first ++ f part) (length first + k) =
+        zero_second before first (f part) k (ap (λ n. n +ℤ sum_of (take k (f part))) (sym weights) ∙ zeroes) in
+        let whole : IsZero before ((first ++ f part) ++ rest) (length first + k) =
+        zero_first before (first ++ f part) rest (length first + k) (omega (arith, length-append first (f part))) second in
+        ap (λ n. before +ℤ sum_of (take (n + k) (flat_map f parts))) long ∙ ap (λ l. before +ℤ sum_of (take (length first + k) l)) around_whole ∙ whole
+
+    there_zero : (passed k place : ℕ) → passed ≡ length first → place ≡ passed + k → k ≤ length (f part) → IsZero before (flat_map f parts) place → IsZero sum (f part) k
+    there_zero passed k place long is_place inside zeroes =
+        let place_is : place ≡ length first + k = is_place ∙ ap (λ n. n + k) long in
+        let whole : IsZero before ((first ++ f part) ++ rest) (length first + k) =
+        ap (λ l. before +ℤ sum_of (take (length first + k) l)) (sym around_whole) ∙ ap (λ n. before +ℤ sum_of (take n (flat_map f parts))) (sym place_is) ∙ zeroes in
+        let second : IsZero before (first ++ f part) (length first + k) =
+        first_zero before (first ++ f part) rest (length first + k) (omega (arith, length-append first (f part))) whole in
+        ap (λ n. n +ℤ sum_of (take k (f part))) weights ∙ second_zero before first (f part) k second
+
+    none_earlier : (from passed place : ℕ) → passed ≡ length first → HasNoZero before first from (length first) → 1 ≤ place → from ≤ place → place ≤ passed → ¬ IsZero before (flat_map f parts) place
+    none_earlier from passed place long none one up inside zeroes =
+        let short : place ≤ length first = omega (arith, long, inside) in
+        none place one up short short
+        (first_zero before first (f part ++ rest) place short (ap (λ l. before +ℤ sum_of (take place l)) (sym around) ∙ zeroes))
+
+    pub first_found : (from passed found : ℕ) → NoneBefore before first from passed sum → 1 ≤ found → IsFirstZero sum (f part) (from - passed) found
+        → IsFirstZero before (flat_map f parts) from (passed + found)
+    first_found from passed found so_far some here = record {
+      within = λ one. let up = here.within some in omega (arith, up);
+      inside = let less = fits in omega (arith, less, so_far.rows, here.inside);
+      is_zero = λ one. zero_there passed found so_far.rows here.inside (here.is_zero some);
+      first = λ one place least up down inside zeroes.
+          elim (cases_lt passed place) [
+            | inl beyond ↦
+                let place_is : place ≡ passed + (place - passed) = omega arith in
+                here.first some (place - passed) (omega arith) (omega arith) (omega arith) (omega (arith, here.inside))
+                (there_zero passed (place - passed) place so_far.rows place_is (omega (arith, here.inside)) zeroes)
+            | inr earlier ↦ none_earlier from passed place so_far.rows so_far.none least up earlier zeroes
+          ];
+      none = λ zero. absurd (let wrong : ⊥ = omega arith in wrong);
+    }
+
+    -- the walk back
+    none_later : (to passed found after place : ℕ) → passed ≡ length first → after ≡ passed + length (f part) → HasNoZero before (flat_map f parts) (suc after) to
+        → IsLastZero sum (f part) (to - passed) found → suc (passed + found) ≤ place → place ≤ to → place ≤ length (flat_map f parts) → ¬ IsZero before (flat_map f parts) place
+    none_later to passed found after place long is_after later here up down inside zeroes =
+        elim (cases_lt after place) [
+          | inl beyond ↦ later place (omega arith) beyond down inside zeroes
+          | inr within_part ↦
+              let place_is : place ≡ passed + (place - passed) = omega arith in
+              here.last (place - passed) (omega arith) (omega arith) (omega arith) (omega arith)
+              (there_zero passed (place - passed) place long place_is (omega arith) zeroes)
+        ]
+
+    pub last_found : (to passed found after : ℕ) → passed ≡ length first → after ≡ passed + length (f part) → HasNoZero before (flat_map f parts) (suc after) to
+        → 1 ≤ found → IsLastZero sum (f part) (to - passed) found → IsLastZero before (flat_map f parts) to (passed + found)
+    last_found to passed found after long is_after later some here = record {
+      within = let low = here.within in omega (arith, low);
+      inside = let less = fits in omega (arith, less, long, here.inside);
+      is_zero = λ one. zero_there passed found long here.inside (here.is_zero some);
+      last = λ place one up down inside. none_later to passed found after place long is_after later here up down inside;
+    }
+
+    pub none_back : (to passed found after : ℕ) → passed ≡ length first → after ≡ passed + length (f part) → HasNoZero before (flat_map f parts) (suc after) to
+        → found ≡ 0 → IsLastZero sum (f part) (to - passed) found → NoneAfter before (flat_map f parts) first to passed sum
+    none_back to passed found after long is_after later zeroes here = record {
+      rows = long;
+      weights = weights;
+      none = λ place one up down inside. none_later to passed found after place long is_after later here (omega arith) down inside;
+    }
