@@ -22,5 +22,6 @@ pub mod Flat
 pub mod Zeros
 pub mod Stored
 pub mod Walks
+pub mod Held
 pub mod KeptBeside
 mod Examples

@@ -92,16 +92,18 @@ pub(crate) fn split<P: Part>(parts: &mut Vec<P>, at: usize, alloc: Global) -> Op
     requires { at ≤ length parts.old.items }
     ensures { MatchOption result (parts.new.items ≡ parts.old.items) (λ rest. parts.new.items ++ rest.items ≡ parts.old.items) }
 {
-    let mut rest = match Vec::with_capacity(alloc, ROOM) {
+    let count = parts.as_slice().len() - at;
+    let room = if count < ROOM { ROOM } else { count };
+    let mut rest = match Vec::with_capacity(alloc, room) {
         Err(_) => return None,
         Ok(rest) => rest,
     };
-    let count = parts.as_slice().len() - at;
-    for _ in 0..count {
-        if let Some(last) = parts.pop() {
-            if rest.insert(0, last).is_err() {
-                unreachable!()
-            }
+    for moved in 0..count {
+        let Some(last) = parts.pop() else {
+            unreachable!()
+        };
+        if rest.insert(0, last).is_err() {
+            unreachable!()
         }
     }
     Some(rest)
