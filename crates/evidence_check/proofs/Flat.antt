@@ -1,8 +1,9 @@
 -- Lists that are made of the lists of parts, and edits of one of these.
 use Rattle.std.proofs.Common.{◌≡◌, ℕ, zero, suc, ◌+◌, ◌-◌, ◌<◌, ◌≤◌, Bool, List, [], ◌∷◌, ◌++◌, length, take, drop, set, refl, sym, ap, ◌∙◌, arith, Option, Some, None}
 use Rattle.std.proofs.Common.{append_assoc, length-append}
-use Rattle.std.specs.Prelude.{slice_get, insert, remove}
+use Rattle.std.specs.Prelude.{slice_get, insert, remove, MatchOption}
 use Rattle.std.specs.List.{flat_map}
+use Rattle.std.proofs.lemmas.List.Concat.{flat_map-append}
 use Rattle.evidence_check.specs.declared.marked_row.MarkedRow.{MarkedRow}
 use Rattle.evidence_check.specs.Parts.{marked_at}
 
@@ -150,3 +151,28 @@ mark_within xs ys zs place before alive long from to =
     let place_is : place ≡ length xs + (place - before) = omega (arith, long) in
     ap (λ p. marked_at p alive (xs ++ (ys ++ zs))) place_is ∙ mark_second xs (ys ++ zs) (place - before) alive
     ∙ ap (λ more. xs ++ more) (mark_first ys zs (place - before) alive (omega arith))
+
+pub length_marked : (place : ℕ) (alive : Bool) (xs : List MarkedRow) → length (marked_at place alive xs) ≡ length xs
+length_marked place alive [] = refl
+length_marked zero alive (x ∷ xs) = refl
+length_marked (suc place) alive (x ∷ xs) = ap (λ n. suc n) (length_marked place alive xs)
+
+-- parts of which the later ones were taken out
+pub part_shorter : {P V : Type 0} (f : P → List MarkedRow) (items : V → List P) (rest : Option V) (old new : List P) → MatchOption rest (new ≡ old) (λ r. new ++ items r ≡ old)
+    → length (flat_map f new) ≤ length (flat_map f old)
+part_shorter f items None old new same = let equal = ap (λ l. length (flat_map f l)) same in omega (arith, equal)
+part_shorter f items (Some r) old new joined =
+    let whole : length (flat_map f old) ≡ length (flat_map f new) + length (flat_map f (items r)) =
+    ap (λ l. length (flat_map f l)) (sym joined) ∙ ap length (flat_map-append f new (items r)) ∙ length-append (flat_map f new) (flat_map f (items r)) in
+    omega (arith, whole)
+
+pub length_insert : {A : Type 0} (xs : List A) (place : ℕ) (x : A) → place ≤ length xs → length (insert xs place x) ≡ suc (length xs)
+length_insert xs zero x within = refl
+length_insert [] (suc place) x within = absurd (let none : ⊥ = omega arith in none)
+length_insert (y ∷ xs) (suc place) x within = ap (λ n. suc n) (length_insert xs place x (omega arith))
+
+pub rest_shorter : {P : Type 0} (f : P → List MarkedRow) (old new rest : List P) → new ++ rest ≡ old → length (flat_map f rest) ≤ length (flat_map f old)
+rest_shorter f old new rest joined =
+    let whole : length (flat_map f old) ≡ length (flat_map f new) + length (flat_map f rest) =
+    ap (λ l. length (flat_map f l)) (sym joined) ∙ ap length (flat_map-append f new rest) ∙ length-append (flat_map f new) (flat_map f rest) in
+    omega (arith, whole)

@@ -1,6 +1,7 @@
 -- Sums of weights as they are stored.
 use Rattle.std.proofs.Common.{◌≡◌, ℕ, ◌*◌, ◌≤◌, ℤ, pos, negsuc, w32, SFits, to_z, of_z, Bool, true, false, cond, ap, ◌∙◌, List, length, subst, sym, arith}
 use Rattle.std.specs.Prelude.{◌+ℤ◌, ◌-ℤ◌, ◌≤ℤ◌, int_lt}
+use Rattle.std.proofs.lemmas.Bool.Decides.{nat_tests}
 use Rattle.std.proofs.lemmas.Int.{ints, to_z-of_z}
 use Rattle.retro_base.specs.Limits.{most_rows}
 use Rattle.evidence_check.specs.declared.marked_row.MarkedRow.{MarkedRow}
@@ -62,3 +63,12 @@ whole_fits before xs room = bounded before (sum_of xs) (length xs) room.up room.
   where
     bounded : (b s : ℤ) (n : ℕ) → (b +ℤ pos n) ≤ℤ pos most_rows → pos n ≤ℤ (b +ℤ pos most_rows) → s ≤ℤ pos n → pos 0 ≤ℤ (s +ℤ pos n) → SFits w32 (b +ℤ s)
     bounded b s n up down most least = within_fits (b +ℤ s) (omega (arith, ints)) (omega (arith, ints))
+
+pub above_fits : (before low : ℤ) (xs : List MarkedRow) → low ≡ low_of xs → HasRoom before (length xs) → SFits w32 (before +ℤ low)
+above_fits before low xs is room = bounded before low (low_of xs) (length xs) is room.up room.down (low-up xs) (low-down xs)
+  where
+    bounded : (b l m : ℤ) (n : ℕ) → l ≡ m → (b +ℤ pos n) ≤ℤ pos most_rows → pos n ≤ℤ (b +ℤ pos most_rows) → m ≤ℤ pos 1 → pos 0 ≤ℤ (m +ℤ pos n) → SFits w32 (b +ℤ l)
+    bounded b l m n is up down most least = within_fits (b +ℤ l) (omega (arith, ints)) (omega (arith, ints))
+
+pub above_zero : (sum before low least : ℤ) → sum ≡ before +ℤ low → low ≡ least → int_lt (pos 0) sum ≡ true → pos 1 ≤ℤ (before +ℤ least)
+above_zero sum before low least whole is above = grind (arith, ints, nat_tests)

@@ -1,6 +1,7 @@
 //! A pack of parts, with the sums of its rows.
 
 ghost use Rattle.std.specs.Prelude.{◌≡◌, ◌<◌, ◌≤◌, [], length, insert, remove, OnErr, OnOk, IfErr};
+ghost use Rattle.std.specs.List.{flat_map};
 ghost use Rattle.retro_base.specs.Limits.{most_rows};
 ghost use Rattle.evidence_check.specs.declared.error.CheckError.TheVariants as causes;
 
@@ -11,14 +12,11 @@ use crate::search::{
     alive_among, alive_place_among, dead_among, dead_place_among, first_zero_among,
     last_zero_among, row_among, sums_among,
 };
-use crate::splice::{ROOM, insert_among, mark_among, remove_among, split};
+use crate::splice::{ROOM, insert_among, mark_among, remove_among, spill};
 use crate::sums::Sums;
 use retro_base::Entry;
 use std::alloc::Global;
 use std::marker::Model;
-
-/// So many parts fill a pack.
-const FULL: usize = 32;
 
 /// Parts that follow one another. Contracts see their rows.
 #[derive(Drop)]
@@ -49,6 +47,15 @@ impl<P: Part> Pack<P> {
             parts: Vec::new(alloc),
             sums: Sums::none(),
         }
+    }
+
+    /// A pack of these parts.
+    fn of_parts(parts: Vec<P>) -> Pack<P>
+        requires { length (flat_map P.rows parts.items) ≤ most_rows }
+        ensures { result ≡ flat_map P.rows parts.items }
+    {
+        let sums = sums_among(&parts);
+        Pack { parts, sums }
     }
 
     /// How many rows there are.
@@ -112,14 +119,20 @@ impl<P: Part> Part for Pack<P> {
     }
 
     fn last_zero(&self, before: i32, to: u32) -> u32 {
-        if to == 0 || before + self.sums.low > 0 {
+        if to == 0 {
+            return 0;
+        }
+        if before + self.sums.low > 0 {
             return 0;
         }
         last_zero_among(&self.parts, self.sums, before, to)
     }
 
     fn first_zero(&self, before: i32, from: u32) -> u32 {
-        if before + self.sums.low > 0 || from > self.sums.rows {
+        if from > self.sums.rows {
+            return 0;
+        }
+        if before + self.sums.low > 0 {
             return 0;
         }
         first_zero_among(&self.parts, before, from)
@@ -166,18 +179,11 @@ impl<P: Part> Part for Pack<P> {
     ) -> Result<Option<Pack<P>>, CheckError> {
         let at_end = place == self.sums.rows;
         insert_among(&mut self.parts, place, row, alloc)?;
-        let rest = if self.parts.len() > FULL {
-            split(&mut self.parts, if at_end { FULL } else { FULL / 2 }, alloc)
-        } else {
-            None
-        };
+        let rest = spill(&mut self.parts, at_end, alloc);
         self.sums = sums_among(&self.parts);
         match rest {
             None => Ok(None),
-            Some(parts) => {
-                let sums = sums_among(&parts);
-                Ok(Some(Pack { parts, sums }))
-            }
+            Some(parts) => Ok(Some(Pack::of_parts(parts))),
         }
     }
 

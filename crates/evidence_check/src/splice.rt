@@ -12,14 +12,17 @@ use crate::part::Part;
 use crate::search::{Held, holding};
 use std::alloc::Global;
 
+/// So many parts fill a pack.
+const FULL: usize = 32;
+
 /// So many parts there is room for in a pack: those that fill it, and one more until it is divided.
 pub(crate) const ROOM: usize = 33;
 
 /// Marks the row at a place.
-pub(crate) fn mark_among<P: Part>(parts: &mut [P], place: u32, alive: bool)
-    requires few { length (flat_map P.rows parts.old) ≤ most_rows }
-    requires within { place < length (flat_map P.rows parts.old) }
-    ensures { flat_map P.rows parts.new ≡ marked_at place alive (flat_map P.rows parts.old) }
+pub(crate) fn mark_among<P: Part>(parts: &mut Vec<P>, place: u32, alive: bool)
+    requires few { length (flat_map P.rows parts.old.items) ≤ most_rows }
+    requires within { place < length (flat_map P.rows parts.old.items) }
+    ensures { flat_map P.rows parts.new.items ≡ marked_at place alive (flat_map P.rows parts.old.items) }
 {
     let held = holding(parts, place);
     let part = &mut parts[held.index];
@@ -87,8 +90,22 @@ pub(crate) fn remove_among<P: Part>(parts: &mut Vec<P>, place: u32)
     }
 }
 
+/// What no longer fits into a pack: the later half, or where the row came at the end the new last part, so that a history
+/// that grows there fills its packs.
+pub(crate) fn spill<P: Part>(parts: &mut Vec<P>, at_end: bool, alloc: Global) -> Option<Vec<P>>
+    ensures { MatchOption result (parts.new.items ≡ parts.old.items) (λ rest. parts.new.items ++ rest.items ≡ parts.old.items) }
+{
+    if parts.as_slice().len() <= FULL {
+        None
+    } else if at_end {
+        split(parts, FULL, alloc)
+    } else {
+        split(parts, FULL / 2, alloc)
+    }
+}
+
 /// Takes the parts from an index on. Without memory for them none is taken.
-pub(crate) fn split<P: Part>(parts: &mut Vec<P>, at: usize, alloc: Global) -> Option<Vec<P>>
+fn split<P: Part>(parts: &mut Vec<P>, at: usize, alloc: Global) -> Option<Vec<P>>
     requires { at ≤ length parts.old.items }
     ensures { MatchOption result (parts.new.items ≡ parts.old.items) (λ rest. parts.new.items ++ rest.items ≡ parts.old.items) }
 {
