@@ -1,5 +1,5 @@
 -- What is kept beside the rows, after an edit.
-use Rattle.std.proofs.Common.{◌≡◌, ◌≢◌, ℕ, zero, suc, Bool, true, false, cond, ◌||◌, List, [], ◌∷◌, map, refl, sym, ap, ◌∙◌, Some, set, drop, length}
+use Rattle.std.proofs.Common.{◌≡◌, ◌≢◌, ℕ, zero, suc, Bool, true, false, cond, ◌||◌, List, [], ◌∷◌, map, refl, sym, ap, ◌∙◌, Some}
 use Rattle.std.specs.Prelude.{◌==◌, slice_get, insert, remove}
 use Rattle.std.specs.List.{AllByRecursion}
 use Rattle.std.proofs.lemmas.Bool.{ne_eqb}
@@ -13,6 +13,7 @@ use Rattle.retro_base.specs.Bridges.{same_entry}
 use Rattle.retro_base.specs.Weights.{added_as}
 use Rattle.evidence_check.specs.declared.marked_row.MarkedRow.{MarkedRow}
 use Rattle.evidence_check.specs.Marks.{adds, rows_of, with_mark}
+use Rattle.evidence_check.specs.Parts.{marked_at}
 use Rattle.evidence_check.proofs.EntryOrder.{same_is}
 use Rattle.evidence_check.proofs.Weighing.{all_at}
 use Rattle.retro_base.specs.Timeline.{HaveOwnNumbers, IsFresh}
@@ -93,7 +94,7 @@ number_at P (first ∷ others) (suc place) row all there = number_at P others pl
 
 -- of a row that adds the entry, the mark alone is set
 pub set_marked : (entry : Entry) (alive : Bool) (marked : List MarkedRow) (place : ℕ) (row : MarkedRow) → HaveOwnNumbers (rows_of marked) → slice_get marked place ≡ Some row
-    → adds entry row ≡ true → set marked place (record row { alive = alive }) ≡ map (with_mark entry alive) marked
+    → adds entry row ≡ true → marked_at place alive marked ≡ map (with_mark entry alive) marked
 set_marked entry alive [] place row own there hit = absurd (cc)
 set_marked entry alive (first ∷ others) zero row own there hit =
     let same : first ≡ row = cc in

@@ -23,5 +23,7 @@ pub mod Zeros
 pub mod Stored
 pub mod Walks
 pub mod Held
-pub mod KeptBeside
+pub mod Reading
+pub mod Made
+pub mod Making
 mod Examples

@@ -8,3 +8,4 @@ pub mod Kept
 pub mod Sums
 pub mod Parts
 pub mod Zeros
+pub mod Changed

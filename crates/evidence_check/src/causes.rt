@@ -1,6 +1,7 @@
 //! Why evidence is refused, by the tests in their order.
 
-ghost use Rattle.std.specs.Prelude.{◌≡◌};
+ghost use Rattle.std.specs.Prelude.{◌≡◌, ◌≤◌, length};
+ghost use Rattle.retro_base.specs.Limits.{most_rows};
 ghost use Rattle.evidence.specs.Evidence.{IsEvidence};
 ghost use Rattle.evidence_check.specs.Kept.{AreKept, AreNumbers};
 ghost use Rattle.evidence_check.specs.Marks.{rows_of};
@@ -60,7 +61,8 @@ fn is_outside(added: bool, place: u32, rows: &Rows) -> bool
 
 /// Whether a row that is put in has the number of another one, or the one that is taken out has another number.
 fn has_wrong_number(added: bool, number: u32, place: u32, rows: &Rows, numbers: &Numbers) -> bool
-    requires { AreNumbers (rows_of rows.now) numbers.now }
+    requires few { length rows.now ≤ most_rows }
+    requires numbers { AreNumbers (rows_of rows.now) numbers.now }
     ensures { result ≡ has_wrong_number added number place (rows_of rows.now) }
 {
     if added {
@@ -75,6 +77,7 @@ fn has_wrong_number(added: bool, number: u32, place: u32, rows: &Rows, numbers: 
 
 /// Whether the row that is taken out does something else.
 fn has_wrong_op(added: bool, op: Op, place: u32, rows: &Rows) -> bool
+    requires { length rows.now ≤ most_rows }
     ensures { result ≡ has_wrong_op added op place (rows_of rows.now) }
 {
     if added {

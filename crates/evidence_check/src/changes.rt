@@ -1,11 +1,12 @@
 //! What an edit changes, read off the marks of the rows before it.
 
-ghost use Rattle.std.specs.Prelude.{◌≡◌, ◌≤◌, false, length, take};
+ghost use Rattle.std.specs.Prelude.{◌≡◌, ◌≤◌, None, Some, false, length};
 ghost use Rattle.retro_base.specs.Carried.{IsPqEdit};
+ghost use Rattle.retro_base.specs.Limits.{most_rows};
 ghost use Rattle.retro_base.specs.Weights.{added_as};
 ghost use Rattle.evidence.specs.Evidence.{IsEvidence};
 ghost use Rattle.evidence_check.specs.Marks.{MarksSurvivors, cause_against, gained, is_alive_at, least_alive, lost, marked_change, rows_of};
-ghost use Rattle.evidence_check.specs.Truth.{bridge_of, change_cause, is_outside, same_bridge, same_change, reported_edit};
+ghost use Rattle.evidence_check.specs.Truth.{bridge_of, cause_of, change_cause, is_outside, same_bridge, same_change, reported_edit};
 
 use crate::CheckError;
 use crate::better::later_of;
@@ -32,6 +33,19 @@ pub(crate) fn change_cause(rows: &Rows, evidence: &Evidence) -> Option<CheckErro
     least_before_bridge_is_lost();
     one_change_is_named();
     cause_against(evidence.change, marked_change(rows, evidence))
+}
+
+/// A law: where nothing is said against evidence, its change is the one that is read off the marks.
+pub(crate) fn read_change(rows: &Rows, evidence: &Evidence)
+    requires kept { MarksSurvivors rows.now }
+    requires evidence { IsEvidence evidence.now }
+    requires truth { cause_of (rows_of rows.now) evidence.now ≡ None }
+    ensures { marked_change rows.now evidence.now.added evidence.now.place (added_as evidence.now.op evidence.now.number) ≡ Some evidence.now.change }
+{
+    one_entry_is_carried();
+    greatest_from_bridge_is_gained();
+    least_before_bridge_is_lost();
+    one_change_is_named();
 }
 
 /// Why a change is refused where this one was read off the marks, or none.
@@ -104,6 +118,7 @@ fn lost(rows: &Rows, place: u32) -> Option<Change>
 
 /// Whether the entry of the row at a place survives.
 fn is_alive_at(rows: &Rows, place: u32) -> bool
+    requires { length rows.now ≤ most_rows }
     ensures { result ≡ is_alive_at rows.now place }
 {
     match rows.row(place) {

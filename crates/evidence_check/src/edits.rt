@@ -1,26 +1,30 @@
 //! An edit that is accepted, made in marked rows and in the numbers beside them.
 
-ghost use Rattle.std.specs.Prelude.{◌≡◌, ◌<◌, ◌≤◌, Bool, Option, None, Some, true, false, length, insert, remove, IfErr, OnOk, OnErr};
+ghost use Rattle.std.specs.Prelude.{◌≡◌, ◌<◌, ◌≤◌, ◌&&◌, None, Some, false, length, insert, remove, IfErr, IfSome, OnOk, OnErr};
 ghost use Rattle.retro_base.specs.Limits.{most_rows};
 ghost use Rattle.retro_base.specs.Timeline.{HaveOwnNumbers};
 ghost use Rattle.retro_base.specs.Weights.{added_as};
 ghost use Rattle.evidence.specs.Evidence.{IsEvidence};
 ghost use Rattle.evidence_check.specs.declared.error.CheckError.TheVariants as causes;
+ghost use Rattle.evidence_check.specs.Changed.{IsChanged, is_gain, marked_where, moved_place};
 ghost use Rattle.evidence_check.specs.Kept.{AreKept, AreNumbers};
-ghost use Rattle.evidence_check.specs.Marks.{changed_marks, edited_rows, marked_row, rows_of};
-ghost use Rattle.evidence_check.specs.Truth.{cause_of, has_number};
+ghost use Rattle.evidence_check.specs.Marks.{MarksSurvivors, changed_marks, edited_rows, marked_change, marked_row, rows_of};
+ghost use Rattle.evidence_check.specs.Parts.{is_entry, marked_at};
+ghost use Rattle.evidence_check.specs.Truth.{cause_of, has_number, has_wrong_number};
 
 use crate::CheckError;
-use crate::marked_row::{MarkedRow, added_entry, is_same};
+use crate::changes::read_change;
+use crate::marked_row::{MarkedRow, added_entry};
 use crate::numbers::Numbers;
 use crate::part::Part;
 use crate::rows::Rows;
+use crate::search::is_entry;
 use evidence::Evidence;
 use retro_base::laws::one_change_is_named;
 use retro_base::{Change, Entry};
 use std::alloc::Global;
 
-/// Makes the edit, and its change. Without memory for it all is as before.
+/// Makes the edit, and its change. Memory is taken before anything is marked: without it all is as before.
 pub(crate) fn make(
     rows: &mut Rows,
     numbers: &mut Numbers,
@@ -36,6 +40,7 @@ pub(crate) fn make(
     ensures cause { IfErr result (λ cause. cause ≡ causes.NoMemory) }
 {
     one_change_is_named();
+    read_change(rows, evidence);
     let alive = is_gain(evidence.change);
     let changed = changed_place(rows, evidence);
     if evidence.added {
@@ -49,49 +54,70 @@ pub(crate) fn make(
 }
 
 /// Whether the entry of a change survives from now on.
-fn is_gain(change: Change) -> bool {
-    matches!(change, Change::Gain { .. })
+fn is_gain(change: Change) -> bool
+    ensures { result ≡ is_gain change }
+{
+    match change {
+        Change::Plain => false,
+        Change::Gain { .. } => true,
+        Change::Lose { .. } => false,
+    }
 }
 
 /// Where the row stands before the edit whose mark changes by it. There is none for the row of the edit itself.
-fn changed_place(rows: &Rows, evidence: &Evidence) -> Option<u32> {
+fn changed_place(rows: &Rows, evidence: &Evidence) -> Option<u32>
+    requires kept { MarksSurvivors rows.now }
+    requires read { marked_change rows.now evidence.now.added evidence.now.place (added_as evidence.now.op evidence.now.number) ≡ Some evidence.now.change }
+    ensures { IsChanged rows.now evidence.now result }
+{
     match evidence.change {
         Change::Plain => None,
         Change::Gain { bridge, entry } => {
-            if evidence.added && adds(evidence, entry) {
+            if is_own(evidence, entry) {
                 None
             } else {
                 Some(rows.dead_place(bridge, entry))
             }
         }
-        Change::Lose { bridge, entry } => match bridge {
-            None => None,
-            Some(bridge) => Some(rows.alive_place(bridge, entry)),
-        },
+        Change::Lose { bridge: None, .. } => None,
+        Change::Lose { bridge: Some(bridge), entry } => Some(rows.alive_place(bridge, entry)),
     }
 }
 
-/// Whether the row that evidence tells of adds this entry.
-fn adds(evidence: &Evidence, entry: Entry) -> bool {
-    match added_entry(evidence.op, evidence.number) {
-        None => false,
-        Some(added) => is_same(entry, added),
-    }
+/// Whether evidence puts in the row that adds this entry.
+fn is_own(evidence: &Evidence, entry: Entry) -> bool
+    ensures { result ≡ (evidence.now.added && is_entry (added_as evidence.now.op evidence.now.number) entry) }
+{
+    evidence.added && is_entry(added_entry(evidence.op, evidence.number), entry)
 }
 
-fn mark_at(rows: &mut Rows, changed: Option<u32>, alive: bool) {
+/// Marks the row, if one stands somewhere.
+fn mark_at(rows: &mut Rows, changed: Option<u32>, alive: bool)
+    requires few { length rows.old ≤ most_rows }
+    requires within { IfSome changed (λ place. place < length rows.old) }
+    ensures { rows.new ≡ marked_where changed alive rows.old }
+{
     if let Some(place) = changed {
         rows.mark(place, alive);
     }
 }
 
-/// Marks a row that stood at this place before one was put in, or that one.
-fn mark_moved(rows: &mut Rows, added: u32, changed: Option<u32>, alive: bool) {
-    let place = match changed {
-        None => added,
-        Some(place) => { if place < added { place } else { place + 1 } }
-    };
-    rows.mark(place, alive);
+/// Marks the row where it stands once another one was put in, or that one.
+fn mark_moved(rows: &mut Rows, added: u32, changed: Option<u32>, alive: bool)
+    requires few { length rows.old ≤ most_rows }
+    requires within { moved_place added changed < length rows.old }
+    ensures { rows.new ≡ marked_at (moved_place added changed) alive rows.old }
+{
+    match changed {
+        None => rows.mark(added, alive),
+        Some(place) => {
+            if place < added {
+                rows.mark(place, alive);
+            } else {
+                rows.mark(place + 1, alive);
+            }
+        }
+    }
 }
 
 /// Puts the row in, unmarked.
@@ -124,7 +150,15 @@ fn put_in(
 }
 
 /// Takes the row out.
-fn take_out(rows: &mut Rows, numbers: &mut Numbers, evidence: &Evidence) {
+fn take_out(rows: &mut Rows, numbers: &mut Numbers, evidence: &Evidence)
+    requires few { length rows.old ≤ most_rows }
+    requires within { evidence.now.place < length rows.old }
+    requires own { has_wrong_number false evidence.now.number evidence.now.place (rows_of rows.old) ≡ false }
+    requires distinct { HaveOwnNumbers (rows_of rows.old) }
+    requires numbers { AreNumbers (rows_of rows.old) numbers.old }
+    ensures numbers { AreNumbers (rows_of rows.new) numbers.new }
+    ensures rows { rows.new ≡ remove rows.old evidence.now.place }
+{
     rows.take_out(evidence.place);
     let _ = numbers.remove(&evidence.number);
 }

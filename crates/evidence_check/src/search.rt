@@ -170,7 +170,7 @@ fn beyond(place: u32, passed: u32) -> u32
 }
 
 /// Whether there is one, and it is this entry.
-fn is_entry(found: Option<Entry>, entry: Entry) -> bool
+pub(crate) fn is_entry(found: Option<Entry>, entry: Entry) -> bool
     ensures { result ≡ is_entry found entry }
 {
     match found {
