@@ -10,6 +10,7 @@ when it has taken its share of time, so a slow program is measured on fewer line
 
 import os
 import platform
+import random
 import select
 import shutil
 import subprocess
@@ -71,8 +72,7 @@ class Peer:
             return int(counts.read().split()[1]) * os.sysconf("SC_PAGE_SIZE")
 
     def most(self):
-        with open("/proc/%d/status" % self.process.pid) as status:
-            return next(int(line.split()[1]) * 1024 for line in status if line.startswith("VmHWM"))
+        return peak(self.process.pid)
 
     def end(self):
         self.process.stdin.close()
@@ -207,6 +207,35 @@ def judged(program, lines, runs):
     return least[0] / len(lines) * 1e6
 
 
+def evidence(program, rows, anywhere):
+    """The evidence of so many rows of a priority queue, each after all others or at random times, as `run` writes it."""
+    draw = random.Random("evidence %d %s" % (rows, anywhere))
+    given = ["new p pq"]
+    for index in range(rows):
+        time = draw.randrange(1_000 * rows) if anywhere else 1_000 * (index + 1)
+        given.append("p at %d %s" % (time, "ins %d" % draw.randrange(1_000_000) if draw.random() >= 0.375 else "delmin"))
+    said = processor_seconds([program, "run"], ("\n".join(given) + "\n").encode())[1]
+    return [line for line in said.split(b"\n") if line.startswith(b"edit ")]
+
+
+def judging(program, lines, runs):
+    """The time of `check` for a line of evidence, the least of some runs, and the memory that each line has cost."""
+    process = subprocess.Popen([program, "check"], stdin=subprocess.PIPE, stdout=subprocess.PIPE)
+    with process:
+        before = peak(process.pid)
+        process.stdin.write(b"".join(line + b"\n" for line in lines))
+        process.stdin.flush()
+        time.sleep(1)
+        grown = peak(process.pid) - before
+    return judged(program, lines, runs), grown / len(lines)
+
+
+def peak(pid):
+    """The most resident memory that a process has had, in bytes."""
+    with open("/proc/%d/status" % pid) as status:
+        return next(int(line.split()[1]) * 1024 for line in status if line.startswith("VmHWM"))
+
+
 def asked(words, questions, runs):
     """The time of a question about a queue of two rows, reading and answering alone."""
     given = b"new q queue\nq at 10 enq 5\nq at 20 enq 7\n" + b"q ask front\n" * questions
@@ -290,6 +319,11 @@ def main():
             for peer in there:
                 shown = ["%s %.2f" % (phase, times[Case(kind, rows, phase), peer]) for phase in last[peer].times]
                 print("%5.0f s  %s %d %s: %s" % (time.time() - began, kind, rows, peer, " ".join(shown)), flush=True)
+    for rows in sizes:
+        for place in ("end", "anywhere"):
+            lines = evidence(program, rows, place == "anywhere")
+            times[rows, place, "judged"], used[rows, place, "judged"] = judging(program, lines, 1 if quick else 3)
+            print("%5.0f s  check, %d rows, %s: %.2f" % (time.time() - began, rows, place, times[rows, place, "judged"]), flush=True)
     questions = QUESTIONS // 10 if quick else QUESTIONS
     for peer in ("retro", "replay"):
         if peer in programs:

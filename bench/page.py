@@ -220,6 +220,17 @@ class Page:
     def both(self, rows, phase):
         return " / ".join(number(self.cost(kind, rows, phase, "retro")) or "-" for kind in ("pq", "pqf"))
 
+    def judging(self):
+        times, used = self.made.times, self.made.used
+        yield "## Judging evidence"
+        yield ""
+        yield "`check` over the evidence of rows that came in each after all others, and of rows that came in at random times, by the number of rows that were drawn."
+        yield "In parentheses the bytes of memory that a line has cost, with what is read ahead."
+        yield ""
+        names = {"end": "rows at the end, µs a line", "anywhere": "rows at random times, µs a line"}
+        rows = [[name] + ["%s (%.0f)" % (number(times[size, place, "judged"]), used[size, place, "judged"]) for size in self.made.sizes] for place, name in names.items()]
+        yield from table([""] + ["{:,} rows".format(size) for size in self.made.sizes], rows)
+
     def texts(self):
         times, used = self.made.times, self.made.used
         yield "## Texts and streams"
@@ -235,7 +246,7 @@ class Page:
             yield from table(["Program", "µs a line"], [[name, "%.3f" % times["asked", peer]] for peer, name in names.items() if ("asked", peer) in times])
 
     def text(self):
-        for part in (self.head, self.programs, self.marks, self.growth, self.memory, self.fused, self.texts):
+        for part in (self.head, self.programs, self.marks, self.growth, self.memory, self.fused, self.judging, self.texts):
             yield from part()
 
 

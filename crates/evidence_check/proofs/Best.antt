@@ -96,13 +96,13 @@ module _ (beaten : Entry → Entry → Bool)
   better-assoc (Some a) (Some b) (Some c) =
       elim (beaten a b) as (λ t. beaten a b ≡ t → better_of beaten (Some (cond t b a)) (Some c) ≡ better_of beaten (Some a) (Some (cond (beaten b c) c b))) [
         | true ↦ λ ab. elim (beaten b c) as (λ t. beaten b c ≡ t → Some (cond t c b) ≡ better_of beaten (Some a) (Some (cond t c b))) [
-              | true ↦ λ bc. rw (beats a b c ab bc) refl
-              | false ↦ λ bc. rw ab refl
-            ] refl
+          | true ↦ λ bc. rw (beats a b c ab bc) refl
+          | false ↦ λ bc. rw ab refl
+        ] refl
         | false ↦ λ ab. elim (beaten b c) as (λ t. beaten b c ≡ t → Some (cond (beaten a c) c a) ≡ better_of beaten (Some a) (Some (cond t c b))) [
-              | true ↦ λ bc. refl
-              | false ↦ λ bc. rw (passed_on a b c ab bc, ab) refl
-            ] refl
+          | true ↦ λ bc. refl
+          | false ↦ λ bc. rw (passed_on a b c ab bc, ab) refl
+        ] refl
       ] refl
     where
       beats : (a b c : Entry) → beaten a b ≡ true → beaten b c ≡ true → beaten a c ≡ true

@@ -80,7 +80,10 @@ fn changed_place(rows: &Rows, evidence: &Evidence) -> Option<u32>
             }
         }
         Change::Lose { bridge: None, .. } => None,
-        Change::Lose { bridge: Some(bridge), entry } => Some(rows.alive_place(bridge, entry)),
+        Change::Lose {
+            bridge: Some(bridge),
+            entry,
+        } => Some(rows.alive_place(bridge, entry)),
     }
 }
 

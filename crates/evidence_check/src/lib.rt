@@ -5,18 +5,21 @@
 //! were accepted before it, and else the first cause against it is reported. The definition is `specs/Truth.antt` for
 //! one timeline and `specs/Judgement.antt` for all of them.
 //!
-//! For each timeline the rows are kept in a plain vector, with a mark for each entry that survives. The marks are
-//! weights: a dead entry counts 1, a row that takes counts -1, and a place is a bridge where the rows before it
-//! add up to 0 (Demaine, Iacono and Langerman, "Retroactive Data Structures", section 5.5). After all rows they do
-//! too: so a line costs one walk back from the last row, to its place or to the bridge before it, and no replay. Beside
-//! the rows stand their numbers in a map and their survivors in an ordered set, both of std: so at the end of a history
-//! a line costs two or three look-ups.
+//! For each timeline the rows are kept with a mark for each entry that survives. The marks are weights: a dead entry
+//! counts 1, a row that takes counts -1, and a place is a bridge where the rows before it add up to 0 (Demaine, Iacono
+//! and Langerman, "Retroactive Data Structures", section 5.5). After all rows they do too.
 //!
-//! - `Checker` takes the lines, `CheckError` says why one is refused.
-//! - `marked_row`, `bridges`, `changes`: the rows with their marks, and what is read off them.
-//! - `numbers`, `ordered`: the numbers of the rows, and the survivors in their order.
-//! - `edits`: an accepted line, made in all three. `reported`: what was reported of one timeline.
-//! - `laws`: evidence is accepted exactly where it is true.
+//! The rows lie in vectors of vectors: a row is a part, and a pack of up to 32 parts is a part. A pack knows the sums of
+//! its rows: how many there are, their weights added up, the least of the sums of its first rows, the greatest dead
+//! entry and the least one that survives. A line reads the sums of the parts and opens only those in question, so it
+//! costs the same wherever it stands, and no replay. Contracts see a part as the list of its rows.
+//!
+//! - `Checker` takes the lines, `CheckError` says why one is refused. `laws`: evidence is accepted exactly where it is true.
+//! - `reported`: what was reported of one timeline. `causes`, `changes`: why a line is refused, by the rows before it.
+//! - `edits`: an accepted line, made in the rows and in their `numbers`.
+//! - `rows`: the rows of a timeline, and the bridges among them. `marked_row`: one of them.
+//! - `part`: what a part answers. `one_row`, `pack`: a row as a part, and a pack. `sums`, `better`: what a pack knows.
+//! - `search`, `splice`: what is looked for in parts that follow one another, and edits of them.
 #![tactic(auto)]
 
 mod better;

@@ -40,5 +40,5 @@ pub loop-part-preserved : goal.loop-part-preserved
 loop-part-preserved g c = (
   passed_next g.P.Part.rows c.args.parts.now c.loop-part.part-index c.part-item.result c.loop-part-test.true c.part-item.is c.loop-part.passed c.sums-passed.result.rows c.loop-part.invariant.0 (ap (λ s. s.rows) c.sums-passed.ensures),
   no_alive_next g.P.Part.rows c.args.parts.now c.loop-part.part-index c.part-item.result c.loop-part-test.true c.part-item.is c.args.to c.loop-part.passed c.args.entry c.alive_to.result c.loop-part.invariant.0 c.loop-part.invariant.1
-  (c.alive_to.ensures ∙ ap (λ n. least_alive (take n (g.P.Part.rows c.part-item.result))) c.beyond-end.ensures) (sym c.is_entry.ensures ∙ c.if-is_entry.false),
+      (c.alive_to.ensures ∙ ap (λ n. least_alive (take n (g.P.Part.rows c.part-item.result))) c.beyond-end.ensures) (sym c.is_entry.ensures ∙ c.if-is_entry.false),
 )
