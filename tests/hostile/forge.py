@@ -5,9 +5,10 @@
 
 PROGRAM is build/retro where none is named, FORGERIES 100000, SEED 1. Honest evidence is written here too, by replay, in
 eight shapes. Each forgery changes a byte, a word or what a line says, or drops, doubles, moves or swaps lines, or takes lines
-of another history. Both judges have to give the same line and the same cause, or the same count; else the forgery is kept in
-a file and named, and the status is 1. The last lines say how many were judged, by cause. Evidence that fills a timeline is
-not forged: no cause is `full`.
+of another history. One in fifty has one line too many for a timeline that is full of rows which all add; there the second judge
+does not replay, since all entries survive and every place is a bridge. Both judges have to give the same line and the same cause,
+or the same count; else the forgery is kept in a file and named, and the status is 1. The last lines say how many were judged, by
+cause.
 """
 
 import collections
@@ -223,6 +224,63 @@ def forge(draw, lines, others):
     return b"\n".join(lines) + draw.choice([b"\n", b"\n", b""]), way
 
 
+# ---------------------------------------------------------------- a full timeline
+
+MOST = 131_072
+
+
+def filled():
+    """Evidence that fills a timeline, each row after all others and none of which takes: the keys of its rows by number, and its text."""
+    draw = random.Random(MOST)
+    keys = [None] + [draw.randrange(-1000, 1000) for _ in range(MOST)]
+    text = b"".join(b"edit p add %d #%d ins %d bridge %d gain #%d %d\n" % (n - 1, n, keys[n], n - 1, n, keys[n]) for n in range(1, MOST + 1))
+    return keys, text
+
+
+def beyond(draw, keys):
+    """Lines after those of a full timeline, of which the last one is refused, and its cause."""
+    keys, rows, lines = list(keys), list(range(1, MOST + 1)), []
+    for _ in range(draw.randrange(3)):
+        place = draw.randrange(MOST)
+        number = rows.pop(place)
+        lines.append(b"edit p cut %d #%d ins %d bridge none lose #%d %d" % (place, number, keys[number], number, keys[number]))
+        place, number, key = draw.randrange(MOST), len(keys), draw.randrange(-1000, 1000)
+        rows.insert(place, number)
+        keys.append(key)
+        lines.append(b"edit p add %d #%d ins %d bridge %d gain #%d %d" % (place, number, key, place, number, key))
+    place = draw.randrange(MOST)
+    way = draw.choice(["full", "full", "full", "full", "row", "number"])
+    if way == "full":
+        op = draw.choice([b"delmin", b"ins %d" % draw.randrange(-1000, 1000)])
+        at, number = draw.choice([place, MOST, MOST + 1]), draw.choice([len(keys), rows[place]])
+        lines.append(b"edit p add %d #%d %s bridge %d gain #%d 5" % (at, number, op, place, number))
+    else:
+        number, op = (rows[place], b"delmin") if way == "row" else (len(keys), b"ins %d" % keys[rows[place]])
+        lines.append(b"edit p cut %d #%d %s bridge none lose #%d 5" % (place, number, op, number))
+    return b"".join(line + b"\n" for line in lines), "refused line %d %s" % (MOST + len(lines), way)
+
+
+def compared_beyond(work):
+    """The same as `compared` of forgeries that are judged after a full timeline."""
+    program, seed, count = work
+    draw = random.Random(seed)
+    keys, text = filled()
+    counts, differ = collections.Counter(), []
+    for _ in range(count):
+        tail, said = beyond(draw, keys)
+        run = subprocess.run([program, "check"], input=text + tail, stdout=subprocess.PIPE)
+        counts.update([("way", "after a full timeline"), ("cause", said.split()[-1])])
+        if run.stdout != said.encode() + b"\n":
+            differ.append((text + tail, "%s, and the program says %r" % (said, run.stdout)))
+    return counts, differ
+
+
+def judged(work):
+    """One share, of either form."""
+    way, work = work
+    return way(work)
+
+
 def compared(work):
     """Judges the forgeries of one share, nine of each honest history: counts by shape, way and cause, and where the judges differ."""
     program, seed, count = work
@@ -252,9 +310,12 @@ def main():
     seed = int(sys.argv[3]) if len(sys.argv) > 3 else 1
     size = 500
     shares = [(program, seed * 1_000_003 + share, min(size, count - share * size)) for share in range((count + size - 1) // size)]
+    after, few = count // 50, 25
+    works = [(compared, share) for share in shares]
+    works += [(compared_beyond, (program, seed * 1_000_003 - 1 - share, min(few, after - share * few))) for share in range((after + few - 1) // few)]
     counts, differ = collections.Counter(), []
     with multiprocessing.Pool() as pool:
-        for some, wrong in pool.imap_unordered(compared, shares):
+        for some, wrong in pool.imap_unordered(judged, works):
             counts += some
             differ += wrong
     for kind in ("shape", "way", "cause"):
@@ -264,7 +325,7 @@ def main():
             kept.write(text)
         print("forgery-%d.evidence: %s" % (at, why))
     same = counts["way", "honest"]
-    print("%d honest histories and %d forgeries judged, %s" % (same, count, "%d otherwise" % len(differ) if differ else "all agreed"))
+    print("%d honest histories and %d forgeries judged, %s" % (same, count + after, "%d otherwise" % len(differ) if differ else "all agreed"))
     sys.exit(1 if differ else 0)
 
 

@@ -1,11 +1,11 @@
 -- The part that holds a row, and what an edit of it is of all rows.
-use Rattle.std.proofs.Common.{◌≡◌, ℕ, zero, suc, ◌+◌, ◌-◌, ◌<◌, ◌≤◌, Bool, List, [], ◌∷◌, ◌++◌, length, take, drop, set, get_or, refl, sym, ap, ◌∙◌, arith, Option, Some, None, Result, Ok, Err}
+use Rattle.std.proofs.Common.{◌≡◌, ℕ, zero, suc, ◌+◌, ◌-◌, ◌<◌, ◌≤◌, Bool, List, [], ◌∷◌, ◌++◌, length, take, drop, set, get_or, refl, sym, ap, ◌∙◌, arith, Some, Result, Ok, Err}
 use Rattle.std.specs.Prelude.{slice_get, insert, remove, OnErr}
 use Rattle.std.specs.List.{flat_map}
 use Rattle.std.proofs.lemmas.Option.{get_or_from_slice_get, slice_get_within}
 use Rattle.evidence_check.specs.declared.marked_row.MarkedRow.{MarkedRow}
 use Rattle.evidence_check.specs.declared.search.Held.{Held}
-use Rattle.evidence_check.specs.Parts.{Holds, HoldsBefore, marked_at, rest_of}
+use Rattle.evidence_check.specs.Parts.{Holds, HoldsBefore, marked_at}
 use Rattle.evidence_check.proofs.Flat.{flat_around, flat_more, flat_set, flat_without, insert_within, mark_within, remove_within}
 use Rattle.evidence_check.proofs.Walks.{fits, row_there, small, there}
 

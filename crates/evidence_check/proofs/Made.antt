@@ -1,20 +1,19 @@
 -- The rows and their numbers after an edit and its mark.
-use Rattle.std.proofs.Common.{◌≡◌, ℕ, zero, suc, ◌+◌, ◌<◌, ◌≤◌, Bool, true, false, cond, ◌||◌, List, [], ◌∷◌, length, map, refl, sym, ap, ◌∙◌, arith, inl, inr, Option, Some, None}
+use Rattle.std.proofs.Common.{◌≡◌, ℕ, zero, suc, ◌+◌, ◌<◌, ◌≤◌, Bool, true, false, cond, ◌||◌, List, [], ◌∷◌, length, map, refl, sym, ap, ◌∙◌, arith, Option, Some, None}
 use Rattle.std.specs.Prelude.{◌==◌, nat_lt, slice_get, insert, remove, option_map}
 use Rattle.std.specs.BTreeMap.{is_at}
 use Rattle.std.specs.BTreeSet.{BTreeSet, contains}
 use Rattle.std.specs.Ordering.{is_eq, nat_cmp}
 use Rattle.std.specs.List.{list_any}
 use Rattle.std.specs.Option.{option_and_then}
-use Rattle.std.proofs.lemmas.Bool.{cases_lt}
 use Rattle.std.proofs.lemmas.Bool.Decides.{Decides-eqb, nat_tests}
-use Rattle.std.proofs.lemmas.Option.{slice_get-map, slice_get_within}
+use Rattle.std.proofs.lemmas.Option.{slice_get-map}
 use Rattle.retro_base.specs.declared.op.Op.{Op}
 use Rattle.retro_base.specs.declared.row.Change.{Change}
 use Rattle.retro_base.specs.declared.row.Change.TheVariants.{Plain, Gain, Lose}
 use Rattle.retro_base.specs.declared.row.Entry.{Entry}
 use Rattle.retro_base.specs.declared.row.Row.{Row}
-use Rattle.retro_base.specs.OrderLaws.{own_numbers_with, own_numbers_without}
+use Rattle.retro_base.specs.OrderLaws.{own_numbers_with}
 use Rattle.retro_base.specs.Replay.{fold_rows}
 use Rattle.retro_base.specs.Timeline.{HaveOwnNumbers}
 use Rattle.retro_base.specs.Weights.{added_as, added_by}
@@ -27,8 +26,8 @@ use Rattle.evidence_check.specs.Parts.{marked_at, shows_at}
 use Rattle.evidence_check.specs.Truth.{has_number, has_wrong_number}
 use Rattle.evidence_check.proofs.Beside.{number_with, number_without, set_marked}
 use Rattle.evidence_check.proofs.EntryOrder.{is_itself}
-use Rattle.evidence_check.proofs.Kept.{nothing_kept, rows_marked}
-use Rattle.evidence_check.proofs.Marking.{insert_rows, remove_rows}
+use Rattle.evidence_check.proofs.Kept.{nothing_kept}
+use Rattle.evidence_check.proofs.Marking.{insert_rows}
 use Rattle.evidence_check.proofs.Possible.{holds_at, is_fresh}
 
 -- numbers

@@ -1,13 +1,11 @@
 -- An edit that is accepted, made with its mark: what its steps ask for, and what they come to.
 use Rattle.std.proofs.Common.{◌≡◌, ℕ, suc, ◌<◌, ◌≤◌, Bool, true, false, ◌&&◌, List, length, refl, sym, ap, ◌∙◌, arith, Option, Some, None}
-use Rattle.std.specs.Prelude.{nat_le, nat_lt, insert, remove, IfSome}
+use Rattle.std.specs.Prelude.{nat_le, insert, remove, IfSome}
 use Rattle.std.specs.BTreeSet.{BTreeSet}
 use Rattle.std.proofs.lemmas.Bool.Decides.{nat_tests}
 use Rattle.retro_base.specs.declared.row.Entry.{Entry}
-use Rattle.retro_base.specs.Carried.{IsPqEdit}
 use Rattle.retro_base.specs.ChangeLaws.{OneChangeOfPq}
 use Rattle.retro_base.specs.Limits.{most_rows}
-use Rattle.retro_base.specs.Timeline.{HaveOwnNumbers}
 use Rattle.retro_base.specs.Weights.{added_as}
 use Rattle.evidence.specs.declared.evidence.Evidence.{Evidence}
 use Rattle.evidence.specs.Evidence.{IsEvidence}
@@ -16,7 +14,7 @@ use Rattle.evidence_check.specs.Changed.{IsChanged, changed_entry, is_gain, mark
 use Rattle.evidence_check.specs.Kept.{AreKept, AreNumbers}
 use Rattle.evidence_check.specs.Marks.{MarksSurvivors, changed_marks, edited_rows, entry_of, marked_change, marked_row, rows_of}
 use Rattle.evidence_check.specs.Parts.{marked_at, shows_at}
-use Rattle.evidence_check.specs.Truth.{cause_of, edit_with, has_number, has_wrong_number, has_wrong_op, is_full, is_outside, reported_edit}
+use Rattle.evidence_check.specs.Truth.{cause_of, has_number, has_wrong_number, has_wrong_op, is_outside}
 use Rattle.evidence_check.proofs.Accepted.{Accepted, accepted_from}
 use Rattle.evidence_check.proofs.Flat.{length_insert, length_marked}
 use Rattle.evidence_check.proofs.Kept.{kept_after}

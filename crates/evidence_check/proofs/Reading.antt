@@ -1,7 +1,7 @@
 -- What is read off marked rows: the row at a place, and the change of an edit.
-use Rattle.std.proofs.Common.{◌≡◌, ℕ, suc, Bool, true, false, not, ◌&&◌, cond, List, [], ◌∷◌, take, drop, map, refl, sym, ap, ◌∙◌, inl, inr, Option, Some, None}
+use Rattle.std.proofs.Common.{◌≡◌, ℕ, suc, Bool, true, false, not, ◌&&◌, cond, List, take, drop, refl, sym, ap, ◌∙◌, inl, inr, Option, Some, None}
 use Rattle.std.specs.Prelude.{◌⊎◌, is_some, option_map, slice_get}
-use Rattle.std.specs.Option.{option_and_then, option_map_or}
+use Rattle.std.specs.Option.{option_map_or}
 use Rattle.std.proofs.lemmas.Option.{slice_get-map}
 use Rattle.retro_base.specs.declared.kind.Kind.TheVariants.{Pq}
 use Rattle.retro_base.specs.declared.row.Change.{Change}
@@ -11,15 +11,14 @@ use Rattle.retro_base.specs.declared.row.Row.{Row}
 use Rattle.retro_base.specs.Bridges.{first_bridge, last_bridge}
 use Rattle.retro_base.specs.Carried.{IsPqEdit}
 use Rattle.retro_base.specs.Changes.{change_of}
-use Rattle.retro_base.specs.Edits.{Edit, IsAccepted, edited}
-use Rattle.retro_base.specs.Replay.{failure}
+use Rattle.retro_base.specs.Edits.{Edit, IsAccepted}
 use Rattle.retro_base.specs.Weights.{added_as}
 use Rattle.evidence.specs.declared.evidence.Evidence.{Evidence}
 use Rattle.evidence.specs.Evidence.{IsEvidence}
 use Rattle.evidence_check.specs.declared.marked_row.MarkedRow.{MarkedRow}
 use Rattle.evidence_check.specs.Changed.{changed_entry}
 use Rattle.evidence_check.specs.Marks.{MarksSurvivors, better_of, cut_change, gained, greatest_dead, is_alive_at, is_less, least_alive, lost, marked_change, row_of, rows_of, dead_entry}
-use Rattle.evidence_check.specs.Truth.{cause_of, edit_with, fails_at, reported_edit}
+use Rattle.evidence_check.specs.Truth.{cause_of, fails_at, reported_edit}
 use Rattle.evidence_check.proofs.Accepted.{accepted_from}
 use Rattle.evidence_check.proofs.Best.{best-from}
 use Rattle.evidence_check.proofs.ChangesRead.{IsRight, Laws, right}

@@ -1,5 +1,5 @@
 -- How many dead entries are held, row by row: the marks are the weights.
-use Rattle.std.proofs.Common.{◌≡◌, ◌≢◌, ℕ, zero, suc, ◌+◌, ◌-◌, ◌<◌, ◌≤◌, pos, Bool, true, false, not, ◌&&◌, cond, List, [], ◌∷◌}
+use Rattle.std.proofs.Common.{◌≡◌, ℕ, zero, suc, ◌+◌, ◌-◌, ◌<◌, ◌≤◌, pos, Bool, true, false, not, ◌&&◌, cond, List, [], ◌∷◌}
 use Rattle.std.proofs.Common.{length, take, refl, sym, ap, ◌∙◌, zero-add, arith, Option, Some, None, inl, inr}
 use Rattle.std.specs.Prelude.{◌==◌, ℤ, ◌+ℤ◌, slice_get, count_by}
 use Rattle.std.specs.Option.{option_map_or}

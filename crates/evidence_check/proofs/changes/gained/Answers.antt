@@ -1,4 +1,4 @@
-use Rattle.std.proofs.Common.{sym, ap, ◌∙◌, Some}
+use Rattle.std.proofs.Common.{sym, ap, ◌∙◌}
 use Rattle.std.specs.Prelude.{option_map}
 use Rattle.retro_base.specs.declared.row.Change.TheVariants.{Gain}
 use Rattle.evidence_check.proofs.Reading.{gained_is}

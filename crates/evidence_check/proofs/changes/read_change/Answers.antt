@@ -1,6 +1,3 @@
-use Rattle.std.proofs.Common.{ap, ◌∙◌}
-use Rattle.evidence_check.specs.Marks.{cause_against, rows_of}
-use Rattle.evidence_check.specs.Truth.{reported_edit}
 use Rattle.evidence_check.proofs.Reading.{read_is}
 use Rattle.evidence_check.proofs.ChangesRead.{Laws}
 use Rattle.evidence_check.proofs.changes.read_change.Goals as goal

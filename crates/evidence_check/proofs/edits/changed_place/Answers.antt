@@ -1,12 +1,8 @@
-use Rattle.std.proofs.Common.{◌≡◌, Bool, true, false, ◌&&◌, Some, sym, ap, ◌∙◌, inl, inr}
+use Rattle.std.proofs.Common.{◌≡◌, Some, sym, ap, ◌∙◌, inl, inr}
 use Rattle.retro_base.specs.Weights.{added_as}
-use Rattle.retro_base.specs.declared.row.Change.TheVariants.{Gain, Lose}
-use Rattle.evidence_check.specs.Changed.{changed_entry}
+use Rattle.retro_base.specs.declared.row.Change.TheVariants.{Gain}
 use Rattle.evidence_check.specs.Marks.{marked_change}
-use Rattle.evidence_check.specs.Parts.{is_entry}
-use Rattle.evidence_check.proofs.Made.{alive_shows, dead_shows}
-use Rattle.evidence_check.proofs.Reading.{gain_read, loss_read, never_plain, not_own, own_is, own_read}
-use Rattle.evidence_check.proofs.Walks.{found_is}
+use Rattle.evidence_check.proofs.Reading.{gain_read, not_own}
 use Rattle.evidence_check.proofs.edits.changed_place.Goals as goal
 
 pub dead_place-requires-clause-there : goal.dead_place-requires-clause-there

@@ -1,8 +1,5 @@
 use Rattle.std.proofs.Common.{◌≡◌, ap, ◌∙◌, length, arith}
-use Rattle.std.specs.Prelude.{insert}
-use Rattle.retro_base.specs.Timeline.{HaveOwnNumbers}
 use Rattle.evidence_check.specs.Changed.{moved_place}
-use Rattle.evidence_check.specs.Marks.{rows_of}
 use Rattle.evidence_check.proofs.Made.{where_rows}
 use Rattle.evidence_check.proofs.Making.{changed_inside, few_added, fresh_added, kept_made, length_where, moved_inside, number_cut, numbers_marked, numbers_where, place_added, place_cut, room_added, rows_added, rows_cut}
 use Rattle.evidence_check.proofs.edits.make.Goals as goal

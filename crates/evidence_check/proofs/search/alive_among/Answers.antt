@@ -1,4 +1,4 @@
-use Rattle.std.proofs.Common.{◌≤◌, length, take, drop, None, ap, ◌∙◌, arith}
+use Rattle.std.proofs.Common.{◌≤◌, length, take, ap, ◌∙◌, arith}
 use Rattle.std.specs.List.{flat_map}
 use Rattle.evidence_check.specs.Marks.{least_alive}
 use Rattle.retro_base.specs.Limits.{most_rows}

@@ -1,10 +1,8 @@
-use Rattle.std.proofs.Common.{◌≡◌, ◌<◌, ◌≤◌, length, take, drop, None, Some, false, true, ap, sym, ◌∙◌, arith}
+use Rattle.std.proofs.Common.{◌≤◌, length, take, ap, sym, ◌∙◌, arith}
 use Rattle.std.specs.List.{flat_map}
-use Rattle.std.proofs.lemmas.List.{take_all}
 use Rattle.evidence_check.specs.Marks.{alive_entry, least_alive}
-use Rattle.evidence_check.specs.Parts.{is_entry, shows_at}
 use Rattle.retro_base.specs.Limits.{most_rows}
-use Rattle.evidence_check.proofs.Walks.{entry_found, fits, found_is, no_alive_next, passed_next, shown_there, shown_within, small}
+use Rattle.evidence_check.proofs.Walks.{fits, found_is, no_alive_next, passed_next, shown_there, shown_within, small}
 use Rattle.evidence_check.proofs.search.alive_place_among.Goals as goal
 
 pub alive_to-requires : goal.alive_to-requires

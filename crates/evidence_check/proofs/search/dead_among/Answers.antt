@@ -1,4 +1,4 @@
-use Rattle.std.proofs.Common.{◌≤◌, length, take, drop, None, ap, ◌∙◌, arith}
+use Rattle.std.proofs.Common.{◌≤◌, length, drop, None, ap, ◌∙◌, arith}
 use Rattle.std.specs.List.{flat_map}
 use Rattle.evidence_check.specs.Marks.{greatest_dead}
 use Rattle.retro_base.specs.Limits.{most_rows}

@@ -1,10 +1,10 @@
-use Rattle.std.proofs.Common.{◌≡◌, refl, ◌+◌, ◌-◌, ◌<◌, ◌≤◌, ℤ, pos, w32, SFits, to_z, of_z, length, take, ap, sym, ◌∙◌, arith, subst}
+use Rattle.std.proofs.Common.{◌≡◌, ◌+◌, ◌-◌, w32, SFits, to_z, of_z, length, take, ap, sym, ◌∙◌, arith, subst}
 use Rattle.std.specs.Prelude.{◌+ℤ◌, ◌-ℤ◌}
 use Rattle.std.specs.List.{flat_map}
-use Rattle.std.proofs.lemmas.Int.{ints, to_z-of_z}
+use Rattle.std.proofs.lemmas.Int.{to_z-of_z}
 use Rattle.std.proofs.lemmas.List.{take_all}
 use Rattle.retro_base.specs.Limits.{most_rows}
-use Rattle.evidence_check.specs.Sums.{sum_of, sums_of}
+use Rattle.evidence_check.specs.Sums.{sum_of}
 use Rattle.evidence_check.specs.Zeros.{HasNoZero, IsLastZero}
 use Rattle.evidence_check.proofs.Stored.{last_stored, room_stored, stored_both, stored_less, sum_fits, whole_fits}
 use Rattle.evidence_check.proofs.Walks.{fits, here_fits, last_found, none_back, room_there, rows_back, small, weights_back}

@@ -1,5 +1,4 @@
-use Rattle.std.proofs.Common.{ap, ◌∙◌}
-use Rattle.std.specs.Prelude.{slice_get}
+use Rattle.std.proofs.Common.{◌∙◌}
 use Rattle.retro_base.specs.Limits.{most_rows}
 use Rattle.evidence_check.proofs.Held.{held_row, held_small}
 use Rattle.evidence_check.proofs.search.row_among.Goals as goal

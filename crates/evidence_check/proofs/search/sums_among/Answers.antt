@@ -1,7 +1,6 @@
-use Rattle.std.proofs.Common.{◌≤◌, length, ap, ◌∙◌, sym, arith}
+use Rattle.std.proofs.Common.{◌≤◌, length, ap, ◌∙◌, arith}
 use Rattle.std.specs.List.{flat_map}
 use Rattle.retro_base.specs.Limits.{most_rows}
-use Rattle.evidence_check.specs.Sums.{AreBounded}
 use Rattle.evidence_check.proofs.SumsJoined.{sums-bounded}
 use Rattle.evidence_check.proofs.Walks.{fits, small, sums_next}
 use Rattle.evidence_check.proofs.search.sums_among.Goals as goal

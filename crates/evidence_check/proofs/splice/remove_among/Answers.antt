@@ -1,9 +1,8 @@
-use Rattle.std.proofs.Common.{◌≡◌, ap, sym, ◌∙◌, length, set, arith}
+use Rattle.std.proofs.Common.{◌≡◌, ap, sym, ◌∙◌, set, arith}
 use Rattle.std.specs.Prelude.{remove}
 use Rattle.std.proofs.lemmas.List.{set-get_or}
 use Rattle.std.specs.List.{flat_map}
 use Rattle.retro_base.specs.Limits.{most_rows}
-use Rattle.evidence_check.specs.Parts.{Holds}
 use Rattle.evidence_check.proofs.Held.{held_gone, held_remove, held_small, held_to}
 use Rattle.evidence_check.proofs.splice.remove_among.Goals as goal
 

@@ -1,6 +1,6 @@
-use Rattle.std.proofs.Common.{◌≡◌, ◌≤◌, ℤ, pos, w32, SFits, to_z, of_z, length, ap, ◌∙◌, arith}
+use Rattle.std.proofs.Common.{◌≡◌, pos, w32, SFits, length, ap, ◌∙◌}
 use Rattle.std.specs.Prelude.{◌+ℤ◌, ◌≤ℤ◌}
-use Rattle.std.proofs.lemmas.Int.{ints, to_z-of_z}
+use Rattle.std.proofs.lemmas.Int.{to_z-of_z}
 use Rattle.evidence_check.specs.Sums.{low_of}
 use Rattle.evidence_check.proofs.Stored.{above_fits, above_zero, low_fits, stored_both}
 use Rattle.evidence_check.proofs.Zeros.{few_of, none_above, none_first}

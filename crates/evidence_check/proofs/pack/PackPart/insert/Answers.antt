@@ -1,7 +1,6 @@
-use Rattle.std.proofs.Common.{◌≡◌, ◌≤◌, suc, ap, ◌∙◌, length, arith}
+use Rattle.std.proofs.Common.{◌≡◌, suc, ap, ◌∙◌, length, arith}
 use Rattle.std.specs.Prelude.{insert}
 use Rattle.std.specs.List.{flat_map}
-use Rattle.retro_base.specs.Limits.{most_rows}
 use Rattle.evidence_check.proofs.Flat.{length_insert, part_shorter, rest_shorter}
 use Rattle.evidence_check.proofs.pack.PackPart.insert.Goals as goal
 

@@ -1,6 +1,4 @@
-use Rattle.std.proofs.Common.{sym, ap, ◌∙◌}
-use Rattle.evidence_check.specs.Marks.{rows_of}
-use Rattle.evidence_check.specs.Truth.{cause_of}
+use Rattle.std.proofs.Common.{sym, ◌∙◌}
 use Rattle.evidence_check.proofs.TellingRows.{reported_by}
 use Rattle.evidence_check.proofs.reported.Reported.take.Goals as goal
 

@@ -1,7 +1,6 @@
-use Rattle.std.proofs.Common.{◌≡◌, ℤ, pos, ◌+◌, ◌≤◌, w32, SFits, to_z, of_z, refl, ap, ◌∙◌, arith}
-use Rattle.std.specs.Prelude.{◌+ℤ◌, ◌≤ℤ◌}
-use Rattle.std.proofs.lemmas.Int.{ints, to_z-of_z}
-use Rattle.evidence_check.specs.Sums.{joined, lesser}
+use Rattle.std.proofs.Common.{w32, SFits, refl, arith}
+use Rattle.std.specs.Prelude.{◌+ℤ◌}
+use Rattle.std.proofs.lemmas.Int.{ints}
 use Rattle.evidence_check.proofs.Stored.{join_fits, stored_both, stored_lesser, within_fits}
 use Rattle.evidence_check.proofs.SumsJoined.{same_sums}
 use Rattle.evidence_check.proofs.sums.Sums.join.Goals as goal
