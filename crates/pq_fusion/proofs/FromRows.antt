@@ -21,7 +21,7 @@ unfolding after_rows
 rising_rows [] piece rising = rising
 rising_rows (row ∷ rows) piece rising = rising_rows rows (after_row row.op row.number piece) (rising_row row.op row.number piece rising)
 
-nothing_rises : IsRising no_parts
+pub nothing_rises : IsRising no_parts
 nothing_rises = record { left = tt; removed = tt }
 
 pub tolerant_rise : (rows : List Row) → IsRising (tolerant rows)

@@ -15,3 +15,6 @@ pub mod Carried
 pub mod Tallied
 pub mod Spanned
 pub mod Halved
+pub mod Bounded
+pub mod Parted
+pub mod Passed

@@ -28,7 +28,7 @@ pub not_earlier : (x y z : Entry) → comes_before y x ≡ false → comes_befor
 not_earlier x y z first second = pair_further x.key x.number y.key y.number z.key z.number first second
 
 -- of two entries one comes first, or they are the same
-same_by_order : (a b : Entry) → comes_before a b ≡ false → comes_before b a ≡ false → a ≡ b
+pub same_by_order : (a b : Entry) → comes_before a b ≡ false → comes_before b a ≡ false → a ≡ b
 same_by_order a b first second = elim (same_or_other a b) [
   | inl same ↦ same
   | inr other ↦ let wrong : true ≡ false = sym (before_or_after a b other first) ∙ second in absurd (cc)

@@ -19,7 +19,7 @@ use Rattle.pq_fusion.specs.Pieces.{PieceParts, no_parts, after_take, after_row, 
 use Rattle.pq_fusion.proofs.Fused.{parts}
 
 -- a row of a priority queue adds an entry or takes one
-adds_or_takes : (op : Op) → kind_of op ≡ Pq → ((k : ℤ) × (op ≡ Ins k)) ⊎ (op ≡ DelMin)
+pub adds_or_takes : (op : Op) → kind_of op ≡ Pq → ((k : ℤ) × (op ≡ Ins k)) ⊎ (op ≡ DelMin)
 adds_or_takes (Enq v) same = absurd (cc)
 adds_or_takes Deq same = absurd (cc)
 adds_or_takes (Push v) same = absurd (cc)

@@ -1,4 +1,5 @@
 //! Laws of pieces.
+ghost use Rattle.pq_fusion.specs.Edits.{EditsPassOne, EarlierPasses, LaterPasses};
 ghost use Rattle.pq_fusion.specs.PieceLaws.{RowsRise, FusedRise, FuseIsAssociative, NothingIsUnit, RowsFuse, MetIsValid, LeftIsPresent};
 
 /// A law: the lists of a piece rise, be it that of rows or one that two pieces fuse to.
@@ -23,4 +24,13 @@ pub fn rows_fuse()
 pub fn met_rows_replay()
     ensures valid { MetIsValid }
     ensures present { LeftIsPresent }
+{}
+
+/// A law: one row more or less, wherever it stands among rows, passes one entry between what these leave and what they do not.
+/// Which one it is goes from part to part: that of one of two neighbouring pieces is that of both, or the entry at the boundary
+/// of what the second takes of the first, or the edited one.
+pub fn edits_pass_one()
+    ensures rows { EditsPassOne }
+    ensures earlier { EarlierPasses }
+    ensures later { LaterPasses }
 {}

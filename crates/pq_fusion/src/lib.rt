@@ -34,16 +34,21 @@
 //! The pieces have at least as many entries as there are rows that add, and at most 3 m for each binary digit of m + 1: a side
 //! weighs at most 3 quarters of the whole, so there are at most 3 levels for each digit.
 //!
-//! What the layer above may rely on: the clauses of `Piece` and `FusedQueue`, the definitions of specs/Pieces.antt, and the laws of
-//! specs/PieceLaws.antt, which are the contracts of `laws`.
+//! One row more or less passes one entry: what the rows leave gains it or loses it, and what they do not leave loses it or gains
+//! it, with the edited row's own entry in its place. Which entry it is goes from part to part, by one comparison or two with the entry at
+//! the boundary of what a later part takes of an earlier one. This is a law (`edits_pass_one`) of all rows, places and edits.
 //!
-//! - `piece`, `merge`: a piece, and two rising lists together.
+//! What the layer above may rely on: the clauses of `Piece` and `FusedQueue`, the definitions of specs/Pieces.antt, and the laws of
+//! specs/PieceLaws.antt and specs/Edits.antt, which are the contracts of `laws`.
+//!
+//! - `piece`, `merge`: a piece, and two rising lists together. `bound`: an entry, or what is less or greater than each.
 //! - `subtree`: the tree of rows. `read`: its products. `remaining`: what a product leaves. `edit`: a row more or less.
 //! - `tally`, `span`: how many entries are left after a path, how many of them reach a key, and between which keys they lie.
 //!   `select`: the key at an index of what the first rows leave. `answer`: the answers of that. `fused_queue`.
 #![tactic(auto)]
 
 mod answer;
+mod bound;
 mod edit;
 mod fused_queue;
 pub mod laws;
@@ -56,5 +61,6 @@ mod span;
 mod subtree;
 mod tally;
 
+pub use bound::Bound;
 pub use fused_queue::FusedQueue;
 pub use piece::Piece;
