@@ -17,7 +17,7 @@ use Rattle.pq_fusion.proofs.Split.{InParts, parts_of, lesser_is, greater_is, ord
 abbrev pub parts : List Entry → List Entry → ℕ → PieceParts
 parts left removed unmet = record { left = left; removed = removed; unmet = unmet }
 
-same_parts : (k l r s : List Entry) (m n : ℕ) → k ≡ l → r ≡ s → m ≡ n → parts k r m ≡ parts l s n
+pub same_parts : (k l r s : List Entry) (m n : ℕ) → k ≡ l → r ≡ s → m ≡ n → parts k r m ≡ parts l s n
 same_parts k l r s m n e f g = rw (e, f, g) refl
 
 abbrev take_of : PieceParts → PieceParts

@@ -13,6 +13,7 @@ use Rattle.retro_base.specs.Timeline.{AreOfKind}
 use Rattle.pq_fusion.specs.declared.subtree.Link.TheVariants.{Full}
 use Rattle.pq_fusion.specs.declared.subtree.Node.{Node}
 use Rattle.pq_fusion.specs.Nodes.{weight, IsBalanced, node_rows, IsNode, Bears, Replaces, Spares}
+use Rattle.pq_fusion.specs.Passages.{renewed}
 use Rattle.pq_fusion.specs.Pieces.{PieceParts, tolerant}
 use Rattle.pq_fusion.proofs.Ranges.{insert-before, insert-after, remove-before, remove-after}
 
@@ -56,7 +57,7 @@ module _ (node new : Node) (place : ℕ) (row : Row) (sound : IsNode node) (few 
       grown within (rw (left, here, right) (sym (insert-after node.left node.right node.row place row beyond)))
       (record { left_light = omega (arith, longer, same, sound.balanced.left_light); right_light = omega (arith, longer, same, bears.right beyond) })
 
-length-remove : (rows : List Row) (place : ℕ) → place < length rows → length (remove rows place) + 1 ≡ length rows
+pub length-remove : (rows : List Row) (place : ℕ) → place < length rows → length (remove rows place) + 1 ≡ length rows
 length-remove [] place within = absurd (omega arith)
 length-remove (x ∷ rows) zero within = omega arith
 length-remove (x ∷ rows) (suc place) within = omega (arith, length-remove rows place (omega arith))
@@ -97,7 +98,7 @@ module _ (node new : Node) (place : ℕ) (sound : IsNode node) (size : new.size 
       shrunk within (rw (left, here, right) (sym (remove-after node.left node.right node.row place beyond)))
       (record { left_light = omega (arith, shorter, same, spared); right_light = omega (arith, shorter, same, sound.balanced.right_light) })
 
-own_replaced : (left right : List Row) (row next : Row) → slice_get right 0 ≡ Some next → left ++ next ∷ remove right 0 ≡ remove (left ++ row ∷ right) (length left)
+pub own_replaced : (left right : List Row) (row next : Row) → slice_get right 0 ≡ Some next → left ++ next ∷ remove right 0 ≡ remove (left ++ row ∷ right) (length left)
 own_replaced [] [] row next there = absurd (cc)
 own_replaced [] (x ∷ xs) row next there = let same : x ≡ next = cc in ap (λ r. r ∷ xs) (sym same)
 own_replaced (l ∷ left) right row next there = ap (λ rows. l ∷ rows) (own_replaced left right row next there)
@@ -139,15 +140,12 @@ where_err P (Err e) err = tt
 pub same_node : (a b : Box Node Global) → Full a ≡ Full b → a.value ≡ b.value
 same_node a b same = let one : a ≡ b = cc in ap (λ n. n.value) one
 
--- a node with other rows on a side, and then with its size and its piece renewed
+-- a node with other rows on a side
 abbrev pub with_left : Node → List Row → Node
 with_left node rows = record { left = rows; row = node.row; right = node.right; size = node.size; piece = node.piece }
 
 abbrev pub with_right : Node → List Row → Node
 with_right node rows = record { left = node.left; row = node.row; right = rows; size = node.size; piece = node.piece }
-
-abbrev pub renewed : Node → ℕ → PieceParts → Node
-renewed node size piece = record { left = node.left; row = node.row; right = node.right; size = size; piece = piece }
 
 -- and with another row of its own
 abbrev pub replaced : Node → Row → ℕ → PieceParts → Node

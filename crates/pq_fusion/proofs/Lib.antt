@@ -18,3 +18,9 @@ pub mod Halved
 pub mod Bounded
 pub mod Parted
 pub mod Passed
+pub mod Ranked
+pub mod Swapped
+pub mod Compared
+pub mod Edged
+pub mod Edited
+pub mod Parts

@@ -10,7 +10,7 @@ use Rattle.pq_fusion.specs.Pieces.{together}
 use Rattle.pq_fusion.proofs.Order.{least_further, least_first, together_none, together_more, together_alone, least_together, with_in_second, with_none}
 
 -- the first of the second list comes before that of the first
-second_first : (x y : Entry) (xs ys : List Entry) → AreInOrder (x ∷ xs) → AreInOrder (y ∷ ys) → comes_before y x ≡ true
+pub second_first : (x y : Entry) (xs ys : List Entry) → AreInOrder (x ∷ xs) → AreInOrder (y ∷ ys) → comes_before y x ≡ true
     → together (x ∷ xs) (y ∷ ys) ≡ y ∷ together (x ∷ xs) ys
 second_first x y xs ys first second before =
     let later = before_one_way y x before in
@@ -18,13 +18,13 @@ second_first x y xs ys first second before =
     ∙ least_first y (together (x ∷ xs) ys) (least_together y (x ∷ xs) ys (later, least_further y x xs later first.0) second.0)
 
 -- and it does not
-first_first : (x y : Entry) (xs ys : List Entry) → AreInOrder (x ∷ xs) → AreInOrder (y ∷ ys) → comes_before y x ≡ false
+pub first_first : (x y : Entry) (xs ys : List Entry) → AreInOrder (x ∷ xs) → AreInOrder (y ∷ ys) → comes_before y x ≡ false
     → together (x ∷ xs) (y ∷ ys) ≡ x ∷ together xs (y ∷ ys)
 first_first x y xs ys first second after =
     together_more x xs (y ∷ ys)
     ∙ least_first x (together xs (y ∷ ys)) (least_together x xs (y ∷ ys) first.0 (after, least_further x y ys after second.0))
 
-order_drop : (n : ℕ) (xs : List Entry) → AreInOrder xs → AreInOrder (drop n xs)
+pub order_drop : (n : ℕ) (xs : List Entry) → AreInOrder xs → AreInOrder (drop n xs)
 order_drop zero xs order = order
 order_drop (suc n) [] order = tt
 order_drop (suc n) (x ∷ xs) order = order_drop n xs order.1

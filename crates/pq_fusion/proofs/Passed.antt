@@ -257,10 +257,10 @@ later_passes own x a p q first second third apart = elim (exchanged own x p.remo
 ]
 
 -- one row alone, and so one row among others
-adding_alone : (entry : Entry) → Apart (At entry) (At entry) no_parts (parts (entry ∷ []) [] 0)
+pub adding_alone : (entry : Entry) → Apart (At entry) (At entry) no_parts (parts (entry ∷ []) [] 0)
 adding_alone entry = record { left = refl; removed = refl; unmet = refl; order = not_itself (At entry); some = refl; no_top = refl }
 
-taking_alone : Apart Low Top (parts [] [] 1) no_parts
+pub taking_alone : Apart Low Top (parts [] [] 1) no_parts
 taking_alone = record { left = refl; removed = refl; unmet = refl; order = refl; some = refl; no_top = refl }
 
 module _ (before after : List Row) (row : Row) where

@@ -2,6 +2,9 @@ pub mod Pieces
 pub mod PieceLaws
 pub mod Bounds
 pub mod Edits
+pub mod Exchanges
+pub mod Differences
 pub mod Nodes
 pub mod NodesFall
+pub mod Passages
 pub mod Tallies

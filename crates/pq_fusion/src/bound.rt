@@ -1,7 +1,9 @@
-ghost use Rattle.std.specs.Prelude.{◌≡◌};
-ghost use Rattle.pq_fusion.specs.Bounds.{is_below, higher, lower};
+ghost use Rattle.std.specs.Prelude.{◌≡◌, ◌≤◌};
+ghost use Rattle.retro_base.specs.Weights.{added_by};
+ghost use Rattle.pq_fusion.specs.Bounds.{is_below, higher, lower, tops};
+ghost use Rattle.pq_fusion.specs.Edits.{own_of, alone_of};
 
-use retro_base::Entry;
+use retro_base::{Entry, Row};
 
 /// An entry, or what is less than each entry, or what is greater than each.
 #[derive(Clone, Copy)]
@@ -38,5 +40,36 @@ impl Bound {
         ensures { result ≡ lower self other }
     {
         if other.is_below(self) { other } else { self }
+    }
+
+    /// The entry that a row adds; less than each where it takes one.
+    pub(crate) fn of_row(row: Row) -> Bound
+        ensures { result ≡ own_of (added_by row) }
+    {
+        match row.added_entry() {
+            Some(entry) => Bound::At(entry),
+            None => Bound::Low,
+        }
+    }
+
+    /// What passes where the row of this bound stands alone.
+    pub(crate) fn alone(self) -> Bound
+        ensures { result ≡ alone_of self }
+    {
+        match self {
+            Bound::At(entry) => Bound::At(entry),
+            _ => Bound::Top,
+        }
+    }
+
+    /// Once where the bound is greater than each entry.
+    pub(crate) fn tops(self) -> u32
+        ensures count { result ≡ tops self }
+        ensures few { result ≤ 1 }
+    {
+        match self {
+            Bound::Top => 1,
+            _ => 0,
+        }
     }
 }

@@ -1,15 +1,19 @@
-ghost use Rattle.std.specs.Prelude.{◌≡◌, ◌+◌, ◌<◌, ◌≤◌, length, true, IfOk, OnOk, OnErr};
+ghost use Rattle.std.specs.Prelude.{◌≡◌, ◌+◌, ◌<◌, ◌≤◌, length, slice_get, true, Some, IfOk, OnOk, OnErr, MatchResult};
 ghost use Rattle.std.specs.List.{insert, remove};
 ghost use Rattle.retro_base.specs.declared.kind.Kind.TheVariants.{Pq};
 ghost use Rattle.retro_base.specs.Kind.{kind_of};
 ghost use Rattle.retro_base.specs.Limits.{most_rows};
 ghost use Rattle.retro_base.specs.Timeline.{AreOfKind};
-ghost use Rattle.pq_fusion.specs.Nodes.{Bears, Replaces, Spares};
+ghost use Rattle.retro_base.specs.Weights.{added_by};
+ghost use Rattle.pq_fusion.specs.Edits.{PassesIn, PassesOut};
+ghost use Rattle.pq_fusion.specs.Nodes.{Bears, IsNode, Replaces, Spares, node_rows};
+ghost use Rattle.pq_fusion.specs.Passages.{with_piece, renewed};
 ghost use Rattle.pq_fusion.specs.Pieces.{tolerant};
 
-use crate::Piece;
-use crate::read::joined;
+use crate::difference::difference;
+use crate::roomy::Roomy;
 use crate::subtree::{Link, Node, Subtree};
+use crate::{Bound, Piece};
 use retro_base::{NoMemory, Row};
 use std::alloc::Global;
 use std::mem;
@@ -92,93 +96,202 @@ impl Subtree {
         Subtree::of_rows(alloc, rows.as_slice())
     }
 
-    /// What these rows and one more at a place come to.
-    fn piece_with(&self, alloc: Global, place: u32, row: Row) -> Result<Piece, NoMemory>
-        requires within { place ≤ length self.now }
-        requires room { length self.now < most_rows }
-        requires of_kind { kind_of row.op ≡ Pq }
-        ensures { IfOk result (λ piece. piece ≡ tolerant (insert self.now place row)) }
-    {
-        let before = self.prefix(alloc, place)?;
-        let after = self.suffix(alloc, place)?;
-        joined(alloc, &before, row, &after)
-    }
-
-    /// What these rows but the one at a place come to.
-    fn piece_without(&self, alloc: Global, place: u32) -> Result<Piece, NoMemory>
-        requires within { place < length self.now }
-        ensures { IfOk result (λ piece. piece ≡ tolerant (remove self.now place)) }
-    {
-        let _few = self.len();
-        let before = self.prefix(alloc, place)?;
-        let after = self.suffix(alloc, place + 1)?;
-        before.fuse(&after)
-    }
-
-    /// Puts a row in at a place. All new pieces are made before the first one is written, so after `NoMemory` all is as before.
-    pub(crate) fn insert(&mut self, alloc: Global, place: u32, row: Row) -> Result<(), NoMemory>
+    /// Puts a row in at a place, with all rows made anew. What passes is found by comparing.
+    fn insert_anew(&mut self, alloc: Global, place: u32, row: Row) -> Result<Bound, NoMemory>
         requires within { place ≤ length self.old }
         requires room { length self.old < most_rows }
         requires of_kind { kind_of row.op ≡ Pq }
         ensures ok { OnOk result (self.new ≡ insert self.old place row) }
         ensures err { OnErr result (self.new ≡ self.old) }
+        ensures passed { IfOk result (PassesIn (added_by row) (tolerant self.old) (tolerant (insert self.old place row))) }
     {
-        let Link::Full(node) = &self.link else {
-            *self = Subtree::of_sides(alloc, Subtree::new(), row, Subtree::new())?;
-            return Ok(());
-        };
-        let before = node.left.len();
-        if !node.bears(place) {
-            *self = self.with_row(alloc, place, row)?;
-            return Ok(());
-        }
-        let piece = self.piece_with(alloc, place, row)?;
-        let Link::Full(mut node) = mem::replace(&mut self.link, Link::Empty) else {
-            unreachable!()
-        };
-        let outcome = if place <= before {
-            node.left.insert(alloc, place, row)
-        } else {
-            node.right.insert(alloc, place - before - 1, row)
-        };
-        if outcome.is_ok() {
-            node.size += 1;
-            node.piece = piece;
-        }
-        *self = Subtree::of_root(node);
-        outcome
+        let new = self.with_row(alloc, place, row)?;
+        let none = Piece::empty(alloc);
+        let gains = row.added_entry().is_some();
+        let passed = difference(gains, self.whole(&none), new.whole(&none));
+        *self = new;
+        Ok(passed)
     }
 
-    /// Takes the row at a place out. All new pieces are made before the first one is written, so after `NoMemory` all is as before.
-    pub(crate) fn remove(&mut self, alloc: Global, place: u32) -> Result<(), NoMemory>
-        requires within { place < length self.old }
+    /// Takes the row at a place out, with all others made anew. What passes is found by comparing.
+    fn remove_anew(&mut self, alloc: Global, place: u32, row: Row) -> Result<Bound, NoMemory>
+        requires there { slice_get self.old place ≡ Some row }
         ensures ok { OnOk result (self.new ≡ remove self.old place) }
         ensures err { OnErr result (self.new ≡ self.old) }
+        ensures passed { IfOk result (PassesOut (added_by row) (tolerant self.old) (tolerant (remove self.old place))) }
     {
-        let Link::Full(node) = &self.link else {
-            unreachable!()
-        };
-        let before = node.left.len();
-        let (from, row) = node.replacement(place);
-        if !node.spares(from) {
-            *self = self.without_row(alloc, place)?;
-            return Ok(());
-        }
-        let piece = self.piece_without(alloc, place)?;
-        let Link::Full(mut node) = mem::replace(&mut self.link, Link::Empty) else {
-            unreachable!()
-        };
-        let outcome = if from < before {
-            node.left.remove(alloc, from)
-        } else {
-            node.right.remove(alloc, from - before - 1)
-        };
-        if outcome.is_ok() {
-            node.row = row;
-            node.size -= 1;
-            node.piece = piece;
-        }
-        *self = Subtree::of_root(node);
-        outcome
+        let new = self.without_row(alloc, place)?;
+        let none = Piece::empty(alloc);
+        let adds = row.added_entry().is_some();
+        let gains = !adds;
+        let passed = difference(gains, self.whole(&none), new.whole(&none));
+        *self = new;
+        Ok(passed)
     }
+
+    /// Puts a row in at a place. All memory of a node is taken before anything of it changes, so after `NoMemory` all is as before.
+    /// It says what passes between what the rows leave and what they do not.
+    pub(crate) fn insert(&mut self, alloc: Global, place: u32, row: Row) -> Result<Bound, NoMemory>
+        requires within { place ≤ length self.old }
+        requires room { length self.old < most_rows }
+        requires of_kind { kind_of row.op ≡ Pq }
+        ensures ok { OnOk result (self.new ≡ insert self.old place row) }
+        ensures err { OnErr result (self.new ≡ self.old) }
+        ensures passed { IfOk result (PassesIn (added_by row) (tolerant self.old) (tolerant (insert self.old place row))) }
+    {
+        let own = Bound::of_row(row);
+        let gains = row.added_entry().is_some();
+        let Link::Full(node) = mem::replace(&mut self.link, Link::Empty) else {
+            *self = Subtree::of_sides(alloc, Subtree::new(), row, Subtree::new())?;
+            return Ok(own.alone());
+        };
+        if !node.bears(place) {
+            *self = Subtree::of_root(node);
+            return self.insert_anew(alloc, place, row);
+        }
+        let before = node.left.len();
+        let edges = node.edges(alloc, gains);
+        let (mut node, piece) = match take_apart(alloc, node) {
+            Ok(Opened { node, piece }) => (node, piece),
+            Err(node) => {
+                *self = Subtree::of_root(node);
+                return Err(NoMemory);
+            }
+        };
+        let size = node.size + 1;
+        if place <= before {
+            match node.left.insert(alloc, place, row) {
+                Ok(passed) => {
+                    let passed = edges.from_left(passed);
+                    *self = renewed(node, size, piece.after(gains, own, passed));
+                    Ok(passed)
+                }
+                Err(error) => {
+                    *self = closed(node, piece.into_piece());
+                    Err(error)
+                }
+            }
+        } else {
+            match node.right.insert(alloc, place - before - 1, row) {
+                Ok(passed) => {
+                    let passed = edges.from_right(own, passed);
+                    *self = renewed(node, size, piece.after(gains, own, passed));
+                    Ok(passed)
+                }
+                Err(error) => {
+                    *self = closed(node, piece.into_piece());
+                    Err(error)
+                }
+            }
+        }
+    }
+
+    /// Takes the row at a place out, which is this one. All memory of a node is taken before anything of it changes, so after `NoMemory`
+    /// all is as before. It says what passes between what the rows leave and what they do not.
+    pub(crate) fn remove(&mut self, alloc: Global, place: u32, row: Row) -> Result<Bound, NoMemory>
+        requires there { slice_get self.old place ≡ Some row }
+        ensures ok { OnOk result (self.new ≡ remove self.old place) }
+        ensures err { OnErr result (self.new ≡ self.old) }
+        ensures passed { IfOk result (PassesOut (added_by row) (tolerant self.old) (tolerant (remove self.old place))) }
+    {
+        let own = Bound::of_row(row);
+        let adds = row.added_entry().is_some();
+        let gains = !adds;
+        let Link::Full(node) = mem::replace(&mut self.link, Link::Empty) else {
+            unreachable!()
+        };
+        let (from, next) = node.replacement(place);
+        if !node.spares(from) {
+            *self = Subtree::of_root(node);
+            return self.remove_anew(alloc, place, row);
+        }
+        let before = node.left.len();
+        let edges = node.edges(alloc, gains);
+        let (mut node, piece) = match take_apart(alloc, node) {
+            Ok(Opened { node, piece }) => (node, piece),
+            Err(node) => {
+                *self = Subtree::of_root(node);
+                return Err(NoMemory);
+            }
+        };
+        let size = node.size - 1;
+        if from < before {
+            match node.left.remove(alloc, place, row) {
+                Ok(passed) => {
+                    let passed = edges.from_left(passed);
+                    *self = renewed(node, size, piece.after(gains, own, passed));
+                    Ok(passed)
+                }
+                Err(error) => {
+                    *self = closed(node, piece.into_piece());
+                    Err(error)
+                }
+            }
+        } else if place == before {
+            match node.right.remove(alloc, 0, next) {
+                Ok(_) => {
+                    let passed = edges.from_own(own);
+                    node.row = next;
+                    *self = renewed(node, size, piece.after(gains, own, passed));
+                    Ok(passed)
+                }
+                Err(error) => {
+                    *self = closed(node, piece.into_piece());
+                    Err(error)
+                }
+            }
+        } else {
+            match node.right.remove(alloc, place - before - 1, row) {
+                Ok(passed) => {
+                    let passed = edges.from_right(own, passed);
+                    *self = renewed(node, size, piece.after(gains, own, passed));
+                    Ok(passed)
+                }
+                Err(error) => {
+                    *self = closed(node, piece.into_piece());
+                    Err(error)
+                }
+            }
+        }
+    }
+}
+
+/// A node that was taken out of its link, and its piece, which has room for an edit.
+#[derive(Drop)]
+struct Opened {
+    node: Box<Node>,
+    piece: Roomy,
+}
+
+/// The node with its piece apart. Where there is no memory for the room, it comes back as it was.
+fn take_apart(alloc: Global, mut node: Box<Node>) -> Result<Opened, Box<Node>>
+    ensures { MatchResult result (λ opened. with_piece opened.node.value opened.piece ≡ node.value) (λ same. same.value ≡ node.value) }
+{
+    let whole = mem::replace(&mut node.piece, Piece::empty(alloc));
+    match whole.with_room() {
+        Ok(piece) => Ok(Opened { node, piece }),
+        Err(piece) => {
+            node.piece = piece;
+            Err(node)
+        }
+    }
+}
+
+/// The subtree of a node with this piece.
+fn closed(mut node: Box<Node>, piece: Piece) -> Subtree
+    requires { IsNode (with_piece node.value piece) }
+    ensures { result ≡ node_rows node.value }
+{
+    node.piece = piece;
+    Subtree::of_root(node)
+}
+
+/// The subtree of a node with this size and this piece.
+fn renewed(mut node: Box<Node>, size: u32, piece: Piece) -> Subtree
+    requires { IsNode (renewed node.value size piece) }
+    ensures { result ≡ node_rows node.value }
+{
+    node.size = size;
+    node.piece = piece;
+    Subtree::of_root(node)
 }

@@ -119,7 +119,8 @@ impl Retro for FusedQueue {
 
     fn remove(&mut self, place: u32) -> Result<(Row, Change), NoMemory> {
         let _few = self.queue.len();
-        self.rows.remove(self.alloc, place)?;
+        let row = self.rows.row_at(place);
+        self.rows.remove(self.alloc, place, row)?;
         Ok(uncounted::remove(&mut self.queue, place))
     }
 

@@ -49,13 +49,18 @@
 
 mod answer;
 mod bound;
+mod boundary;
+mod difference;
+mod edges;
 mod edit;
+mod exchange;
 mod fused_queue;
 pub mod laws;
 mod merge;
 mod piece;
 mod read;
 mod remaining;
+mod roomy;
 mod select;
 mod span;
 mod subtree;

@@ -13,10 +13,10 @@ use std::marker::Model;
 /// What some neighbouring rows of a priority queue come to, whatever stands before them.
 #[derive(Drop)]
 pub struct Piece {
-    alloc: Global,
-    left: Vec<Entry>,
-    removed: Vec<Entry>,
-    unmet: u32,
+    pub(crate) alloc: Global,
+    pub(crate) left: Vec<Entry>,
+    pub(crate) removed: Vec<Entry>,
+    pub(crate) unmet: u32,
 }
 
 impl Model for Piece {

@@ -1,4 +1,4 @@
-ghost use Rattle.std.specs.Prelude.{◌≡◌, ℕ, ◌+◌, ◌*◌, ◌≤◌, [], ◌∷◌, ◌++◌, length, slice_get, take, drop, IfOk, OnOk, MatchOption};
+ghost use Rattle.std.specs.Prelude.{◌≡◌, ℕ, ◌+◌, ◌*◌, ◌<◌, ◌≤◌, [], ◌∷◌, ◌++◌, length, slice_get, take, drop, IfOk, OnOk, MatchOption};
 ghost use Rattle.std.specs.List.{slice_range};
 ghost use Rattle.retro_base.specs.declared.kind.Kind.TheVariants.{Pq};
 ghost use Rattle.retro_base.specs.BridgeTable.{added};
@@ -52,6 +52,24 @@ impl Subtree {
         } else {
             Some(node.row)
         }
+    }
+
+    /// The row at a place.
+    pub(crate) fn row_at(&self, place: u32) -> Row
+        requires { place < length self.now }
+        ensures { slice_get self.now place ≡ Some result }
+    {
+        let Some(node) = self.root() else {
+            unreachable!()
+        };
+        let before = node.left.len();
+        if place < before {
+            return node.left.row_at(place);
+        }
+        if place == before {
+            return node.row;
+        }
+        node.right.row_at(place - before - 1)
     }
 
     /// The number of the rows and one.

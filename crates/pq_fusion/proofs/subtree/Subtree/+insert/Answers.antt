@@ -1,93 +1,203 @@
-use Rattle.std.proofs.Common.{◌≡◌, ◌+◌, ◌-◌, ap, ◌∙◌, sym, refl, arith, subst, length, true, false}
-use Rattle.std.specs.Prelude.{is_ok}
-use Rattle.std.specs.List.{insert}
+use Rattle.std.proofs.Common.{◌≡◌, ◌+◌, ◌-◌, ◌<◌, ◌≤◌, ap, ◌∙◌, sym, refl, arith, subst, length, []}
+use Rattle.std.specs.Prelude.{is_some}
+use Rattle.retro_base.specs.Weights.{added_by}
 use Rattle.pq_fusion.specs.declared.subtree.Link.TheVariants.{Full}
 use Rattle.pq_fusion.specs.declared.subtree.Node.{Node}
 use Rattle.pq_fusion.specs.Nodes.{Bears, IsNode, IsSound, node_rows, rows_of}
-use Rattle.pq_fusion.proofs.Grown.{with_left, with_right, renewed, on_ok, on_err, where_ok, where_err, same_node, inserted_left, inserted_right}
+use Rattle.pq_fusion.specs.Passages.{edges_of, with_piece, from_left, from_right}
+use Rattle.pq_fusion.proofs.Edited.{put_left, put_right, put_after, put_passed, put_in_left, put_in_right}
+use Rattle.pq_fusion.proofs.Edged.{put_first}
 use Rattle.pq_fusion.proofs.subtree.Subtree.+insert.Goals as goal
-use Rattle.pq_fusion.proofs.subtree.Subtree.+insert.Goals.{then-place-before, else-place-before, then-is_ok, else-is_ok}
 
-pub of_root-requires : goal.of_root-requires
-of_root-requires t c =
-    let node = c.in-Full-replace.node.value in
-    let leads : c.self.inside.link ≡ Full c.in-Full-replace.node = sym c.replace.ensures.value ∙ c.in-Full-replace.is in
+pub after-requires : goal.after-requires
+after-requires t c =
+    let node = c.in-Full.node.value in
+    let rows = c.args.self.now in
+    let leads : c.self.inside.link ≡ Full c.in-Full.node = sym c.replace.ensures.value ∙ c.in-Full.is in
     let sound : IsNode node = subst IsSound leads c.self.invariant in
-    let seen : node_rows node ≡ c.args.self.now = sym (ap rows_of leads) ∙ c.self.view_is in
-    let same : c.in-Full.node.value ≡ node = same_node c.in-Full.node c.in-Full-replace.node (sym c.in-Full.is ∙ leads) in
-    let bears : Bears node c.args.place = subst (λ n. Bears n c.args.place) (c.deref-2.ensures ∙ same) (c.if-not-bears.ensures refl) in
-    let before : c.len-before.result ≡ length node.left = c.len-before.ensures.count ∙ ap (λ (n : Node). length n.left) (c.deref.ensures ∙ same) in
-    elim c.if-is_ok.branch [
-      | then-is_ok w ↦
-          let new : c.if-is_ok.node.value ≡ renewed c.if-place-before.node.value (c.if-place-before.node.value.size + 1) c.in_ok-piece.piece =
-          ap (λ b. b.value) w.node-is ∙ rw (w.deref_mut-then-is_ok-2.ensures.value, w.deref_mut-then-is_ok.ensures.value) refl in
-          let ok : is_ok c.if-place-before.outcome ≡ true = sym c.is_ok.ensures.value ∙ w.if-is_ok.true in
-          elim c.if-place-before.branch [
-            | then-place-before v ↦
-                let middle : c.if-place-before.node.value ≡ with_left node v.insert-outcome.new.self = ap (λ b. b.value) v.node-is ∙ rw v.deref_mut.ensures.value refl in
-                let side = on_ok v.insert-outcome.result v.insert-outcome.ensures.ok (ap is_ok (sym v.outcome-is) ∙ ok) in
-                let made = inserted_left node c.args.self.now sound seen c.args.place c.args.row c.requires.room c.requires.of_kind bears c.in_ok-piece.piece c.in_ok-piece.ensures
-                v.insert-outcome.new.self c.if-place-before.node.value c.if-is_ok.node.value new (omega (arith, before, v.if-place-before.true))
-                (side ∙ ap (λ (n : Node). insert n.left c.args.place c.args.row) v.deref_mut.ensures.value) middle in
-                made.sound
-            | else-place-before v ↦
-                let middle : c.if-place-before.node.value ≡ with_right node v.insert-outcome-else-place-before.new.self = ap (λ b. b.value) v.node-is ∙ rw v.deref_mut-else-place-before.ensures.value refl in
-                let side = on_ok v.insert-outcome-else-place-before.result v.insert-outcome-else-place-before.ensures.ok (ap is_ok (sym v.outcome-is) ∙ ok) in
-                let made = inserted_right node c.args.self.now sound seen c.args.place c.args.row c.requires.room c.requires.of_kind bears c.in_ok-piece.piece c.in_ok-piece.ensures
-                v.insert-outcome-else-place-before.new.self c.if-place-before.node.value c.if-is_ok.node.value new (omega (arith, before, v.if-place-before.false)) c.requires.within
-                (side ∙ ap (λ (n : Node). insert n.right (c.args.place - c.len-before.result - 1) c.args.row) v.deref_mut-else-place-before.ensures.value
-                ∙ ap (λ k. insert node.right (c.args.place - k - 1) c.args.row) before) middle in
-                made.sound
-          ]
-      | else-is_ok w ↦
-          let err : is_ok c.if-place-before.outcome ≡ false = sym c.is_ok.ensures.value ∙ w.if-is_ok.false in
-          elim c.if-place-before.branch [
-            | then-place-before v ↦
-                let side = on_err v.insert-outcome.result v.insert-outcome.ensures.err (ap is_ok (sym v.outcome-is) ∙ err) in
-                let middle : c.if-place-before.node.value ≡ with_left node node.left =
-                ap (λ b. b.value) v.node-is ∙ rw (side, v.deref_mut.ensures.value) refl in
-                subst IsNode (sym (ap (λ b. b.value) w.node-is ∙ middle)) sound
-            | else-place-before v ↦
-                let side = on_err v.insert-outcome-else-place-before.result v.insert-outcome-else-place-before.ensures.err (ap is_ok (sym v.outcome-is) ∙ err) in
-                let middle : c.if-place-before.node.value ≡ with_right node node.right =
-                ap (λ b. b.value) v.node-is ∙ rw (side, v.deref_mut-else-place-before.ensures.value) refl in
-                subst IsNode (sym (ap (λ b. b.value) w.node-is ∙ middle)) sound
-          ]
-    ]
+    let seen : node_rows node ≡ rows = sym (ap rows_of leads) ∙ c.self.view_is in
+    let o = c.deref_mut.result.now in
+    let whole = c.in-Ok.field-0.piece in
+    let is : with_piece o whole ≡ node = ap (λ (n : Node). with_piece n whole) (c.deref_mut.ensures.value) ∙ c.in-Ok.ensures in
+    let gains = c.is_some-gains.result in
+    let own = c.of_row-own.result in
+    let gains_is : gains ≡ is_some (added_by c.args.row) = c.is_some-gains.ensures ∙ ap is_some c.added_entry.ensures in
+    let before : c.len-before.result ≡ length node.left = c.len-before.ensures.count ∙ ap (λ (n : Node). length n.left) c.deref-2.ensures in
+    let x = c.in-Ok-insert.passed in
+    let passed = c.from_left-passed.result in
+    let passed_is : passed ≡ from_left (edges_of gains node) x = c.from_left-passed.ensures ∙ ap (λ e. from_left e x) (c.edges-edges.ensures ∙ ap (edges_of gains) c.deref-3.ensures) in
+    let inside : c.args.place ≤ length node.left = omega (arith, before, c.if-place-before.true) in
+    let passes = put_left node rows sound seen o whole is c.args.place c.args.row c.requires.room c.requires.within gains own x passed gains_is c.of_row-own.ensures inside c.in-Ok-insert.ensures.passed passed_is in
+    put_after node rows sound seen o whole is c.args.place c.args.row c.requires.room c.requires.within gains own x passed gains_is c.of_row-own.ensures passes
 
-pub returns-clause-ok : goal.returns-clause-ok
-returns-clause-ok t c =
-    let node = c.in-Full-replace.node.value in
-    let leads : c.self.inside.link ≡ Full c.in-Full-replace.node = sym c.replace.ensures.value ∙ c.in-Full-replace.is in
+pub renewed-requires : goal.renewed-requires
+renewed-requires t c =
+    let node = c.in-Full.node.value in
+    let rows = c.args.self.now in
+    let leads : c.self.inside.link ≡ Full c.in-Full.node = sym c.replace.ensures.value ∙ c.in-Full.is in
     let sound : IsNode node = subst IsSound leads c.self.invariant in
-    let seen : node_rows node ≡ c.args.self.now = sym (ap rows_of leads) ∙ c.self.view_is in
-    let same : c.in-Full.node.value ≡ node = same_node c.in-Full.node c.in-Full-replace.node (sym c.in-Full.is ∙ leads) in
-    let bears : Bears node c.args.place = subst (λ n. Bears n c.args.place) (c.deref-2.ensures ∙ same) (c.if-not-bears.ensures refl) in
-    let before : c.len-before.result ≡ length node.left = c.len-before.ensures.count ∙ ap (λ (n : Node). length n.left) (c.deref.ensures ∙ same) in
-    let left = c.of_root-2.view_is ∙ c.of_root.ensures in
-    elim c.if-is_ok.branch [
-      | then-is_ok w ↦
-          let new : c.if-is_ok.node.value ≡ renewed c.if-place-before.node.value (c.if-place-before.node.value.size + 1) c.in_ok-piece.piece =
-          ap (λ b. b.value) w.node-is ∙ rw (w.deref_mut-then-is_ok-2.ensures.value, w.deref_mut-then-is_ok.ensures.value) refl in
-          let ok : is_ok c.if-place-before.outcome ≡ true = sym c.is_ok.ensures.value ∙ w.if-is_ok.true in
-          elim c.if-place-before.branch [
-            | then-place-before v ↦
-                let middle : c.if-place-before.node.value ≡ with_left node v.insert-outcome.new.self = ap (λ b. b.value) v.node-is ∙ rw v.deref_mut.ensures.value refl in
-                let side = on_ok v.insert-outcome.result v.insert-outcome.ensures.ok (ap is_ok (sym v.outcome-is) ∙ ok) in
-                let made = inserted_left node c.args.self.now sound seen c.args.place c.args.row c.requires.room c.requires.of_kind bears c.in_ok-piece.piece c.in_ok-piece.ensures
-                v.insert-outcome.new.self c.if-place-before.node.value c.if-is_ok.node.value new (omega (arith, before, v.if-place-before.true))
-                (side ∙ ap (λ (n : Node). insert n.left c.args.place c.args.row) v.deref_mut.ensures.value) middle in
-                where_ok c.if-place-before.outcome (left ∙ made.rows_are)
-            | else-place-before v ↦
-                let middle : c.if-place-before.node.value ≡ with_right node v.insert-outcome-else-place-before.new.self = ap (λ b. b.value) v.node-is ∙ rw v.deref_mut-else-place-before.ensures.value refl in
-                let side = on_ok v.insert-outcome-else-place-before.result v.insert-outcome-else-place-before.ensures.ok (ap is_ok (sym v.outcome-is) ∙ ok) in
-                let made = inserted_right node c.args.self.now sound seen c.args.place c.args.row c.requires.room c.requires.of_kind bears c.in_ok-piece.piece c.in_ok-piece.ensures
-                v.insert-outcome-else-place-before.new.self c.if-place-before.node.value c.if-is_ok.node.value new (omega (arith, before, v.if-place-before.false)) c.requires.within
-                (side ∙ ap (λ (n : Node). insert n.right (c.args.place - c.len-before.result - 1) c.args.row) v.deref_mut-else-place-before.ensures.value
-                ∙ ap (λ k. insert node.right (c.args.place - k - 1) c.args.row) before) middle in
-                where_ok c.if-place-before.outcome (left ∙ made.rows_are)
-          ]
-      | else-is_ok w ↦
-          let err : is_ok c.if-place-before.outcome ≡ false = sym c.is_ok.ensures.value ∙ w.if-is_ok.false in
-          where_err _ c.if-place-before.outcome err
-    ]
+    let seen : node_rows node ≡ rows = sym (ap rows_of leads) ∙ c.self.view_is in
+    let o = c.deref_mut.result.now in
+    let whole = c.in-Ok.field-0.piece in
+    let is : with_piece o whole ≡ node = ap (λ (n : Node). with_piece n whole) (c.deref_mut.ensures.value) ∙ c.in-Ok.ensures in
+    let gains = c.is_some-gains.result in
+    let own = c.of_row-own.result in
+    let gains_is : gains ≡ is_some (added_by c.args.row) = c.is_some-gains.ensures ∙ ap is_some c.added_entry.ensures in
+    let before : c.len-before.result ≡ length node.left = c.len-before.ensures.count ∙ ap (λ (n : Node). length n.left) c.deref-2.ensures in
+    let x = c.in-Ok-insert.passed in
+    let passed = c.from_left-passed.result in
+    let passed_is : passed ≡ from_left (edges_of gains node) x = c.from_left-passed.ensures ∙ ap (λ e. from_left e x) (c.edges-edges.ensures ∙ ap (edges_of gains) c.deref-3.ensures) in
+    let inside : c.args.place ≤ length node.left = omega (arith, before, c.if-place-before.true) in
+    let passes = put_left node rows sound seen o whole is c.args.place c.args.row c.requires.room c.requires.within gains own x passed gains_is c.of_row-own.ensures inside c.in-Ok-insert.ensures.passed passed_is in
+    let bears : Bears node c.args.place = subst (λ n. Bears n c.args.place) c.deref.ensures (c.if-not-bears.ensures refl) in
+    let size : c.deref-4.result.now.size + 1 ≡ o.size + 1 = ap (λ (n : Node). n.size + 1) (c.deref-4.ensures ∙ sym c.deref_mut.ensures.value) in
+    let made = put_in_left node rows sound seen o whole is c.args.place c.args.row c.requires.room c.requires.within gains own x passed gains_is c.of_row-own.ensures passes c.requires.of_kind bears (c.deref-4.result.now.size + 1) c.after.result size c.after.ensures.piece c.after.ensures.passes c.insert.new.self inside c.in-Ok-insert.ensures.ok in
+    made.sound
+
+pub returns-in-Ok-insert-clause-ok : goal.returns-in-Ok-insert-clause-ok
+returns-in-Ok-insert-clause-ok t c =
+    let node = c.in-Full.node.value in
+    let rows = c.args.self.now in
+    let leads : c.self.inside.link ≡ Full c.in-Full.node = sym c.replace.ensures.value ∙ c.in-Full.is in
+    let sound : IsNode node = subst IsSound leads c.self.invariant in
+    let seen : node_rows node ≡ rows = sym (ap rows_of leads) ∙ c.self.view_is in
+    let o = c.deref_mut.result.now in
+    let whole = c.in-Ok.field-0.piece in
+    let is : with_piece o whole ≡ node = ap (λ (n : Node). with_piece n whole) (c.deref_mut.ensures.value) ∙ c.in-Ok.ensures in
+    let gains = c.is_some-gains.result in
+    let own = c.of_row-own.result in
+    let gains_is : gains ≡ is_some (added_by c.args.row) = c.is_some-gains.ensures ∙ ap is_some c.added_entry.ensures in
+    let before : c.len-before.result ≡ length node.left = c.len-before.ensures.count ∙ ap (λ (n : Node). length n.left) c.deref-2.ensures in
+    let x = c.in-Ok-insert.passed in
+    let passed = c.from_left-passed.result in
+    let passed_is : passed ≡ from_left (edges_of gains node) x = c.from_left-passed.ensures ∙ ap (λ e. from_left e x) (c.edges-edges.ensures ∙ ap (edges_of gains) c.deref-3.ensures) in
+    let inside : c.args.place ≤ length node.left = omega (arith, before, c.if-place-before.true) in
+    let passes = put_left node rows sound seen o whole is c.args.place c.args.row c.requires.room c.requires.within gains own x passed gains_is c.of_row-own.ensures inside c.in-Ok-insert.ensures.passed passed_is in
+    let bears : Bears node c.args.place = subst (λ n. Bears n c.args.place) c.deref.ensures (c.if-not-bears.ensures refl) in
+    let size : c.deref-4.result.now.size + 1 ≡ o.size + 1 = ap (λ (n : Node). n.size + 1) (c.deref-4.ensures ∙ sym c.deref_mut.ensures.value) in
+    let made = put_in_left node rows sound seen o whole is c.args.place c.args.row c.requires.room c.requires.within gains own x passed gains_is c.of_row-own.ensures passes c.requires.of_kind bears (c.deref-4.result.now.size + 1) c.after.result size c.after.ensures.piece c.after.ensures.passes c.insert.new.self inside c.in-Ok-insert.ensures.ok in
+    c.renewed-in-Ok-insert.view_is ∙ c.renewed.ensures ∙ made.rows_are
+
+pub returns-in-Ok-insert-clause-passed : goal.returns-in-Ok-insert-clause-passed
+returns-in-Ok-insert-clause-passed t c =
+    let node = c.in-Full.node.value in
+    let rows = c.args.self.now in
+    let leads : c.self.inside.link ≡ Full c.in-Full.node = sym c.replace.ensures.value ∙ c.in-Full.is in
+    let sound : IsNode node = subst IsSound leads c.self.invariant in
+    let seen : node_rows node ≡ rows = sym (ap rows_of leads) ∙ c.self.view_is in
+    let o = c.deref_mut.result.now in
+    let whole = c.in-Ok.field-0.piece in
+    let is : with_piece o whole ≡ node = ap (λ (n : Node). with_piece n whole) (c.deref_mut.ensures.value) ∙ c.in-Ok.ensures in
+    let gains = c.is_some-gains.result in
+    let own = c.of_row-own.result in
+    let gains_is : gains ≡ is_some (added_by c.args.row) = c.is_some-gains.ensures ∙ ap is_some c.added_entry.ensures in
+    let before : c.len-before.result ≡ length node.left = c.len-before.ensures.count ∙ ap (λ (n : Node). length n.left) c.deref-2.ensures in
+    let x = c.in-Ok-insert.passed in
+    let passed = c.from_left-passed.result in
+    let passed_is : passed ≡ from_left (edges_of gains node) x = c.from_left-passed.ensures ∙ ap (λ e. from_left e x) (c.edges-edges.ensures ∙ ap (edges_of gains) c.deref-3.ensures) in
+    let inside : c.args.place ≤ length node.left = omega (arith, before, c.if-place-before.true) in
+    let passes = put_left node rows sound seen o whole is c.args.place c.args.row c.requires.room c.requires.within gains own x passed gains_is c.of_row-own.ensures inside c.in-Ok-insert.ensures.passed passed_is in
+    put_passed node rows sound seen o whole is c.args.place c.args.row c.requires.room c.requires.within gains own x passed gains_is c.of_row-own.ensures passes
+
+pub after-requires-in-Ok-insert-2 : goal.after-requires-in-Ok-insert-2
+after-requires-in-Ok-insert-2 t c =
+    let node = c.in-Full.node.value in
+    let rows = c.args.self.now in
+    let leads : c.self.inside.link ≡ Full c.in-Full.node = sym c.replace.ensures.value ∙ c.in-Full.is in
+    let sound : IsNode node = subst IsSound leads c.self.invariant in
+    let seen : node_rows node ≡ rows = sym (ap rows_of leads) ∙ c.self.view_is in
+    let o = c.deref_mut-else-place-before.result.now in
+    let whole = c.in-Ok.field-0.piece in
+    let is : with_piece o whole ≡ node = ap (λ (n : Node). with_piece n whole) (c.deref_mut-else-place-before.ensures.value) ∙ c.in-Ok.ensures in
+    let gains = c.is_some-gains.result in
+    let own = c.of_row-own.result in
+    let gains_is : gains ≡ is_some (added_by c.args.row) = c.is_some-gains.ensures ∙ ap is_some c.added_entry.ensures in
+    let before : c.len-before.result ≡ length node.left = c.len-before.ensures.count ∙ ap (λ (n : Node). length n.left) c.deref-2.ensures in
+    let x = c.in-Ok-insert-2.passed in
+    let passed = c.from_right-passed.result in
+    let passed_is : passed ≡ from_right (edges_of gains node) own x = c.from_right-passed.ensures ∙ ap (λ e. from_right e own x) (c.edges-edges.ensures ∙ ap (edges_of gains) c.deref-3.ensures) in
+    let beyond : length node.left < c.args.place = omega (arith, before, c.if-place-before.false) in
+    let offset = c.args.place - c.len-before.result - 1 in
+    let offset_is : offset ≡ c.args.place - length node.left - 1 = ap (λ k. c.args.place - k - 1) before in
+    let passes = put_right node rows sound seen o whole is c.args.place c.args.row c.requires.room c.requires.within gains own x passed gains_is c.of_row-own.ensures offset beyond offset_is c.in-Ok-insert-2.ensures.passed passed_is in
+    put_after node rows sound seen o whole is c.args.place c.args.row c.requires.room c.requires.within gains own x passed gains_is c.of_row-own.ensures passes
+
+pub renewed-requires-in-Ok-insert-2 : goal.renewed-requires-in-Ok-insert-2
+renewed-requires-in-Ok-insert-2 t c =
+    let node = c.in-Full.node.value in
+    let rows = c.args.self.now in
+    let leads : c.self.inside.link ≡ Full c.in-Full.node = sym c.replace.ensures.value ∙ c.in-Full.is in
+    let sound : IsNode node = subst IsSound leads c.self.invariant in
+    let seen : node_rows node ≡ rows = sym (ap rows_of leads) ∙ c.self.view_is in
+    let o = c.deref_mut-else-place-before.result.now in
+    let whole = c.in-Ok.field-0.piece in
+    let is : with_piece o whole ≡ node = ap (λ (n : Node). with_piece n whole) (c.deref_mut-else-place-before.ensures.value) ∙ c.in-Ok.ensures in
+    let gains = c.is_some-gains.result in
+    let own = c.of_row-own.result in
+    let gains_is : gains ≡ is_some (added_by c.args.row) = c.is_some-gains.ensures ∙ ap is_some c.added_entry.ensures in
+    let before : c.len-before.result ≡ length node.left = c.len-before.ensures.count ∙ ap (λ (n : Node). length n.left) c.deref-2.ensures in
+    let x = c.in-Ok-insert-2.passed in
+    let passed = c.from_right-passed.result in
+    let passed_is : passed ≡ from_right (edges_of gains node) own x = c.from_right-passed.ensures ∙ ap (λ e. from_right e own x) (c.edges-edges.ensures ∙ ap (edges_of gains) c.deref-3.ensures) in
+    let beyond : length node.left < c.args.place = omega (arith, before, c.if-place-before.false) in
+    let offset = c.args.place - c.len-before.result - 1 in
+    let offset_is : offset ≡ c.args.place - length node.left - 1 = ap (λ k. c.args.place - k - 1) before in
+    let passes = put_right node rows sound seen o whole is c.args.place c.args.row c.requires.room c.requires.within gains own x passed gains_is c.of_row-own.ensures offset beyond offset_is c.in-Ok-insert-2.ensures.passed passed_is in
+    let bears : Bears node c.args.place = subst (λ n. Bears n c.args.place) c.deref.ensures (c.if-not-bears.ensures refl) in
+    let size : c.deref-4.result.now.size + 1 ≡ o.size + 1 = ap (λ (n : Node). n.size + 1) (c.deref-4.ensures ∙ sym c.deref_mut-else-place-before.ensures.value) in
+    let made = put_in_right node rows sound seen o whole is c.args.place c.args.row c.requires.room c.requires.within gains own x passed gains_is c.of_row-own.ensures passes c.requires.of_kind bears (c.deref-4.result.now.size + 1) c.after-in-Ok-insert-2.result size c.after-in-Ok-insert-2.ensures.piece c.after-in-Ok-insert-2.ensures.passes c.insert-else-place-before.new.self offset beyond offset_is c.in-Ok-insert-2.ensures.ok in
+    made.sound
+
+pub returns-in-Ok-insert-2-clause-ok : goal.returns-in-Ok-insert-2-clause-ok
+returns-in-Ok-insert-2-clause-ok t c =
+    let node = c.in-Full.node.value in
+    let rows = c.args.self.now in
+    let leads : c.self.inside.link ≡ Full c.in-Full.node = sym c.replace.ensures.value ∙ c.in-Full.is in
+    let sound : IsNode node = subst IsSound leads c.self.invariant in
+    let seen : node_rows node ≡ rows = sym (ap rows_of leads) ∙ c.self.view_is in
+    let o = c.deref_mut-else-place-before.result.now in
+    let whole = c.in-Ok.field-0.piece in
+    let is : with_piece o whole ≡ node = ap (λ (n : Node). with_piece n whole) (c.deref_mut-else-place-before.ensures.value) ∙ c.in-Ok.ensures in
+    let gains = c.is_some-gains.result in
+    let own = c.of_row-own.result in
+    let gains_is : gains ≡ is_some (added_by c.args.row) = c.is_some-gains.ensures ∙ ap is_some c.added_entry.ensures in
+    let before : c.len-before.result ≡ length node.left = c.len-before.ensures.count ∙ ap (λ (n : Node). length n.left) c.deref-2.ensures in
+    let x = c.in-Ok-insert-2.passed in
+    let passed = c.from_right-passed.result in
+    let passed_is : passed ≡ from_right (edges_of gains node) own x = c.from_right-passed.ensures ∙ ap (λ e. from_right e own x) (c.edges-edges.ensures ∙ ap (edges_of gains) c.deref-3.ensures) in
+    let beyond : length node.left < c.args.place = omega (arith, before, c.if-place-before.false) in
+    let offset = c.args.place - c.len-before.result - 1 in
+    let offset_is : offset ≡ c.args.place - length node.left - 1 = ap (λ k. c.args.place - k - 1) before in
+    let passes = put_right node rows sound seen o whole is c.args.place c.args.row c.requires.room c.requires.within gains own x passed gains_is c.of_row-own.ensures offset beyond offset_is c.in-Ok-insert-2.ensures.passed passed_is in
+    let bears : Bears node c.args.place = subst (λ n. Bears n c.args.place) c.deref.ensures (c.if-not-bears.ensures refl) in
+    let size : c.deref-4.result.now.size + 1 ≡ o.size + 1 = ap (λ (n : Node). n.size + 1) (c.deref-4.ensures ∙ sym c.deref_mut-else-place-before.ensures.value) in
+    let made = put_in_right node rows sound seen o whole is c.args.place c.args.row c.requires.room c.requires.within gains own x passed gains_is c.of_row-own.ensures passes c.requires.of_kind bears (c.deref-4.result.now.size + 1) c.after-in-Ok-insert-2.result size c.after-in-Ok-insert-2.ensures.piece c.after-in-Ok-insert-2.ensures.passes c.insert-else-place-before.new.self offset beyond offset_is c.in-Ok-insert-2.ensures.ok in
+    c.renewed-in-Ok-insert-2-2.view_is ∙ c.renewed-in-Ok-insert-2.ensures ∙ made.rows_are
+
+pub returns-in-Ok-insert-2-clause-passed : goal.returns-in-Ok-insert-2-clause-passed
+returns-in-Ok-insert-2-clause-passed t c =
+    let node = c.in-Full.node.value in
+    let rows = c.args.self.now in
+    let leads : c.self.inside.link ≡ Full c.in-Full.node = sym c.replace.ensures.value ∙ c.in-Full.is in
+    let sound : IsNode node = subst IsSound leads c.self.invariant in
+    let seen : node_rows node ≡ rows = sym (ap rows_of leads) ∙ c.self.view_is in
+    let o = c.deref_mut-else-place-before.result.now in
+    let whole = c.in-Ok.field-0.piece in
+    let is : with_piece o whole ≡ node = ap (λ (n : Node). with_piece n whole) (c.deref_mut-else-place-before.ensures.value) ∙ c.in-Ok.ensures in
+    let gains = c.is_some-gains.result in
+    let own = c.of_row-own.result in
+    let gains_is : gains ≡ is_some (added_by c.args.row) = c.is_some-gains.ensures ∙ ap is_some c.added_entry.ensures in
+    let before : c.len-before.result ≡ length node.left = c.len-before.ensures.count ∙ ap (λ (n : Node). length n.left) c.deref-2.ensures in
+    let x = c.in-Ok-insert-2.passed in
+    let passed = c.from_right-passed.result in
+    let passed_is : passed ≡ from_right (edges_of gains node) own x = c.from_right-passed.ensures ∙ ap (λ e. from_right e own x) (c.edges-edges.ensures ∙ ap (edges_of gains) c.deref-3.ensures) in
+    let beyond : length node.left < c.args.place = omega (arith, before, c.if-place-before.false) in
+    let offset = c.args.place - c.len-before.result - 1 in
+    let offset_is : offset ≡ c.args.place - length node.left - 1 = ap (λ k. c.args.place - k - 1) before in
+    let passes = put_right node rows sound seen o whole is c.args.place c.args.row c.requires.room c.requires.within gains own x passed gains_is c.of_row-own.ensures offset beyond offset_is c.in-Ok-insert-2.ensures.passed passed_is in
+    put_passed node rows sound seen o whole is c.args.place c.args.row c.requires.room c.requires.within gains own x passed gains_is c.of_row-own.ensures passes
+
+pub returns-in_default-clause-passed : goal.returns-in_default-clause-passed
+returns-in_default-clause-passed t c =
+    let none : c.args.self.now ≡ [] = sym c.self.view_is ∙ ap rows_of (sym c.replace.ensures.value ∙ c.in_default.is) in
+    put_first c.args.self.now c.args.place c.args.row c.of_row-own.result c.alone.result c.requires.of_kind none c.requires.within c.of_row-own.ensures c.alone.ensures

@@ -1,97 +1,366 @@
-use Rattle.std.proofs.Common.{◌≡◌, ◌-◌, ap, ◌∙◌, sym, refl, arith, subst, length, true, false}
-use Rattle.std.specs.Prelude.{is_ok}
-use Rattle.std.specs.List.{remove}
+use Rattle.std.proofs.Common.{◌≡◌, ◌-◌, ◌<◌, ap, ◌∙◌, sym, refl, arith, subst, length, ◌∷◌, ◌++◌, rules}
+use Rattle.std.specs.Prelude.{is_some, not}
+use Rattle.retro_base.specs.Weights.{added_by}
 use Rattle.pq_fusion.specs.declared.subtree.Link.TheVariants.{Full}
 use Rattle.pq_fusion.specs.declared.subtree.Node.{Node}
 use Rattle.pq_fusion.specs.Nodes.{Replaces, Spares, IsNode, IsSound, node_rows, rows_of}
-use Rattle.pq_fusion.proofs.Grown.{with_left, with_right, replaced, on_ok, on_err, where_ok, where_err, same_node, removed_left, removed_right}
+use Rattle.pq_fusion.specs.Passages.{edges_of, with_piece, from_left, from_own, from_right}
+use Rattle.pq_fusion.proofs.Grown.{replaced}
+use Rattle.pq_fusion.proofs.Edited.{left_place, right_shorter, right_place, there_in_right, cut_left, cut_own, cut_right, cut_after, cut_passed, cut_from_left, cut_from_own, cut_from_right}
 use Rattle.pq_fusion.proofs.subtree.Subtree.+remove.Goals as goal
-use Rattle.pq_fusion.proofs.subtree.Subtree.+remove.Goals.{then-from-before, else-from-before, then-is_ok, else-is_ok}
 
-pub of_root-requires : goal.of_root-requires
-of_root-requires t c =
-    let node = c.in-Full-replace.node.value in
-    let leads : c.self.inside.link ≡ Full c.in-Full-replace.node = sym c.replace.ensures.value ∙ c.in-Full-replace.is in
+pub after-requires : goal.after-requires
+after-requires t c =
+    let node = c.in-Full.node.value in
+    let rows = c.args.self.now in
+    let leads : c.self.inside.link ≡ Full c.in-Full.node = sym c.replace.ensures.value ∙ c.in-Full.is in
     let sound : IsNode node = subst IsSound leads c.self.invariant in
-    let seen : node_rows node ≡ c.args.self.now = sym (ap rows_of leads) ∙ c.self.view_is in
-    let same : c.in-Full.node.value ≡ node = same_node c.in-Full.node c.in-Full-replace.node (sym c.in-Full.is ∙ leads) in
-    let spares : Spares node c.replacement-from.result.0 = subst (λ n. Spares n c.replacement-from.result.0) (c.deref-3.ensures ∙ same) (c.if-not-spares.ensures refl) in
-    let replaces : Replaces node c.args.place c.replacement-from.result.0 c.replacement-from.result.1 =
-    subst (λ n. Replaces n c.args.place c.replacement-from.result.0 c.replacement-from.result.1) (c.deref-2.ensures ∙ same) c.replacement-from.ensures.rows in
-    let before : c.len-before.result ≡ length node.left = c.len-before.ensures.count ∙ ap (λ (n : Node). length n.left) (c.deref.ensures ∙ same) in
-    elim c.if-is_ok.branch [
-      | then-is_ok w ↦
-          let new : c.if-is_ok.node.value ≡ replaced c.if-from-before.node.value c.replacement-from.result.1 (c.if-from-before.node.value.size - 1) c.in_ok-piece.piece =
-          ap (λ b. b.value) w.node-is ∙ rw (w.deref_mut-then-is_ok-3.ensures.value, w.deref_mut-then-is_ok-2.ensures.value, w.deref_mut-then-is_ok.ensures.value) refl in
-          let ok : is_ok c.if-from-before.outcome ≡ true = sym c.is_ok.ensures.value ∙ w.if-is_ok.true in
-          elim c.if-from-before.branch [
-            | then-from-before v ↦
-                let middle : c.if-from-before.node.value ≡ with_left node v.remove-outcome.new.self = ap (λ b. b.value) v.node-is ∙ rw v.deref_mut.ensures.value refl in
-                let side = on_ok v.remove-outcome.result v.remove-outcome.ensures.ok (ap is_ok (sym v.outcome-is) ∙ ok) in
-                let made = removed_left node c.args.self.now sound seen c.args.place c.replacement-from.result.0 c.replacement-from.result.1 replaces spares c.in_ok-piece.piece c.in_ok-piece.ensures
-                v.remove-outcome.new.self c.if-from-before.node.value c.if-is_ok.node.value new (omega (arith, before, v.if-from-before.true))
-                (side ∙ ap (λ (n : Node). remove n.left c.replacement-from.result.0) v.deref_mut.ensures.value) middle in
-                made.sound
-            | else-from-before v ↦
-                let middle : c.if-from-before.node.value ≡ with_right node v.remove-outcome-else-from-before.new.self = ap (λ b. b.value) v.node-is ∙ rw v.deref_mut-else-from-before.ensures.value refl in
-                let side = on_ok v.remove-outcome-else-from-before.result v.remove-outcome-else-from-before.ensures.ok (ap is_ok (sym v.outcome-is) ∙ ok) in
-                let made = removed_right node c.args.self.now sound seen c.args.place c.replacement-from.result.0 c.replacement-from.result.1 replaces spares c.in_ok-piece.piece c.in_ok-piece.ensures
-                v.remove-outcome-else-from-before.new.self c.if-from-before.node.value c.if-is_ok.node.value new (omega (arith, before, v.if-from-before.false, spares.elsewhere)) c.requires.within
-                (side ∙ ap (λ (n : Node). remove n.right (c.replacement-from.result.0 - c.len-before.result - 1)) v.deref_mut-else-from-before.ensures.value
-                ∙ ap (λ k. remove node.right (c.replacement-from.result.0 - k - 1)) before) middle in
-                made.sound
-          ]
-      | else-is_ok w ↦
-          let err : is_ok c.if-from-before.outcome ≡ false = sym c.is_ok.ensures.value ∙ w.if-is_ok.false in
-          elim c.if-from-before.branch [
-            | then-from-before v ↦
-                let side = on_err v.remove-outcome.result v.remove-outcome.ensures.err (ap is_ok (sym v.outcome-is) ∙ err) in
-                let middle : c.if-from-before.node.value ≡ with_left node node.left =
-                ap (λ b. b.value) v.node-is ∙ rw (side, v.deref_mut.ensures.value) refl in
-                subst IsNode (sym (ap (λ b. b.value) w.node-is ∙ middle)) sound
-            | else-from-before v ↦
-                let side = on_err v.remove-outcome-else-from-before.result v.remove-outcome-else-from-before.ensures.err (ap is_ok (sym v.outcome-is) ∙ err) in
-                let middle : c.if-from-before.node.value ≡ with_right node node.right =
-                ap (λ b. b.value) v.node-is ∙ rw (side, v.deref_mut-else-from-before.ensures.value) refl in
-                subst IsNode (sym (ap (λ b. b.value) w.node-is ∙ middle)) sound
-          ]
-    ]
+    let seen : node_rows node ≡ rows = sym (ap rows_of leads) ∙ c.self.view_is in
+    let o = c.deref_mut.result.now in
+    let whole = c.in-Ok.field-0.piece in
+    let is : with_piece o whole ≡ node = ap (λ (n : Node). with_piece n whole) c.deref_mut.ensures.value ∙ c.in-Ok.ensures in
+    let gains = not c.is_some-adds.result in
+    let own = c.of_row-own.result in
+    let gains_is : gains ≡ not (is_some (added_by c.args.row)) = ap not (c.is_some-adds.ensures ∙ ap is_some c.added_entry.ensures) in
+    let before : c.len-before.result ≡ length node.left = c.len-before.ensures.count ∙ ap (λ (n : Node). length n.left) c.deref-3.ensures in
+    let from = c.replacement-from.result.0 in
+    let next = c.replacement-from.result.1 in
+    let replaces : Replaces node c.args.place from next = subst (λ n. Replaces n c.args.place from next) c.deref.ensures c.replacement-from.ensures.rows in
+    let spares : Spares node from = subst (λ n. Spares n from) c.deref-2.ensures (c.if-not-spares.ensures refl) in
+    let x = c.in-Ok-remove.passed in
+    let passed = c.from_left-passed.result in
+    let passed_is : passed ≡ from_left (edges_of gains node) x = c.from_left-passed.ensures ∙ ap (λ e. from_left e x) (c.edges-edges.ensures ∙ ap (edges_of gains) c.deref-4.ensures) in
+    let under : from < length node.left = omega (arith, before, c.if-from-before.true) in
+    let inside : c.args.place < length node.left = left_place node c.args.place from next replaces under in
+    let passes = cut_left node rows sound seen o whole is c.args.place c.args.row c.requires.there gains own x passed gains_is c.of_row-own.ensures inside c.in-Ok-remove.ensures.passed passed_is in
+    cut_after node rows sound seen o whole is c.args.place c.args.row c.requires.there gains own x passed gains_is c.of_row-own.ensures passes
 
-pub returns-clause-ok : goal.returns-clause-ok
-returns-clause-ok t c =
-    let node = c.in-Full-replace.node.value in
-    let leads : c.self.inside.link ≡ Full c.in-Full-replace.node = sym c.replace.ensures.value ∙ c.in-Full-replace.is in
+pub renewed-requires : goal.renewed-requires
+renewed-requires t c =
+    let node = c.in-Full.node.value in
+    let rows = c.args.self.now in
+    let leads : c.self.inside.link ≡ Full c.in-Full.node = sym c.replace.ensures.value ∙ c.in-Full.is in
     let sound : IsNode node = subst IsSound leads c.self.invariant in
-    let seen : node_rows node ≡ c.args.self.now = sym (ap rows_of leads) ∙ c.self.view_is in
-    let same : c.in-Full.node.value ≡ node = same_node c.in-Full.node c.in-Full-replace.node (sym c.in-Full.is ∙ leads) in
-    let spares : Spares node c.replacement-from.result.0 = subst (λ n. Spares n c.replacement-from.result.0) (c.deref-3.ensures ∙ same) (c.if-not-spares.ensures refl) in
-    let replaces : Replaces node c.args.place c.replacement-from.result.0 c.replacement-from.result.1 =
-    subst (λ n. Replaces n c.args.place c.replacement-from.result.0 c.replacement-from.result.1) (c.deref-2.ensures ∙ same) c.replacement-from.ensures.rows in
-    let before : c.len-before.result ≡ length node.left = c.len-before.ensures.count ∙ ap (λ (n : Node). length n.left) (c.deref.ensures ∙ same) in
-    let left = c.of_root-2.view_is ∙ c.of_root.ensures in
-    elim c.if-is_ok.branch [
-      | then-is_ok w ↦
-          let new : c.if-is_ok.node.value ≡ replaced c.if-from-before.node.value c.replacement-from.result.1 (c.if-from-before.node.value.size - 1) c.in_ok-piece.piece =
-          ap (λ b. b.value) w.node-is ∙ rw (w.deref_mut-then-is_ok-3.ensures.value, w.deref_mut-then-is_ok-2.ensures.value, w.deref_mut-then-is_ok.ensures.value) refl in
-          let ok : is_ok c.if-from-before.outcome ≡ true = sym c.is_ok.ensures.value ∙ w.if-is_ok.true in
-          elim c.if-from-before.branch [
-            | then-from-before v ↦
-                let middle : c.if-from-before.node.value ≡ with_left node v.remove-outcome.new.self = ap (λ b. b.value) v.node-is ∙ rw v.deref_mut.ensures.value refl in
-                let side = on_ok v.remove-outcome.result v.remove-outcome.ensures.ok (ap is_ok (sym v.outcome-is) ∙ ok) in
-                let made = removed_left node c.args.self.now sound seen c.args.place c.replacement-from.result.0 c.replacement-from.result.1 replaces spares c.in_ok-piece.piece c.in_ok-piece.ensures
-                v.remove-outcome.new.self c.if-from-before.node.value c.if-is_ok.node.value new (omega (arith, before, v.if-from-before.true))
-                (side ∙ ap (λ (n : Node). remove n.left c.replacement-from.result.0) v.deref_mut.ensures.value) middle in
-                where_ok c.if-from-before.outcome (left ∙ made.rows_are)
-            | else-from-before v ↦
-                let middle : c.if-from-before.node.value ≡ with_right node v.remove-outcome-else-from-before.new.self = ap (λ b. b.value) v.node-is ∙ rw v.deref_mut-else-from-before.ensures.value refl in
-                let side = on_ok v.remove-outcome-else-from-before.result v.remove-outcome-else-from-before.ensures.ok (ap is_ok (sym v.outcome-is) ∙ ok) in
-                let made = removed_right node c.args.self.now sound seen c.args.place c.replacement-from.result.0 c.replacement-from.result.1 replaces spares c.in_ok-piece.piece c.in_ok-piece.ensures
-                v.remove-outcome-else-from-before.new.self c.if-from-before.node.value c.if-is_ok.node.value new (omega (arith, before, v.if-from-before.false, spares.elsewhere)) c.requires.within
-                (side ∙ ap (λ (n : Node). remove n.right (c.replacement-from.result.0 - c.len-before.result - 1)) v.deref_mut-else-from-before.ensures.value
-                ∙ ap (λ k. remove node.right (c.replacement-from.result.0 - k - 1)) before) middle in
-                where_ok c.if-from-before.outcome (left ∙ made.rows_are)
-          ]
-      | else-is_ok w ↦
-          let err : is_ok c.if-from-before.outcome ≡ false = sym c.is_ok.ensures.value ∙ w.if-is_ok.false in
-          where_err _ c.if-from-before.outcome err
-    ]
+    let seen : node_rows node ≡ rows = sym (ap rows_of leads) ∙ c.self.view_is in
+    let o = c.deref_mut.result.now in
+    let whole = c.in-Ok.field-0.piece in
+    let is : with_piece o whole ≡ node = ap (λ (n : Node). with_piece n whole) c.deref_mut.ensures.value ∙ c.in-Ok.ensures in
+    let gains = not c.is_some-adds.result in
+    let own = c.of_row-own.result in
+    let gains_is : gains ≡ not (is_some (added_by c.args.row)) = ap not (c.is_some-adds.ensures ∙ ap is_some c.added_entry.ensures) in
+    let before : c.len-before.result ≡ length node.left = c.len-before.ensures.count ∙ ap (λ (n : Node). length n.left) c.deref-3.ensures in
+    let from = c.replacement-from.result.0 in
+    let next = c.replacement-from.result.1 in
+    let replaces : Replaces node c.args.place from next = subst (λ n. Replaces n c.args.place from next) c.deref.ensures c.replacement-from.ensures.rows in
+    let spares : Spares node from = subst (λ n. Spares n from) c.deref-2.ensures (c.if-not-spares.ensures refl) in
+    let x = c.in-Ok-remove.passed in
+    let passed = c.from_left-passed.result in
+    let passed_is : passed ≡ from_left (edges_of gains node) x = c.from_left-passed.ensures ∙ ap (λ e. from_left e x) (c.edges-edges.ensures ∙ ap (edges_of gains) c.deref-4.ensures) in
+    let under : from < length node.left = omega (arith, before, c.if-from-before.true) in
+    let inside : c.args.place < length node.left = left_place node c.args.place from next replaces under in
+    let passes = cut_left node rows sound seen o whole is c.args.place c.args.row c.requires.there gains own x passed gains_is c.of_row-own.ensures inside c.in-Ok-remove.ensures.passed passed_is in
+    let size : c.deref-5.result.now.size - 1 ≡ o.size - 1 = ap (λ (n : Node). n.size - 1) (c.deref-5.ensures ∙ sym c.deref_mut.ensures.value) in
+    let made = cut_from_left node rows sound seen o whole is c.args.place c.args.row c.requires.there gains own x passed gains_is c.of_row-own.ensures passes from next replaces spares (c.deref-5.result.now.size - 1) c.after.result size c.after.ensures.piece c.after.ensures.passes c.remove.new.self under c.in-Ok-remove.ensures.ok in
+    made.sound
+
+pub returns-in-Ok-remove-clause-ok : goal.returns-in-Ok-remove-clause-ok
+returns-in-Ok-remove-clause-ok t c =
+    let node = c.in-Full.node.value in
+    let rows = c.args.self.now in
+    let leads : c.self.inside.link ≡ Full c.in-Full.node = sym c.replace.ensures.value ∙ c.in-Full.is in
+    let sound : IsNode node = subst IsSound leads c.self.invariant in
+    let seen : node_rows node ≡ rows = sym (ap rows_of leads) ∙ c.self.view_is in
+    let o = c.deref_mut.result.now in
+    let whole = c.in-Ok.field-0.piece in
+    let is : with_piece o whole ≡ node = ap (λ (n : Node). with_piece n whole) c.deref_mut.ensures.value ∙ c.in-Ok.ensures in
+    let gains = not c.is_some-adds.result in
+    let own = c.of_row-own.result in
+    let gains_is : gains ≡ not (is_some (added_by c.args.row)) = ap not (c.is_some-adds.ensures ∙ ap is_some c.added_entry.ensures) in
+    let before : c.len-before.result ≡ length node.left = c.len-before.ensures.count ∙ ap (λ (n : Node). length n.left) c.deref-3.ensures in
+    let from = c.replacement-from.result.0 in
+    let next = c.replacement-from.result.1 in
+    let replaces : Replaces node c.args.place from next = subst (λ n. Replaces n c.args.place from next) c.deref.ensures c.replacement-from.ensures.rows in
+    let spares : Spares node from = subst (λ n. Spares n from) c.deref-2.ensures (c.if-not-spares.ensures refl) in
+    let x = c.in-Ok-remove.passed in
+    let passed = c.from_left-passed.result in
+    let passed_is : passed ≡ from_left (edges_of gains node) x = c.from_left-passed.ensures ∙ ap (λ e. from_left e x) (c.edges-edges.ensures ∙ ap (edges_of gains) c.deref-4.ensures) in
+    let under : from < length node.left = omega (arith, before, c.if-from-before.true) in
+    let inside : c.args.place < length node.left = left_place node c.args.place from next replaces under in
+    let passes = cut_left node rows sound seen o whole is c.args.place c.args.row c.requires.there gains own x passed gains_is c.of_row-own.ensures inside c.in-Ok-remove.ensures.passed passed_is in
+    let size : c.deref-5.result.now.size - 1 ≡ o.size - 1 = ap (λ (n : Node). n.size - 1) (c.deref-5.ensures ∙ sym c.deref_mut.ensures.value) in
+    let made = cut_from_left node rows sound seen o whole is c.args.place c.args.row c.requires.there gains own x passed gains_is c.of_row-own.ensures passes from next replaces spares (c.deref-5.result.now.size - 1) c.after.result size c.after.ensures.piece c.after.ensures.passes c.remove.new.self under c.in-Ok-remove.ensures.ok in
+    c.renewed-in-Ok-remove.view_is ∙ c.renewed.ensures ∙ made.rows_are
+
+pub returns-in-Ok-remove-clause-passed : goal.returns-in-Ok-remove-clause-passed
+returns-in-Ok-remove-clause-passed t c =
+    let node = c.in-Full.node.value in
+    let rows = c.args.self.now in
+    let leads : c.self.inside.link ≡ Full c.in-Full.node = sym c.replace.ensures.value ∙ c.in-Full.is in
+    let sound : IsNode node = subst IsSound leads c.self.invariant in
+    let seen : node_rows node ≡ rows = sym (ap rows_of leads) ∙ c.self.view_is in
+    let o = c.deref_mut.result.now in
+    let whole = c.in-Ok.field-0.piece in
+    let is : with_piece o whole ≡ node = ap (λ (n : Node). with_piece n whole) c.deref_mut.ensures.value ∙ c.in-Ok.ensures in
+    let gains = not c.is_some-adds.result in
+    let own = c.of_row-own.result in
+    let gains_is : gains ≡ not (is_some (added_by c.args.row)) = ap not (c.is_some-adds.ensures ∙ ap is_some c.added_entry.ensures) in
+    let before : c.len-before.result ≡ length node.left = c.len-before.ensures.count ∙ ap (λ (n : Node). length n.left) c.deref-3.ensures in
+    let from = c.replacement-from.result.0 in
+    let next = c.replacement-from.result.1 in
+    let replaces : Replaces node c.args.place from next = subst (λ n. Replaces n c.args.place from next) c.deref.ensures c.replacement-from.ensures.rows in
+    let spares : Spares node from = subst (λ n. Spares n from) c.deref-2.ensures (c.if-not-spares.ensures refl) in
+    let x = c.in-Ok-remove.passed in
+    let passed = c.from_left-passed.result in
+    let passed_is : passed ≡ from_left (edges_of gains node) x = c.from_left-passed.ensures ∙ ap (λ e. from_left e x) (c.edges-edges.ensures ∙ ap (edges_of gains) c.deref-4.ensures) in
+    let under : from < length node.left = omega (arith, before, c.if-from-before.true) in
+    let inside : c.args.place < length node.left = left_place node c.args.place from next replaces under in
+    let passes = cut_left node rows sound seen o whole is c.args.place c.args.row c.requires.there gains own x passed gains_is c.of_row-own.ensures inside c.in-Ok-remove.ensures.passed passed_is in
+    cut_passed node rows sound seen o whole is c.args.place c.args.row c.requires.there gains own x passed gains_is c.of_row-own.ensures passes
+
+pub after-requires-in-Ok-remove-2 : goal.after-requires-in-Ok-remove-2
+after-requires-in-Ok-remove-2 t c =
+    let node = c.in-Full.node.value in
+    let rows = c.args.self.now in
+    let leads : c.self.inside.link ≡ Full c.in-Full.node = sym c.replace.ensures.value ∙ c.in-Full.is in
+    let sound : IsNode node = subst IsSound leads c.self.invariant in
+    let seen : node_rows node ≡ rows = sym (ap rows_of leads) ∙ c.self.view_is in
+    let o = c.deref_mut-then-place-before.result.now in
+    let whole = c.in-Ok.field-0.piece in
+    let is : with_piece o whole ≡ node = ap (λ (n : Node). with_piece n whole) c.deref_mut-then-place-before.ensures.value ∙ c.in-Ok.ensures in
+    let gains = not c.is_some-adds.result in
+    let own = c.of_row-own.result in
+    let gains_is : gains ≡ not (is_some (added_by c.args.row)) = ap not (c.is_some-adds.ensures ∙ ap is_some c.added_entry.ensures) in
+    let before : c.len-before.result ≡ length node.left = c.len-before.ensures.count ∙ ap (λ (n : Node). length n.left) c.deref-3.ensures in
+    let from = c.replacement-from.result.0 in
+    let next = c.replacement-from.result.1 in
+    let replaces : Replaces node c.args.place from next = subst (λ n. Replaces n c.args.place from next) c.deref.ensures c.replacement-from.ensures.rows in
+    let spares : Spares node from = subst (λ n. Spares n from) c.deref-2.ensures (c.if-not-spares.ensures refl) in
+    let x = own in
+    let passed = c.from_own-passed.result in
+    let passed_is : passed ≡ from_own (edges_of gains node) own = c.from_own-passed.ensures ∙ ap (λ e. from_own e own) (c.edges-edges.ensures ∙ ap (edges_of gains) c.deref-4.ensures) in
+    let here : c.args.place ≡ length node.left = omega (arith, before, c.if-place-before.true) in
+    let passes = cut_own node rows sound seen o whole is c.args.place c.args.row c.requires.there gains own x passed gains_is c.of_row-own.ensures here passed_is in
+    cut_after node rows sound seen o whole is c.args.place c.args.row c.requires.there gains own x passed gains_is c.of_row-own.ensures passes
+
+pub renewed-requires-in-Ok-remove-2 : goal.renewed-requires-in-Ok-remove-2
+renewed-requires-in-Ok-remove-2 t c =
+    let node = c.in-Full.node.value in
+    let rows = c.args.self.now in
+    let leads : c.self.inside.link ≡ Full c.in-Full.node = sym c.replace.ensures.value ∙ c.in-Full.is in
+    let sound : IsNode node = subst IsSound leads c.self.invariant in
+    let seen : node_rows node ≡ rows = sym (ap rows_of leads) ∙ c.self.view_is in
+    let o = c.deref_mut-then-place-before.result.now in
+    let whole = c.in-Ok.field-0.piece in
+    let is : with_piece o whole ≡ node = ap (λ (n : Node). with_piece n whole) c.deref_mut-then-place-before.ensures.value ∙ c.in-Ok.ensures in
+    let gains = not c.is_some-adds.result in
+    let own = c.of_row-own.result in
+    let gains_is : gains ≡ not (is_some (added_by c.args.row)) = ap not (c.is_some-adds.ensures ∙ ap is_some c.added_entry.ensures) in
+    let before : c.len-before.result ≡ length node.left = c.len-before.ensures.count ∙ ap (λ (n : Node). length n.left) c.deref-3.ensures in
+    let from = c.replacement-from.result.0 in
+    let next = c.replacement-from.result.1 in
+    let replaces : Replaces node c.args.place from next = subst (λ n. Replaces n c.args.place from next) c.deref.ensures c.replacement-from.ensures.rows in
+    let spares : Spares node from = subst (λ n. Spares n from) c.deref-2.ensures (c.if-not-spares.ensures refl) in
+    let x = own in
+    let passed = c.from_own-passed.result in
+    let passed_is : passed ≡ from_own (edges_of gains node) own = c.from_own-passed.ensures ∙ ap (λ e. from_own e own) (c.edges-edges.ensures ∙ ap (edges_of gains) c.deref-4.ensures) in
+    let here : c.args.place ≡ length node.left = omega (arith, before, c.if-place-before.true) in
+    let passes = cut_own node rows sound seen o whole is c.args.place c.args.row c.requires.there gains own x passed gains_is c.of_row-own.ensures here passed_is in
+    let size : c.deref-5.result.now.size - 1 ≡ o.size - 1 = ap (λ (n : Node). n.size - 1) (c.deref-5.ensures ∙ sym c.deref_mut-then-place-before.ensures.value) in
+    let made = cut_from_own node rows sound seen o whole is c.args.place c.args.row c.requires.there gains own x passed gains_is c.of_row-own.ensures passes from next replaces spares (c.deref-5.result.now.size - 1) c.after-in-Ok-remove-2.result size c.after-in-Ok-remove-2.ensures.piece c.after-in-Ok-remove-2.ensures.passes c.remove-then-place-before.new.self here c.in-Ok-remove-2.ensures.ok in
+    subst (λ n. IsNode (replaced n next (c.deref-5.result.now.size - 1) c.after-in-Ok-remove-2.result)) (sym c.deref_mut-in-Ok-remove-2.ensures.value) made.sound
+
+pub returns-in-Ok-remove-2-clause-ok : goal.returns-in-Ok-remove-2-clause-ok
+returns-in-Ok-remove-2-clause-ok t c =
+    let node = c.in-Full.node.value in
+    let rows = c.args.self.now in
+    let leads : c.self.inside.link ≡ Full c.in-Full.node = sym c.replace.ensures.value ∙ c.in-Full.is in
+    let sound : IsNode node = subst IsSound leads c.self.invariant in
+    let seen : node_rows node ≡ rows = sym (ap rows_of leads) ∙ c.self.view_is in
+    let o = c.deref_mut-then-place-before.result.now in
+    let whole = c.in-Ok.field-0.piece in
+    let is : with_piece o whole ≡ node = ap (λ (n : Node). with_piece n whole) c.deref_mut-then-place-before.ensures.value ∙ c.in-Ok.ensures in
+    let gains = not c.is_some-adds.result in
+    let own = c.of_row-own.result in
+    let gains_is : gains ≡ not (is_some (added_by c.args.row)) = ap not (c.is_some-adds.ensures ∙ ap is_some c.added_entry.ensures) in
+    let before : c.len-before.result ≡ length node.left = c.len-before.ensures.count ∙ ap (λ (n : Node). length n.left) c.deref-3.ensures in
+    let from = c.replacement-from.result.0 in
+    let next = c.replacement-from.result.1 in
+    let replaces : Replaces node c.args.place from next = subst (λ n. Replaces n c.args.place from next) c.deref.ensures c.replacement-from.ensures.rows in
+    let spares : Spares node from = subst (λ n. Spares n from) c.deref-2.ensures (c.if-not-spares.ensures refl) in
+    let x = own in
+    let passed = c.from_own-passed.result in
+    let passed_is : passed ≡ from_own (edges_of gains node) own = c.from_own-passed.ensures ∙ ap (λ e. from_own e own) (c.edges-edges.ensures ∙ ap (edges_of gains) c.deref-4.ensures) in
+    let here : c.args.place ≡ length node.left = omega (arith, before, c.if-place-before.true) in
+    let passes = cut_own node rows sound seen o whole is c.args.place c.args.row c.requires.there gains own x passed gains_is c.of_row-own.ensures here passed_is in
+    let size : c.deref-5.result.now.size - 1 ≡ o.size - 1 = ap (λ (n : Node). n.size - 1) (c.deref-5.ensures ∙ sym c.deref_mut-then-place-before.ensures.value) in
+    let made = cut_from_own node rows sound seen o whole is c.args.place c.args.row c.requires.there gains own x passed gains_is c.of_row-own.ensures passes from next replaces spares (c.deref-5.result.now.size - 1) c.after-in-Ok-remove-2.result size c.after-in-Ok-remove-2.ensures.piece c.after-in-Ok-remove-2.ensures.passes c.remove-then-place-before.new.self here c.in-Ok-remove-2.ensures.ok in
+    c.renewed-in-Ok-remove-2-2.view_is ∙ c.renewed-in-Ok-remove-2.ensures ∙ ap (λ (n : Node). n.left ++ next ∷ n.right) c.deref_mut-in-Ok-remove-2.ensures.value ∙ made.rows_are
+
+pub returns-in-Ok-remove-2-clause-passed : goal.returns-in-Ok-remove-2-clause-passed
+returns-in-Ok-remove-2-clause-passed t c =
+    let node = c.in-Full.node.value in
+    let rows = c.args.self.now in
+    let leads : c.self.inside.link ≡ Full c.in-Full.node = sym c.replace.ensures.value ∙ c.in-Full.is in
+    let sound : IsNode node = subst IsSound leads c.self.invariant in
+    let seen : node_rows node ≡ rows = sym (ap rows_of leads) ∙ c.self.view_is in
+    let o = c.deref_mut-then-place-before.result.now in
+    let whole = c.in-Ok.field-0.piece in
+    let is : with_piece o whole ≡ node = ap (λ (n : Node). with_piece n whole) c.deref_mut-then-place-before.ensures.value ∙ c.in-Ok.ensures in
+    let gains = not c.is_some-adds.result in
+    let own = c.of_row-own.result in
+    let gains_is : gains ≡ not (is_some (added_by c.args.row)) = ap not (c.is_some-adds.ensures ∙ ap is_some c.added_entry.ensures) in
+    let before : c.len-before.result ≡ length node.left = c.len-before.ensures.count ∙ ap (λ (n : Node). length n.left) c.deref-3.ensures in
+    let from = c.replacement-from.result.0 in
+    let next = c.replacement-from.result.1 in
+    let replaces : Replaces node c.args.place from next = subst (λ n. Replaces n c.args.place from next) c.deref.ensures c.replacement-from.ensures.rows in
+    let spares : Spares node from = subst (λ n. Spares n from) c.deref-2.ensures (c.if-not-spares.ensures refl) in
+    let x = own in
+    let passed = c.from_own-passed.result in
+    let passed_is : passed ≡ from_own (edges_of gains node) own = c.from_own-passed.ensures ∙ ap (λ e. from_own e own) (c.edges-edges.ensures ∙ ap (edges_of gains) c.deref-4.ensures) in
+    let here : c.args.place ≡ length node.left = omega (arith, before, c.if-place-before.true) in
+    let passes = cut_own node rows sound seen o whole is c.args.place c.args.row c.requires.there gains own x passed gains_is c.of_row-own.ensures here passed_is in
+    cut_passed node rows sound seen o whole is c.args.place c.args.row c.requires.there gains own x passed gains_is c.of_row-own.ensures passes
+
+pub remove-requires-else-place-before : goal.remove-requires-else-place-before
+remove-requires-else-place-before t c = (
+  let node = c.in-Full.node.value in
+      let rows = c.args.self.now in
+      let leads : c.self.inside.link ≡ Full c.in-Full.node = sym c.replace.ensures.value ∙ c.in-Full.is in
+      let seen : node_rows node ≡ rows = sym (ap rows_of leads) ∙ c.self.view_is in
+      let o = c.deref_mut-else-place-before.result.now in
+      let is : with_piece o c.in-Ok.field-0.piece ≡ node = ap (λ (n : Node). with_piece n c.in-Ok.field-0.piece) c.deref_mut-else-place-before.ensures.value ∙ c.in-Ok.ensures in
+      let shorter : length o.right < length rows = right_shorter node o rows c.in-Ok.field-0.piece is seen in
+      first_of (omega (arith, shorter, c.decreases), search (rules, shorter)),
+  let node = c.in-Full.node.value in
+      let rows = c.args.self.now in
+      let leads : c.self.inside.link ≡ Full c.in-Full.node = sym c.replace.ensures.value ∙ c.in-Full.is in
+      let sound : IsNode node = subst IsSound leads c.self.invariant in
+      let seen : node_rows node ≡ rows = sym (ap rows_of leads) ∙ c.self.view_is in
+      let o = c.deref_mut-else-place-before.result.now in
+      let whole = c.in-Ok.field-0.piece in
+      let is : with_piece o whole ≡ node = ap (λ (n : Node). with_piece n whole) c.deref_mut-else-place-before.ensures.value ∙ c.in-Ok.ensures in
+      let gains = not c.is_some-adds.result in
+      let own = c.of_row-own.result in
+      let gains_is : gains ≡ not (is_some (added_by c.args.row)) = ap not (c.is_some-adds.ensures ∙ ap is_some c.added_entry.ensures) in
+      let before : c.len-before.result ≡ length node.left = c.len-before.ensures.count ∙ ap (λ (n : Node). length n.left) c.deref-3.ensures in
+      let from = c.replacement-from.result.0 in
+      let next = c.replacement-from.result.1 in
+      let replaces : Replaces node c.args.place from next = subst (λ n. Replaces n c.args.place from next) c.deref.ensures c.replacement-from.ensures.rows in
+      let spares : Spares node from = subst (λ n. Spares n from) c.deref-2.ensures (c.if-not-spares.ensures refl) in
+      let beyond : length node.left < c.args.place = right_place node c.args.place from next replaces (omega (arith, before, c.if-from-before.false)) (omega (arith, before, c.if-place-before.false)) in
+      let offset = c.args.place - c.len-before.result - 1 in
+      let offset_is : offset ≡ c.args.place - length node.left - 1 = ap (λ k. c.args.place - k - 1) before in
+      there_in_right node rows sound seen o whole is c.args.place c.args.row c.requires.there gains own own own gains_is c.of_row-own.ensures offset beyond offset_is,
+)
+
+pub after-requires-in-Ok-remove-3 : goal.after-requires-in-Ok-remove-3
+after-requires-in-Ok-remove-3 t c =
+    let node = c.in-Full.node.value in
+    let rows = c.args.self.now in
+    let leads : c.self.inside.link ≡ Full c.in-Full.node = sym c.replace.ensures.value ∙ c.in-Full.is in
+    let sound : IsNode node = subst IsSound leads c.self.invariant in
+    let seen : node_rows node ≡ rows = sym (ap rows_of leads) ∙ c.self.view_is in
+    let o = c.deref_mut-else-place-before.result.now in
+    let whole = c.in-Ok.field-0.piece in
+    let is : with_piece o whole ≡ node = ap (λ (n : Node). with_piece n whole) c.deref_mut-else-place-before.ensures.value ∙ c.in-Ok.ensures in
+    let gains = not c.is_some-adds.result in
+    let own = c.of_row-own.result in
+    let gains_is : gains ≡ not (is_some (added_by c.args.row)) = ap not (c.is_some-adds.ensures ∙ ap is_some c.added_entry.ensures) in
+    let before : c.len-before.result ≡ length node.left = c.len-before.ensures.count ∙ ap (λ (n : Node). length n.left) c.deref-3.ensures in
+    let from = c.replacement-from.result.0 in
+    let next = c.replacement-from.result.1 in
+    let replaces : Replaces node c.args.place from next = subst (λ n. Replaces n c.args.place from next) c.deref.ensures c.replacement-from.ensures.rows in
+    let spares : Spares node from = subst (λ n. Spares n from) c.deref-2.ensures (c.if-not-spares.ensures refl) in
+    let x = c.in-Ok-remove-3.passed in
+    let passed = c.from_right-passed.result in
+    let passed_is : passed ≡ from_right (edges_of gains node) own x = c.from_right-passed.ensures ∙ ap (λ e. from_right e own x) (c.edges-edges.ensures ∙ ap (edges_of gains) c.deref-4.ensures) in
+    let beyond : length node.left < c.args.place = right_place node c.args.place from next replaces (omega (arith, before, c.if-from-before.false)) (omega (arith, before, c.if-place-before.false)) in
+    let offset = c.args.place - c.len-before.result - 1 in
+    let offset_is : offset ≡ c.args.place - length node.left - 1 = ap (λ k. c.args.place - k - 1) before in
+    let passes = cut_right node rows sound seen o whole is c.args.place c.args.row c.requires.there gains own x passed gains_is c.of_row-own.ensures offset beyond offset_is c.in-Ok-remove-3.ensures.passed passed_is in
+    cut_after node rows sound seen o whole is c.args.place c.args.row c.requires.there gains own x passed gains_is c.of_row-own.ensures passes
+
+pub renewed-requires-in-Ok-remove-3 : goal.renewed-requires-in-Ok-remove-3
+renewed-requires-in-Ok-remove-3 t c =
+    let node = c.in-Full.node.value in
+    let rows = c.args.self.now in
+    let leads : c.self.inside.link ≡ Full c.in-Full.node = sym c.replace.ensures.value ∙ c.in-Full.is in
+    let sound : IsNode node = subst IsSound leads c.self.invariant in
+    let seen : node_rows node ≡ rows = sym (ap rows_of leads) ∙ c.self.view_is in
+    let o = c.deref_mut-else-place-before.result.now in
+    let whole = c.in-Ok.field-0.piece in
+    let is : with_piece o whole ≡ node = ap (λ (n : Node). with_piece n whole) c.deref_mut-else-place-before.ensures.value ∙ c.in-Ok.ensures in
+    let gains = not c.is_some-adds.result in
+    let own = c.of_row-own.result in
+    let gains_is : gains ≡ not (is_some (added_by c.args.row)) = ap not (c.is_some-adds.ensures ∙ ap is_some c.added_entry.ensures) in
+    let before : c.len-before.result ≡ length node.left = c.len-before.ensures.count ∙ ap (λ (n : Node). length n.left) c.deref-3.ensures in
+    let from = c.replacement-from.result.0 in
+    let next = c.replacement-from.result.1 in
+    let replaces : Replaces node c.args.place from next = subst (λ n. Replaces n c.args.place from next) c.deref.ensures c.replacement-from.ensures.rows in
+    let spares : Spares node from = subst (λ n. Spares n from) c.deref-2.ensures (c.if-not-spares.ensures refl) in
+    let x = c.in-Ok-remove-3.passed in
+    let passed = c.from_right-passed.result in
+    let passed_is : passed ≡ from_right (edges_of gains node) own x = c.from_right-passed.ensures ∙ ap (λ e. from_right e own x) (c.edges-edges.ensures ∙ ap (edges_of gains) c.deref-4.ensures) in
+    let beyond : length node.left < c.args.place = right_place node c.args.place from next replaces (omega (arith, before, c.if-from-before.false)) (omega (arith, before, c.if-place-before.false)) in
+    let offset = c.args.place - c.len-before.result - 1 in
+    let offset_is : offset ≡ c.args.place - length node.left - 1 = ap (λ k. c.args.place - k - 1) before in
+    let passes = cut_right node rows sound seen o whole is c.args.place c.args.row c.requires.there gains own x passed gains_is c.of_row-own.ensures offset beyond offset_is c.in-Ok-remove-3.ensures.passed passed_is in
+    let size : c.deref-5.result.now.size - 1 ≡ o.size - 1 = ap (λ (n : Node). n.size - 1) (c.deref-5.ensures ∙ sym c.deref_mut-else-place-before.ensures.value) in
+    let made = cut_from_right node rows sound seen o whole is c.args.place c.args.row c.requires.there gains own x passed gains_is c.of_row-own.ensures passes from next replaces spares (c.deref-5.result.now.size - 1) c.after-in-Ok-remove-3.result size c.after-in-Ok-remove-3.ensures.piece c.after-in-Ok-remove-3.ensures.passes c.remove-else-place-before.new.self offset beyond offset_is c.in-Ok-remove-3.ensures.ok in
+    made.sound
+
+pub returns-in-Ok-remove-3-clause-ok : goal.returns-in-Ok-remove-3-clause-ok
+returns-in-Ok-remove-3-clause-ok t c =
+    let node = c.in-Full.node.value in
+    let rows = c.args.self.now in
+    let leads : c.self.inside.link ≡ Full c.in-Full.node = sym c.replace.ensures.value ∙ c.in-Full.is in
+    let sound : IsNode node = subst IsSound leads c.self.invariant in
+    let seen : node_rows node ≡ rows = sym (ap rows_of leads) ∙ c.self.view_is in
+    let o = c.deref_mut-else-place-before.result.now in
+    let whole = c.in-Ok.field-0.piece in
+    let is : with_piece o whole ≡ node = ap (λ (n : Node). with_piece n whole) c.deref_mut-else-place-before.ensures.value ∙ c.in-Ok.ensures in
+    let gains = not c.is_some-adds.result in
+    let own = c.of_row-own.result in
+    let gains_is : gains ≡ not (is_some (added_by c.args.row)) = ap not (c.is_some-adds.ensures ∙ ap is_some c.added_entry.ensures) in
+    let before : c.len-before.result ≡ length node.left = c.len-before.ensures.count ∙ ap (λ (n : Node). length n.left) c.deref-3.ensures in
+    let from = c.replacement-from.result.0 in
+    let next = c.replacement-from.result.1 in
+    let replaces : Replaces node c.args.place from next = subst (λ n. Replaces n c.args.place from next) c.deref.ensures c.replacement-from.ensures.rows in
+    let spares : Spares node from = subst (λ n. Spares n from) c.deref-2.ensures (c.if-not-spares.ensures refl) in
+    let x = c.in-Ok-remove-3.passed in
+    let passed = c.from_right-passed.result in
+    let passed_is : passed ≡ from_right (edges_of gains node) own x = c.from_right-passed.ensures ∙ ap (λ e. from_right e own x) (c.edges-edges.ensures ∙ ap (edges_of gains) c.deref-4.ensures) in
+    let beyond : length node.left < c.args.place = right_place node c.args.place from next replaces (omega (arith, before, c.if-from-before.false)) (omega (arith, before, c.if-place-before.false)) in
+    let offset = c.args.place - c.len-before.result - 1 in
+    let offset_is : offset ≡ c.args.place - length node.left - 1 = ap (λ k. c.args.place - k - 1) before in
+    let passes = cut_right node rows sound seen o whole is c.args.place c.args.row c.requires.there gains own x passed gains_is c.of_row-own.ensures offset beyond offset_is c.in-Ok-remove-3.ensures.passed passed_is in
+    let size : c.deref-5.result.now.size - 1 ≡ o.size - 1 = ap (λ (n : Node). n.size - 1) (c.deref-5.ensures ∙ sym c.deref_mut-else-place-before.ensures.value) in
+    let made = cut_from_right node rows sound seen o whole is c.args.place c.args.row c.requires.there gains own x passed gains_is c.of_row-own.ensures passes from next replaces spares (c.deref-5.result.now.size - 1) c.after-in-Ok-remove-3.result size c.after-in-Ok-remove-3.ensures.piece c.after-in-Ok-remove-3.ensures.passes c.remove-else-place-before.new.self offset beyond offset_is c.in-Ok-remove-3.ensures.ok in
+    c.renewed-in-Ok-remove-3-2.view_is ∙ c.renewed-in-Ok-remove-3.ensures ∙ made.rows_are
+
+pub returns-in-Ok-remove-3-clause-passed : goal.returns-in-Ok-remove-3-clause-passed
+returns-in-Ok-remove-3-clause-passed t c =
+    let node = c.in-Full.node.value in
+    let rows = c.args.self.now in
+    let leads : c.self.inside.link ≡ Full c.in-Full.node = sym c.replace.ensures.value ∙ c.in-Full.is in
+    let sound : IsNode node = subst IsSound leads c.self.invariant in
+    let seen : node_rows node ≡ rows = sym (ap rows_of leads) ∙ c.self.view_is in
+    let o = c.deref_mut-else-place-before.result.now in
+    let whole = c.in-Ok.field-0.piece in
+    let is : with_piece o whole ≡ node = ap (λ (n : Node). with_piece n whole) c.deref_mut-else-place-before.ensures.value ∙ c.in-Ok.ensures in
+    let gains = not c.is_some-adds.result in
+    let own = c.of_row-own.result in
+    let gains_is : gains ≡ not (is_some (added_by c.args.row)) = ap not (c.is_some-adds.ensures ∙ ap is_some c.added_entry.ensures) in
+    let before : c.len-before.result ≡ length node.left = c.len-before.ensures.count ∙ ap (λ (n : Node). length n.left) c.deref-3.ensures in
+    let from = c.replacement-from.result.0 in
+    let next = c.replacement-from.result.1 in
+    let replaces : Replaces node c.args.place from next = subst (λ n. Replaces n c.args.place from next) c.deref.ensures c.replacement-from.ensures.rows in
+    let spares : Spares node from = subst (λ n. Spares n from) c.deref-2.ensures (c.if-not-spares.ensures refl) in
+    let x = c.in-Ok-remove-3.passed in
+    let passed = c.from_right-passed.result in
+    let passed_is : passed ≡ from_right (edges_of gains node) own x = c.from_right-passed.ensures ∙ ap (λ e. from_right e own x) (c.edges-edges.ensures ∙ ap (edges_of gains) c.deref-4.ensures) in
+    let beyond : length node.left < c.args.place = right_place node c.args.place from next replaces (omega (arith, before, c.if-from-before.false)) (omega (arith, before, c.if-place-before.false)) in
+    let offset = c.args.place - c.len-before.result - 1 in
+    let offset_is : offset ≡ c.args.place - length node.left - 1 = ap (λ k. c.args.place - k - 1) before in
+    let passes = cut_right node rows sound seen o whole is c.args.place c.args.row c.requires.there gains own x passed gains_is c.of_row-own.ensures offset beyond offset_is c.in-Ok-remove-3.ensures.passed passed_is in
+    cut_passed node rows sound seen o whole is c.args.place c.args.row c.requires.there gains own x passed gains_is c.of_row-own.ensures passes

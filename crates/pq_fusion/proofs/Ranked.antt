@@ -1,0 +1,243 @@
+-- The entry at a rank of two rising lists together, where so many of the least ones are of the first and so many of the second.
+use Rattle.std.proofs.Common.{◌≡◌, ℕ, zero, suc, ◌+◌, ◌-◌, ◌<◌, ◌≤◌, true, false, cond, List, [], ◌∷◌, length, get_or, Some, None, slice_get, refl, ap, sym, ◌∙◌, arith, min, add-one}
+use Rattle.std.specs.Prelude.{nat_lt}
+use Rattle.std.proofs.lemmas.Bool.Decides.{nat_tests}
+use Rattle.retro_base.specs.declared.row.Entry.{Entry}
+use Rattle.retro_base.specs.EntriesInOrder.{AreInOrder}
+use Rattle.retro_base.specs.State.{comes_before, with_entry}
+use Rattle.retro_base.specs.lemmas.bridges.EntryOrder.{before_one_way}
+use Rattle.pq_fusion.specs.declared.bound.Bound.{Bound}
+use Rattle.pq_fusion.specs.declared.bound.Bound.TheVariants.{Low, At, Top}
+use Rattle.pq_fusion.specs.Bounds.{is_below, higher, lower, at_rank, last_of}
+use Rattle.pq_fusion.specs.Pieces.{together}
+use Rattle.pq_fusion.proofs.Order.{IsLeast, together_none, together_alone}
+use Rattle.pq_fusion.proofs.Merged.{second_first, first_first}
+use Rattle.pq_fusion.proofs.Bounded.{further, higher_first, higher_second, lower_first, lower_second}
+use Rattle.pq_fusion.proofs.Parted.{rank_above, rank_in, rank_some}
+
+never_low : (b : Bound) → is_below b Low ≡ false
+never_low Low = refl
+never_low (At e) = refl
+never_low Top = refl
+
+low_top : (b : Bound) → lower Top b ≡ b
+low_top Low = refl
+low_top (At e) = refl
+low_top Top = refl
+
+pub at_get : (xs : List Entry) (n : ℕ) (d : Entry) → n < length xs → at_rank xs n ≡ At (get_or xs n d)
+at_get [] n d within = absurd (omega arith)
+at_get (x ∷ xs) zero d within = refl
+at_get (x ∷ xs) (suc n) d within = at_get xs n d (omega arith)
+
+pub at_some : (xs : List Entry) (n : ℕ) (x : Entry) → slice_get xs n ≡ Some x → At x ≡ at_rank xs n
+at_some [] n x there = absurd (cc)
+at_some (y ∷ ys) zero x there = let same : y ≡ x = cc in ap At (sym same)
+at_some (y ∷ ys) (suc n) x there = at_some ys n x there
+
+pub at_none : (xs : List Entry) (n : ℕ) → slice_get xs n ≡ None → Top ≡ at_rank xs n
+at_none [] n there = refl
+at_none (y ∷ ys) zero there = absurd (cc)
+at_none (y ∷ ys) (suc n) there = at_none ys n there
+
+pub at_end : (xs : List Entry) (n : ℕ) → length xs ≤ n → at_rank xs n ≡ Top
+at_end [] n over = refl
+at_end (x ∷ xs) zero over = absurd (omega arith)
+at_end (x ∷ xs) (suc n) over = at_end xs n (omega arith)
+
+-- the last of the first ones
+pub last_less : (xs : List Entry) (n : ℕ) → n ≤ length xs → is_below (last_of xs n) Top ≡ true
+last_less xs zero within = refl
+last_less [] (suc n) within = absurd (omega arith)
+last_less (x ∷ xs) (suc zero) within = refl
+last_less (x ∷ xs) (suc (suc n)) within = last_less xs (suc n) (omega arith)
+
+last_more : (x : Entry) (xs : List Entry) (n : ℕ) (b : Bound) → is_below b (at_rank (x ∷ xs) n) ≡ false → is_below b (last_of xs n) ≡ false
+last_more x xs zero b after = never_low b
+last_more x xs (suc n) b after = after
+
+first_less : (x : Entry) (xs : List Entry) (n : ℕ) (b : Bound) → is_below Low b ≡ true → is_below (at_rank (x ∷ xs) n) b ≡ true → is_below (last_of xs n) b ≡ true
+first_less x xs zero b some before = some
+first_less x xs (suc n) b some before = before
+
+-- the parts of both
+pub record AreCut (xs ys : List Entry) (i j : ℕ) : Type 0 where
+  pub first : i ≤ length xs
+  pub second : j ≤ length ys
+  pub lesser : is_below (at_rank ys j) (last_of xs i) ≡ false
+  pub greater : is_below (last_of ys j) (at_rank xs i) ≡ true
+
+at_first : (xs ys : List Entry) → AreInOrder xs → AreInOrder ys → at_rank (together xs ys) 0 ≡ lower (at_rank xs 0) (at_rank ys 0)
+at_first [] ys first second = ap (λ l. at_rank l 0) (together_none ys) ∙ sym (low_top (at_rank ys 0))
+at_first (x ∷ xs) [] first second = ap (λ l. at_rank l 0) (together_alone (x ∷ xs) first)
+at_first (x ∷ xs) (y ∷ ys) first second = elim (comes_before y x) as (λ t. comes_before y x ≡ t → at_rank (together (x ∷ xs) (y ∷ ys)) 0 ≡ cond t (At y) (At x)) [
+  | true ↦ λ before. ap (λ l. at_rank l 0) (second_first x y xs ys first second before)
+  | false ↦ λ after. ap (λ l. at_rank l 0) (first_first x y xs ys first second after)
+] refl
+
+-- no entry of the second is left out where its first one comes before the last of the first
+none_first : (x y : Entry) (xs ys : List Entry) (i : ℕ) → IsLeast x xs → comes_before y x ≡ true → is_below (At y) (at_rank (x ∷ xs) i) ≡ false → ⊥
+none_first x y xs ys i least before after =
+    let above : is_below (At y) (At x) ≡ false = further (At x) (at_rank (x ∷ xs) i) (At y) (rank_in x xs i least) after in
+    let wrong : true ≡ false = sym before ∙ above in absurd (cc)
+
+none_second : (x y : Entry) (ys : List Entry) (j : ℕ) → IsLeast y ys → comes_before y x ≡ false → is_below (at_rank (y ∷ ys) j) (At x) ≡ true → ⊥
+none_second x y ys j least after before =
+    let above : is_below (at_rank (y ∷ ys) j) (At x) ≡ false = further (At x) (At y) (at_rank (y ∷ ys) j) after (rank_in y ys j least) in
+    let wrong : true ≡ false = sym before ∙ above in absurd (cc)
+
+pub rank_of_cut : (r : ℕ) (xs ys : List Entry) (i j : ℕ) → r ≡ i + j → AreInOrder xs → AreInOrder ys → AreCut xs ys i j
+    → at_rank (together xs ys) r ≡ lower (at_rank xs i) (at_rank ys j)
+rank_of_cut zero xs ys zero zero sum first second parts = at_first xs ys first second
+rank_of_cut zero xs ys (suc i) j sum first second parts = absurd (omega (arith, sum))
+rank_of_cut zero xs ys zero (suc j) sum first second parts = absurd (omega (arith, sum))
+rank_of_cut (suc r) [] ys i j sum first second parts =
+    let same : suc r ≡ j = omega (arith, sum, parts.first) in
+    ap (λ l. at_rank l (suc r)) (together_none ys) ∙ ap (at_rank ys) same ∙ sym (low_top (at_rank ys j))
+rank_of_cut (suc r) (x ∷ xs) [] i j sum first second parts =
+    let same : suc r ≡ i = omega (arith, sum, parts.second) in
+    ap (λ l. at_rank l (suc r)) (together_alone (x ∷ xs) first) ∙ ap (at_rank (x ∷ xs)) same ∙ sym (lower_first (at_rank (x ∷ xs) i) Top refl)
+rank_of_cut (suc r) (x ∷ xs) (y ∷ ys) zero zero sum first second parts = absurd (omega (arith, sum))
+rank_of_cut (suc r) (x ∷ xs) (y ∷ ys) (suc i) zero sum first second parts =
+    elim (comes_before y x) as (λ t. comes_before y x ≡ t → at_rank (together (x ∷ xs) (y ∷ ys)) (suc r) ≡ lower (at_rank xs i) (At y)) [
+      | true ↦ λ before. absurd (none_first x y xs ys i first.0 before parts.lesser)
+      | false ↦ λ after.
+          ap (λ l. at_rank l (suc r)) (first_first x y xs ys first second after)
+          ∙ rank_of_cut r xs (y ∷ ys) i zero (omega (arith, sum)) first.1 second (record {
+            first = omega (arith, parts.first);
+            second = parts.second;
+            lesser = last_more x xs i (At y) parts.lesser;
+            greater = parts.greater;
+          })
+    ] refl
+rank_of_cut (suc r) (x ∷ xs) (y ∷ ys) zero (suc j) sum first second parts =
+    elim (comes_before y x) as (λ t. comes_before y x ≡ t → at_rank (together (x ∷ xs) (y ∷ ys)) (suc r) ≡ lower (At x) (at_rank ys j)) [
+      | true ↦ λ before.
+          ap (λ l. at_rank l (suc r)) (second_first x y xs ys first second before)
+          ∙ rank_of_cut r (x ∷ xs) ys zero j (omega (arith, sum)) first second.1 (record {
+            first = parts.first;
+            second = omega (arith, parts.second);
+            lesser = parts.lesser;
+            greater = first_less y ys j (At x) refl parts.greater;
+          })
+      | false ↦ λ after. absurd (none_second x y ys j second.0 after parts.greater)
+    ] refl
+rank_of_cut (suc r) (x ∷ xs) (y ∷ ys) (suc i) (suc j) sum first second parts =
+    elim (comes_before y x) as (λ t. comes_before y x ≡ t → at_rank (together (x ∷ xs) (y ∷ ys)) (suc r) ≡ lower (at_rank xs i) (at_rank ys j)) [
+      | true ↦ λ before.
+          ap (λ l. at_rank l (suc r)) (second_first x y xs ys first second before)
+          ∙ rank_of_cut r (x ∷ xs) ys (suc i) j (omega (arith, sum)) first second.1 (record {
+            first = parts.first;
+            second = omega (arith, parts.second);
+            lesser = parts.lesser;
+            greater = first_less y ys j (at_rank xs i) (rank_some xs i) parts.greater;
+          })
+      | false ↦ λ after.
+          ap (λ l. at_rank l (suc r)) (first_first x y xs ys first second after)
+          ∙ rank_of_cut r xs (y ∷ ys) i (suc j) (omega (arith, sum)) first.1 second (record {
+            first = omega (arith, parts.first);
+            second = parts.second;
+            lesser = last_more x xs i (at_rank ys j) parts.lesser;
+            greater = parts.greater;
+          })
+    ] refl
+
+-- with one entry more
+rank_rises : (xs : List Entry) (n : ℕ) → AreInOrder xs → is_below (at_rank xs (suc n)) (at_rank xs n) ≡ false
+rank_rises [] n order = refl
+rank_rises (x ∷ xs) zero order = rank_above x xs zero order.0
+rank_rises (x ∷ xs) (suc n) order = rank_rises xs n order.1
+
+pub rank_more : (e : Entry) (xs : List Entry) (n : ℕ) → AreInOrder xs → at_rank (with_entry e xs) n ≡ lower (higher (At e) (last_of xs n)) (at_rank xs n)
+rank_more e [] zero order = refl
+rank_more e [] (suc n) order = refl
+rank_more e (x ∷ xs) zero order = elim (comes_before e x) as (λ t. comes_before e x ≡ t → at_rank (cond t (e ∷ x ∷ xs) (x ∷ with_entry e xs)) 0 ≡ lower (At e) (At x)) [
+  | true ↦ λ before. sym (lower_first (At e) (At x) (before_one_way e x before))
+  | false ↦ λ after. sym (lower_second (At e) (At x) after)
+] refl
+rank_more e (x ∷ xs) (suc zero) order = elim (comes_before e x) as (λ t. comes_before e x ≡ t → at_rank (cond t (e ∷ x ∷ xs) (x ∷ with_entry e xs)) 1 ≡ lower (higher (At e) (At x)) (at_rank xs 0)) [
+  | true ↦ λ before.
+      sym (ap (λ b. lower b (at_rank xs 0)) (higher_second (At e) (At x) (before_one_way e x before)) ∙ lower_first (At x) (at_rank xs 0) (rank_above x xs zero order.0))
+  | false ↦ λ after. rank_more e xs zero order.1 ∙ ap (λ b. lower b (at_rank xs 0)) (sym (higher_first (At e) (At x) after))
+] refl
+rank_more e (x ∷ xs) (suc (suc n)) order = elim (comes_before e x) as (λ t. comes_before e x ≡ t → at_rank (cond t (e ∷ x ∷ xs) (x ∷ with_entry e xs)) (suc (suc n)) ≡ lower (higher (At e) (at_rank xs n)) (at_rank xs (suc n))) [
+  | true ↦ λ before.
+      let above = further (At e) (At x) (at_rank xs n) (before_one_way e x before) (rank_above x xs n order.0) in
+      sym (ap (λ b. lower b (at_rank xs (suc n))) (higher_second (At e) (at_rank xs n) above) ∙ lower_first (at_rank xs n) (at_rank xs (suc n)) (rank_rises xs n order.1))
+  | false ↦ λ after. rank_more e xs (suc n) order.1
+] refl
+
+pub last_before : (xs : List Entry) (n : ℕ) → 0 < n → at_rank xs (n - 1) ≡ last_of xs n
+last_before xs zero some = absurd (omega arith)
+last_before xs (suc n) some = ap (at_rank xs) (let same : suc n - 1 ≡ n = omega arith in same)
+
+pub rank_by : (e : Entry) (xs : List Entry) (n : ℕ) (last next : Bound) → AreInOrder xs → last ≡ last_of xs n → next ≡ at_rank xs n
+    → lower (higher (At e) last) next ≡ at_rank (with_entry e xs) n
+rank_by e xs n last next order last_is next_is =
+    ap (λ b. lower (higher (At e) b) next) last_is ∙ ap (lower (higher (At e) (last_of xs n))) next_is ∙ sym (rank_more e xs n order)
+
+-- a search by halves for the parts: those up to the lower place are of the first, and those from the upper one on are not
+pub record IsBetween (xs ys : List Entry) (rank low high : ℕ) : Type 0 where
+  pub order : low ≤ high
+  pub first : high ≤ length xs
+  pub second : rank - low ≤ length ys
+  pub within : high ≤ rank
+  pub lesser : is_below (at_rank ys (rank - low)) (last_of xs low) ≡ false
+  pub greater : is_below (last_of ys (rank - high)) (at_rank xs high) ≡ true
+
+lowest : (xs ys : List Entry) (rank low : ℕ) → low ≡ rank - length ys → is_below (at_rank ys (rank - low)) (last_of xs low) ≡ false
+lowest xs ys rank zero is = never_low (at_rank ys (rank - zero))
+lowest xs ys rank (suc low) is = ap (λ b. is_below b (at_rank xs low)) (at_end ys (rank - suc low) (omega (arith, is)))
+
+highest : (xs ys : List Entry) (rank high : ℕ) → rank ≤ length xs + length ys → high ≡ min rank (length xs) → is_below (last_of ys (rank - high)) (at_rank xs high) ≡ true
+highest xs ys rank high within is = elim (nat_lt rank (length xs)) as (λ t. nat_lt rank (length xs) ≡ t → is_below (last_of ys (rank - high)) (at_rank xs high) ≡ true) [
+  | true ↦ λ less.
+      let under : rank < length xs = grind (arith, nat_tests) in
+      let none : rank - high ≡ 0 = omega (arith, is) in
+      ap (λ n. is_below (last_of ys n) (at_rank xs high)) none ∙ rank_some xs high
+  | false ↦ λ more.
+      let over : length xs ≤ rank = grind (arith, nat_tests) in
+      ap (is_below (last_of ys (rank - high))) (at_end xs high (omega (arith, is))) ∙ last_less ys (rank - high) (omega (arith, is))
+] refl
+
+pub between_starts : (xs ys : List Entry) (rank low high : ℕ) → rank ≤ length xs + length ys → low ≡ rank - length ys → high ≡ min rank (length xs)
+    → IsBetween xs ys rank low high
+between_starts xs ys rank low high within low_is high_is = record {
+  order = omega (arith, low_is, high_is);
+  first = omega (arith, high_is);
+  second = omega (arith, low_is);
+  within = omega (arith, high_is);
+  lesser = lowest xs ys rank low low_is;
+  greater = highest xs ys rank high within high_is;
+}
+
+pub between_lower : (xs ys : List Entry) (rank low high middle : ℕ) (d e : Entry) → IsBetween xs ys rank low high → low ≤ middle → middle < high
+    → comes_before (get_or ys (rank - middle - 1) d) (get_or xs middle e) ≡ true → IsBetween xs ys rank low middle
+between_lower xs ys rank low high middle d e between from to before =
+    let place : rank - middle ≡ suc (rank - middle - 1) = omega (arith, between.within) in
+    record {
+      order = from;
+      first = omega (arith, between.first);
+      second = between.second;
+      within = omega (arith, between.within);
+      lesser = between.lesser;
+      greater = ap (λ n. is_below (last_of ys n) (at_rank xs middle)) place
+          ∙ ap (λ b. is_below b (at_rank xs middle)) (at_get ys (rank - middle - 1) d (omega (arith, between.second, between.within)))
+          ∙ ap (is_below (At (get_or ys (rank - middle - 1) d))) (at_get xs middle e (omega (arith, between.first))) ∙ before;
+    }
+
+pub between_upper : (xs ys : List Entry) (rank low high middle : ℕ) (d e : Entry) → IsBetween xs ys rank low high → low ≤ middle → middle < high
+    → comes_before (get_or ys (rank - middle - 1) d) (get_or xs middle e) ≡ false → IsBetween xs ys rank (middle + 1) high
+between_upper xs ys rank low high middle d e between from to after =
+    let place : rank - (middle + 1) ≡ rank - middle - 1 = omega arith in
+    let last : last_of xs (middle + 1) ≡ at_rank xs middle = ap (last_of xs) (add-one middle) in
+    record {
+      order = omega arith;
+      first = between.first;
+      second = omega (arith, between.second);
+      within = between.within;
+      lesser = ap (is_below (at_rank ys (rank - (middle + 1)))) (last ∙ at_get xs middle e (omega (arith, between.first)))
+          ∙ ap (λ n. is_below (at_rank ys n) (At (get_or xs middle e))) place
+          ∙ ap (λ b. is_below b (At (get_or xs middle e))) (at_get ys (rank - middle - 1) d (omega (arith, between.second, between.within))) ∙ after;
+      greater = between.greater;
+    }
