@@ -1,5 +1,6 @@
 -- How many entries the pieces of a tree have: all that its rows add in the root's, and on each level no more than there are rows.
-use Rattle.std.proofs.Common.{◌≡◌, ℕ, zero, suc, ◌+◌, ◌*◌, ◌^◌, ◌<◌, ◌≤◌, List, [], ◌∷◌, length, refl, arith, subst, Option, Some, None}
+use Rattle.std.proofs.Common.{◌≡◌, ℕ, zero, suc, ◌+◌, ◌*◌, ◌^◌, ◌<◌, ◌≤◌, List, [], ◌∷◌, ◌++◌, length, refl, ap, ◌∙◌, arith, subst, Option, Some, None}
+use Rattle.std.proofs.Math.Nat.{mul-le-mul_right}
 use Rattle.std.proofs.lemmas.Nat.{pow-add}
 use Rattle.retro_base.specs.declared.row.Row.{Row}
 use Rattle.retro_base.specs.BridgeTable.{added}
@@ -11,9 +12,11 @@ use Rattle.retro_base.specs.declared.op.Op.{Op}
 use Rattle.retro_base.specs.declared.op.Op.TheVariants.{Enq, Deq, Push, Pop, PushL, PushR, PopL, PopR, Put, Del, Ins, DelMin}
 use Rattle.retro_base.specs.declared.row.Entry.{Entry}
 use Rattle.retro_base.specs.Weights.{added_as, added_by}
-use Rattle.pq_fusion.specs.Nodes.{IsWithinLevels}
+use Rattle.pq_fusion.specs.declared.subtree.Node.{Node}
+use Rattle.pq_fusion.specs.Nodes.{IsRoot, IsWithinLevels}
 use Rattle.pq_fusion.specs.Pieces.{PieceParts, no_parts, after_take, after_row, after_rows, tolerant}
 use Rattle.pq_fusion.proofs.Order.{length_with}
+use Rattle.pq_fusion.proofs.Rooted.{piece_is}
 
 -- how many entries a piece has
 abbrev pub count_of : PieceParts → ℕ
@@ -38,17 +41,40 @@ pub levels-of_digits : (whole : ℕ) → IsWithinLevels whole (3 * digits whole)
 levels-of_digits whole = subst (IsWithinLevels whole) (triple-is (digits whole)) (three_levels (digits whole) whole (below-digits whole))
 
 -- a node's piece and those of its sides, on one level more than the sides have
-pub one_level_more : (whole left right own more_left more_right : ℕ) → whole ≡ left + 1 + right → own ≤ whole
+pub one_level_more : (whole left right all first own second more_left more_right : ℕ) → whole ≡ left + 1 + right → all ≡ first + own + second
     → (left + 1 ≤ 3 * (right + 1)) → (right + 1 ≤ 3 * (left + 1))
-    → ((levels : ℕ) → IsWithinLevels (left + 1) levels → more_left ≤ left * levels) → ((levels : ℕ) → IsWithinLevels (right + 1) levels → more_right ≤ right * levels)
-    → (levels : ℕ) → IsWithinLevels (whole + 1) levels → more_left + own + more_right ≤ whole * levels
-one_level_more whole left right own more_left more_right sizes few light heavy first second zero within = absurd (omega (arith, within))
-one_level_more whole left right own more_left more_right sizes few light heavy first second (suc levels) within =
-    level_sum whole left right own more_left more_right levels sizes few (first levels (within (left + 1) (omega arith))) (second levels (within (right + 1) (omega arith)))
+    → ((levels : ℕ) → IsWithinLevels (left + 1) levels → more_left ≤ first * levels) → ((levels : ℕ) → IsWithinLevels (right + 1) levels → more_right ≤ second * levels)
+    → (levels : ℕ) → IsWithinLevels (whole + 1) levels → more_left + all + more_right ≤ all * levels
+one_level_more whole left right all first own second more_left more_right sizes counts light heavy below above zero within = absurd (omega (arith, within))
+one_level_more whole left right all first own second more_left more_right sizes counts light heavy below above (suc levels) within =
+    level_sum all first own second more_left more_right levels counts (below levels (within (left + 1) (omega arith))) (above levels (within (right + 1) (omega arith)))
   where
-    level_sum : (whole left right own more_left more_right levels : ℕ) → whole ≡ left + 1 + right → own ≤ whole → more_left ≤ left * levels → more_right ≤ right * levels
-        → more_left + own + more_right ≤ whole * suc levels
-    level_sum whole left right own more_left more_right levels sizes few first second = rw sizes (omega (arith, few, sizes, first, second))
+    level_sum : (all first own second more_left more_right levels : ℕ) → all ≡ first + own + second → more_left ≤ first * levels → more_right ≤ second * levels
+        → more_left + all + more_right ≤ all * suc levels
+    level_sum all first own second more_left more_right levels counts below above = rw counts (omega (arith, below, above))
+
+-- and on so many levels at least as many as there are more than nodes above them
+pub below_power : (n : ℕ) → n + 1 ≤ 2 ^ n
+below_power zero = omega arith
+below_power (suc n) = omega (arith, below_power n, pow-add 2 n 1)
+
+pub one_level_least : (all first own second more_left more_right : ℕ) → all ≡ first + own + second → own ≤ 1
+    → ((levels : ℕ) → levels * first + levels + 1 ≤ more_left + 2 ^ levels) → ((levels : ℕ) → levels * second + levels + 1 ≤ more_right + 2 ^ levels)
+    → (levels : ℕ) → levels * all + levels + 1 ≤ more_left + all + more_right + 2 ^ levels
+one_level_least all first own second more_left more_right counts one below above zero = omega arith
+one_level_least all first own second more_left more_right counts one below above (suc levels) =
+    level_least all first own second more_left more_right levels counts one (below levels) (above levels)
+  where
+    times : (n own : ℕ) → own ≤ 1 → n * own ≤ n
+    times n zero one = omega arith
+    times n (suc zero) one = omega arith
+    times n (suc (suc own)) one = absurd (omega arith)
+
+    level_least : (all first own second more_left more_right levels : ℕ) → all ≡ first + own + second → own ≤ 1
+        → levels * first + levels + 1 ≤ more_left + 2 ^ levels → levels * second + levels + 1 ≤ more_right + 2 ^ levels
+        → suc levels * all + suc levels + 1 ≤ more_left + all + more_right + 2 ^ suc levels
+    level_least all first own second more_left more_right levels counts one below above =
+        rw counts (omega (arith, below, above, times levels own one, pow-add 2 levels 1))
 
 pub squares : (whole left right own more_left more_right : ℕ) → whole ≡ left + 1 + right → own ≤ whole → more_left ≤ left * left → more_right ≤ right * right
     → more_left + own + more_right ≤ whole * whole
@@ -86,3 +112,32 @@ count_from (row ∷ rows) a =
 
 pub rows_count : (rows : List Row) → count_of (tolerant rows) ≡ length (added rows)
 rows_count rows = omega (arith, count_from rows no_parts)
+
+pub added-append : (xs ys : List Row) → length (added (xs ++ ys)) ≡ length (added xs) + length (added ys)
+added-append [] ys = omega arith
+added-append (x ∷ xs) ys = omega (arith, added_more (added_by x) (xs ++ ys), added_more (added_by x) xs, added-append xs ys)
+
+option_few : (o : Option Entry) → length (option_to_list o) ≤ 1
+option_few None = omega arith
+option_few (Some e) = omega arith
+
+-- no more than there are rows
+pub added_few : (rows : List Row) → length (added rows) ≤ length rows
+added_few [] = omega arith
+added_few (x ∷ xs) = omega (arith, added_more (added_by x) xs, option_few (added_by x), added_few xs)
+
+pub more_rows : (stored few rows digits : ℕ) → few ≤ rows → stored ≤ few * (3 * digits) → stored ≤ 3 * rows * digits
+more_rows stored few rows digits less most = omega (arith, most, mul-le-mul_right digits less)
+
+-- what the rows of a node add
+module _ (rows : List Row) (node : Node) (root : IsRoot rows node) where
+  pub added_parts : length (added rows) ≡ length (added node.left) + length (option_to_list (added_by node.row)) + length (added node.right)
+  added_parts =
+      ap (λ l. length (added l)) root.rows_are
+      ∙ omega (arith, added-append node.left (node.row ∷ node.right), added_more (added_by node.row) node.right)
+
+  pub own_few : length (option_to_list (added_by node.row)) ≤ 1
+  own_few = option_few (added_by node.row)
+
+  pub piece_count : count_of node.piece ≡ length (added rows)
+  piece_count = ap count_of (piece_is rows node root) ∙ rows_count rows

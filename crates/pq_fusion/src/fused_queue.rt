@@ -1,4 +1,4 @@
-ghost use Rattle.std.specs.Prelude.{◌≡◌, ◌+◌, ◌*◌, ◌≤◌, [], length, true, IfOk, OnOk, OnErr};
+ghost use Rattle.std.specs.Prelude.{◌≡◌, ℕ, ◌+◌, ◌*◌, ◌^◌, ◌<◌, ◌≤◌, [], length, true, IfOk, OnOk, OnErr};
 ghost use Rattle.std.specs.List.{insert, slice_range};
 ghost use Rattle.retro_base.specs.declared.kind.Kind.TheVariants.{Pq};
 ghost use Rattle.retro_base.specs.Answers.{answer_of};
@@ -63,10 +63,13 @@ impl FusedQueue {
         self.rows.piece(self.alloc, from, to)
     }
 
-    /// How many entries there are in all pieces of the tree of rows.
+    /// How many entries there are in all pieces of the tree of rows: one for each row that adds and each node above it. So at each
+    /// level at least as many rows count as there are more than nodes above that level.
     pub fn stored(&self) -> u64
         ensures least { length (added self.now) ≤ result }
         ensures most { result ≤ 3 * length self.now * digits (length self.now + 1) }
+        ensures levels { (levels : ℕ) → levels * length (added self.now) < result + 2 ^ levels }
+        ensures entries { result ≤ 3 * length (added self.now) * digits (length self.now + 1) }
     {
         self.rows.stored()
     }

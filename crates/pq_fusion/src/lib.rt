@@ -14,8 +14,10 @@
 //! than a given one, follows from piece to piece by a search of each list by halves, and the key at an index is the greatest one
 //! that enough entries reach.
 //!
-//! Verdicts, changes and the present are those of a `BridgeQueue` beside the tree. An edit makes the pieces of its path
-//! anew, so it is dearer than by bridges alone. Where a side would weigh over 3 times the other, the part of the tree
+//! Verdicts, changes and the present are those of a `BridgeQueue` beside the tree. An edit goes down one path of the tree; on the
+//! way up each node learns what passes below it, finds by two boundaries what passes in its own piece, and puts this one entry into a list
+//! or takes it out. So it takes a search of each list of the path by halves, and moves the entries behind a place in each: that is
+//! proportional to m at worst, and a copy within memory. Where a side would weigh over 3 times the other, the part of the tree
 //! below that node is made anew, as light as it can be on both sides of each node; a share of its rows have come or gone
 //! before that is so again.
 //!
@@ -27,10 +29,12 @@
 //! | `ask_now`, `failure_after_insert`, `failure_after_remove` | those of `BridgeQueue`, log m | none |
 //! | `ask`, `answer_at` | one walk of the path, log² m, for each binary digit of the difference of the keys on it | none |
 //! | `all`, `piece` | in proportion to the rows asked about | as many entries |
-//! | `insert`, `remove` | in proportion to m; m log m at most where a part is made anew | the new pieces |
+//! | `insert`, `remove` | log² m comparisons and a move of the entries behind a place in each list; m log m where a part is made anew | room in each list |
 //! | `stored` | each node once | none |
 //!
-//! All new pieces of an edit are made before the first one is written, so after `NoMemory` all is as before; `remove` takes memory too.
+//! An edit takes all memory of a node before anything of it changes, and its child's edit is done or leaves all as before; so after
+//! `NoMemory` all is as before, and nothing has to be taken back. `remove` takes memory too. A list grows by an eighth, and keeps its
+//! memory where it shrinks, until the part that it stands in is made anew.
 //! The pieces have at least as many entries as there are rows that add, and at most 3 m for each binary digit of m + 1: a side
 //! weighs at most 3 quarters of the whole, so there are at most 3 levels for each digit.
 //!
@@ -43,6 +47,8 @@
 //!
 //! - `piece`, `merge`: a piece, and two rising lists together. `bound`: an entry, or what is less or greater than each.
 //! - `subtree`: the tree of rows. `read`: its products. `remaining`: what a product leaves. `edit`: a row more or less.
+//! - `boundary`: the entry at a rank of two lists together. `edges`: the two boundaries of a node, and what passes at it. `exchange`,
+//!   `roomy`: one entry of a list in the place of another, and a piece that has room for that. `difference`: what passed, by comparing.
 //! - `tally`, `span`: how many entries are left after a path, how many of them reach a key, and between which keys they lie.
 //!   `select`: the key at an index of what the first rows leave. `answer`: the answers of that. `fused_queue`.
 #![tactic(auto)]

@@ -1,4 +1,4 @@
-ghost use Rattle.std.specs.Prelude.{◌≡◌, ℕ, ◌+◌, ◌*◌, ◌<◌, ◌≤◌, [], ◌∷◌, ◌++◌, length, slice_get, take, drop, IfOk, OnOk, MatchOption};
+ghost use Rattle.std.specs.Prelude.{◌≡◌, ℕ, ◌+◌, ◌*◌, ◌^◌, ◌<◌, ◌≤◌, [], ◌∷◌, ◌++◌, length, slice_get, take, drop, IfOk, OnOk, MatchOption};
 ghost use Rattle.std.specs.List.{slice_range};
 ghost use Rattle.retro_base.specs.declared.kind.Kind.TheVariants.{Pq};
 ghost use Rattle.retro_base.specs.BridgeTable.{added};
@@ -195,7 +195,8 @@ impl Subtree {
     /// How many entries there are in the pieces of all nodes.
     pub(crate) fn stored(&self) -> u64
         ensures least { length (added self.now) ≤ result }
-        ensures most { (levels : ℕ) → IsWithinLevels (weight self.now) levels → result ≤ length self.now * levels }
+        ensures levels { (levels : ℕ) → levels * length (added self.now) + levels + 1 ≤ result + 2 ^ levels }
+        ensures most { (levels : ℕ) → IsWithinLevels (weight self.now) levels → result ≤ length (added self.now) * levels }
         ensures fits { result ≤ length self.now * length self.now }
     {
         let Some(node) = self.root() else {

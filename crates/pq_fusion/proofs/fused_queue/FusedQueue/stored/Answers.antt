@@ -1,13 +1,30 @@
-use Rattle.std.proofs.Common.{◌≡◌, ◌+◌, ◌*◌, ◌≤◌, length, ◌∙◌, arith, subst}
+use Rattle.std.proofs.Common.{◌≡◌, ◌+◌, ◌*◌, ◌^◌, ◌≤◌, length, ◌∙◌, arith, subst}
+use Rattle.retro_base.specs.BridgeTable.{added}
 use Rattle.retro_base.specs.Digits.{digits}
-use Rattle.pq_fusion.proofs.Stored.{levels-of_digits}
+use Rattle.pq_fusion.proofs.Stored.{levels-of_digits, added_few, more_rows}
 use Rattle.pq_fusion.proofs.fused_queue.FusedQueue.stored.Goals as goal
 
 pub returns-clause-most : goal.returns-clause-most
 returns-clause-most c =
     let same : c.self.inside.rows ≡ c.args.self.now = c.self.invariant ∙ c.self.view_is in
     let rows = c.args.self.now in
-    let most : c.stored.result ≤ length rows * (3 * digits (length rows + 1)) =
-    subst (λ xs. c.stored.result ≤ length xs * (3 * digits (length xs + 1))) same
+    let most : c.stored.result ≤ length (added rows) * (3 * digits (length rows + 1)) =
+    subst (λ xs. c.stored.result ≤ length (added xs) * (3 * digits (length xs + 1))) same
+    (c.stored.ensures.most (3 * digits (length c.self.inside.rows + 1)) (levels-of_digits (length c.self.inside.rows + 1))) in
+    more_rows c.stored.result (length (added rows)) (length rows) (digits (length rows + 1)) (added_few rows) most
+
+pub returns-clause-levels : goal.returns-clause-levels
+returns-clause-levels c = λ levels.
+    let same : c.self.inside.rows ≡ c.args.self.now = c.self.invariant ∙ c.self.view_is in
+    let least : levels * length (added c.args.self.now) + levels + 1 ≤ c.stored.result + 2 ^ levels =
+    subst (λ xs. levels * length (added xs) + levels + 1 ≤ c.stored.result + 2 ^ levels) same (c.stored.ensures.levels levels) in
+    omega (arith, least)
+
+pub returns-clause-entries : goal.returns-clause-entries
+returns-clause-entries c =
+    let same : c.self.inside.rows ≡ c.args.self.now = c.self.invariant ∙ c.self.view_is in
+    let rows = c.args.self.now in
+    let most : c.stored.result ≤ length (added rows) * (3 * digits (length rows + 1)) =
+    subst (λ xs. c.stored.result ≤ length (added xs) * (3 * digits (length xs + 1))) same
     (c.stored.ensures.most (3 * digits (length c.self.inside.rows + 1)) (levels-of_digits (length c.self.inside.rows + 1))) in
     omega (arith, most)
