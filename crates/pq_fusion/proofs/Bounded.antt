@@ -78,6 +78,49 @@ higher_above a b = elim (is_below a b) as (λ t. is_below a b ≡ t → is_below
   | false ↦ λ after. not_itself a
 ] refl
 
+-- the greatest of three, in whatever order
+pub higher_low : (b : Bound) → higher Low b ≡ b
+higher_low Low = refl
+higher_low (At e) = refl
+higher_low Top = refl
+
+higher_is : (a b c : Bound) → is_below c a ≡ false → is_below c b ≡ false → (c ≡ a) ⊎ (c ≡ b) → c ≡ higher a b
+higher_is a b c above_first above_second (inl same) = same ∙ sym (higher_first a b (subst (λ d. is_below d b ≡ false) same above_second))
+higher_is a b c above_first above_second (inr same) = same ∙ sym (higher_second a b (subst (λ d. is_below d a ≡ false) same above_first))
+
+higher_over : (a b : Bound) → is_below (higher a b) b ≡ false
+higher_over a b = elim (is_below a b) as (λ t. is_below a b ≡ t → is_below (cond t b a) b ≡ false) [
+  | true ↦ λ before. not_itself b
+  | false ↦ λ after. after
+] refl
+
+one_of_both : (a b : Bound) → (higher a b ≡ a) ⊎ (higher a b ≡ b)
+one_of_both a b = elim (is_below a b) as (λ t. (cond t b a ≡ a) ⊎ (cond t b a ≡ b)) [ true ↦ inr refl | false ↦ inl refl ]
+
+pub higher_turned : (a b : Bound) → higher a b ≡ higher b a
+higher_turned a b = higher_is b a (higher a b) (higher_over a b) (higher_above a b) (elim (one_of_both a b) [ inl same ↦ inr same | inr same ↦ inl same ])
+
+pub higher_joined : (a b c : Bound) → higher a (higher b c) ≡ higher (higher a b) c
+higher_joined a b c =
+    let all = higher a (higher b c) in
+    let over_first : is_below all a ≡ false = higher_above a (higher b c) in
+    let over_rest : is_below all (higher b c) ≡ false = higher_over a (higher b c) in
+    let over_second : is_below all b ≡ false = further b (higher b c) all (higher_above b c) over_rest in
+    let over_third : is_below all c ≡ false = further c (higher b c) all (higher_over b c) over_rest in
+    let over_both : is_below all (higher a b) ≡ false = elim (one_of_both a b) [
+      | inl same ↦ subst (λ d. is_below all d ≡ false) (sym same) over_first
+      | inr same ↦ subst (λ d. is_below all d ≡ false) (sym same) over_second
+    ] in
+    higher_is (higher a b) c all over_both over_third (elim (one_of_both a (higher b c)) [
+      | inl first ↦ inl (first ∙ higher_is a b a (not_itself a) (subst (λ d. is_below d b ≡ false) first over_second) (inl refl))
+      | inr rest ↦ elim (one_of_both b c) [
+        | inl second ↦
+            let is : all ≡ b = rest ∙ second in
+            inl (is ∙ higher_is a b b (subst (λ d. is_below d a ≡ false) is over_first) (not_itself b) (inr refl))
+        | inr third ↦ inr (rest ∙ third)
+      ]
+    ])
+
 pub above_low : (a b : Bound) → is_below Low a ≡ true → is_below b a ≡ false → is_below Low b ≡ true
 above_low Low b some above = absurd (cc)
 above_low (At a) Low some above = absurd (cc)

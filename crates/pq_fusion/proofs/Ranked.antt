@@ -10,9 +10,9 @@ use Rattle.pq_fusion.specs.declared.bound.Bound.{Bound}
 use Rattle.pq_fusion.specs.declared.bound.Bound.TheVariants.{Low, At, Top}
 use Rattle.pq_fusion.specs.Bounds.{is_below, higher, lower, at_rank, last_of}
 use Rattle.pq_fusion.specs.Pieces.{together}
-use Rattle.pq_fusion.proofs.Order.{IsLeast, together_none, together_alone}
+use Rattle.pq_fusion.proofs.Order.{IsLeast, least_further, least_together, together_none, together_alone}
 use Rattle.pq_fusion.proofs.Merged.{second_first, first_first}
-use Rattle.pq_fusion.proofs.Bounded.{further, higher_first, higher_second, lower_first, lower_second}
+use Rattle.pq_fusion.proofs.Bounded.{further, higher_first, higher_second, higher_low, higher_joined, higher_turned, lower_first, lower_second}
 use Rattle.pq_fusion.proofs.Parted.{rank_above, rank_in, rank_some}
 
 never_low : (b : Bound) → is_below b Low ≡ false
@@ -39,6 +39,10 @@ pub at_none : (xs : List Entry) (n : ℕ) → slice_get xs n ≡ None → Top �
 at_none [] n there = refl
 at_none (y ∷ ys) zero there = absurd (cc)
 at_none (y ∷ ys) (suc n) there = at_none ys n there
+
+pub last_get : (xs : List Entry) (n : ℕ) (d : Entry) → 0 < n → n ≤ length xs → last_of xs n ≡ At (get_or xs (n - 1) d)
+last_get xs zero d some within = absurd (omega arith)
+last_get xs (suc n) d some within = at_get xs n d (omega arith) ∙ ap (λ k. At (get_or xs k d)) (let same : n ≡ suc n - 1 = omega arith in same)
 
 pub at_end : (xs : List Entry) (n : ℕ) → length xs ≤ n → at_rank xs n ≡ Top
 at_end [] n over = refl
@@ -142,6 +146,93 @@ rank_of_cut (suc r) (x ∷ xs) (y ∷ ys) (suc i) (suc j) sum first second parts
           })
     ] refl
 
+-- the last one before the rank
+more_last : (x : Entry) (xs : List Entry) (n : ℕ) → IsLeast x xs → at_rank (x ∷ xs) n ≡ higher (At x) (last_of xs n)
+more_last x xs zero least = refl
+more_last x xs (suc n) least = sym (higher_second (At x) (at_rank xs n) (rank_above x xs n least))
+
+least_both_first : (x y : Entry) (xs ys : List Entry) → AreInOrder (x ∷ xs) → AreInOrder (y ∷ ys) → comes_before y x ≡ false → IsLeast x (together xs (y ∷ ys))
+least_both_first x y xs ys first second after = least_together x xs (y ∷ ys) first.0 (after, least_further x y ys after second.0)
+
+least_both_second : (x y : Entry) (xs ys : List Entry) → AreInOrder (x ∷ xs) → AreInOrder (y ∷ ys) → comes_before y x ≡ true → IsLeast y (together (x ∷ xs) ys)
+least_both_second x y xs ys first second before =
+    let later = before_one_way y x before in least_together y (x ∷ xs) ys (later, least_further y x xs later first.0) second.0
+
+take_in_first : (x y : Entry) (xs ys : List Entry) (i j r : ℕ) → AreInOrder (x ∷ xs) → AreInOrder (y ∷ ys) → comes_before y x ≡ false
+    → last_of (together xs (y ∷ ys)) r ≡ higher (last_of xs i) (last_of (y ∷ ys) j)
+    → last_of (together (x ∷ xs) (y ∷ ys)) (suc r) ≡ higher (last_of (x ∷ xs) (suc i)) (last_of (y ∷ ys) j)
+take_in_first x y xs ys i j r first second after rest =
+    ap (λ l. at_rank l r) (first_first x y xs ys first second after)
+    ∙ more_last x (together xs (y ∷ ys)) r (least_both_first x y xs ys first second after)
+    ∙ ap (higher (At x)) rest ∙ higher_joined (At x) (last_of xs i) (last_of (y ∷ ys) j)
+    ∙ ap (λ b. higher b (last_of (y ∷ ys) j)) (sym (more_last x xs i first.0))
+
+take_in_second : (x y : Entry) (xs ys : List Entry) (i j r : ℕ) → AreInOrder (x ∷ xs) → AreInOrder (y ∷ ys) → comes_before y x ≡ true
+    → last_of (together (x ∷ xs) ys) r ≡ higher (last_of (x ∷ xs) i) (last_of ys j)
+    → last_of (together (x ∷ xs) (y ∷ ys)) (suc r) ≡ higher (last_of (x ∷ xs) i) (last_of (y ∷ ys) (suc j))
+take_in_second x y xs ys i j r first second before rest =
+    ap (λ l. at_rank l r) (second_first x y xs ys first second before)
+    ∙ more_last y (together (x ∷ xs) ys) r (least_both_second x y xs ys first second before)
+    ∙ ap (higher (At y)) rest ∙ higher_joined (At y) (last_of (x ∷ xs) i) (last_of ys j)
+    ∙ ap (λ b. higher b (last_of ys j)) (higher_turned (At y) (last_of (x ∷ xs) i))
+    ∙ sym (higher_joined (last_of (x ∷ xs) i) (At y) (last_of ys j))
+    ∙ ap (higher (last_of (x ∷ xs) i)) (sym (more_last y ys j second.0))
+
+pub last_of_cut : (r : ℕ) (xs ys : List Entry) (i j : ℕ) → r ≡ i + j → AreInOrder xs → AreInOrder ys → AreCut xs ys i j
+    → last_of (together xs ys) r ≡ higher (last_of xs i) (last_of ys j)
+last_of_cut zero xs ys zero zero sum first second parts = refl
+last_of_cut zero xs ys (suc i) j sum first second parts = absurd (omega (arith, sum))
+last_of_cut zero xs ys zero (suc j) sum first second parts = absurd (omega (arith, sum))
+last_of_cut (suc r) [] ys zero j sum first second parts =
+    let same : suc r ≡ j = omega (arith, sum) in
+    ap (λ l. last_of l (suc r)) (together_none ys) ∙ ap (last_of ys) same ∙ sym (higher_low (last_of ys j))
+last_of_cut (suc r) [] ys (suc i) j sum first second parts = absurd (omega (arith, parts.first))
+last_of_cut (suc r) (x ∷ xs) [] i zero sum first second parts =
+    let same : suc r ≡ i = omega (arith, sum) in
+    ap (λ l. last_of l (suc r)) (together_alone (x ∷ xs) first) ∙ ap (last_of (x ∷ xs)) same
+    ∙ sym (higher_first (last_of (x ∷ xs) i) Low (never_low (last_of (x ∷ xs) i)))
+last_of_cut (suc r) (x ∷ xs) [] i (suc j) sum first second parts = absurd (omega (arith, parts.second))
+last_of_cut (suc r) (x ∷ xs) (y ∷ ys) zero zero sum first second parts = absurd (omega (arith, sum))
+last_of_cut (suc r) (x ∷ xs) (y ∷ ys) (suc i) zero sum first second parts =
+    elim (comes_before y x) as (λ t. comes_before y x ≡ t → last_of (together (x ∷ xs) (y ∷ ys)) (suc r) ≡ higher (at_rank (x ∷ xs) i) Low) [
+      | true ↦ λ before. absurd (none_first x y xs ys i first.0 before parts.lesser)
+      | false ↦ λ after. take_in_first x y xs ys i zero r first second after
+          (last_of_cut r xs (y ∷ ys) i zero (omega (arith, sum)) first.1 second (record {
+            first = omega (arith, parts.first);
+            second = parts.second;
+            lesser = last_more x xs i (At y) parts.lesser;
+            greater = parts.greater;
+          }))
+    ] refl
+last_of_cut (suc r) (x ∷ xs) (y ∷ ys) zero (suc j) sum first second parts =
+    elim (comes_before y x) as (λ t. comes_before y x ≡ t → last_of (together (x ∷ xs) (y ∷ ys)) (suc r) ≡ higher Low (at_rank (y ∷ ys) j)) [
+      | true ↦ λ before. take_in_second x y xs ys zero j r first second before
+          (last_of_cut r (x ∷ xs) ys zero j (omega (arith, sum)) first second.1 (record {
+            first = parts.first;
+            second = omega (arith, parts.second);
+            lesser = parts.lesser;
+            greater = first_less y ys j (At x) refl parts.greater;
+          }))
+      | false ↦ λ after. absurd (none_second x y ys j second.0 after parts.greater)
+    ] refl
+last_of_cut (suc r) (x ∷ xs) (y ∷ ys) (suc i) (suc j) sum first second parts =
+    elim (comes_before y x) as (λ t. comes_before y x ≡ t → last_of (together (x ∷ xs) (y ∷ ys)) (suc r) ≡ higher (at_rank (x ∷ xs) i) (at_rank (y ∷ ys) j)) [
+      | true ↦ λ before. take_in_second x y xs ys (suc i) j r first second before
+          (last_of_cut r (x ∷ xs) ys (suc i) j (omega (arith, sum)) first second.1 (record {
+            first = parts.first;
+            second = omega (arith, parts.second);
+            lesser = parts.lesser;
+            greater = first_less y ys j (at_rank xs i) (rank_some xs i) parts.greater;
+          }))
+      | false ↦ λ after. take_in_first x y xs ys i (suc j) r first second after
+          (last_of_cut r xs (y ∷ ys) i (suc j) (omega (arith, sum)) first.1 second (record {
+            first = omega (arith, parts.first);
+            second = parts.second;
+            lesser = last_more x xs i (at_rank ys j) parts.lesser;
+            greater = parts.greater;
+          }))
+    ] refl
+
 -- with one entry more
 rank_rises : (xs : List Entry) (n : ℕ) → AreInOrder xs → is_below (at_rank xs (suc n)) (at_rank xs n) ≡ false
 rank_rises [] n order = refl
@@ -166,10 +257,6 @@ rank_more e (x ∷ xs) (suc (suc n)) order = elim (comes_before e x) as (λ t. c
       sym (ap (λ b. lower b (at_rank xs (suc n))) (higher_second (At e) (at_rank xs n) above) ∙ lower_first (at_rank xs n) (at_rank xs (suc n)) (rank_rises xs n order.1))
   | false ↦ λ after. rank_more e xs (suc n) order.1
 ] refl
-
-pub last_before : (xs : List Entry) (n : ℕ) → 0 < n → at_rank xs (n - 1) ≡ last_of xs n
-last_before xs zero some = absurd (omega arith)
-last_before xs (suc n) some = ap (at_rank xs) (let same : suc n - 1 ≡ n = omega arith in same)
 
 pub rank_by : (e : Entry) (xs : List Entry) (n : ℕ) (last next : Bound) → AreInOrder xs → last ≡ last_of xs n → next ≡ at_rank xs n
     → lower (higher (At e) last) next ≡ at_rank (with_entry e xs) n

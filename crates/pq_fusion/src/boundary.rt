@@ -77,6 +77,17 @@ pub(crate) fn boundary(first: &[Entry], second: &[Entry], takings: u32, gains: b
     at_rank(first, second, takings - 1)
 }
 
+/// The entry before a rank of a list.
+fn bound_before(entries: &[Entry], rank: usize) -> Bound
+    requires { rank ≤ length entries.now }
+    ensures { result ≡ last_of entries.now rank }
+{
+    if rank == 0 {
+        return Bound::Low;
+    }
+    Bound::At(entries[rank - 1])
+}
+
 /// The entry at a rank of two rising lists together with one entry more.
 fn at_rank_with(entry: Entry, first: &[Entry], second: &[Entry], rank: usize) -> Bound
     requires first { AreInOrder first.now }
@@ -85,14 +96,13 @@ fn at_rank_with(entry: Entry, first: &[Entry], second: &[Entry], rank: usize) ->
     requires few_second { length second.now ≤ most_rows }
     ensures { result ≡ at_rank (with_entry entry (together first.now second.now)) rank }
 {
-    let last = if rank == 0 {
-        Bound::Low
-    } else {
-        at_rank(first, second, rank - 1)
-    };
-    Bound::At(entry)
-        .higher(last)
-        .lower(at_rank(first, second, rank))
+    if rank > first.len() + second.len() {
+        return Bound::Top;
+    }
+    let own = cut(first, second, rank);
+    let last = bound_before(first, own).higher(bound_before(second, rank - own));
+    let next = bound_at(first, own).lower(bound_at(second, rank - own));
+    Bound::At(entry).higher(last).lower(next)
 }
 
 /// What stands at the boundary of so many takings from two rising lists together with one entry more.
