@@ -24,3 +24,4 @@ pub mod Compared
 pub mod Edged
 pub mod Edited
 pub mod Parts
+pub mod Searched

@@ -8,3 +8,4 @@ pub mod Nodes
 pub mod NodesFall
 pub mod Passages
 pub mod Tallies
+pub mod Searches

@@ -2,24 +2,32 @@ ghost use Rattle.std.specs.Prelude.{◌≡◌, ◌^◌, ◌<◌, ◌≤◌, leng
 ghost use Rattle.retro_base.specs.declared.question.Item.TheVariants.{Single};
 ghost use Rattle.retro_base.specs.Answers.{answer_of, content, number_of};
 ghost use Rattle.retro_base.specs.State.{entries};
+ghost use Rattle.pq_fusion.specs.Searches.{SeeksWithin};
 ghost use Rattle.pq_fusion.specs.Tallies.{left_by};
 
 use crate::subtree::Subtree;
-use retro_base::{Answer, Entry, Item, Listing, NoMemory, Question};
+use retro_base::{Answer, Entry, Item, Listing, NoMemory, Question, Steps};
 use std::alloc::Global;
+use std::sync::ledger::Ledger;
 
 impl Subtree {
     /// The answer of the entries that the first rows leave.
-    pub(crate) fn answer(&self, to: u32, question: Question) -> Answer
+    pub(crate) fn answer<L: Ledger>(
+        &self,
+        to: u32,
+        question: Question,
+        steps: &mut Steps<L>,
+    ) -> Answer
         requires { to ≤ length self.now }
-        ensures { result ≡ answer_of (entries (left_by (take to self.now))) question }
+        ensures answer { result ≡ answer_of (entries (left_by (take to self.now))) question }
+        ensures visits { SeeksWithin self.now steps.old steps.new }
     {
         match question {
             Question::Size => Answer::Number {
-                value: i128::from(self.left_len(to)),
+                value: i128::from(self.left_len(to, steps)),
             },
-            Question::Min => key_answer(self.key_at(to, 0)),
-            Question::Nth { index } => key_answer(self.key_at(to, index)),
+            Question::Min => key_answer(self.key_at(to, 0, steps)),
+            Question::Nth { index } => key_answer(self.key_at(to, index, steps)),
             _ => Answer::Nothing,
         }
     }

@@ -11,17 +11,21 @@ ghost use Rattle.retro_base.specs.Questions.{suits};
 ghost use Rattle.retro_base.specs.Replay.{state_at};
 ghost use Rattle.retro_base.specs.State.{entries};
 ghost use Rattle.retro_base.specs.Timeline.{IsReplayable};
+ghost use Rattle.retro_base.specs.Visits.{OpensCounter};
 ghost use Rattle.pq_fusion.specs.Pieces.{tolerant};
+ghost use Rattle.pq_fusion.specs.Searches.{VisitsUpTo};
 
 use crate::Piece;
 use crate::answer::keys_of;
 use crate::subtree::Subtree;
 use bridge_pq::BridgeQueue;
 use retro_base::{
-    Answer, Change, Entry, Kind, Listing, NoMemory, Op, Partial, Question, Retro, Row, uncounted,
+    Answer, Change, Entry, Kind, Listing, NoMemory, Op, Partial, Question, Retro, Row, Steps,
+    uncounted,
 };
 use std::alloc::Global;
-use std::marker::Model;
+use std::marker::{Brand, Model};
+use std::sync::ledger::{Blank, Ledger};
 
 /// A priority queue whose whole past is one product of pieces, which contracts see as its rows.
 #[derive(Drop)]
@@ -74,14 +78,40 @@ impl FusedQueue {
         self.rows.stored()
     }
 
-    /// The answer to a question about the state at a place, after so many rows. No piece is made, so it takes no memory.
+    /// The answer to a question about the state at a place, after so many rows. No piece is made, so it takes no memory. It visits at most 25
+    /// nodes and entries for each of the 64 digits of a key and each pair of digits of one more than the length.
+    pub fn ask_past<L: Ledger>(
+        &self,
+        place: u32,
+        question: Question,
+        steps: &mut Steps<L>,
+    ) -> Answer
+        requires within { place ≤ length self.now }
+        requires suited { suits question Pq ≡ true }
+        ensures answer { result ≡ answer_of (state_at Pq self.now place) question }
+        ensures visits { VisitsUpTo (25 * 64 * digits (length self.now + 1) * digits (length self.now + 1)) steps.old steps.new }
+    {
+        let _replayable = self.queue.kind();
+        self.rows.answer(place, question, steps)
+    }
+
+    /// The answer to a question about the state at a place, for a caller that counts nothing.
     pub fn answer_at(&self, place: u32, question: Question) -> Answer
         requires within { place ≤ length self.now }
         requires suited { suits question Pq ≡ true }
         ensures { result ≡ answer_of (state_at Pq self.now place) question }
     {
-        let _replayable = self.queue.kind();
-        self.rows.answer(place, question)
+        self.answer_with::<Brand>(place, question, Blank::new(1))
+    }
+
+    fn answer_with<L: Ledger>(&self, place: u32, question: Question, blank: Blank) -> Answer
+        requires within { place ≤ length self.now }
+        requires suited { suits question Pq ≡ true }
+        requires counter { OpensCounter blank.name L.name blank.parts L.parts }
+        ensures { result ≡ answer_of (state_at Pq self.now place) question }
+    {
+        let mut steps = Steps::<L>::new(blank);
+        self.ask_past(place, question, &mut steps)
     }
 
     /// The entries that the first rows leave, which are the state after them.

@@ -27,7 +27,7 @@
 //! | `Piece::fuse` | a walk of the lists of both | the fused lists |
 //! | `FusedQueue::new`, `kind`, `len` | constant | none |
 //! | `ask_now`, `failure_after_insert`, `failure_after_remove` | those of `BridgeQueue`, log m | none |
-//! | `ask`, `answer_at` | one walk of the path, log² m, for each binary digit of the difference of the keys on it | none |
+//! | `ask_past`, `answer_at`, `ask` | one walk of the path, log² m, for each binary digit of the difference of the keys on it | none |
 //! | `all`, `piece` | in proportion to the rows asked about | as many entries |
 //! | `insert`, `remove` | log² m comparisons and a move of the entries behind a place in each list; m log m where a part is made anew | room in each list |
 //! | `stored` | each node once | none |
@@ -41,6 +41,9 @@
 //! One row more or less passes one entry: what the rows leave gains it or loses it, and what they do not leave loses it or gains
 //! it, with the edited row's own entry in its place. Which entry it is goes from part to part, by one comparison or two with the entry at
 //! the boundary of what a later part takes of an earlier one. This is a law (`edits_pass_one`) of all rows, places and edits.
+//!
+//! `ask_past` counts its visits, a node that is opened and each turn of a search in a list: at most 25 for each of the 64 digits of a
+//! key and each pair of digits of m + 1.
 //!
 //! What the layer above may rely on: the clauses of `Piece` and `FusedQueue`, the definitions of specs/Pieces.antt, and the laws of
 //! specs/PieceLaws.antt and specs/Edits.antt, which are the contracts of `laws`.

@@ -2,41 +2,49 @@ ghost use Rattle.std.specs.Prelude.{◌≡◌, ◌+◌, ◌≤◌, length, slice
 ghost use Rattle.std.specs.Option.{option_map};
 ghost use Rattle.retro_base.specs.Answers.{key_of};
 ghost use Rattle.retro_base.specs.Limits.{most_rows};
+ghost use Rattle.pq_fusion.specs.Searches.{OpensWithin, SeeksWithin, StepsWithin, VisitsUpTo, WalksWithin};
 ghost use Rattle.pq_fusion.specs.Tallies.{LeadsTally, LeadsSpan, reaching, left_by};
 
 use crate::span::Span;
 use crate::subtree::Subtree;
 use crate::tally::Tally;
-use retro_base::Entry;
+use retro_base::{Entry, Steps};
+use std::sync::ledger::Ledger;
 
 impl Subtree {
     /// The tally of what is left after the first rows, where `before` is that of what is left before them.
-    fn tally(&self, to: u32, bound: Entry, before: Tally) -> Tally
+    fn tally<L: Ledger>(&self, to: u32, bound: Entry, before: Tally, steps: &mut Steps<L>) -> Tally
         requires within { to ≤ length self.now }
         requires few { before.left + length self.now ≤ most_rows }
         ensures tally { LeadsTally bound before (take to self.now) result }
         ensures few { result.left ≤ before.left + to }
+        ensures whole { to ≡ length self.now → OpensWithin (length self.now) steps.old steps.new }
+        ensures visits { WalksWithin self.now steps.old steps.new }
     {
+        steps.tick();
         let Some(node) = self.root() else {
             return before;
         };
         if to == node.size {
-            return before.after_piece(bound, &node.piece);
+            return before.after_piece(bound, &node.piece, steps);
         }
         let own = node.left.len();
         if to <= own {
-            return node.left.tally(to, bound, before);
+            return node.left.tally(to, bound, before, steps);
         }
-        let first = node.left.tally(own, bound, before);
-        let second = first.after_row(bound, node.row);
-        node.right.tally(to - own - 1, bound, second)
+        let first = node.left.tally(own, bound, before, steps);
+        let second = first.after_row(bound, node.row, steps);
+        node.right.tally(to - own - 1, bound, second, steps)
     }
 
     /// The span of what is left after the first rows, where `before` is that of what is left before them.
-    fn span(&self, to: u32, before: Span) -> Span
+    fn span<L: Ledger>(&self, to: u32, before: Span, steps: &mut Steps<L>) -> Span
         requires { to ≤ length self.now }
-        ensures { LeadsSpan before (take to self.now) result }
+        ensures span { LeadsSpan before (take to self.now) result }
+        ensures whole { to ≡ length self.now → VisitsUpTo 1 steps.old steps.new }
+        ensures visits { StepsWithin self.now steps.old steps.new }
     {
+        steps.tick();
         let Some(node) = self.root() else {
             return before;
         };
@@ -45,31 +53,34 @@ impl Subtree {
         }
         let own = node.left.len();
         if to <= own {
-            return node.left.span(to, before);
+            return node.left.span(to, before, steps);
         }
-        let first = node.left.span(own, before);
+        let first = node.left.span(own, before, steps);
         let second = first.with_row(node.row);
-        node.right.span(to - own - 1, second)
+        node.right.span(to - own - 1, second, steps)
     }
 
     /// How many of the entries that the first rows leave have a key that is no less than this one.
-    fn reaching(&self, to: u32, key: i64) -> u32
+    fn reaching<L: Ledger>(&self, to: u32, key: i64, steps: &mut Steps<L>) -> u32
         requires { to ≤ length self.now }
-        ensures { result ≡ reaching (record { key = key; number = 0 }) (left_by (take to self.now)) }
+        ensures count { result ≡ reaching (record { key = key; number = 0 }) (left_by (take to self.now)) }
+        ensures visits { WalksWithin self.now steps.old steps.new }
     {
         let _few = self.len();
         let none = Tally {
             left: 0,
             reaching: 0,
         };
-        self.tally(to, Entry { key, number: 0 }, none).reaching
+        self.tally(to, Entry { key, number: 0 }, none, steps)
+            .reaching
     }
 
     /// How many entries the first rows leave.
-    pub(crate) fn left_len(&self, to: u32) -> u32
+    pub(crate) fn left_len<L: Ledger>(&self, to: u32, steps: &mut Steps<L>) -> u32
         requires { to ≤ length self.now }
         ensures count { result ≡ length (left_by (take to self.now)) }
         ensures few { result ≤ most_rows }
+        ensures visits { WalksWithin self.now steps.old steps.new }
     {
         let _few = self.len();
         let none = Tally {
@@ -77,16 +88,17 @@ impl Subtree {
             reaching: 0,
         };
         let bound = Entry { key: 0, number: 0 };
-        self.tally(to, bound, none).left
+        self.tally(to, bound, none, steps).left
     }
 
     /// The key of the entry at an index of what the first rows leave, where there is one. It is the greatest key that as many
     /// entries reach as stand at the index and above, and is sought by halves between the least key on the path and the greatest.
-    pub(crate) fn key_at(&self, to: u32, index: u64) -> Option<i64>
+    pub(crate) fn key_at<L: Ledger>(&self, to: u32, index: u64, steps: &mut Steps<L>) -> Option<i64>
         requires { to ≤ length self.now }
-        ensures { result ≡ option_map key_of (slice_get (left_by (take to self.now)) index) }
+        ensures key { result ≡ option_map key_of (slice_get (left_by (take to self.now)) index) }
+        ensures visits { SeeksWithin self.now steps.old steps.new }
     {
-        let left = self.left_len(to);
+        let left = self.left_len(to, steps);
         if index >= u64::from(left) {
             return None;
         }
@@ -97,12 +109,13 @@ impl Subtree {
                 low: i64::MAX,
                 high: i64::MIN,
             },
+            steps,
         );
         let mut width = high.abs_diff(low);
         'halve: while width > 0 {
             let half = width / 2;
             let middle = high - half as i64;
-            if self.reaching(to, middle) >= rank {
+            if self.reaching(to, middle, steps) >= rank {
                 low = middle;
                 width = half;
             } else {

@@ -5,7 +5,7 @@ use Rattle.pq_fusion.proofs.Tallied.{fused_length, fused_reaching, same_tally}
 use Rattle.pq_fusion.proofs.tally.Tally.after.Goals as goal
 
 pub returns-clause-tally : goal.returns-clause-tally
-returns-clause-tally c = λ first same.
+returns-clause-tally g c = λ first same.
     let second = parts c.args.left.now c.args.removed.now c.args.unmet in
     let left = ap (λ (t : Tally). t.left) same in
     let reaching = ap (λ (t : Tally). t.reaching) same in

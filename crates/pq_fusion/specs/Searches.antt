@@ -1,0 +1,29 @@
+-- How many visits a question about the past may make: a node that is opened is one, and so is each turn of a search in one of its lists.
+use Rattle.std.specs.Prelude.{ℕ, ◌+◌, ◌*◌, ◌^◌, ◌<◌, ◌≤◌, List, length}
+use Rattle.retro_base.specs.declared.row.Row.{Row}
+use Rattle.pq_fusion.specs.Nodes.{weight, IsWithinLevels}
+
+-- so many visits more, at most
+pub record VisitsUpTo (most before after : ℕ) : Type 0 where
+  pub none_lost : before ≤ after
+  pub few : after ≤ before + most
+
+-- so many searches of lists with no more entries than this
+abbrev pub SearchesWithin : ℕ → ℕ → ℕ → ℕ → Type 0
+SearchesWithin times entries before after = (k : ℕ) → entries < 2 ^ k → VisitsUpTo (times * k) before after
+
+-- a node and two searches; and so many on each level
+abbrev pub OpensWithin : ℕ → ℕ → ℕ → Type 0
+OpensWithin entries before after = (k : ℕ) → entries < 2 ^ k → VisitsUpTo (2 * k + 1) before after
+
+abbrev pub WalksWithin : List Row → ℕ → ℕ → Type 0
+WalksWithin rows before after = (levels k : ℕ) → IsWithinLevels (weight rows) levels → length rows < 2 ^ k → VisitsUpTo ((levels + 1) * (2 * k + 4)) before after
+
+-- a node on each level, and the one beside it
+abbrev pub StepsWithin : List Row → ℕ → ℕ → Type 0
+StepsWithin rows before after = (levels : ℕ) → IsWithinLevels (weight rows) levels → VisitsUpTo ((levels + 1) * 2) before after
+
+-- a walk for each of the 64 digits of a key and one more, and one of the keys on the path
+abbrev pub SeeksWithin : List Row → ℕ → ℕ → Type 0
+SeeksWithin rows before after = (levels k : ℕ) → IsWithinLevels (weight rows) levels → length rows < 2 ^ k
+    → VisitsUpTo ((levels + 1) * (65 * (2 * k + 4) + 2)) before after
