@@ -181,8 +181,14 @@ pub second_takes : (runs more : List ℕ) (index count half place : ℕ) → Tak
 second_takes runs more index count half place takes long within is far = record {
   there = omega (arith, takes.there, ap length is, length-set (insert runs (index + 1) (count - half)) index half, length-insert runs (index + 1) (count - half) (omega (arith, takes.there)));
   begun = omega (arith, far, start_of_divided runs more index count half long is);
-  lasts = omega (arith, takes.lasts, read_index runs index count long, within, start_of_divided runs more index count half long is,
-      read_index more (index + 1) (count - half) (second_of_divided runs more index count half takes.there is));
+  lasts = omega (
+    arith,
+    takes.lasts,
+    read_index runs index count long,
+    within,
+    start_of_divided runs more index count half long is,
+    read_index more (index + 1) (count - half) (second_of_divided runs more index count half takes.there is),
+  );
 }
 
 -- there are fewer runs than a timeline may have rows, where one of them has two

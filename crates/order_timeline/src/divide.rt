@@ -39,8 +39,7 @@ pub(crate) fn divide<L: Ledger>(
     ensures runs { IfOk result (λ half. kept.new.runs ≡ divided kept.old.runs run count half) }
 {
     let half = first_part(count, run + 1 == kept.runs.len());
-    kept.runs
-        .insert(run + 1, Run::new(count - half), steps)?;
+    kept.runs.insert(run + 1, Run::new(count - half), steps)?;
     match kept.names.insert(run + 1, steps) {
         Ok(name) => {
             kept.runs.replace(run, Run::new(half), steps);

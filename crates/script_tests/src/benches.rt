@@ -49,10 +49,7 @@ const EDITS: [(&[u8], &[u8]); 4] = [
 const LOADS: [(&[u8], &[u8]); 5] = [
     (b"timeline l pq next 2", b""),
     (b"#1 5 ins 4", b""),
-    (
-        b"end",
-        b"ok\nedit l add 0 #1 ins 4 bridge 0 gain #1 4\n",
-    ),
+    (b"end", b"ok\nedit l add 0 #1 ins 4 bridge 0 gain #1 4\n"),
     (b"timeline q queue next 2", b""),
     (b"#1 5 enq 1", b""),
 ];

@@ -44,10 +44,9 @@ returns-in-Err-AtOnce-clause-err g c = (
 
 pub returns-in-Err-Midway-clause-err : goal.returns-in-Err-Midway-clause-err
 returns-in-Err-Midway-clause-err g c =
-    let before = seen (g.R.Retro.kind c.self.inside.structure) c.self.inside.timeline c.self.inside.next c.self.inside.undo c.self.inside.redo c.self.inside.spent in
-    (
+    let before = seen (g.R.Retro.kind c.self.inside.structure) c.self.inside.timeline c.self.inside.next c.self.inside.undo c.self.inside.redo c.self.inside.spent in (
       step_of c.in-Some.step,
       rw (← c.self.view_is) (steps-newest c.self.inside.redo.items _ (sym c.newest.ensures ∙ c.in-Some.is)),
       inr (rw (← c.self.view_is, c.in-Err-Midway.ensures.kind, c.forget.ensures.undo, c.forget.ensures.redo)
-      (midway_spent before _ c.self.inside.next (step_of c.in-Some.step) c.in-Err-Midway.field-0 c.in-Err-Midway.field-0-is c.in-Err-Midway.ensures.err)),
+          (midway_spent before _ c.self.inside.next (step_of c.in-Some.step) c.in-Err-Midway.field-0 c.in-Err-Midway.field-0-is c.in-Err-Midway.ensures.err)),
     )

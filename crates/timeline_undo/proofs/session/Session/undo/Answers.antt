@@ -48,11 +48,10 @@ returns-in-Err-AtOnce-clause-err g c = (
 
 pub returns-in-Err-Midway-clause-err : goal.returns-in-Err-Midway-clause-err
 returns-in-Err-Midway-clause-err g c =
-    let before = seen (g.R.Retro.kind c.self.inside.structure) c.self.inside.timeline c.self.inside.next c.self.inside.undo c.self.inside.redo c.self.inside.spent in
-    (
+    let before = seen (g.R.Retro.kind c.self.inside.structure) c.self.inside.timeline c.self.inside.next c.self.inside.undo c.self.inside.redo c.self.inside.spent in (
       inverse_step (step_of c.in-Some.step),
       rw (← c.self.view_is) (ap (option_map inverse_step) (steps-newest c.self.inside.undo.items _ (sym c.newest.ensures ∙ c.in-Some.is))),
       inr (rw (← c.self.view_is, c.in-Err-Midway.ensures.kind, c.forget.ensures.undo, c.forget.ensures.redo)
-      (midway_spent before _ c.self.inside.next (inverse_step (step_of c.in-Some.step)) c.in-Err-Midway.field-0 c.in-Err-Midway.field-0-is
-      (rw c.inverse.ensures at c.in-Err-Midway.ensures.err))),
+          (midway_spent before _ c.self.inside.next (inverse_step (step_of c.in-Some.step)) c.in-Err-Midway.field-0 c.in-Err-Midway.field-0-is
+          (rw c.inverse.ensures at c.in-Err-Midway.ensures.err))),
     )
