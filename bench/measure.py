@@ -222,6 +222,7 @@ def judging(program, lines, runs):
     """The time of `check` for a line of evidence, the least of some runs, and the memory that each line has cost."""
     process = subprocess.Popen([program, "check"], stdin=subprocess.PIPE, stdout=subprocess.PIPE)
     with process:
+        time.sleep(0.2)
         before = peak(process.pid)
         process.stdin.write(b"".join(line + b"\n" for line in lines))
         process.stdin.flush()

@@ -9,8 +9,9 @@ use crate::pack::Pack;
 use crate::part::Part;
 use retro_base::laws::weights_count_the_dead;
 
-/// Marked rows. Two levels of packs stand below the list, which may have any number of parts.
-pub(crate) type Rows = Pack<Pack<Pack<MarkedRow>>>;
+/// Marked rows. Three levels of packs stand below the list, which may have any number of parts: a full timeline that has
+/// grown at its end has four.
+pub(crate) type Rows = Pack<Pack<Pack<Pack<MarkedRow>>>>;
 
 /// The last bridge up to a place.
 pub(crate) fn last_bridge(rows: &Rows, place: u32) -> u32
