@@ -3,11 +3,13 @@ ghost use Rattle.std.specs.List.{insert, remove};
 ghost use Rattle.retro_base.specs.declared.kind.Kind.TheVariants.{Pq};
 ghost use Rattle.retro_base.specs.Answers.{answer_of, content};
 ghost use Rattle.retro_base.specs.Changes.{IsChange};
+ghost use Rattle.retro_base.specs.Digits.{digits};
 ghost use Rattle.retro_base.specs.Edits.{add, cut};
 ghost use Rattle.retro_base.specs.Questions.{suits};
 ghost use Rattle.retro_base.specs.Replay.{IsValid, state_at};
 ghost use Rattle.retro_base.specs.Timeline.{IsReplayable};
 ghost use Rattle.retro_base.specs.Visits.{OpensCounter, VisitsWithin};
+ghost use Rattle.pq_fusion.specs.Searches.{VisitsUpTo};
 ghost use Rattle.engine.specs.Engine.{kind_inside, rows_inside, is_line, is_pq, is_fused, made_inside, places_inside, width_inside, KeepsStructure};
 
 use bridge_pq::BridgeQueue;
@@ -76,8 +78,9 @@ impl Engine {
     ///
     /// A queue, a stack and a deque visit at most 144 nodes for each binary digit of one more than the number of rows, and
     /// always answer. A priority queue whose checkpoints were made visits at most 432 for each row of their width and one
-    /// more, and each digit; the first question about its past makes them, and no question moves them or their width. Of a
-    /// dictionary and of a fused priority queue no bound is stated.
+    /// more, and each digit; the first question about its past makes them, and no question moves them or their width. A fused
+    /// priority queue visits at most 25 for each of the 64 digits of a key and each pair of those digits, and always answers. Of a
+    /// dictionary no bound is stated.
     pub fn ask_past<L: Ledger>(
         &mut self,
         place: u32,
@@ -92,6 +95,8 @@ impl Engine {
         ensures answer { IfOk result (λ answer. answer ≡ answer_of (state_at (kind_inside self.old) (rows_inside self.old) place) question) }
         ensures line { is_line self.old ≡ true → IsOk result }
         ensures line_visits { is_line self.old ≡ true → VisitsWithin 144 (length (rows_inside self.old)) steps.old steps.new }
+        ensures fused { is_fused self.old ≡ true → IsOk result }
+        ensures fused_visits { is_fused self.old ≡ true → VisitsUpTo (25 * 64 * digits (length (rows_inside self.old) + 1) * digits (length (rows_inside self.old) + 1)) steps.old steps.new }
         ensures made { is_pq self.old ≡ true → OnOk result (made_inside self.new ≡ true) }
         ensures places { made_inside self.old ≡ true → (made_inside self.new ≡ true) × (width_inside self.new ≡ width_inside self.old) × (places_inside self.new ≡ places_inside self.old) }
         ensures visits { made_inside self.old ≡ true → VisitsWithin (432 * (width_inside self.old + 1)) (length (rows_inside self.old)) steps.old steps.new }
@@ -103,7 +108,7 @@ impl Engine {
             Engine::Deque { inner } => Ok(inner.ask_past(place, question, steps)),
             Engine::Dict { inner } => inner.ask(place, question),
             Engine::Pq { inner } => inner.ask_past(place, question, steps),
-            Engine::Fused { inner } => inner.ask(place, question),
+            Engine::Fused { inner } => Ok(inner.ask_past(place, question, steps)),
         }
     }
 
