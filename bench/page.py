@@ -39,12 +39,13 @@ REASONS = {
             "in or takes one out, and moves the end of another, in each span that changes. The program of the last column keeps a list of rows for each key, which has no bound for `succ`, "
             "`count` and `sum` where few of many keys are there. Spans that share their trees, or a wider trie, would "
             "change it.",
-    "checkpoints": "A question about the past of a priority queue rolls the nearest checkpoint to its place and back, row by row, up to a width of rows, "
-                   "and each of these rows is an edit of two trees. An edit goes to every checkpoint after its place. One product of pieces would "
-                   "change it, as crates/pq_fusion has it.",
+    "checkpoints": "A question about the past of a priority queue reads the rows after the nearest checkpoint, up to a width of them. An edit "
+                   "goes to every checkpoint after its place, and the first question makes them all. One product of pieces would change it, "
+                   "as crates/pq_fusion has it.",
     "walk": "A fate is found by one walk over all rows of the timeline, from tree to slice. A search from the row on, as in "
             "the structures themselves, would change it.",
-    "pieces": "Pieces are lists, and an edit makes those on the way to the root anew: the last ones are as long as the timeline.",
+    "pieces": "Each node of the product has two lists, the last ones as long as the timeline: an edit searches them at each level by halves "
+              "and moves the entries behind one place in each. Lists in chunks would change it.",
     "tests": "The program reads a line for every form of the script, tests it in the order of the refusals, and has a limit for all that grows; each call "
              "that takes memory may find none, and then all is as before. The program beside it does without. Fewer ways down a tree for one edit, whose "
              "test and whose making each go their own, would change it.",
