@@ -74,7 +74,5 @@ impl Part for MarkedRow {
         }
     }
 
-    fn remove(&mut self, _place: u32) {
-        unreachable!()
-    }
+    fn remove(&mut self, _place: u32) {}
 }

@@ -86,10 +86,9 @@ pub(crate) trait Part: Drop {
         ensures err { OnErr result (rows self.new ≡ rows self.old) }
         ensures cause { IfErr result (λ cause. cause ≡ causes.NoMemory) };
 
-    /// Takes out the row at a place, where it is not the only one.
+    /// Takes out the row at a place, where it is not the only one: a part of one row goes whole.
     fn remove(&mut self, place: u32)
         requires few { length (rows self.old) ≤ most_rows }
         requires within { place < length (rows self.old) }
-        requires others { 1 < length (rows self.old) }
-        ensures { rows self.new ≡ remove (rows self.old) place };
+        ensures { 1 < length (rows self.old) → rows self.new ≡ remove (rows self.old) place };
 }

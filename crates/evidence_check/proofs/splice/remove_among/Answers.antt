@@ -1,4 +1,4 @@
-use Rattle.std.proofs.Common.{◌≡◌, ap, sym, ◌∙◌, set, arith}
+use Rattle.std.proofs.Common.{◌≡◌, ◌<◌, length, ap, sym, ◌∙◌, set, arith}
 use Rattle.std.specs.Prelude.{remove}
 use Rattle.std.proofs.lemmas.List.{set-get_or}
 use Rattle.std.specs.List.{flat_map}
@@ -18,12 +18,6 @@ remove-requires-else-sums-eq1-clause-within g c =
     let from = c.holding-held.ensures.from in
     omega (arith, to, from)
 
-pub remove-requires-else-sums-eq1-clause-others : goal.remove-requires-else-sums-eq1-clause-others
-remove-requires-else-sums-eq1-clause-others g c =
-    let to = held_to g.P.Part.rows c.args.parts.now.items c.args.place c.holding-held.result (rw c.deref.ensures.value at c.holding-held.ensures) c.index_mut-part.result.now c.index_mut-part.ensures.value in
-    let from = c.holding-held.ensures.from in
-    omega (arith, to, from, ap (λ s. s.rows) c.sums.ensures)
-
 pub returns-then-sums-eq1 : goal.returns-then-sums-eq1
 returns-then-sums-eq1 g c =
     let items = c.args.parts.now.items in
@@ -35,4 +29,9 @@ returns-then-sums-eq1 g c =
     c.index_mut-part.ensures.value (sym (ap (λ s. s.rows) c.sums.ensures) ∙ c.if-sums-eq1.true)
 
 pub returns-else-sums-eq1 : goal.returns-else-sums-eq1
-returns-else-sums-eq1 g c = held_remove g.P.Part.rows c.args.parts.now.items c.args.place c.holding-held.result (rw c.deref.ensures.value at c.holding-held.ensures) c.index_mut-part.result.now c.index_mut-part.ensures.value c.remove-else-sums-eq1.new.self c.remove-else-sums-eq1.ensures
+returns-else-sums-eq1 g c =
+    let to = held_to g.P.Part.rows c.args.parts.now.items c.args.place c.holding-held.result (rw c.deref.ensures.value at c.holding-held.ensures) c.index_mut-part.result.now c.index_mut-part.ensures.value in
+    let from = c.holding-held.ensures.from in
+    let others : 1 < length (g.P.Part.rows c.index_mut-part.result.now) = omega (arith, to, from, ap (λ s. s.rows) c.sums.ensures) in
+    held_remove g.P.Part.rows c.args.parts.now.items c.args.place c.holding-held.result (rw c.deref.ensures.value at c.holding-held.ensures) c.index_mut-part.result.now c.index_mut-part.ensures.value c.remove-else-sums-eq1.new.self
+    (c.remove-else-sums-eq1.ensures others)
