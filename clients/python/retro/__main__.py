@@ -71,8 +71,8 @@ def recovered(given: argparse.Namespace) -> int:
     sys.stdout.write(found.saved.text)
     if found.whole:
         return 0
-    missing = "an unknown number of" if found.missing is None else "%d" % found.missing
-    print("%d rows are whole, %s rows are missing; cut off: %r" % (len(found.saved.rows), missing, found.cut), file=sys.stderr)
+    missing = "unknown" if found.missing is None else found.missing
+    print("rows kept: %d; missing: %s; cut off: %r" % (len(found.saved.rows), missing, found.cut), file=sys.stderr)
     return 1
 
 
