@@ -4,6 +4,7 @@ use Rattle.std.specs.Prelude.{◌≡◌, ℕ, ◌≤◌, Bool, true, false, List
 use Rattle.retro_base.specs.declared.kind.Kind.{Kind}
 use Rattle.retro_base.specs.declared.kind.Kind.TheVariants as kinds
 use Rattle.retro_base.specs.declared.row.Row.{Row}
+use Rattle.checkpoint_full.specs.Checkpoints.{Checkpointed}
 use Rattle.engine.specs.declared.engine.Engine.{Engine}
 use Rattle.engine.specs.declared.engine.Engine.TheVariants.{Queue, Stack, Deque, Dict, Pq, Fused}
 
@@ -78,6 +79,11 @@ width_inside (Deque inner) = 0
 width_inside (Dict inner) = 0
 width_inside (Pq inner) = inner.width
 width_inside (Fused inner) = 0
+
+-- what is seen of them, with the kind and the rows
+abbrev pub seen_inside : Engine → Checkpointed
+seen_inside engine =
+    record { kind = kind_inside engine; rows = rows_inside engine; made = made_inside engine; width = width_inside engine; places = places_inside engine }
 
 -- an edit keeps the structure inside: its kind, which of the two it is of a priority queue, and whether its checkpoints were made; their
 -- width never falls

@@ -9,8 +9,10 @@ ghost use Rattle.retro_base.specs.Questions.{suits};
 ghost use Rattle.retro_base.specs.Replay.{IsValid, state_at};
 ghost use Rattle.retro_base.specs.Timeline.{IsReplayable};
 ghost use Rattle.retro_base.specs.Visits.{OpensCounter, VisitsWithin};
+ghost use Rattle.checkpoint_full.specs.Rule.{FollowsRule};
+ghost use Rattle.checkpoint_full.specs.Widths.{least_width, made_places};
 ghost use Rattle.pq_fusion.specs.Searches.{VisitsUpTo};
-ghost use Rattle.engine.specs.Engine.{kind_inside, rows_inside, is_line, is_pq, is_fused, made_inside, places_inside, width_inside, KeepsStructure};
+ghost use Rattle.engine.specs.Engine.{kind_inside, rows_inside, is_line, is_pq, is_fused, made_inside, places_inside, seen_inside, width_inside, KeepsStructure};
 
 use bridge_pq::BridgeQueue;
 use checkpoint_full::Full;
@@ -98,6 +100,8 @@ impl Engine {
         ensures fused { is_fused self.old ≡ true → IsOk result }
         ensures fused_visits { is_fused self.old ≡ true → VisitsUpTo (25 * 64 * digits (length (rows_inside self.old) + 1) * digits (length (rows_inside self.old) + 1)) steps.old steps.new }
         ensures made { is_pq self.old ≡ true → OnOk result (made_inside self.new ≡ true) }
+        ensures first { is_pq self.old ≡ true → made_inside self.old ≡ false → OnOk result (width_inside self.new ≡ least_width (length (rows_inside self.old))) }
+        ensures multiples { is_pq self.old ≡ true → made_inside self.old ≡ false → OnOk result (places_inside self.new ≡ made_places (width_inside self.new) (length (rows_inside self.old))) }
         ensures places { made_inside self.old ≡ true → (made_inside self.new ≡ true) × (width_inside self.new ≡ width_inside self.old) × (places_inside self.new ≡ places_inside self.old) }
         ensures visits { made_inside self.old ≡ true → VisitsWithin (432 * (width_inside self.old + 1)) (length (rows_inside self.old)) steps.old steps.new }
         ensures err { OnErr result (self.new ≡ self.old) }
@@ -127,6 +131,8 @@ impl Engine {
         ensures rows { rows_inside self.new ≡ rows_inside self.old }
         ensures answer { IfOk result (λ answer. answer ≡ answer_of (state_at (kind_inside self.old) (rows_inside self.old) place) question) }
         ensures made { is_pq self.old ≡ true → OnOk result (made_inside self.new ≡ true) }
+        ensures first { is_pq self.old ≡ true → made_inside self.old ≡ false → OnOk result (width_inside self.new ≡ least_width (length (rows_inside self.old))) }
+        ensures multiples { is_pq self.old ≡ true → made_inside self.old ≡ false → OnOk result (places_inside self.new ≡ made_places (width_inside self.new) (length (rows_inside self.old))) }
         ensures places { made_inside self.old ≡ true → (made_inside self.new ≡ true) × (width_inside self.new ≡ width_inside self.old) × (places_inside self.new ≡ places_inside self.old) }
         ensures err { OnErr result (self.new ≡ self.old) }
     {
@@ -191,6 +197,7 @@ impl Retro for Engine {
         ensures rows { OnOk result (rows_inside self.new ≡ insert (rows_inside self.old) place row) }
         ensures replayable { OnOk result (IsReplayable (kind_inside self.new) (rows_inside self.new)) }
         ensures change { IfOk result (IsChange (kind_inside self.old) (rows_inside self.old) (add place row)) }
+        ensures rule { is_pq self.old ≡ true → OnOk result (FollowsRule (seen_inside self.old) (add place row) (seen_inside self.new)) }
         ensures err { OnErr result (self.new ≡ self.old) }
     {
         match self {
@@ -203,6 +210,7 @@ impl Retro for Engine {
         }
     }
 
+    /// Of a queue, a stack, a deque and a priority queue by checkpoints it never answers `NoMemory`.
     fn remove(&mut self, place: u32) -> Result<(Row, Change), NoMemory>
         requires within { place < length (rows_inside self.old) }
         requires replays { IsValid (kind_inside self.old) (remove (rows_inside self.old) place) }
@@ -211,6 +219,9 @@ impl Retro for Engine {
         ensures rows { OnOk result (rows_inside self.new ≡ remove (rows_inside self.old) place) }
         ensures replayable { OnOk result (IsReplayable (kind_inside self.new) (rows_inside self.new)) }
         ensures change { IfOk result (λ taken. IsChange (kind_inside self.old) (rows_inside self.old) (cut place taken.0) taken.1) }
+        ensures rule { is_pq self.old ≡ true → IfOk result (λ taken. FollowsRule (seen_inside self.old) (cut place taken.0) (seen_inside self.new)) }
+        ensures line_succeeds { is_line self.old ≡ true → IsOk result }
+        ensures pq_succeeds { is_pq self.old ≡ true → IsOk result }
         ensures err { OnErr result (self.new ≡ self.old) }
     {
         match self {
@@ -242,6 +253,8 @@ impl Retro for Engine {
         ensures rows { rows_inside self.new ≡ rows_inside self.old }
         ensures answer { IfOk result (λ answer. answer ≡ answer_of (state_at (kind_inside self.old) (rows_inside self.old) place) question) }
         ensures made { is_pq self.old ≡ true → OnOk result (made_inside self.new ≡ true) }
+        ensures first { is_pq self.old ≡ true → made_inside self.old ≡ false → OnOk result (width_inside self.new ≡ least_width (length (rows_inside self.old))) }
+        ensures multiples { is_pq self.old ≡ true → made_inside self.old ≡ false → OnOk result (places_inside self.new ≡ made_places (width_inside self.new) (length (rows_inside self.old))) }
         ensures places { made_inside self.old ≡ true → (made_inside self.new ≡ true) × (width_inside self.new ≡ width_inside self.old) × (places_inside self.new ≡ places_inside self.old) }
         ensures err { OnErr result (self.new ≡ self.old) }
     {
@@ -255,6 +268,8 @@ impl Retro for Engine {
         ensures rows { rows_inside self.new ≡ rows_inside self.old }
         ensures content { IfOk result (λ listing. listing ≡ content (state_at (kind_inside self.old) (rows_inside self.old) place)) }
         ensures made { is_pq self.old ≡ true → OnOk result (made_inside self.new ≡ true) }
+        ensures first { is_pq self.old ≡ true → made_inside self.old ≡ false → OnOk result (width_inside self.new ≡ least_width (length (rows_inside self.old))) }
+        ensures multiples { is_pq self.old ≡ true → made_inside self.old ≡ false → OnOk result (places_inside self.new ≡ made_places (width_inside self.new) (length (rows_inside self.old))) }
         ensures places { made_inside self.old ≡ true → (made_inside self.new ≡ true) × (width_inside self.new ≡ width_inside self.old) × (places_inside self.new ≡ places_inside self.old) }
         ensures err { OnErr result (self.new ≡ self.old) }
     {

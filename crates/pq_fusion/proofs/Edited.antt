@@ -118,7 +118,8 @@ module _ (node : Node) (rows : List Row) (sound : IsNode node) (seen : node_rows
     pub put_passed : PassesIn (added_by row) (tolerant rows) (tolerant (insert rows place row)) passed
     put_passed = as_put (added_by row) gains own passed (tolerant rows) (tolerant (insert rows place row)) gains_is own_is passes
 
-    module _ (kind : kind_of row.op ≡ Pq) (bears : Bears node place) (size : ℕ) (piece : PieceParts) (size_is : size ≡ o.size + 1) (sound_piece : IsPiece piece) (after : Passes gains own passed whole piece) (side : List Row) where
+    module _ (kind : kind_of row.op ≡ Pq) (bears : Bears node place) (size : ℕ) (piece : PieceParts) (size_is : size ≡ o.size + 1) (sound_piece : IsPiece piece)
+        (after : Passes gains own passed whole piece) (side : List Row) where
       made_piece : piece ≡ tolerant (insert rows place row)
       made_piece = becomes node rows sound seen o whole is gains own passed (insert rows place row) passes piece sound_piece after
 

@@ -251,12 +251,13 @@ rank_more e (x ∷ xs) (suc zero) order = elim (comes_before e x) as (λ t. come
       sym (ap (λ b. lower b (at_rank xs 0)) (higher_second (At e) (At x) (before_one_way e x before)) ∙ lower_first (At x) (at_rank xs 0) (rank_above x xs zero order.0))
   | false ↦ λ after. rank_more e xs zero order.1 ∙ ap (λ b. lower b (at_rank xs 0)) (sym (higher_first (At e) (At x) after))
 ] refl
-rank_more e (x ∷ xs) (suc (suc n)) order = elim (comes_before e x) as (λ t. comes_before e x ≡ t → at_rank (cond t (e ∷ x ∷ xs) (x ∷ with_entry e xs)) (suc (suc n)) ≡ lower (higher (At e) (at_rank xs n)) (at_rank xs (suc n))) [
-  | true ↦ λ before.
-      let above = further (At e) (At x) (at_rank xs n) (before_one_way e x before) (rank_above x xs n order.0) in
-      sym (ap (λ b. lower b (at_rank xs (suc n))) (higher_second (At e) (at_rank xs n) above) ∙ lower_first (at_rank xs n) (at_rank xs (suc n)) (rank_rises xs n order.1))
-  | false ↦ λ after. rank_more e xs (suc n) order.1
-] refl
+rank_more e (x ∷ xs) (suc (suc n)) order = elim (comes_before e x) as
+    (λ t. comes_before e x ≡ t → at_rank (cond t (e ∷ x ∷ xs) (x ∷ with_entry e xs)) (suc (suc n)) ≡ lower (higher (At e) (at_rank xs n)) (at_rank xs (suc n))) [
+      | true ↦ λ before.
+          let above = further (At e) (At x) (at_rank xs n) (before_one_way e x before) (rank_above x xs n order.0) in
+          sym (ap (λ b. lower b (at_rank xs (suc n))) (higher_second (At e) (at_rank xs n) above) ∙ lower_first (at_rank xs n) (at_rank xs (suc n)) (rank_rises xs n order.1))
+      | false ↦ λ after. rank_more e xs (suc n) order.1
+    ] refl
 
 pub rank_by : (e : Entry) (xs : List Entry) (n : ℕ) (last next : Bound) → AreInOrder xs → last ≡ last_of xs n → next ≡ at_rank xs n
     → lower (higher (At e) last) next ≡ at_rank (with_entry e xs) n

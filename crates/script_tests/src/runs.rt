@@ -431,17 +431,22 @@ fn each_follower_reports(rt: HostRuntime) {
         reads: &[],
         writes: &[],
     };
-    let reports: &[u8] = b"report 0 gains 0 losses 0 sum 0\nreport 1 gains 0 losses 0 sum 0\n";
-    for (count, reported) in [(0, b"".as_slice()), (2, reports)] {
+    let table: [(u32, &[u8]); 2] = [
+        (0, ANSWERS),
+        (
+            2,
+            b"ok\nok #1\nok #2\n= 5\nok #3\n= 7\nok #4\n= 5\n\
+              report 0 gains 0 losses 0 sum 0\nreport 1 gains 0 losses 0 sum 0\n",
+        ),
+    ];
+    for (count, written) in table {
         let words = words_of(&rt, rt.alloc(), &given);
         let mut source = source_of(&rt, rt.alloc(), &given);
         let mut sink = sink_of(&rt, rt.alloc(), &given);
         let followers = tallies(&rt, rt.alloc(), count);
         assert!(rt; followers.len() <= 1024);
         let ended = run_followed(rt.alloc(), &words, &mut source, &mut sink, followers);
+        assert_eq!(rt; sink.written(), written);
         assert_eq!(rt; ended, Status::Done);
-        assert!(rt; ANSWERS.len() <= sink.written().len());
-        assert_eq!(rt; &sink.written()[..ANSWERS.len()], ANSWERS);
-        assert_eq!(rt; &sink.written()[ANSWERS.len()..], reported);
     }
 }

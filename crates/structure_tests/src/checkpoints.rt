@@ -84,3 +84,33 @@ fn a_growth_that_fails_changes_nothing(rt: HostRuntime) {
     assert_eq!(&rt; history.len(), 2104);
     ask_again(&rt, &mut history, 1052);
 }
+
+/// So many rows whose keys rise, so that all their entries stay, asked at some places.
+fn filled(rt: &impl Abort, alloc: Global, rows: u32) -> History<Checkpoints> {
+    let mut history = History::new(empty(alloc));
+    for place in 0..rows {
+        let key = i64::from(place);
+        history.put(rt, place, 0, Op::Ins { key });
+    }
+    look(rt, &mut history, rows);
+    history
+}
+
+#[test]
+fn rows_come_into_a_gap(rt: HostRuntime) {
+    let mut history = filled(&rt, rt.alloc(), 3000);
+    for _ in 0..1100u32 {
+        history.put(&rt, 500, 0, Op::Ins { key: 0 });
+    }
+    look(&rt, &mut history, 4100);
+}
+
+#[test]
+fn checkpoints_go_where_rows_go(rt: HostRuntime) {
+    let mut history = filled(&rt, rt.alloc(), 40_000);
+    for _ in 0..39_000u32 {
+        history.cut(&rt, 0);
+    }
+    look(&rt, &mut history, 1000);
+    assert_eq!(&rt; history.ask(&rt, 500, Question::Min), number(39_000));
+}

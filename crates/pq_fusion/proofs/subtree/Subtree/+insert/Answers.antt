@@ -51,7 +51,8 @@ renewed-requires t c =
     let passes = put_left node rows sound seen o whole is c.args.place c.args.row c.requires.room c.requires.within gains own x passed gains_is c.of_row-own.ensures inside c.in-Ok-insert.ensures.passed passed_is in
     let bears : Bears node c.args.place = subst (λ n. Bears n c.args.place) c.deref.ensures (c.if-not-bears.ensures refl) in
     let size : c.deref-4.result.now.size + 1 ≡ o.size + 1 = ap (λ (n : Node). n.size + 1) (c.deref-4.ensures ∙ sym c.deref_mut.ensures.value) in
-    let made = put_in_left node rows sound seen o whole is c.args.place c.args.row c.requires.room c.requires.within gains own x passed gains_is c.of_row-own.ensures passes c.requires.of_kind bears (c.deref-4.result.now.size + 1) c.after.result size c.after.ensures.piece c.after.ensures.passes c.insert.new.self inside c.in-Ok-insert.ensures.ok in
+    let made = put_in_left node rows sound seen o whole is c.args.place c.args.row c.requires.room c.requires.within gains own x passed gains_is c.of_row-own.ensures passes
+    c.requires.of_kind bears (c.deref-4.result.now.size + 1) c.after.result size c.after.ensures.piece c.after.ensures.passes c.insert.new.self inside c.in-Ok-insert.ensures.ok in
     made.sound
 
 pub returns-in-Ok-insert-clause-ok : goal.returns-in-Ok-insert-clause-ok
@@ -75,7 +76,8 @@ returns-in-Ok-insert-clause-ok t c =
     let passes = put_left node rows sound seen o whole is c.args.place c.args.row c.requires.room c.requires.within gains own x passed gains_is c.of_row-own.ensures inside c.in-Ok-insert.ensures.passed passed_is in
     let bears : Bears node c.args.place = subst (λ n. Bears n c.args.place) c.deref.ensures (c.if-not-bears.ensures refl) in
     let size : c.deref-4.result.now.size + 1 ≡ o.size + 1 = ap (λ (n : Node). n.size + 1) (c.deref-4.ensures ∙ sym c.deref_mut.ensures.value) in
-    let made = put_in_left node rows sound seen o whole is c.args.place c.args.row c.requires.room c.requires.within gains own x passed gains_is c.of_row-own.ensures passes c.requires.of_kind bears (c.deref-4.result.now.size + 1) c.after.result size c.after.ensures.piece c.after.ensures.passes c.insert.new.self inside c.in-Ok-insert.ensures.ok in
+    let made = put_in_left node rows sound seen o whole is c.args.place c.args.row c.requires.room c.requires.within gains own x passed gains_is c.of_row-own.ensures passes
+    c.requires.of_kind bears (c.deref-4.result.now.size + 1) c.after.result size c.after.ensures.piece c.after.ensures.passes c.insert.new.self inside c.in-Ok-insert.ensures.ok in
     c.renewed-in-Ok-insert.view_is ∙ c.renewed.ensures ∙ made.rows_are
 
 pub returns-in-Ok-insert-clause-passed : goal.returns-in-Ok-insert-clause-passed
@@ -119,7 +121,8 @@ after-requires-in-Ok-insert-2 t c =
     let beyond : length node.left < c.args.place = omega (arith, before, c.if-place-before.false) in
     let offset = c.args.place - c.len-before.result - 1 in
     let offset_is : offset ≡ c.args.place - length node.left - 1 = ap (λ k. c.args.place - k - 1) before in
-    let passes = put_right node rows sound seen o whole is c.args.place c.args.row c.requires.room c.requires.within gains own x passed gains_is c.of_row-own.ensures offset beyond offset_is c.in-Ok-insert-2.ensures.passed passed_is in
+    let passes = put_right node rows sound seen o whole is c.args.place c.args.row c.requires.room c.requires.within gains own x passed gains_is c.of_row-own.ensures offset beyond offset_is
+    c.in-Ok-insert-2.ensures.passed passed_is in
     put_after node rows sound seen o whole is c.args.place c.args.row c.requires.room c.requires.within gains own x passed gains_is c.of_row-own.ensures passes
 
 pub renewed-requires-in-Ok-insert-2 : goal.renewed-requires-in-Ok-insert-2
@@ -142,10 +145,13 @@ renewed-requires-in-Ok-insert-2 t c =
     let beyond : length node.left < c.args.place = omega (arith, before, c.if-place-before.false) in
     let offset = c.args.place - c.len-before.result - 1 in
     let offset_is : offset ≡ c.args.place - length node.left - 1 = ap (λ k. c.args.place - k - 1) before in
-    let passes = put_right node rows sound seen o whole is c.args.place c.args.row c.requires.room c.requires.within gains own x passed gains_is c.of_row-own.ensures offset beyond offset_is c.in-Ok-insert-2.ensures.passed passed_is in
+    let passes = put_right node rows sound seen o whole is c.args.place c.args.row c.requires.room c.requires.within gains own x passed gains_is c.of_row-own.ensures offset beyond offset_is
+    c.in-Ok-insert-2.ensures.passed passed_is in
     let bears : Bears node c.args.place = subst (λ n. Bears n c.args.place) c.deref.ensures (c.if-not-bears.ensures refl) in
     let size : c.deref-4.result.now.size + 1 ≡ o.size + 1 = ap (λ (n : Node). n.size + 1) (c.deref-4.ensures ∙ sym c.deref_mut-else-place-before.ensures.value) in
-    let made = put_in_right node rows sound seen o whole is c.args.place c.args.row c.requires.room c.requires.within gains own x passed gains_is c.of_row-own.ensures passes c.requires.of_kind bears (c.deref-4.result.now.size + 1) c.after-in-Ok-insert-2.result size c.after-in-Ok-insert-2.ensures.piece c.after-in-Ok-insert-2.ensures.passes c.insert-else-place-before.new.self offset beyond offset_is c.in-Ok-insert-2.ensures.ok in
+    let made = put_in_right node rows sound seen o whole is c.args.place c.args.row c.requires.room c.requires.within gains own x passed gains_is c.of_row-own.ensures passes
+    c.requires.of_kind bears (c.deref-4.result.now.size + 1) c.after-in-Ok-insert-2.result size c.after-in-Ok-insert-2.ensures.piece c.after-in-Ok-insert-2.ensures.passes
+    c.insert-else-place-before.new.self offset beyond offset_is c.in-Ok-insert-2.ensures.ok in
     made.sound
 
 pub returns-in-Ok-insert-2-clause-ok : goal.returns-in-Ok-insert-2-clause-ok
@@ -168,10 +174,13 @@ returns-in-Ok-insert-2-clause-ok t c =
     let beyond : length node.left < c.args.place = omega (arith, before, c.if-place-before.false) in
     let offset = c.args.place - c.len-before.result - 1 in
     let offset_is : offset ≡ c.args.place - length node.left - 1 = ap (λ k. c.args.place - k - 1) before in
-    let passes = put_right node rows sound seen o whole is c.args.place c.args.row c.requires.room c.requires.within gains own x passed gains_is c.of_row-own.ensures offset beyond offset_is c.in-Ok-insert-2.ensures.passed passed_is in
+    let passes = put_right node rows sound seen o whole is c.args.place c.args.row c.requires.room c.requires.within gains own x passed gains_is c.of_row-own.ensures offset beyond offset_is
+    c.in-Ok-insert-2.ensures.passed passed_is in
     let bears : Bears node c.args.place = subst (λ n. Bears n c.args.place) c.deref.ensures (c.if-not-bears.ensures refl) in
     let size : c.deref-4.result.now.size + 1 ≡ o.size + 1 = ap (λ (n : Node). n.size + 1) (c.deref-4.ensures ∙ sym c.deref_mut-else-place-before.ensures.value) in
-    let made = put_in_right node rows sound seen o whole is c.args.place c.args.row c.requires.room c.requires.within gains own x passed gains_is c.of_row-own.ensures passes c.requires.of_kind bears (c.deref-4.result.now.size + 1) c.after-in-Ok-insert-2.result size c.after-in-Ok-insert-2.ensures.piece c.after-in-Ok-insert-2.ensures.passes c.insert-else-place-before.new.self offset beyond offset_is c.in-Ok-insert-2.ensures.ok in
+    let made = put_in_right node rows sound seen o whole is c.args.place c.args.row c.requires.room c.requires.within gains own x passed gains_is c.of_row-own.ensures passes
+    c.requires.of_kind bears (c.deref-4.result.now.size + 1) c.after-in-Ok-insert-2.result size c.after-in-Ok-insert-2.ensures.piece c.after-in-Ok-insert-2.ensures.passes
+    c.insert-else-place-before.new.self offset beyond offset_is c.in-Ok-insert-2.ensures.ok in
     c.renewed-in-Ok-insert-2-2.view_is ∙ c.renewed-in-Ok-insert-2.ensures ∙ made.rows_are
 
 pub returns-in-Ok-insert-2-clause-passed : goal.returns-in-Ok-insert-2-clause-passed
@@ -194,7 +203,8 @@ returns-in-Ok-insert-2-clause-passed t c =
     let beyond : length node.left < c.args.place = omega (arith, before, c.if-place-before.false) in
     let offset = c.args.place - c.len-before.result - 1 in
     let offset_is : offset ≡ c.args.place - length node.left - 1 = ap (λ k. c.args.place - k - 1) before in
-    let passes = put_right node rows sound seen o whole is c.args.place c.args.row c.requires.room c.requires.within gains own x passed gains_is c.of_row-own.ensures offset beyond offset_is c.in-Ok-insert-2.ensures.passed passed_is in
+    let passes = put_right node rows sound seen o whole is c.args.place c.args.row c.requires.room c.requires.within gains own x passed gains_is c.of_row-own.ensures offset beyond offset_is
+    c.in-Ok-insert-2.ensures.passed passed_is in
     put_passed node rows sound seen o whole is c.args.place c.args.row c.requires.room c.requires.within gains own x passed gains_is c.of_row-own.ensures passes
 
 pub returns-in_default-clause-passed : goal.returns-in_default-clause-passed

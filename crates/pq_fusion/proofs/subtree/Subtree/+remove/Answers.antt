@@ -60,7 +60,8 @@ renewed-requires t c =
     let inside : c.args.place < length node.left = left_place node c.args.place from next replaces under in
     let passes = cut_left node rows sound seen o whole is c.args.place c.args.row c.requires.there gains own x passed gains_is c.of_row-own.ensures inside c.in-Ok-remove.ensures.passed passed_is in
     let size : c.deref-5.result.now.size - 1 ≡ o.size - 1 = ap (λ (n : Node). n.size - 1) (c.deref-5.ensures ∙ sym c.deref_mut.ensures.value) in
-    let made = cut_from_left node rows sound seen o whole is c.args.place c.args.row c.requires.there gains own x passed gains_is c.of_row-own.ensures passes from next replaces spares (c.deref-5.result.now.size - 1) c.after.result size c.after.ensures.piece c.after.ensures.passes c.remove.new.self under c.in-Ok-remove.ensures.ok in
+    let made = cut_from_left node rows sound seen o whole is c.args.place c.args.row c.requires.there gains own x passed gains_is c.of_row-own.ensures passes from next replaces spares
+    (c.deref-5.result.now.size - 1) c.after.result size c.after.ensures.piece c.after.ensures.passes c.remove.new.self under c.in-Ok-remove.ensures.ok in
     made.sound
 
 pub returns-in-Ok-remove-clause-ok : goal.returns-in-Ok-remove-clause-ok
@@ -88,7 +89,8 @@ returns-in-Ok-remove-clause-ok t c =
     let inside : c.args.place < length node.left = left_place node c.args.place from next replaces under in
     let passes = cut_left node rows sound seen o whole is c.args.place c.args.row c.requires.there gains own x passed gains_is c.of_row-own.ensures inside c.in-Ok-remove.ensures.passed passed_is in
     let size : c.deref-5.result.now.size - 1 ≡ o.size - 1 = ap (λ (n : Node). n.size - 1) (c.deref-5.ensures ∙ sym c.deref_mut.ensures.value) in
-    let made = cut_from_left node rows sound seen o whole is c.args.place c.args.row c.requires.there gains own x passed gains_is c.of_row-own.ensures passes from next replaces spares (c.deref-5.result.now.size - 1) c.after.result size c.after.ensures.piece c.after.ensures.passes c.remove.new.self under c.in-Ok-remove.ensures.ok in
+    let made = cut_from_left node rows sound seen o whole is c.args.place c.args.row c.requires.there gains own x passed gains_is c.of_row-own.ensures passes from next replaces spares
+    (c.deref-5.result.now.size - 1) c.after.result size c.after.ensures.piece c.after.ensures.passes c.remove.new.self under c.in-Ok-remove.ensures.ok in
     c.renewed-in-Ok-remove.view_is ∙ c.renewed.ensures ∙ made.rows_are
 
 pub returns-in-Ok-remove-clause-passed : goal.returns-in-Ok-remove-clause-passed
@@ -166,7 +168,9 @@ renewed-requires-in-Ok-remove-2 t c =
     let here : c.args.place ≡ length node.left = omega (arith, before, c.if-place-before.true) in
     let passes = cut_own node rows sound seen o whole is c.args.place c.args.row c.requires.there gains own x passed gains_is c.of_row-own.ensures here passed_is in
     let size : c.deref-5.result.now.size - 1 ≡ o.size - 1 = ap (λ (n : Node). n.size - 1) (c.deref-5.ensures ∙ sym c.deref_mut-then-place-before.ensures.value) in
-    let made = cut_from_own node rows sound seen o whole is c.args.place c.args.row c.requires.there gains own x passed gains_is c.of_row-own.ensures passes from next replaces spares (c.deref-5.result.now.size - 1) c.after-in-Ok-remove-2.result size c.after-in-Ok-remove-2.ensures.piece c.after-in-Ok-remove-2.ensures.passes c.remove-then-place-before.new.self here c.in-Ok-remove-2.ensures.ok in
+    let made = cut_from_own node rows sound seen o whole is c.args.place c.args.row c.requires.there gains own x passed gains_is c.of_row-own.ensures passes from next replaces spares
+    (c.deref-5.result.now.size - 1) c.after-in-Ok-remove-2.result size c.after-in-Ok-remove-2.ensures.piece c.after-in-Ok-remove-2.ensures.passes c.remove-then-place-before.new.self here
+    c.in-Ok-remove-2.ensures.ok in
     subst (λ n. IsNode (replaced n next (c.deref-5.result.now.size - 1) c.after-in-Ok-remove-2.result)) (sym c.deref_mut-in-Ok-remove-2.ensures.value) made.sound
 
 pub returns-in-Ok-remove-2-clause-ok : goal.returns-in-Ok-remove-2-clause-ok
@@ -193,7 +197,9 @@ returns-in-Ok-remove-2-clause-ok t c =
     let here : c.args.place ≡ length node.left = omega (arith, before, c.if-place-before.true) in
     let passes = cut_own node rows sound seen o whole is c.args.place c.args.row c.requires.there gains own x passed gains_is c.of_row-own.ensures here passed_is in
     let size : c.deref-5.result.now.size - 1 ≡ o.size - 1 = ap (λ (n : Node). n.size - 1) (c.deref-5.ensures ∙ sym c.deref_mut-then-place-before.ensures.value) in
-    let made = cut_from_own node rows sound seen o whole is c.args.place c.args.row c.requires.there gains own x passed gains_is c.of_row-own.ensures passes from next replaces spares (c.deref-5.result.now.size - 1) c.after-in-Ok-remove-2.result size c.after-in-Ok-remove-2.ensures.piece c.after-in-Ok-remove-2.ensures.passes c.remove-then-place-before.new.self here c.in-Ok-remove-2.ensures.ok in
+    let made = cut_from_own node rows sound seen o whole is c.args.place c.args.row c.requires.there gains own x passed gains_is c.of_row-own.ensures passes from next replaces spares
+    (c.deref-5.result.now.size - 1) c.after-in-Ok-remove-2.result size c.after-in-Ok-remove-2.ensures.piece c.after-in-Ok-remove-2.ensures.passes c.remove-then-place-before.new.self here
+    c.in-Ok-remove-2.ensures.ok in
     c.renewed-in-Ok-remove-2-2.view_is ∙ c.renewed-in-Ok-remove-2.ensures ∙ ap (λ (n : Node). n.left ++ next ∷ n.right) c.deref_mut-in-Ok-remove-2.ensures.value ∙ made.rows_are
 
 pub returns-in-Ok-remove-2-clause-passed : goal.returns-in-Ok-remove-2-clause-passed
@@ -306,7 +312,9 @@ renewed-requires-in-Ok-remove-3 t c =
     let offset_is : offset ≡ c.args.place - length node.left - 1 = ap (λ k. c.args.place - k - 1) before in
     let passes = cut_right node rows sound seen o whole is c.args.place c.args.row c.requires.there gains own x passed gains_is c.of_row-own.ensures offset beyond offset_is c.in-Ok-remove-3.ensures.passed passed_is in
     let size : c.deref-5.result.now.size - 1 ≡ o.size - 1 = ap (λ (n : Node). n.size - 1) (c.deref-5.ensures ∙ sym c.deref_mut-else-place-before.ensures.value) in
-    let made = cut_from_right node rows sound seen o whole is c.args.place c.args.row c.requires.there gains own x passed gains_is c.of_row-own.ensures passes from next replaces spares (c.deref-5.result.now.size - 1) c.after-in-Ok-remove-3.result size c.after-in-Ok-remove-3.ensures.piece c.after-in-Ok-remove-3.ensures.passes c.remove-else-place-before.new.self offset beyond offset_is c.in-Ok-remove-3.ensures.ok in
+    let made = cut_from_right node rows sound seen o whole is c.args.place c.args.row c.requires.there gains own x passed gains_is c.of_row-own.ensures passes from next replaces spares
+    (c.deref-5.result.now.size - 1) c.after-in-Ok-remove-3.result size c.after-in-Ok-remove-3.ensures.piece c.after-in-Ok-remove-3.ensures.passes c.remove-else-place-before.new.self offset
+    beyond offset_is c.in-Ok-remove-3.ensures.ok in
     made.sound
 
 pub returns-in-Ok-remove-3-clause-ok : goal.returns-in-Ok-remove-3-clause-ok
@@ -335,7 +343,9 @@ returns-in-Ok-remove-3-clause-ok t c =
     let offset_is : offset ≡ c.args.place - length node.left - 1 = ap (λ k. c.args.place - k - 1) before in
     let passes = cut_right node rows sound seen o whole is c.args.place c.args.row c.requires.there gains own x passed gains_is c.of_row-own.ensures offset beyond offset_is c.in-Ok-remove-3.ensures.passed passed_is in
     let size : c.deref-5.result.now.size - 1 ≡ o.size - 1 = ap (λ (n : Node). n.size - 1) (c.deref-5.ensures ∙ sym c.deref_mut-else-place-before.ensures.value) in
-    let made = cut_from_right node rows sound seen o whole is c.args.place c.args.row c.requires.there gains own x passed gains_is c.of_row-own.ensures passes from next replaces spares (c.deref-5.result.now.size - 1) c.after-in-Ok-remove-3.result size c.after-in-Ok-remove-3.ensures.piece c.after-in-Ok-remove-3.ensures.passes c.remove-else-place-before.new.self offset beyond offset_is c.in-Ok-remove-3.ensures.ok in
+    let made = cut_from_right node rows sound seen o whole is c.args.place c.args.row c.requires.there gains own x passed gains_is c.of_row-own.ensures passes from next replaces spares
+    (c.deref-5.result.now.size - 1) c.after-in-Ok-remove-3.result size c.after-in-Ok-remove-3.ensures.piece c.after-in-Ok-remove-3.ensures.passes c.remove-else-place-before.new.self offset
+    beyond offset_is c.in-Ok-remove-3.ensures.ok in
     c.renewed-in-Ok-remove-3-2.view_is ∙ c.renewed-in-Ok-remove-3.ensures ∙ made.rows_are
 
 pub returns-in-Ok-remove-3-clause-passed : goal.returns-in-Ok-remove-3-clause-passed
