@@ -1,6 +1,6 @@
 """The lifetimes of the entries of a timeline as bars over time, as SVG that is legible on light and on dark paper."""
 
-from typing import Iterator, List, Tuple
+from typing import Callable, Iterator, List, Tuple
 from xml.sax.saxutils import escape
 
 from .rows import LAST_TIME, Lifetime, Saved, lifetimes
@@ -24,11 +24,17 @@ def stretch(lives: List[Lifetime], start: int, end: int) -> Tuple[List[Lifetime]
 
 
 def ticks(first: int, last: int) -> List[int]:
-    """Some five round numbers from `first` to `last`."""
+    """Round numbers from `first` to `last`, as many as stand side by side."""
+    most = WIDTH // (7 * len(str(last)) + 14)
     step = 1
-    while (last - first) // step > 6:
+    while (last - first) // step > min(most, 7) - 1:
         step = step * 5 // 2 if str(step).startswith("2") else step * 2
     return [time for time in range(-(-first // step) * step, last + 1, step)] or [first]
+
+
+def short(text: str, most: int) -> str:
+    """A text that fits beside a bar; the whole of it stands in the title of the bar."""
+    return escape(text if len(text) <= most else text[: most - 1] + "\u2026")
 
 
 def svg(saved: Saved, start: int = 0, end: int = LAST_TIME) -> str:
@@ -63,12 +69,13 @@ def _lines(saved: Saved, lives: List[Lifetime], left_out: int, start: int, end: 
         yield from _bar(life, TOP + LANE * lane, x, last)
 
 
-def _bar(life: Lifetime, top: int, x, last: int) -> Iterator[str]:
+def _bar(life: Lifetime, top: int, x: Callable[[int], float], last: int) -> Iterator[str]:
     left = x(life.put.time)
     right = x(life.taken.time) if life.taken else x(last)
     kind = "bar" if life.taken else "stays"
     said = "#%d at %d: %s" % (life.taken.number, life.taken.time, life.taken.operation) if life.taken else "stays"
-    yield '<text class="put" x="%d" y="%d">%s</text>' % (LEFT - 10, top + 12, escape("#%d %s" % (life.put.number, life.put.operation)))
+    yield '<text class="put" x="%d" y="%d">%s</text>' % (LEFT - 10, top + 12, short("#%d %s" % (life.put.number, life.put.operation), 24))
     yield '<rect class="%s" x="%.1f" y="%d" width="%.1f" height="%d" rx="2">' % (kind, left, top, max(right - left, 3), LANE - 6)
     yield "<title>%s</title></rect>" % escape("#%d at %d: %s, %s" % (life.put.number, life.put.time, life.put.operation, said))
-    yield '<text x="%.1f" y="%d">%s</text>' % (max(right, left + 3) + 6, top + 12, escape("#%d %s" % (life.taken.number, life.taken.operation) if life.taken else "stays"))
+    behind = short("#%d %s" % (life.taken.number, life.taken.operation), 20) if life.taken else "stays"
+    yield '<text x="%.1f" y="%d">%s</text>' % (max(right, left + 3) + 6, top + 12, behind)

@@ -7,7 +7,7 @@ import queue
 import subprocess
 import threading
 from types import TracebackType
-from typing import Callable, Deque, Dict, Iterable, Iterator, List, Optional, Sequence, Type, Union
+from typing import IO, Callable, Deque, Dict, Iterable, Iterator, List, Optional, Sequence, Type, Union
 
 from .answers import Edit, Ended, Refused, Reply, Value, value_of
 from .grammar import Reader, words
@@ -35,7 +35,7 @@ def command(program: Optional[str]) -> str:
 class _Writer:
     """Writes to the program beside the reading, so that neither waits for the other."""
 
-    def __init__(self, pipe) -> None:
+    def __init__(self, pipe: IO[bytes]) -> None:
         self.pipe = pipe
         self.waiting: "queue.Queue[Optional[bytes]]" = queue.Queue()
         threading.Thread(target=self._write, daemon=True).start()
@@ -54,14 +54,16 @@ class _Writer:
 class Retro:
     """A process of `retro run` with its timelines.
 
-    `program` is the command, else `$RETRO` or `retro`; with `follow` the process is `retro follow`, and with a name in it `retro follow NAME`. `evidence` is
-    called with each line of evidence, as `retro check` reads it. A process holds eight timelines. Used in a `with`, it is ended there. One
-    thread at a time may use it.
+    `program` is the command, else `$RETRO` or `retro`. With `follow` the process is `retro follow`, and with a name in it `retro follow NAME`.
+    `evidence` is called with each line of evidence, as `retro check` reads it. A process holds eight timelines, and reads 2^30 bytes. Used in a
+    `with`, it is ended there. One thread at a time may use it.
 
     After `Ended` nothing more can be asked: what was sent without an answer may have been done or not.
     """
 
-    def __init__(self, program: Optional[str] = None, follow: Union[bool, str] = False, evidence: Optional[Callable[[str], object]] = None) -> None:
+    def __init__(
+        self, program: Optional[str] = None, follow: Union[bool, str] = False, evidence: Optional[Callable[[str], object]] = None
+    ) -> None:
         words_of_program = ["follow" if follow else "run"] + ([follow] if isinstance(follow, str) else [])
         self._process = subprocess.Popen([command(program), *words_of_program], stdin=subprocess.PIPE, stdout=subprocess.PIPE)
         assert self._process.stdin is not None and self._process.stdout is not None

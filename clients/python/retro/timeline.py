@@ -57,8 +57,9 @@ class Timeline:
 
     def ask(self, question: str, at: Optional[int] = None, before: Optional[int] = None, after: Optional[int] = None) -> Value:
         """Asks about now, about a time, or about the moment before or after a row. Errors: ValueError where two moments are named."""
-        moments = [("at %d " % at if at is not None else ""), ("before #%d " % before if before is not None else ""), ("after #%d " % after if after is not None else "")]
-        if sum(map(bool, moments)) > 1:
+        named = [("at %d ", at), ("before #%d ", before), ("after #%d ", after)]
+        moments = [form % value for form, value in named if value is not None]
+        if len(moments) > 1:
             raise ValueError("a question is about one moment")
         return self.retro.line("%s ask %s%s" % (self.name, "".join(moments), question))
 

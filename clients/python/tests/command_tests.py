@@ -20,12 +20,14 @@ class Commands(unittest.TestCase):
             file.write(text)
 
     def retro(self, *words, status=0):
-        done = subprocess.run([sys.executable, "-m", "retro", *words], cwd=self.folder, stdout=subprocess.PIPE, stderr=subprocess.PIPE, encoding="utf-8", check=False)
+        command, pipe = [sys.executable, "-m", "retro", *words], subprocess.PIPE
+        done = subprocess.run(command, cwd=self.folder, stdout=pipe, stderr=pipe, encoding="utf-8", check=False)
         self.assertEqual(done.returncode, status, done.stderr)
         return done.stdout
 
     def test_annotate(self):
-        self.file("a.script", "; a day\nnew p pq\np at 10 ins 4\np move #1 at 5\np at 1 delmin\ntimeline q queue next 3\n#1 5 enq 1\n#2 4 deq\nend\n\n")
+        block = "timeline q queue next 3\n#1 5 enq 1\n#2 4 deq\nend\n"
+        self.file("a.script", "; a day\nnew p pq\np at 10 ins 4\np move #1 at 5\np at 1 delmin\n" + block + "\n")
         lines = [
             "     1  ; a day",
             "     2  new p pq                 ok",
@@ -66,7 +68,8 @@ class Commands(unittest.TestCase):
     def test_pool(self):
         log = "".join("new t%d queue\n; one\n" % n for n in range(20)) + "".join("t%d at 5 enq %d\nt%d ask all\n" % (n, n, n) for n in range(20)) + "what\nsave t3\n"
         self.file("log", log)
-        wanted = "ok\n" * 20 + "".join("ok #1\n= %d\n" % n for n in range(20)) + "refused syntax\ntimeline t3 queue next 2 rows 1\n#1 5 enq 3\nend\n"
+        block = "timeline t3 queue next 2 rows 1\n#1 5 enq 3\nend\n"
+        wanted = "ok\n" * 20 + "".join("ok #1\n= %d\n" % n for n in range(20)) + "refused syntax\n" + block
         self.assertEqual(self.retro("pool", "log", status=1), wanted)
 
     def test_recover(self):
@@ -83,8 +86,10 @@ class Installation(unittest.TestCase):
         folder = os.path.dirname(HERE)
         with tempfile.TemporaryDirectory() as made:
             build = "import building, sys; print(building.build_wheel(sys.argv[1]))"
-            name = subprocess.run([sys.executable, "-c", build, made], cwd=folder, stdout=subprocess.PIPE, encoding="utf-8", check=True).stdout.strip()
-            wheel = os.path.join(made, name)
-            done = subprocess.run([sys.executable, "-I", "-c", "import sys; sys.path.insert(0, sys.argv[1]); import retro; print(retro.__file__)", wheel],
-                                  cwd=made, stdout=subprocess.PIPE, encoding="utf-8", check=True)
-            self.assertTrue(done.stdout.startswith(wheel), done.stdout)
+            wheel = os.path.join(made, self.said(folder, "-c", build, made))
+            load = "import sys; sys.path.insert(0, sys.argv[1]); import retro; print(retro.__file__)"
+            self.assertTrue(self.said(made, "-I", "-c", load, wheel).startswith(wheel))
+
+    def said(self, folder, *words):
+        done = subprocess.run([sys.executable, *words], cwd=folder, stdout=subprocess.PIPE, encoding="utf-8", check=True)
+        return done.stdout.strip()

@@ -24,7 +24,8 @@ class Values(Conversation):
     def test_edits_have_their_numbers(self):
         jobs = self.retro.new("jobs", "queue")
         self.assertEqual([jobs.at(10, "enq 5"), jobs.after(1, "enq 6"), jobs.before(1, "enq 4"), jobs.at(30, "deq")], [Edit(n) for n in (1, 2, 3, 4)])
-        self.assertEqual([jobs.move(4, 40), jobs.change(1, "enq 9"), jobs.delete(2), jobs.undo(), jobs.redo()], [Edit(5), Edit(6), Edit(None), Edit(None), Edit(None)])
+        made = [jobs.move(4, 40), jobs.change(1, "enq 9"), jobs.delete(2), jobs.undo(), jobs.redo()]
+        self.assertEqual([edit.number for edit in made], [5, 6, None, None, None])
         self.assertEqual(jobs.ask("all"), [9])
 
     def test_edits_of_a_priority_queue_have_evidence(self):
@@ -147,7 +148,12 @@ class InStep(Conversation):
         self.assertEqual(self.retro.line("q ask size"), 0)
 
     def test_a_text_that_is_no_block_is_not_sent(self):
-        for text in ("; saved\ntimeline q queue next 1\nend\n", "timeline q heap next 1\nend\n", "timeline q queue next 3 rows 2\n#1 5 enq 3\nend\n", "timeline q queue next 3\n#1 5 enq 3"):
+        for text in (
+            "; saved\ntimeline q queue next 1\nend\n",
+            "timeline q heap next 1\nend\n",
+            "timeline q queue next 3 rows 2\n#1 5 enq 3\nend\n",
+            "timeline q queue next 3\n#1 5 enq 3",
+        ):
             self.assertRaises(ValueError, self.retro.load, text)
         self.retro.confirm()
 

@@ -25,7 +25,8 @@ OPERATIONS = {
     "pq": ["ins %d", "ins %d", "ins %d", "delmin"],
 }
 QUESTIONS = ["size", "all", "front", "back", "top", "left", "right", "min", "nth %d", "get %d", "succ %d", "pred %d", "count 0 %d", "sum 0 %d"]
-JUNK = [b"\t", b"\f", b"\v", b"\r", b"\r\r", b"\x00", b"\x1c", b"\x85", b"\xa0", b"\xef\xbb\xbf", b"", b"   ", b"end", b" end ", b"end\r", b"end;", b"END", b"#1 5 enq 1"]
+BLANKS = [b"\t", b"\f", b"\v", b"\r", b"\r\r", b"\x00", b"\x1c", b"\x85", b"\xa0", b"\xef\xbb\xbf", b"", b"   "]
+JUNK = BLANKS + [b"end", b" end ", b"end\r", b"end;", b"END", b"#1 5 enq 1"]
 HEADERS = [b"timeline %s %s next %d", b"timeline %s %s next %d rows 2", b" timeline  %s %s next 00%d ", b"timeline %s %s next %d rows 131073",
            b"timeline %s %s next -%d", b"timeline %s %s next %d rows", b"timeline %s\t%s next %d", b"timeline %s %s next %d; rows 1"]
 
@@ -53,7 +54,8 @@ class Drawn:
         header = self.draws.choice(HEADERS) % (name, kind.encode(), self.draws.randint(0, 6))
         rows = []
         for number in range(self.draws.randint(0, 4)):
-            rows.append(b"%s#%d %d %s" % (b" " * self.draws.randint(0, 2), number + 1, self.draws.randint(number, number + 2), self.operation(kind)))
+            time = self.draws.randint(number, number + 2)
+            rows.append(b"%s#%d %d %s" % (b" " * self.draws.randint(0, 2), number + 1, time, self.operation(kind)))
             if self.draws.random() < 0.3:
                 rows.append(self.draws.choice([self.comment(), b"", b"\t", self.junk()]))
         return [header, *rows] + ([b"end"] if self.draws.random() < 0.98 else [])

@@ -14,8 +14,9 @@ class Examples(unittest.TestCase):
         scripts = sorted(name for name in os.listdir(EXAMPLES) if name.endswith(".py"))
         self.assertEqual(len(scripts), 6)
         for name in scripts:
-            with self.subTest(name), open(os.path.join(EXAMPLES, name[:-3] + ".printed"), encoding="utf-8") as file, tempfile.TemporaryDirectory() as folder:
-                done = subprocess.run([sys.executable, os.path.join(EXAMPLES, name)], cwd=folder, stdout=subprocess.PIPE, encoding="utf-8", check=True)
+            place = os.path.join(EXAMPLES, name)
+            with self.subTest(name), open(place[:-3] + ".printed", encoding="utf-8") as file, tempfile.TemporaryDirectory() as folder:
+                done = subprocess.run([sys.executable, place], cwd=folder, stdout=subprocess.PIPE, encoding="utf-8", check=True)
                 self.assertEqual(done.stdout, file.read())
 
     def test_each_is_under_forty_lines(self):

@@ -105,7 +105,7 @@ class Answers(unittest.TestCase):
     def test_an_undo_has_as_many_lines_as_its_step(self):
         script = [b"p at 5 ins 2", b"p move #1 at 9", b"p undo", b"p undo", b"p redo", b"p redo", b"p delete #2", b"p redo", b"p undo", b"p undo"]
         counts = [1, 2, 2, 1, 1, 2, 1, 1, 1, 2]
-        written = "".join("refused nothing to redo\n" if line == b"p redo" and at == 7 else "edit p\n" * counts[at] for at, line in enumerate(script))
+        written = "".join("refused nothing to redo\n" if at == 7 else "edit p\n" * count for at, count in enumerate(counts))
         told, _ = answered(script, written)
         self.assertEqual([len(answers) for answers in told], counts)
 

@@ -120,13 +120,14 @@ class Files(unittest.TestCase):
             self.assertEqual(retro.load(recover(text).saved).ask("all"), [4, 45])
 
     def test_what_stands_behind_a_bad_row_is_not_kept(self):
-        for bad in ("#2 20 ins", "#2 20 enq 1", "#2 5 ins 1", "#1 20 ins 1", "#9 20 ins 1", "#2 20 ins 9223372036854775808", "\u00b2", "#2  20 ins 1"):
+        high = "#2 20 ins 9223372036854775808"
+        for bad in ("#2 20 ins", "#2 20 enq 1", "#2 5 ins 1", "#1 20 ins 1", "#9 20 ins 1", high, "\u00b2", "#2  20 ins 1"):
             found = recover("timeline q pq next 9\n#1 10 ins 4\n%s\n#3 30 delmin\nend\n" % bad)
             self.assertEqual(found, Recovered(saved("pq", 9, (1, 10, "ins 4")), None, bad + "\n#3 30 delmin\nend\n"))
 
     def test_a_text_that_is_not_one_block(self):
-        for text in ("", "timeline q pq next 1 rows 1\nend\n", "timeline q pq next 1\nend", "timeline q pq next 1\n", "timeline q pq next 1\nend\nend\n"):
-            self.assertRaises(ValueError, Saved.read, text)
+        for text in ("", " rows 1\nend\n", "\nend", "\n", "\nend\nend\n"):
+            self.assertRaises(ValueError, Saved.read, "timeline q pq next 1" + text)
 
 
 class Merges(unittest.TestCase):
@@ -200,17 +201,20 @@ class Events(unittest.TestCase):
         table = "time,event,item\n2026-03-01 08:05,came,Anna\n2026-03-01 08:40,came,Ben\n2026-03-01 09:00,taken,\n2026-03-02 00:00,came,Anna\n"
         names, said = Names(), {"came": "enq", "taken": "deq"}
         script = script_of(table, "jobs", names, said)
-        lines = ["new jobs queue", "jobs at 202603010805 enq 1", "jobs at 202603010840 enq 2", "jobs at 202603010900 deq", "jobs at 202603020000 enq 1"]
+        rows = ["202603010805 enq 1", "202603010840 enq 2", "202603010900 deq", "202603020000 enq 1"]
+        lines = ["new jobs queue"] + ["jobs at " + row for row in rows]
         self.assertEqual((script.kind, script.lines, names.names), ("queue", lines, {1: "Anna", 2: "Ben"}))
         with Retro(PROGRAM) as retro:
             list(retro.stream(script.lines))
             self.assertEqual(table_of(retro.save("jobs"), Names.read(names.text), said), table)
 
     def test_composite_keys(self):
-        table = "time,event,priority,item\n2026-03-01 08:05,ins,2,Anna\n2026-03-01 08:05,ins,2,Ben\n2026-03-01 08:01,ins,2,Eva\n2026-03-01 09:00,delmin,,\n"
+        day = ["08:05,ins,2,Anna", "08:05,ins,2,Ben", "08:01,ins,2,Eva", "09:00,delmin,,"]
+        table = "time,event,priority,item\n" + "".join("2026-03-01 %s\n" % event for event in day)
         names = Names()
         script = script_of(table, "er", names)
-        self.assertEqual(script.lines[1:4], ["er at 202603010805 ins 220260301080500", "er at 202603010805 ins 220260301080501", "er at 202603010801 ins 220260301080100"])
+        rows = ["202603010805 ins 220260301080500", "202603010805 ins 220260301080501", "202603010801 ins 220260301080100"]
+        self.assertEqual(script.lines[1:4], ["er at " + row for row in rows])
         with Retro(PROGRAM) as retro:
             list(retro.stream(script.lines))
             self.assertEqual([names.names[key] for key in retro.line("er ask all")], ["Anna", "Ben"])
