@@ -6,6 +6,7 @@ sum of each file (the binary distribution format of PyPA).
 
 import base64
 import hashlib
+import io
 import os
 import tarfile
 import zipfile
@@ -53,5 +54,8 @@ def build_sdist(sdist_directory, config_settings=None):
     top = "%s-%s" % (NAME, VERSION)
     with tarfile.open(os.path.join(sdist_directory, top + ".tar.gz"), "w:gz") as archive:
         for name in ("pyproject.toml", "README.md", "building.py", "retro"):
-            archive.add(os.path.join(HERE, name), top + "/" + name)
+            archive.add(os.path.join(HERE, name), top + "/" + name, filter=lambda file: None if "__pycache__" in file.name else file)
+        described = tarfile.TarInfo(top + "/PKG-INFO")
+        described.size = len(METADATA)
+        archive.addfile(described, io.BytesIO(METADATA.encode()))
     return top + ".tar.gz"

@@ -1,6 +1,7 @@
 """What the client does from a shell."""
 
 import argparse
+import io
 import os
 import sys
 from typing import List, Optional, Sequence
@@ -110,6 +111,8 @@ def words_of(arguments: Sequence[str]) -> argparse.Namespace:
 def main(arguments: Optional[List[str]] = None) -> int:
     """Runs a command and gives its status: that of the program, or 2 where a file cannot be read as what it is to be."""
     given = words_of(sys.argv[1:] if arguments is None else arguments)
+    if isinstance(sys.stdout, io.TextIOWrapper):
+        sys.stdout.reconfigure(errors="backslashreplace")
     try:
         return given.do(given)
     except BrokenPipeError:

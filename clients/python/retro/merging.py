@@ -85,6 +85,6 @@ def load_as_pqf(retro: Retro, saved: Saved, name: Optional[str] = None) -> Tuple
     saved = saved.renamed(name) if name else saved
     timeline = retro.new(saved.name, "pqf")
     lines, numbers = lines_anew(saved)
-    for reply in retro.stream(lines):
-        reply.value
+    for reply in list(retro.stream(lines)):
+        reply.value  # a refusal is raised
     return timeline, numbers

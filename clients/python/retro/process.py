@@ -190,11 +190,11 @@ class Retro:
         saved = Saved.read(saved) if isinstance(saved, str) else saved
         saved = saved.renamed(name) if name else saved
         lines = saved.text.splitlines()
-        for reply in self.stream(lines):
-            if reply.refused:
-                refused = Refused(reply.answers[0], reply.about)
-                refused.text = lines[refused.row or 0]
-                raise refused
+        last = list(self.stream(lines))[-1]
+        if last.refused:
+            refused = Refused(last.answers[0], last.about)
+            refused.text = lines[refused.row or 0]
+            raise refused
         return Timeline(self, saved.name, saved.kind)
 
     def timeline(self, name: str) -> Timeline:

@@ -97,7 +97,8 @@ class Timeline:
         """The question at `start` and at each later time up to `end` at which rows stand; an answer that is the one before is left out."""
         times = [start] + sorted({row.time for row in self.rows(start, end)} - {start})
         told: List[Tuple[int, Value]] = []
-        for time, reply in zip(times, self.retro.stream(["%s ask at %d %s" % (self.name, time, question) for time in times])):
+        asked = list(self.retro.stream(["%s ask at %d %s" % (self.name, time, question) for time in times]))
+        for time, reply in zip(times, asked):
             value = reply.value
             if not told or told[-1][1] != value:
                 told.append((time, value))

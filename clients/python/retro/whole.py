@@ -44,9 +44,16 @@ def pair(sent: Sequence[bytes], written: bytes, status: int) -> Answered:
         return Answered(replies, rest, status)
 
 
+def shown(line: bytes) -> str:
+    """A line as it can be looked at: what cannot be printed, a tab among it, stands as an escape."""
+    text = line.decode("utf-8", "backslashreplace")
+    text = text[:-1] if text.endswith("\r") else text
+    return "".join(sign if sign.isprintable() else sign.encode("unicode_escape").decode() for sign in text)
+
+
 def annotated(answered: Answered, only_refused: bool = False) -> Iterator[str]:
     """Each line with its number beside its answers; further answers stand below the first."""
-    texts = [reply.line.decode("utf-8", "replace").rstrip("\r") for reply in answered.replies]
+    texts = [shown(reply.line) for reply in answered.replies]
     width = min(max(map(len, texts), default=0), 48)
     for reply, text in zip(answered.replies, texts):
         if only_refused and not reply.refused:

@@ -44,6 +44,16 @@ class Commands(unittest.TestCase):
         self.assertEqual(self.retro("annotate", "a.script", status=1).splitlines(), lines)
         self.assertEqual(self.retro("annotate", "--refused", "a.script", status=1).splitlines(), [lines[5], lines[9]])
 
+    def test_annotate_what_cannot_be_seen(self):
+        self.file("a.script", "new q queue\r\n\t\nq\u00a0ask size\n; gr\u00fc\u00df\n")
+        lines = [
+            "     1  new q queue    ok",
+            "     2  \\t             refused syntax",
+            "     3  q\\xa0ask size  refused syntax",
+            "     4  ; gr\u00fc\u00df",
+        ]
+        self.assertEqual(self.retro("annotate", "a.script", status=1).splitlines(), lines)
+
     def test_annotate_an_open_block(self):
         self.file("a.script", "timeline q queue next 3")
         self.assertEqual(self.retro("annotate", "a.script", status=1).splitlines()[1].split(), ["end", "refused", "unfinished"])
