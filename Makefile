@@ -30,7 +30,8 @@ run: said build
 	@build/retro run < $(SCRIPT) | sed 's/^/    /'
 
 try:
-	@echo "A trial build of the program: it proves nothing, and takes a minute or two. It reads its input whole first."
+	@echo "A trial build of the program: it proves nothing, and takes a minute or two."
+	@echo "The script has to be a file: the tool reads its input whole first, so a typed one does not work with it."
 	@echo
 	@echo "The script $(SCRIPT):"
 	@sed 's/^/    /' "$(SCRIPT)"

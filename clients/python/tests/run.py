@@ -7,12 +7,14 @@ PROGRAM is build/retro where none is named. LINES is how many drawn lines `drawn
 passed and how many failed.
 """
 
+import faulthandler
 import os
 import sys
 import unittest
 
 HERE = os.path.dirname(os.path.abspath(__file__))
 ROOT = os.path.dirname(os.path.dirname(os.path.dirname(HERE)))
+LIMIT = 600  # seconds, after which a test that waits for an answer ends the run
 MODULES = ("grammar_tests", "conversation_tests", "rows_tests", "command_tests", "drawn", "example_tests")
 
 
@@ -22,6 +24,7 @@ def main() -> None:
     os.environ["PYTHONPATH"] = os.path.dirname(HERE)
     os.environ["PYTHONDONTWRITEBYTECODE"] = "1"
     sys.dont_write_bytecode = True
+    faulthandler.dump_traceback_later(LIMIT, exit=True)
     sys.path[:0] = [HERE, os.path.dirname(HERE), os.path.join(ROOT, "tests", "hostile")]
     tests = unittest.TestLoader().loadTestsFromNames(MODULES)
     done = unittest.TextTestRunner(stream=sys.stdout, verbosity=0).run(tests)
