@@ -48,9 +48,12 @@ def save_file(path: Union[str, "os.PathLike[str]"], saved: Saved) -> None:
 
 
 def load_file(path: Union[str, "os.PathLike[str]"]) -> Saved:
-    """Reads a saved timeline. Errors: OSError; ValueError where the file is not one whole block (`recover` has what is left of it)."""
+    """Reads a saved timeline; a carriage return at the end of a line is no part of it.
+
+    Errors: OSError; ValueError where the file is not one whole block (`recover` has what is left of it).
+    """
     with open(path, encoding="utf-8", errors="surrogateescape", newline="\n") as file:
-        return Saved.read(file.read())
+        return Saved.read(file.read().replace("\r\n", "\n"))
 
 
 class Recovered(NamedTuple):

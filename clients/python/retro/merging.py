@@ -22,7 +22,7 @@ def merge(ours: Saved, theirs: Saved, base: Optional[Saved] = None) -> Merged:
     Rows of `ours` keep their numbers and their order. A row of `theirs` that is also one of `ours` (the same number, time and operation) is
     kept once; any other stands behind all rows of its time, with a new number. Where `base` is what both began with, a row of it that one of
     them has no more is left out; without it, what one has deleted comes back from the other. What one has moved or changed is a deleted row and
-    a new one.
+    a new one; where both have, both new ones stand.
 
     Errors: ValueError where the kinds differ, where the rows are too many; `Unperformed` where the rows of both contradict one another.
     """

@@ -3,6 +3,7 @@
 import bisect
 import collections
 import heapq
+import re
 from typing import Deque, Dict, Iterable, List, NamedTuple, Optional, Sequence, Tuple
 
 from .grammar import KINDS, NUMBERS, ROWS, is_header, is_name, words
@@ -16,6 +17,7 @@ WORDS = {
 }
 PUTS = frozenset(("enq", "push", "pushl", "pushr", "put", "ins"))
 LAST_TIME = 2**64 - 1
+A_ROW = re.compile(r"#([0-9]{1,8}) ([0-9]{1,20}) (([a-z]+)((?: -?[0-9]{1,19})*))\Z")
 
 
 class Row(NamedTuple):
@@ -46,11 +48,10 @@ class Unperformed(ValueError):
 
 def row_of(kind: str, line: str) -> Row:
     """The row of a row line of a block. Errors: ValueError where the line is none of a timeline of this kind."""
-    found = line.split(" ")
-    naturals = len(found) > 2 and found[0].startswith("#") and found[0][1:].isdecimal() and found[1].isdecimal()
-    if not naturals or not line.isascii() or WORDS[kind].get(found[2]) != len(found) - 3:
+    found = A_ROW.match(line)
+    if found is None or WORDS[kind].get(found[4]) != found[5].count(" "):
         raise ValueError("no row of a %s: %r" % (kind, line))
-    row = Row(int(found[0][1:]), int(found[1]), " ".join(found[2:]))
+    row = Row(int(found[1]), int(found[2]), found[3])
     if not 1 <= row.number < NUMBERS or row.time > LAST_TIME or any(not -(2**63) <= number < 2**63 for number in row.numbers):
         raise ValueError("a number out of its range: %r" % line)
     return row

@@ -121,9 +121,14 @@ class Files(unittest.TestCase):
 
     def test_what_stands_behind_a_bad_row_is_not_kept(self):
         high = "#2 20 ins 9223372036854775808"
-        for bad in ("#2 20 ins", "#2 20 enq 1", "#2 5 ins 1", "#1 20 ins 1", "#9 20 ins 1", high, "\u00b2", "#2  20 ins 1"):
+        for bad in ("#2 20 ins", "#2 20 ins +1", "#2 20 ins 1_0", "#2 20 ins 1\r", "#2 20 ins 1 ", "+2 20 ins 1", "#2 20 enq 1", "#2 5 ins 1", "#1 20 ins 1", "#9 20 ins 1", high, "\u00b2", "#2  20 ins 1"):
             found = recover("timeline q pq next 9\n#1 10 ins 4\n%s\n#3 30 delmin\nend\n" % bad)
             self.assertEqual(found, Recovered(saved("pq", 9, (1, 10, "ins 4")), None, bad + "\n#3 30 delmin\nend\n"))
+
+    def test_a_file_with_carriage_returns(self):
+        with open(self.place, "w", newline="") as file:
+            file.write("timeline q queue next 2 rows 1\r\n#1 10 enq 5\r\nend\r\n")
+        self.assertEqual(load_file(self.place), saved("queue", 2, (1, 10, "enq 5")))
 
     def test_a_text_that_is_not_one_block(self):
         for text in ("", " rows 1\nend\n", "\nend", "\n", "\nend\nend\n"):
