@@ -7,7 +7,7 @@ import queue
 import subprocess
 import threading
 from types import TracebackType
-from typing import IO, Callable, Deque, Dict, Iterable, Iterator, List, Optional, Sequence, Type, Union
+from typing import IO, Callable, Deque, Dict, Generator, Iterable, List, Optional, Sequence, Type, Union
 
 from .answers import Edit, Ended, Refused, Reply, Value, value_of
 from .grammar import Reader, words
@@ -119,7 +119,7 @@ class Retro:
         """Sends one line and gives its answers as a value, as `value_of` says. Errors: those of `send`, and `Refused`."""
         return self.send(line).value
 
-    def stream(self, lines: Iterable[Line]) -> Iterator[Reply]:
+    def stream(self, lines: Iterable[Line]) -> Generator[Reply, None, None]:
         """Sends many lines without waiting, and gives each with its answers, in their order; a refused one is a `Reply` as any other.
 
         Lines are taken some thousands ahead of the answers, so none may depend on an answer of the same stream. Where the caller leaves
