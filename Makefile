@@ -1,17 +1,18 @@
 # Every command that a person has to know.
 #
-#   make run      builds the program and answers a first script in front of you; SCRIPT=FILE for another one
-#   make try      answers the same script by a trial build within a minute or two, and proves nothing
+#   make try      answers a first script in front of you within a minute or two, by a trial build: it proves nothing, and leaves
+#                 no program. SCRIPT=FILE for another one; the tool reads its input whole first, so none can be typed
+#   make run      the same by the proved program, which it builds first: everything is proved, an hour on a small machine
 #   make build    leaves the program at build/retro, so that `build/retro run < FILE` works on any script
 #   make check    proves one crate over what was proved before: make check CRATE=retro_queue
 #   make unit     runs the tests of the crates by a trial build with checks, some ten minutes, and proves nothing
 #   make fmt      lays all sources out
-#   make install  puts it into bin below PREFIX, which is /usr/local where none is named
+#   make install  proves first where that was not done, as do bench, recipes and hostile; puts it into bin below PREFIX, which is /usr/local where none is named
 #   make test     the gate: every proof, every must-fail edit, every test, every example, and of the built program
 #                 what stands in tests/ and the recipes; needs Python 3
 #   make bench    measures the program beside others and writes docs/MEASURED.md, in a quarter of an hour; needs
 #                 Python 3, and rustc for the others; QUICK=1 for a first look, which writes into build/
-#   make recipes  runs docs/RECIPES.md as it stands, and its client with 100,000 lines
+#   make recipes  runs docs/RECIPES.md as it stands, and the client in Python with 100,000 lines
 #   make hostile  outside the gate: forged evidence, drawn scripts and refused memory; needs Python 3 and cc
 
 SCRIPT ?= examples/late_job.script
@@ -19,9 +20,9 @@ PREFIX ?= /usr/local
 
 SOURCES := $(shell find crates -name out -prune -o -type f \( -name '*.rt' -o -name '*.antt' \) -print) crates.txt
 
-.PHONY: run try build check unit fmt install test bench hostile recipes
+.PHONY: run try build said check unit fmt install test bench hostile recipes
 
-run: build
+run: said build
 	@echo
 	@echo "The script $(SCRIPT):"
 	@sed 's/^/    /' $(SCRIPT)
@@ -29,10 +30,18 @@ run: build
 	@build/retro run < $(SCRIPT) | sed 's/^/    /'
 
 try:
-	@echo "A trial build of the program: it proves nothing, and takes a minute or two ..."
-	@cd crates/retro && rt try -- run < "$(abspath $(SCRIPT))"
+	@echo "A trial build of the program: it proves nothing, and takes a minute or two."
+	@echo "The script has to be a file: the tool reads its input whole first, so a typed one does not work with it."
+	@echo
+	@echo "The script $(SCRIPT):"
+	@sed 's/^/    /' "$(SCRIPT)"
+	@echo "and its answers:"
+	@sh .ci/try "$(SCRIPT)"
 
 build: build/retro
+
+said:
+	@echo "First everything is proved and built, unless that was done: an hour on a small machine. \`make try\` proves nothing."
 
 # A program is built only once it is proved.
 build/retro: $(SOURCES)
@@ -48,7 +57,7 @@ unit:
 fmt:
 	@for crate in crates/*/; do (cd "$$crate" && rt fmt) || exit 1; done
 
-install: build
+install: said build
 	@mkdir -p "$(DESTDIR)$(PREFIX)/bin"
 	@cp build/retro "$(DESTDIR)$(PREFIX)/bin/retro"
 	@echo "The program is $(DESTDIR)$(PREFIX)/bin/retro"
@@ -56,14 +65,14 @@ install: build
 test:
 	@sh .ci/gate
 
-bench: build
+bench: said build
 	@python3 bench/measure.py $(if $(QUICK),--quick) build/retro
 
-recipes: build
+recipes: said build
 	@python3 tests/client.py build/retro
 	@python3 tests/recipes.py build/retro
 
-hostile: build
+hostile: said build
 	@python3 tests/hostile/forge.py build/retro
 	@python3 tests/hostile/random_scripts.py build/retro
 	@if command -v rustc > /dev/null; then python3 tests/hostile/long_scripts.py build/retro; \

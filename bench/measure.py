@@ -153,14 +153,15 @@ class Run:
             self.piecewise(phase, most if bound is None else self.counts.get(bound, 0))
 
 
-def phases_of(peer):
-    """The phases that a program knows."""
-    return [pair for pair in PHASES if peer not in KNOWS or pair[0] in KNOWS[peer]]
+def phases_of(peer, kind):
+    """The phases that a program knows: that the past was asked makes a difference to edits of a priority queue alone."""
+    known = [pair for pair in PHASES if peer not in KNOWS or pair[0] in KNOWS[peer]]
+    return [pair for pair in known if pair[0] != "later" or kind in ("pq", "pqf")]
 
 
 def measured(words, kind, rows, peer, quick):
     """One run of a program."""
-    return Run(words, word_of(kind, peer), rows, phases_of(peer), SHARE / 10 if quick else SHARE).go()
+    return Run(words, word_of(kind, peer), rows, phases_of(peer, kind), SHARE / 10 if quick else SHARE).go()
 
 
 def side_by_side(programs, there, kind, rows, quick, times, used):
@@ -174,6 +175,14 @@ def side_by_side(programs, there, kind, rows, quick, times, used):
     saved = last["retro"].saved
     used[kind, rows, "saved", "retro"] = len(saved) / max(saved.count(b"\n") - 2, 1)
     return last
+
+
+def doubtful(kind, sizes, times):
+    """The sizes at which retro took over four times as long for a line as at the next greater one: something else was going on."""
+    return [
+        rows for rows, more in zip(sizes, sizes[1:])
+        if any(times.get((Case(kind, rows, phase), "retro"), 0) > 4 * times.get((Case(kind, more, phase), "retro"), float("inf")) for phase, _ in PHASES)
+    ]
 
 
 def note(run, kind, rows, peer, times, used):
@@ -320,6 +329,9 @@ def main():
             for peer in there:
                 shown = ["%s %.2f" % (phase, times[Case(kind, rows, phase), peer]) for phase in last[peer].times]
                 print("%5.0f s  %s %d %s: %s" % (time.time() - began, kind, rows, peer, " ".join(shown)), flush=True)
+        for rows in doubtful(kind, sizes, times):
+            print("%5.0f s  %s %d is measured again: a phase took over four times as long as with more rows" % (time.time() - began, kind, rows), flush=True)
+            note(measured(programs["retro"](kind), kind, rows, "retro", quick), kind, rows, "retro", times, used)
     for rows in sizes:
         for place in ("end", "anywhere"):
             lines = evidence(program, rows, place == "anywhere")

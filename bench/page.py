@@ -19,6 +19,7 @@ MEANT = {
     "past": ("a past question at a random time", "what was next at some moment"),
     "forward": ("past questions in order of time", "a report that goes through a day from its beginning, four rows at a step"),
     "mixed": ("edits and past questions in turn", "someone corrects the past and looks at once what it was like"),
+    "later": ("an edit once the past was asked", "the same edits of a priority queue, behind the questions about its past"),
     "move": ("a `move` to a random time", "a row was written down at a wrong time"),
     "undo": ("an `undo` of a move", "a step is taken back"),
     "redo": ("a `redo` of a move", "it is made once more"),
@@ -64,7 +65,7 @@ def reason(kind, phase):
         return "trie"
     if kind == "pqf":
         return "pieces"
-    if kind == "pq" and phase in ("first", "past", "forward", "mixed", "move", "undo", "redo", "burst"):
+    if kind == "pq" and phase in ("first", "past", "forward", "mixed", "later", "move", "undo", "redo", "burst"):
         return "checkpoints"
     return "trees"
 
@@ -80,6 +81,13 @@ def number(value):
 
 def ratio(value, other):
     return "" if not value or not other else number(value / other)
+
+
+def lesser(plain, fused):
+    """Which form of a priority queue takes less, or both where they differ by less than a tenth."""
+    if not plain or not fused:
+        return ""
+    return "both" if max(plain, fused) < 1.1 * min(plain, fused) else "`pq`" if plain < fused else "`pqf`"
 
 
 def table(head, rows):
@@ -130,7 +138,8 @@ class Page:
         yield from table(["Line", "What a user does"], [(name[0].upper() + name[1:] if name[0] != "`" else name, meaning) for name, meaning in MEANT.values()])
         yield "A timeline is filled at its end first. Three rows in eight take something out, but for the first sixteenth. A dictionary has 1,000 keys. The sizes"
         yield "are 1,024, 8,192, 65,536 and 131,072 rows, which is a full timeline; the phases leave room for the rows that they put in. What a phase has put in is"
-        yield "taken out again. A phase ends after some tenths of a second of processor time. Left out, since they take over twenty seconds: SQLite at 131,072 rows,"
+        yield "taken out again. Of a priority queue edits are measured before its past was asked, and once more behind that: what follows in the tables from `the first"
+        yield "past question` on goes with checkpoints. A phase that took over four times as long as with more rows was measured again. A phase ends after some tenths of a second of processor time. Left out, since they take over twenty seconds: SQLite at 131,072 rows,"
         yield "and a block of a full dictionary beside another full one."
         yield ""
 
@@ -205,21 +214,24 @@ class Page:
         yield "## `pq` or `pqf`"
         yield ""
         yield "Both answer alike. `pq` makes up to 31 checkpoints at the first question about its past, and from then on every edit goes to each of them; `pqf` keeps"
-        yield "pieces of the whole history from the first row on. Each cell has `pq` first, then `pqf`:"
+        yield "pieces of the whole history from the first row on. Each cell has `pq` first, then `pqf`; the last column names the one that takes less at {:,} rows,".format(self.main)
+        yield "or both where they differ by less than a tenth. Look for the lines that your script has most of: before its past was asked the first two, and the others from"
+        yield "the first such question on."
         yield ""
         sizes = [size for size in self.made.sizes if size > 1_024]
-        phases = [phase for phase in ("end", "edit", "mixed", "past", "forward", "first", "burst") if self.cost("pqf", self.main, phase, "retro")]
-        rows = [["%s, µs" % MEANT[phase][0]] + [self.both(size, phase) for size in sizes] for phase in phases]
+        phases = [phase for phase in ("end", "edit", "first", "later", "mixed", "past", "forward", "burst") if self.cost("pqf", self.main, phase, "retro")]
+        rows = [["%s, µs" % MEANT[phase][0]] + [self.both(size, phase) for size in sizes] + [lesser(*self.costs(self.main, phase))] for phase in phases]
         for what, name, unit in (("row", "bytes a row, before the past is asked", 1), ("most", "MB at most, after it was asked", 1e6)):
             pairs = [[self.made.used.get((kind, size, what, "retro")) for kind in ("pq", "pqf")] for size in sizes]
-            rows.append([name] + [" / ".join("%.0f" % (used / unit) if used else "-" for used in pair) for pair in pairs])
-        yield from table([""] + ["{:,} rows".format(size) for size in sizes], rows)
-        yield "Take `pq` for a history that grows at its end, whose past is asked rarely or in order of time; take `pqf` where edits of the past and questions about it at"
-        yield "random moments take turns."
-        yield ""
+            main = [self.made.used.get((kind, self.main, what, "retro")) for kind in ("pq", "pqf")]
+            rows.append([name] + [" / ".join("%.0f" % (used / unit) if used else "-" for used in pair) for pair in pairs] + [lesser(*main)])
+        yield from table([""] + ["{:,} rows".format(size) for size in sizes] + ["less"], rows)
+
+    def costs(self, rows, phase):
+        return [self.cost(kind, rows, phase, "retro") for kind in ("pq", "pqf")]
 
     def both(self, rows, phase):
-        return " / ".join(number(self.cost(kind, rows, phase, "retro")) or "-" for kind in ("pq", "pqf"))
+        return " / ".join(number(cost) or "-" for cost in self.costs(rows, phase))
 
     def judging(self):
         times, used = self.made.times, self.made.used

@@ -30,6 +30,7 @@ PHASES = [
     ("past", 20_000),
     ("forward", 20_000),
     ("mixed", 20_000),
+    ("later", 20_000),
     ("move", 1_000),
     ("undo", 1_000),
     ("redo", 1_000),
@@ -187,7 +188,7 @@ class History:
         """So many lines of a phase, or one or two more."""
         if phase in ("undo", "redo"):
             return ["g " + phase] * count
-        if phase == "edit":
+        if phase in ("edit", "later"):
             return self.edits(count)
         if phase == "mixed":
             return self.mixed(count)

@@ -28,14 +28,14 @@ STYLE = """
   .bridge { fill: #b3541e }
   .place { fill: #1f5fa8 }
   .ring { fill: none; stroke: #b3541e; stroke-width: 2 }
-  .new { fill: #b3541e; font-weight: bold }
+  .new { fill: #7a2f9e; font-weight: bold }
   .gained { fill: #1a7f4b; font-weight: bold }
   .dead { fill: #777 }
   .paper { fill: #fff }
   @media (prefers-color-scheme: dark) {
     text { fill: #ddd } .dead { fill: #999 } .paper { fill: #1b1b1b }
-    .stairs { stroke: #7db4f0 } .place { fill: #7db4f0 } .bridge, .new { fill: #f0a070 }
-    .ring { stroke: #f0a070 } .gained { fill: #6fd19e }
+    .stairs { stroke: #7db4f0 } .place { fill: #7db4f0 } .bridge { fill: #f0a070 }
+    .new { fill: #d3a4f0 } .ring { stroke: #f0a070 } .gained { fill: #6fd19e }
   }
 """
 

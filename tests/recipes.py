@@ -17,6 +17,7 @@ import tempfile
 
 ROOT = os.path.dirname(os.path.dirname(os.path.abspath(__file__)))
 PAGE = os.path.join(ROOT, "docs", "RECIPES.md")
+CLIENT = os.path.join(ROOT, "clients", "python")
 LIMIT = 60  # seconds that a section may take
 MARK = "-- end of a command --"
 
@@ -60,7 +61,7 @@ def run(text, places):
         for command, _ in typed:
             script += "%s\nstatus=$?; printf '%%s\\n' %s; (exit $status)\n" % (command, shlex.quote(MARK))
         done = subprocess.run(["sh"], input=script, stdout=subprocess.PIPE, stderr=subprocess.STDOUT, text=True, cwd=folder, timeout=LIMIT,
-                              env=dict(os.environ, PATH=places + os.pathsep + os.environ["PATH"], PYTHONDONTWRITEBYTECODE="1", LC_ALL="C"))
+                              env=dict(os.environ, PATH=places + os.pathsep + os.environ["PATH"], PYTHONPATH=CLIENT, PYTHONDONTWRITEBYTECODE="1", LC_ALL="C"))
     printed = done.stdout.split(MARK + "\n")
     return [(command, wanted, printed[at] if at < len(printed) - 1 else "no end") for at, (command, wanted) in enumerate(typed)]
 

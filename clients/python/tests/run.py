@@ -1,0 +1,37 @@
+#!/usr/bin/env python3
+"""Runs the tests of the client on the built program.
+
+    python3 clients/python/tests/run.py [PROGRAM [LINES]]
+
+PROGRAM is build/retro where none is named. LINES is how many drawn lines `drawn.py` sends (1,000,000). The last line says how many tests have
+passed and how many failed.
+"""
+
+import faulthandler
+import os
+import sys
+import unittest
+
+HERE = os.path.dirname(os.path.abspath(__file__))
+ROOT = os.path.dirname(os.path.dirname(os.path.dirname(HERE)))
+LIMIT = 600  # seconds, after which a test that waits for an answer ends the run
+MODULES = ("grammar_tests", "conversation_tests", "rows_tests", "command_tests", "drawn", "example_tests")
+
+
+def main() -> None:
+    os.environ["RETRO"] = os.path.abspath(sys.argv[1] if len(sys.argv) > 1 else os.path.join(ROOT, "build", "retro"))
+    os.environ["DRAWN_LINES"] = sys.argv[2] if len(sys.argv) > 2 else "1000000"
+    os.environ["PYTHONPATH"] = os.path.dirname(HERE)
+    os.environ["PYTHONDONTWRITEBYTECODE"] = "1"
+    sys.dont_write_bytecode = True
+    faulthandler.dump_traceback_later(LIMIT, exit=True)
+    sys.path[:0] = [HERE, os.path.dirname(HERE), os.path.join(ROOT, "tests", "hostile")]
+    tests = unittest.TestLoader().loadTestsFromNames(MODULES)
+    done = unittest.TextTestRunner(stream=sys.stdout, verbosity=0).run(tests)
+    failed = len(done.failures) + len(done.errors)
+    print("%d passed, %d failed" % (done.testsRun - failed, failed))
+    sys.exit(1 if failed or not done.testsRun else 0)
+
+
+if __name__ == "__main__":
+    main()
