@@ -169,8 +169,8 @@ def entry(number):
     return line, "edit p add %d #%d ins %d bridge %d gain #%d %d" % (number - 1, number, number, number - 1, number, number)
 
 
-def entries(count):
-    yield "new p pq", "ok"
+def entries(count, kind="pq"):
+    yield "new p %s" % kind, "ok"
     for number in range(1, count + 1):
         yield entry(number)
 
@@ -224,6 +224,27 @@ def a_full_priority_queue():
     last = ROWS + 1
     yield "p at 0 ins 5", "edit p add 0 #%d ins 5 bridge 0 gain #%d 5" % (last, last)
     yield "p ask at 65536 size", "= 65536"
+    yield "p at 1 ins 0", "refused full"
+
+
+def a_full_fused_queue():
+    """Of as many rows as a timeline may have, all of which stay: questions about its past, edits of its middle, and no further row."""
+    yield from entries(ROWS, "pqf")
+    yield "p at 1 ins 0", "refused full"
+    for place in (0, 1, 4_096, 65_536, 100_000, 131_071, ROWS):
+        yield "p ask at %d size" % place, "= %d" % place
+        yield "p ask at %d nth %d" % (place, place), "= none"
+        yield "p ask at %d min" % place, "= 1" if place > 0 else "= none"
+    yield "p delete #1", "edit p cut 0 #1 ins 1 bridge none lose #1 1"
+    yield "p ask at 65536 size", "= 65535"
+    yield "p ask at 65536 min", "= 2"
+    # Behind the 65,535 rows up to that time, all of which stay, the least that is held there is lost.
+    last = ROWS + 1
+    yield "p at 1 delmin", "refused at #%d 1" % last
+    yield "p at 65536 delmin", "edit p add 65535 #%d delmin bridge 65535 lose #2 2" % last
+    yield "p ask at 65536 min", "= 3"
+    yield "p ask at 65535 min", "= 2"
+    yield "p ask size", "= %d" % (ROWS - 2)
     yield "p at 1 ins 0", "refused full"
 
 
@@ -288,6 +309,7 @@ SCRIPTS = [
     checkpoints_that_go_where_rows_go,
     a_checkpoint_too_many,
     a_full_priority_queue,
+    a_full_fused_queue,
     a_full_dictionary,
     a_timeline_that_is_filled_and_emptied,
     many_lifetimes_at_one_moment,
