@@ -1,13 +1,13 @@
-//! A priority queue over leaves: bridges for its edits, and for questions about the past the whole content at every 512th
-//! place, sorted, with the rows from there on performed over it. An edit spoils what is kept of the places after it, and the
-//! next question about one of them performs the rows again from the last place that is still good.
+//! A priority queue over leaves: bridges for its edits, and for questions about the past one moment for each chunk of 256 rows.
+//! Edits wait until the past is asked, and go to its moments one by one then; where many wait, all moments are made anew.
 
 use crate::leaves::{Item, Leaves, Sum};
+use crate::moments::Moments;
 use crate::rows::{Answer, Change, Entry, Op, Past, Question, Row};
-use std::cmp::Reverse;
-use std::collections::{BTreeSet, BinaryHeap};
+use std::collections::BTreeSet;
 
-const WIDTH: usize = 512;
+/// One edit in so many rows is as much work as to make all moments anew.
+const ROWS_FOR_AN_EDIT: usize = 64;
 
 /// No entry, beside which each dead one is greater, and each survivor less.
 const NO_DEAD: Entry = (i64::MIN, 0);
@@ -106,10 +106,14 @@ impl Item for Marked {
 pub struct BestPq {
     rows: Leaves<Marked>,
     present: BTreeSet<Entry>,
-    /// What is held at place 0, 512, 1024 and so on, each in its order.
-    kept: Vec<Vec<Entry>>,
-    /// How many edits there were since the last question about the past.
-    edits: u32,
+    moments: Option<Moments>,
+    waiting: Vec<Edit>,
+}
+
+/// A row that was put in at a place, or the place of one that was taken out.
+enum Edit {
+    Insert(usize, Row),
+    Remove(usize),
 }
 
 impl BestPq {
@@ -117,8 +121,8 @@ impl BestPq {
         BestPq {
             rows: Leaves::new(),
             present: BTreeSet::new(),
-            kept: vec![Vec::new()],
-            edits: 0,
+            moments: None,
+            waiting: Vec::new(),
         }
     }
 
@@ -169,77 +173,29 @@ impl BestPq {
         }
     }
 
-    /// The content before a place that is a multiple of the width, from the last one that is good.
-    fn keep(&mut self, index: usize) {
-        if index < self.kept.len() {
-            return;
+    fn wait(&mut self, edit: Edit) {
+        self.waiting.push(edit);
+        if self.waiting.len() * ROWS_FOR_AN_EDIT > self.rows.len() {
+            self.moments = None;
         }
-        let mut heap: BinaryHeap<Reverse<Entry>> = self.kept[self.kept.len() - 1]
-            .iter()
-            .map(|entry| Reverse(*entry))
-            .collect();
-        for at in self.kept.len() - 1..index {
-            self.rows.each(at * WIDTH, (at + 1) * WIDTH, |marked| {
-                perform(&mut heap, marked.row)
-            });
-            let mut sorted: Vec<Entry> = heap.iter().map(|entry| entry.0).collect();
-            sorted.sort_unstable();
-            self.kept.push(sorted);
+        if self.moments.is_none() {
+            self.waiting.clear();
         }
     }
 
-    fn spoil(&mut self, place: usize) {
-        self.kept.truncate(place / WIDTH + 1);
-        self.edits += 1;
-    }
-
-    /// The least entries before a place, of which the caller takes what it wants. Where edits and questions come in turn,
-    /// nothing is kept that the next edit would spoil.
-    fn past(&mut self, place: usize) -> Held<'_> {
-        if !(1..=4).contains(&self.edits) {
-            self.keep(place / WIDTH);
-        }
-        self.edits = 0;
-        let near = (place / WIDTH).min(self.kept.len() - 1);
-        let mut held = Held {
-            sorted: &self.kept[near],
-            fresh: BinaryHeap::new(),
+    /// The moments, with all edits made.
+    fn moments(&mut self) -> &mut Moments {
+        let mut moments = match self.moments.take() {
+            Some(moments) => moments,
+            None => Moments::of_rows(&self.rows()),
         };
-        self.rows
-            .each(near * WIDTH, place, |marked| match marked.row.op {
-                Op::Ins { key } => held.fresh.push(Reverse((key, marked.row.number))),
-                _ => drop(held.take()),
-            });
-        held
-    }
-}
-
-fn perform(heap: &mut BinaryHeap<Reverse<Entry>>, row: Row) {
-    match row.op {
-        Op::Ins { key } => heap.push(Reverse((key, row.number))),
-        _ => drop(heap.pop()),
-    }
-}
-
-/// What was kept, without what was taken of it, and what came in since.
-struct Held<'a> {
-    sorted: &'a [Entry],
-    fresh: BinaryHeap<Reverse<Entry>>,
-}
-
-impl Held<'_> {
-    fn take(&mut self) -> Option<Entry> {
-        match (self.sorted.first(), self.fresh.peek()) {
-            (Some(old), Some(new)) if *old < new.0 => self.take_old(),
-            (_, Some(_)) => self.fresh.pop().map(|entry| entry.0),
-            _ => self.take_old(),
+        for edit in self.waiting.drain(..) {
+            match edit {
+                Edit::Insert(place, row) => moments.insert(place, row),
+                Edit::Remove(place) => moments.remove(place),
+            }
         }
-    }
-
-    fn take_old(&mut self) -> Option<Entry> {
-        let (first, rest) = self.sorted.split_first()?;
-        self.sorted = rest;
-        Some(*first)
+        self.moments.insert(moments)
     }
 }
 
@@ -296,7 +252,7 @@ impl Past for BestPq {
             },
         );
         self.mark(change.entry, change.gained);
-        self.spoil(place);
+        self.wait(Edit::Insert(place, row));
         Some(change)
     }
 
@@ -313,7 +269,7 @@ impl Past for BestPq {
         };
         self.rows.remove(place);
         self.mark(change.entry, change.gained);
-        self.spoil(place);
+        self.wait(Edit::Remove(place));
         Some(change)
     }
 
@@ -324,13 +280,7 @@ impl Past for BestPq {
             Question::Nth(index) if is_present => {
                 Answer::of(self.present.iter().nth(index as usize).map(|entry| entry.0))
             }
-            Question::Nth(index) => {
-                let mut held = self.past(place);
-                for _ in 0..index {
-                    held.take();
-                }
-                Answer::of(held.take().map(|entry| entry.0))
-            }
+            Question::Nth(index) => Answer::of(self.moments().nth(place, index as usize)),
             _ => Answer::Nothing,
         }
     }

@@ -11,11 +11,17 @@ use std::io::{self, BufRead, Write};
 mod best_dict;
 mod best_lines;
 mod best_pq;
+#[path = "queue/chunk.rs"]
+mod chunk;
 #[path = "dictionary/index.rs"]
 mod index;
 #[path = "dictionary/labels.rs"]
 mod labels;
 mod leaves;
+#[path = "queue/lifetimes.rs"]
+mod lifetimes;
+#[path = "queue/moments.rs"]
+mod moments;
 #[path = "dictionary/past.rs"]
 mod past;
 mod replay;
