@@ -19,7 +19,7 @@ import tempfile
 import time
 
 import page
-from phases import KINDS, PHASES, Case, History, word_of
+from phases import KINDS, PHASES, Case, History
 
 ROOT = os.path.dirname(os.path.dirname(os.path.abspath(__file__)))
 SIZES = [1_024, 8_192, 65_536, 131_072]
@@ -161,7 +161,7 @@ def phases_of(peer, kind):
 
 def measured(words, kind, rows, peer, quick):
     """One run of a program."""
-    return Run(words, word_of(kind, peer), rows, phases_of(peer, kind), SHARE / 10 if quick else SHARE).go()
+    return Run(words, kind, rows, phases_of(peer, kind), SHARE / 10 if quick else SHARE).go()
 
 
 def side_by_side(programs, there, kind, rows, quick, times, used):
@@ -169,7 +169,7 @@ def side_by_side(programs, there, kind, rows, quick, times, used):
     last = {}
     for turn in range(1 if quick else max(RUNS.values())):
         for peer in there:
-            if turn < (1 if kind == "pqf" else RUNS[peer]):  # a run of `pqf` takes minutes
+            if turn < RUNS[peer]:
                 last[peer] = measured(programs[peer](kind), kind, rows, peer, quick)
                 note(last[peer], kind, rows, peer, times, used)
     saved = last["retro"].saved
@@ -265,7 +265,7 @@ def agree(programs):
             for phase in ("edit", "past", "mixed", "forward", "burst", "now"):
                 lines += history.lines(phase, 100)
             whole = Peer(programs[peer](kind))
-            said = whole.answers(["new g " + word_of(kind, peer)] + lines)
+            said = whole.answers(["new g " + kind] + lines)
             whole.end()
             said = [line for line in without_refusals(said, "all").split(b"\n") if line.startswith(b"= ")]
             wanted = wanted or said
@@ -287,7 +287,7 @@ def found(program, quick):
         source = os.path.join(ROOT, "bench", "peers", "main.rs")
         subprocess.run(["rustc", "--edition", "2024", "-O", "-o", peers, source], check=True)
         for name in ("replay", "same", "best"):
-            programs[name] = lambda kind, name=name: [peers, name] if kind != "pqf" or (fused and name != "same") else None
+            programs[name] = lambda kind, name=name: [peers, name] if kind != "pqf" or fused else None
     else:
         skipped.append("The programs without proofs: there is no `rustc`.")
     try:

@@ -15,7 +15,7 @@ MEANT = {
     "end": ("a row at the end", "a history that is written down as it happens: each row comes after all others"),
     "edit": ("an edit at a random time", "rows are put in all over the past, and taken out again"),
     "now": ("a question about the present", "what is next, now"),
-    "first": ("the first past question", "the checkpoints of a priority queue are made by it"),
+    "first": ("the first past question", "the checkpoints of a priority queue, or its moments, are made by it"),
     "past": ("a past question at a random time", "what was next at some moment"),
     "forward": ("past questions in order of time", "a report that goes through a day from its beginning, four rows at a step"),
     "mixed": ("edits and past questions in turn", "someone corrects the past and looks at once what it was like"),
@@ -42,11 +42,13 @@ REASONS = {
             "change it.",
     "checkpoints": "A question about the past of a priority queue reads the rows after the nearest checkpoint, up to a width of them. An edit "
                    "goes to every checkpoint after its place, and the first question makes them all. One product of pieces would change it, "
-                   "as crates/pq_fusion has it.",
+                   "as crates/pq_fusion has it. The program of the last column keeps one moment for each 256 rows, which edits go to when "
+                   "the past is next asked: then each passes one entry from moment to moment.",
     "walk": "A fate is found by one walk over all rows of the timeline, from tree to slice. A search from the row on, as in "
             "the structures themselves, would change it.",
-    "pieces": "Each node of the product has two lists, the last ones as long as the timeline: an edit searches them at each level by halves "
-              "and moves the entries behind one place in each. Lists in chunks would change it.",
+    "pieces": "An edit changes the piece of every node on its path at once, in both of its lists. The program of the last column lets edits wait "
+              "until the past is asked, and keeps one moment for each 256 rows, from which to which an edit then passes one entry: as many steps as there "
+              "are later moments, so that it grows with the history. Edits that wait would change it.",
     "tests": "The program reads a line for every form of the script, tests it in the order of the refusals, and has a limit for all that grows; each call "
              "that takes memory may find none, and then all is as before. The program beside it does without. Fewer ways down a tree for one edit, whose "
              "test and whose making each go their own, would change it.",
@@ -130,9 +132,10 @@ class Page:
         yield from table(["Program", "What it is"], [row for row in [
             ("retro", "the program as it is built and proved"),
             ("replay by hand", "what one writes in an hour: a vector of rows, performed again from the first one on (`bench/peers/replay.rs`)"),
-            ("same design, plain Rust", "the same trees, with leaves of up to 32 items, labels, spans, bridges and checkpoints without proofs (`bench/peers/same_*.rs`); "
+            ("same design, plain Rust", "the same trees, with leaves of up to 32 items, labels, spans, bridges, checkpoints and pieces without proofs (`bench/peers/same_*.rs`); "
              "it has no limits, few refusals and knows one order of tests"),
-            ("best without proofs", "the fastest program, of any design, that was written for this page: 64 rows to a leaf (`bench/peers/best_*.rs`)"),
+            ("best without proofs", "the fastest program, of any design, that was written for this page: 64 rows to a leaf, and of a priority queue one moment for each 256 rows, "
+             "which edits go to when the past is next asked (`bench/peers/best_*.rs`)"),
             ("SQLite", "a table of rows with an index on time in SQLite %s, and queries that replay (`bench/sqlite_peer.py`); the script is read by Python" % self.made.sqlite),
         ] if row[0] in [NAMES[peer] for peer in self.peers]])
         yield from table(["Line", "What a user does"], [(name[0].upper() + name[1:] if name[0] != "`" else name, meaning) for name, meaning in MEANT.values()])

@@ -44,11 +44,6 @@ PHASES = [
 Case = collections.namedtuple("Case", "kind rows phase")
 
 
-def word_of(kind, peer):
-    """The word of a kind in the script that a program is handed: only `retro` has two forms of a priority queue."""
-    return "pq" if kind == "pqf" and peer != "retro" else kind
-
-
 def margin(rows):
     """How many rows the phases may add to these."""
     return max(rows // 64, 16)

@@ -11,22 +11,27 @@ use std::io::{self, BufRead, Write};
 mod best_dict;
 mod best_lines;
 mod best_pq;
-#[path = "queue/chunk.rs"]
+#[path = "moments/chunk.rs"]
 mod chunk;
+#[path = "pieces/entry_list.rs"]
+mod entry_list;
 #[path = "dictionary/index.rs"]
 mod index;
 #[path = "dictionary/labels.rs"]
 mod labels;
 mod leaves;
-#[path = "queue/lifetimes.rs"]
+#[path = "moments/lifetimes.rs"]
 mod lifetimes;
-#[path = "queue/moments.rs"]
+#[path = "moments/moments.rs"]
 mod moments;
 #[path = "dictionary/past.rs"]
 mod past;
+#[path = "pieces/piece.rs"]
+mod piece;
 mod replay;
 mod rows;
 mod same_dict;
+mod same_fused;
 mod same_lines;
 mod same_pq;
 mod session;
@@ -48,6 +53,7 @@ fn same(kind: Kind) -> Box<dyn Past> {
     match kind {
         Kind::Dict => Box::new(same_dict::SameDict::new()),
         Kind::Pq => Box::new(same_pq::SamePq::new()),
+        Kind::Pqf => Box::new(same_fused::SameFused::new()),
         _ => Box::new(same_lines::SameLines::new(kind)),
     }
 }
@@ -55,7 +61,7 @@ fn same(kind: Kind) -> Box<dyn Past> {
 fn best(kind: Kind) -> Box<dyn Past> {
     match kind {
         Kind::Dict => Box::new(best_dict::BestDict::new()),
-        Kind::Pq => Box::new(best_pq::BestPq::new()),
+        Kind::Pq | Kind::Pqf => Box::new(best_pq::BestPq::new()),
         _ => Box::new(best_lines::BestLines::new(kind)),
     }
 }

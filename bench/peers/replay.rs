@@ -15,7 +15,7 @@ impl State {
     fn empty(kind: Kind) -> State {
         match kind {
             Kind::Dict => State::Pairs(BTreeMap::new()),
-            Kind::Pq => State::Entries(BinaryHeap::new()),
+            Kind::Pq | Kind::Pqf => State::Entries(BinaryHeap::new()),
             _ => State::Items(VecDeque::new()),
         }
     }

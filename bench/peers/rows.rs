@@ -7,6 +7,8 @@ pub enum Kind {
     Deque,
     Dict,
     Pq,
+    /// A priority queue in the other of its two forms.
+    Pqf,
 }
 
 /// A queue is taken from at its left end, and a stack has its top there.

@@ -105,20 +105,20 @@ impl Item for MarkedEntry {
 }
 
 #[derive(Clone)]
-struct Bridges {
+pub struct Bridges {
     rows: Tree<MarkedRow>,
     entries: Tree<MarkedEntry>,
 }
 
 impl Bridges {
-    fn new() -> Bridges {
+    pub fn new() -> Bridges {
         Bridges {
             rows: Tree::empty(),
             entries: Tree::empty(),
         }
     }
 
-    fn first_empty(&self, from: usize) -> Option<usize> {
+    pub fn first_empty(&self, from: usize) -> Option<usize> {
         let start = self.rows.prefix(from).held.sum();
         self.rows
             .first_place(from, &|measure| start <= i64::from(measure.held.falls))
@@ -149,7 +149,7 @@ impl Bridges {
             .change(place, |marked| marked.present = survives);
     }
 
-    fn insert(&mut self, place: usize, row: Row) -> Change {
+    pub fn insert(&mut self, place: usize, row: Row) -> Change {
         let moved = |other| if other < place { other } else { other + 1 };
         let (bridge, entry, there, gained) = match row.op {
             Op::Ins { key } => {
@@ -191,7 +191,7 @@ impl Bridges {
         }
     }
 
-    fn remove(&mut self, place: usize) -> Change {
+    pub fn remove(&mut self, place: usize) -> Change {
         let moved = |other| if other < place { other } else { other - 1 };
         let MarkedRow { row, survives } = self.rows.get(place);
         let found = match row.op {
@@ -229,7 +229,7 @@ impl Bridges {
         }
     }
 
-    fn nth(&self, index: u32) -> Option<i64> {
+    pub fn nth(&self, index: u32) -> Option<i64> {
         let place = self.entries.first_place(0, &|present| present > index)?;
         Some(self.entries.get(place - 1).entry.0)
     }

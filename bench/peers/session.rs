@@ -40,12 +40,13 @@ pub struct Script {
 
 type Words<'a> = std::str::SplitAsciiWhitespace<'a>;
 
-const KINDS: [(&str, Kind); 5] = [
+const KINDS: [(&str, Kind); 6] = [
     ("queue", Kind::Queue),
     ("stack", Kind::Stack),
     ("deque", Kind::Deque),
     ("dict", Kind::Dict),
     ("pq", Kind::Pq),
+    ("pqf", Kind::Pqf),
 ];
 
 fn kind_of(word: &str) -> Option<Kind> {
