@@ -95,6 +95,12 @@ pub trait Past {
     /// A design that knows the change of a priority queue tells it.
     fn insert(&mut self, place: usize, row: Row) -> Option<Change>;
     fn remove(&mut self, place: usize) -> Option<Change>;
+    /// Puts in a row of a block, behind all others. What a design can make of all rows at once it makes in `close`.
+    fn append(&mut self, row: Row) -> Option<Change> {
+        self.insert(self.len(), row)
+    }
+    /// Ends a block.
+    fn close(&mut self) {}
     fn ask(&mut self, place: usize, question: Question) -> Answer;
     fn rows(&self) -> Vec<Row>;
 }

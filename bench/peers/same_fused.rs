@@ -283,6 +283,16 @@ impl Past for SameFused {
         Some(self.present.insert(place, row))
     }
 
+    fn append(&mut self, row: Row) -> Option<Change> {
+        let place = self.len();
+        self.timeline.insert(place, row);
+        Some(self.present.insert(place, row))
+    }
+
+    fn close(&mut self) {
+        self.past = Subtree::of_rows(&self.timeline.rows());
+    }
+
     fn remove(&mut self, place: usize) -> Option<Change> {
         let row = self.timeline.remove(place);
         self.past.edit(place, None, Edit::of(row, false));

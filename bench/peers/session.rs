@@ -138,6 +138,22 @@ impl Timeline {
         } else {
             self.past.remove(edit.place)
         };
+        self.tell(name, edit, change, out)
+    }
+
+    /// Makes a row of a block, and tells its evidence.
+    fn append(&mut self, name: &str, row: Row, out: &mut Vec<u8>) {
+        let place = self.past.len();
+        let change = self.past.append(row);
+        let edit = Edit {
+            adds: true,
+            place,
+            row,
+        };
+        self.tell(name, edit, change, out);
+    }
+
+    fn tell(&self, name: &str, edit: Edit, change: Option<Change>, out: &mut Vec<u8>) -> bool {
         let Some(Change {
             bridge,
             entry,
@@ -469,6 +485,7 @@ impl Script {
             } else {
                 say!(out, "ok\n");
                 out.append(&mut block.told);
+                block.timeline.past.close();
                 self.timelines.insert(block.name, block.timeline);
             }
             return;
@@ -488,12 +505,7 @@ impl Script {
                     .failure_after_insert(block.timeline.past.len(), row.op)
                     .is_none() =>
             {
-                let edit = Edit {
-                    adds: true,
-                    place: block.timeline.past.len(),
-                    row,
-                };
-                block.timeline.make(&block.name, edit, &mut block.told);
+                block.timeline.append(&block.name, row, &mut block.told);
             }
             _ => block.is_bad = true,
         }

@@ -1,5 +1,5 @@
-//! The entries of all rows of a priority queue in rising order, each with the chunk of rows in which it comes in and the one in
-//! which it is taken: two numbers for the state before every chunk. An edit hands the end of one entry on to the next greater one.
+//! The entries of all rows of a priority queue in rising order, each with the chunk of rows in which it comes in and the one
+//! in which it is taken: two numbers, which say before which chunks it is held. An edit hands ends on from entry to entry.
 
 use crate::rows::Entry;
 
@@ -8,6 +8,7 @@ pub const FOREVER: u16 = u16::MAX;
 /// What no entry is less than.
 pub const LOWEST: Entry = (i64::MIN, 0);
 
+/// The most entries of a block, and how many of them are tested at once.
 const MOST: usize = 256;
 const GROUP: usize = 8;
 
@@ -157,7 +158,7 @@ impl Bits {
         self.0[at / 64] &= !(1 << (at % 64));
     }
 
-    /// Puts a bit behind another, as which it is; there are so many then.
+    /// Puts a bit behind another, equal to it. There are so many bits then.
     fn double(&mut self, at: usize, count: usize) {
         self.0.resize(count.div_ceil(64), 0);
         let low = u64::MAX >> (63 - at % 64);
@@ -173,7 +174,7 @@ impl Bits {
 pub struct Lifetimes {
     blocks: Vec<Block>,
     firsts: Vec<Entry>,
-    /// For each chunk the blocks before it, and at last those at the end of all rows.
+    /// For each chunk the blocks that may hold an entry before it; and at last the same for the end of all rows.
     held: Vec<Bits>,
 }
 
@@ -302,7 +303,7 @@ impl Lifetimes {
 
     /// So many of the least entries held before a chunk, rising.
     pub fn least_held(&mut self, chunk: u16, count: usize) -> Vec<Entry> {
-        let mut found = Vec::with_capacity(count);
+        let mut found = Vec::new();
         let Some(limit) = (2 * chunk).checked_sub(1) else {
             return found;
         };

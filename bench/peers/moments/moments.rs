@@ -1,7 +1,7 @@
 //! The past of a priority queue in chunks of 256 rows: of each entry it is kept in which chunk it comes in and in which it is
-//! taken. So the state before each chunk, of which there is one moment, is found by going over the entries in their order, and a
-//! question performs the rows of one chunk up to its place. An edit goes over the rows of its chunk; then it goes once over the
-//! entries in their order to find by which one the state before each later chunk changes. So edits grow with the history, if slowly.
+//! taken. So what is held before each chunk, at one moment for each, is found by going over the entries in their order; and a
+//! question performs the rows of one chunk up to its place. An edit goes over the rows of its chunk, and then once over the
+//! entries in their order, to find by which one what is held changes at each later moment: edits grow with the history.
 
 use crate::chunk::Chunk;
 use crate::lifetimes::{FOREVER, LOWEST, Lifetimes, entered};
@@ -200,11 +200,11 @@ impl Moments {
     pub fn nth(&mut self, place: usize, index: usize) -> Option<i64> {
         let (chunk, at) = self.spot(place);
         let rows = &self.chunks[chunk];
-        let count = rows.takings(at) + index + 1;
+        let count = (rows.takings(at) + 1).saturating_add(index);
         let mut held = Held::new(self.lifetimes.least_held(chunk as u16, count), count);
         held.perform(rows, at);
         for _ in 0..index {
-            held.take();
+            held.take()?;
         }
         held.take().map(|entry| entry.0)
     }
