@@ -116,30 +116,30 @@ fn change(rows: &mut Vec<Row>, place: usize, row: Option<Row>) {
 }
 
 impl Pair {
+    /// Whether an edit at a place is one of the earlier side.
+    fn is_earlier(&self, place: usize, adds: bool) -> bool {
+        place < self.earlier.len() || (adds && place == self.earlier.len())
+    }
+
     /// Whether both sides are in balance after an edit, and too long for a run where a row is taken out.
     fn bears(&self, place: usize, adds: bool) -> bool {
-        let before = self.earlier.len();
-        let (mut one, mut other) = (before, self.later.len());
-        if adds {
-            *(if place <= before {
-                &mut one
-            } else {
-                &mut other
-            }) += 1;
-        } else {
-            *(if place < before { &mut one } else { &mut other }) -= 1;
-        }
+        let (one, other) = (self.earlier.len(), self.later.len());
+        let changed = |len: usize| if adds { len + 1 } else { len - 1 };
+        let (one, other) = match self.is_earlier(place, adds) {
+            true => (changed(one), other),
+            false => (one, changed(other)),
+        };
         one < 3 * other && other < 3 * one && (adds || one + other > FEW)
     }
 
     /// Edits one side, and gives the entry that passes in both together.
     fn edit(&mut self, place: usize, row: Option<Row>, edit: Edit) -> Bound {
         let bound = boundary(&self.earlier.piece, &self.later.piece, edit.gains);
-        let before = self.earlier.len();
-        let passed = if place < before || (place == before && row.is_some()) {
+        let passed = if self.is_earlier(place, row.is_some()) {
             bound.max(self.earlier.edit(place, row, edit))
         } else {
-            let passed = self.later.edit(place - before, row, edit);
+            let place = place - self.earlier.len();
+            let passed = self.later.edit(place, row, edit);
             edit.own.max(bound.min(passed))
         };
         self.size = self.earlier.len() + self.later.len();

@@ -23,6 +23,7 @@ KINDS = {
     "deque": (["pushl", "pushr"], ["popl", "popr"], ["left", "right", "nth 5", "size"]),
     "dict": (["put"], ["del"], ["get", "succ", "pred", "count", "sum", "size"]),
     "pq": (["ins"], ["delmin"], ["min", "nth 5", "size"]),
+    "pqf": (["ins"], ["delmin"], ["min", "nth 5", "size"]),
 }
 
 
