@@ -1,14 +1,14 @@
 -- A trie has its lifetimes in any order, and knows of them what lies in its span.
-use Rattle.std.proofs.Common.{◌≡◌, ℕ, zero, suc, ◌≤◌, ◌<◌, Bool, true, List, [], ◌∷◌, append-nil, sym, ap, ◌∙◌}
+use Rattle.std.proofs.Common.{◌≡◌, ℕ, zero, suc, ◌≤◌, ◌<◌, Bool, true, List, [], ◌∷◌, append-nil, length, sym, ap, ◌∙◌, arith}
 use Rattle.std.specs.Prelude.{◌^◌}
 use Rattle.lifetime_segments.specs.declared.lifetime.Lifetime.{Lifetime}
 use Rattle.lifetime_segments.specs.declared.trie.Trie.{Trie, Few, Full'}
 use Rattle.lifetime_segments.specs.declared.trie.Node.{Node}
 use Rattle.lifetime_segments.specs.Ordered.{IsOrder, AreInOrder, put_in, in_order, is_in, without}
-use Rattle.lifetime_segments.specs.OrderedLaws.{in_order-kept, in_order-put_in, put_in-swap, put_in-without, without-ordered}
+use Rattle.lifetime_segments.specs.OrderedLaws.{length-in_order, in_order-kept, in_order-put_in, put_in-swap, put_in-without, without-ordered}
 use Rattle.lifetime_segments.specs.Lifetimes.{stands_earlier, items_at}
 use Rattle.lifetime_segments.specs.LifetimeLaws.{earlier_order, items_at-in_order}
-use Rattle.lifetime_segments.specs.Tries.{IsOf, IsOfNode, ending, in_first, in_second, parts, wholes}
+use Rattle.lifetime_segments.specs.Tries.{IsOf, IsOfNode, AreSome, ending, in_first, in_second, parts, wholes}
 use Rattle.lifetime_segments.proofs.Parts.{part, whole_item, first_part, second_part, parts-taken, wholes-parts, first-parts, second-parts, parts-parts, items-parts, part-past}
 use Rattle.lifetime_segments.proofs.Taken.{with, taken, taken-alike, taken-in_order}
 
@@ -22,6 +22,10 @@ module _ {A : Type 0} {before : A → A → Bool} (order : IsOrder before) where
       ap (in_order before) (wholes-parts level lives)
       ∙ taken-alike (stands_earlier before) order (whole_item level) (parts level lives) (parts level others) alike
       ∙ sym (ap (in_order before) (wholes-parts level others))
+
+  some-alike : (level : ℕ) (lives others : List (Lifetime A)) → AreAlike before level lives others → AreSome level lives → AreSome level others
+  some-alike level lives others alike some =
+      omega (arith, ap length alike, length-in_order (stands_earlier before) (parts level lives), length-in_order (stands_earlier before) (parts level others), some)
 
   first-alike : (level : ℕ) (lives others : List (Lifetime A)) → AreAlike before (suc level) lives others → AreAlike before level (in_first level lives) (in_first level others)
   first-alike level lives others alike =
@@ -40,16 +44,17 @@ module _ {A : Type 0} {before : A → A → Bool} (order : IsOrder before) where
     unfolding IsOf
     of_alike zero lives others (Few few) alike is_of = is_of ∙ alike
     of_alike (suc level) lives others (Few few) alike is_of = is_of ∙ alike
-    of_alike zero lives others (Full' p items left right) alike is_of = is_of ∙ wholes-alike zero lives others alike
+    of_alike zero lives others (Full' p items left right) alike is_of = (some-alike zero lives others alike is_of.0, is_of.1 ∙ wholes-alike zero lives others alike, is_of.2, is_of.3)
     of_alike (suc level) lives others (Full' p items left right) alike is_of = (
-      is_of.0 ∙ wholes-alike (suc level) lives others alike,
-      of_alike level (in_first level lives) (in_first level others) left (first-alike level lives others alike) is_of.1,
-      of_alike level (in_second level lives) (in_second level others) right (second-alike level lives others alike) is_of.2,
+      some-alike (suc level) lives others alike is_of.0,
+      is_of.1 ∙ wholes-alike (suc level) lives others alike,
+      of_alike level (in_first level lives) (in_first level others) left (first-alike level lives others alike) is_of.2,
+      of_alike level (in_second level lives) (in_second level others) right (second-alike level lives others alike) is_of.3,
     )
 
     pub node_of_alike : (level : ℕ) (lives others : List (Lifetime A)) (node : Node A M) → AreAlike before level lives others → IsOfNode before level lives node → IsOfNode before level others node
     unfolding IsOfNode
-    node_of_alike zero lives others node alike is_of = is_of ∙ wholes-alike zero lives others alike
+    node_of_alike zero lives others node alike is_of = (is_of.0 ∙ wholes-alike zero lives others alike, is_of.1, is_of.2)
     node_of_alike (suc level) lives others node alike is_of = (
       is_of.0 ∙ wholes-alike (suc level) lives others alike,
       of_alike level (in_first level lives) (in_first level others) node.left (first-alike level lives others alike) is_of.1,

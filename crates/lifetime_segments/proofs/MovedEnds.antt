@@ -108,7 +108,8 @@ module _ {A M : Type 0} {before : A → A → Bool} (order : IsOrder before) (le
 pub node_still_whole : {A M : Type 0} (before : A → A → Bool) (level next : ℕ) (life : Lifetime A) (node : Node A M) → is_whole level life ≡ true → is_whole level (ending next life) ≡ true
     → NodeMoves before level life next node node
 unfolding IsOfNode
-node_still_whole before zero next life node whole next_whole lives is_of = is_of ∙ ap (in_order before) (wholes-whole zero life lives whole ∙ sym (wholes-whole zero (ending next life) lives next_whole))
+node_still_whole before zero next life node whole next_whole lives is_of =
+    (is_of.0 ∙ ap (in_order before) (wholes-whole zero life lives whole ∙ sym (wholes-whole zero (ending next life) lives next_whole)), is_of.1, is_of.2)
 node_still_whole before (suc level) next life node whole next_whole lives is_of = (
   is_of.0 ∙ ap (in_order before) (wholes-whole (suc level) life lives whole ∙ sym (wholes-whole (suc level) (ending next life) lives next_whole)),
   subst (λ ls. IsOf before level ls node.left) (first-whole level life lives whole ∙ sym (first-whole level (ending next life) lives next_whole)) is_of.1,

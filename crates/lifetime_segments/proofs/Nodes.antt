@@ -11,11 +11,12 @@ use Rattle.lifetime_segments.specs.Lawful.{most_items, AreLawful}
 use Rattle.lifetime_segments.specs.Ordered.{IsOrder, AreInOrder, put_in, in_order, is_in, without}
 use Rattle.lifetime_segments.specs.OrderedLaws.{in_order-absorbs, in_order-ordered, in_order-kept, length-in_order, is_in-put_in, without-put_in}
 use Rattle.lifetime_segments.specs.Lifetimes.{holds, items_at, stands_earlier}
-use Rattle.lifetime_segments.specs.Tries.{Has, NodeHas, HasOne, NodeHasOne, FirstHasOne, SecondHasOne, IsOf, IsOfNode, IsBare, parts}
+use Rattle.lifetime_segments.specs.Tries.{Has, NodeHas, HasOne, NodeHasOne, FirstHasOne, SecondHasOne, IsOf, IsOfNode, IsBare, AreSome, parts, clipped, touches}
 use Rattle.lifetime_segments.specs.Tries.{NodeKeeps, NodeAdds, NodeTakes, AddsFirst, AddsSecond, TakesFirst, TakesSecond, is_whole, wholes}
 use Rattle.lifetime_segments.specs.Tries.{in_first, in_second, seen_from, items_below}
 use Rattle.lifetime_segments.proofs.Spans.{first-in_order, second-in_order}
-use Rattle.lifetime_segments.proofs.Parts.{parts-nowhere, parts-nowhere-zero}
+use Rattle.lifetime_segments.proofs.Parts.{whole_item, first_part, second_part, wholes-parts, first-parts, second-parts, parts-nowhere, parts-nowhere-zero}
+use Rattle.lifetime_segments.proofs.Taken.{taken}
 
 -- the node is what the trie leads to
 abbrev pub LeadsTo : {A M : Type 0} → Trie A M → Node A M → Type 0
@@ -26,20 +27,36 @@ LeadsTo (Full' p items left right) node = (node.items ≡ items) × (node.left �
 pub node_of : {A M : Type 0} (before : A → A → Bool) (level : ℕ) (lives : List (Lifetime A)) (trie : Trie A M) (node : Node A M) → LeadsTo trie node → IsOf before level lives trie → IsOfNode before level lives node
 unfolding IsOf IsOfNode
 node_of before level lives (Few few) node leads is_of = absurd leads
-node_of before zero lives (Full' p items left right) node leads is_of = leads.0 ∙ is_of
+node_of before zero lives (Full' p items left right) node leads is_of = (leads.0 ∙ is_of.1, leads.1 ∙ is_of.2, leads.2 ∙ is_of.3)
 node_of before (suc level) lives (Full' p items left right) node leads is_of =
-    (leads.0 ∙ is_of.0, subst (IsOf before level (in_first level lives)) (sym leads.1) is_of.1, subst (IsOf before level (in_second level lives)) (sym leads.2) is_of.2)
+    (leads.0 ∙ is_of.1, subst (IsOf before level (in_first level lives)) (sym leads.1) is_of.2, subst (IsOf before level (in_second level lives)) (sym leads.2) is_of.3)
 
-pub trie_of : {A M : Type 0} (before : A → A → Bool) (level : ℕ) (lives : List (Lifetime A)) (trie : Trie A M) (node : Node A M) → LeadsTo trie node → IsOfNode before level lives node → IsOf before level lives trie
+pub trie_of : {A M : Type 0} (before : A → A → Bool) (level : ℕ) (lives : List (Lifetime A)) (trie : Trie A M) (node : Node A M) → LeadsTo trie node → AreSome level lives → IsOfNode before level lives node
+    → IsOf before level lives trie
 unfolding IsOf IsOfNode
-trie_of before level lives (Few few) node leads is_of = absurd leads
-trie_of before zero lives (Full' p items left right) node leads is_of = sym leads.0 ∙ is_of
-trie_of before (suc level) lives (Full' p items left right) node leads is_of =
-    (sym leads.0 ∙ is_of.0, subst (IsOf before level (in_first level lives)) leads.1 is_of.1, subst (IsOf before level (in_second level lives)) leads.2 is_of.2)
+trie_of before level lives (Few few) node leads some is_of = absurd leads
+trie_of before zero lives (Full' p items left right) node leads some is_of = (some, sym leads.0 ∙ is_of.0, sym leads.1 ∙ is_of.1, sym leads.2 ∙ is_of.2)
+trie_of before (suc level) lives (Full' p items left right) node leads some is_of =
+    (some, sym leads.0 ∙ is_of.0, subst (IsOf before level (in_first level lives)) leads.1 is_of.1, subst (IsOf before level (in_second level lives)) leads.2 is_of.2)
+
+-- a divided span has lifetimes
+pub some_of : {A M : Type 0} (before : A → A → Bool) (level : ℕ) (lives : List (Lifetime A)) (trie : Trie A M) (node : Node A M) → LeadsTo trie node → IsOf before level lives trie → AreSome level lives
+unfolding IsOf
+some_of before level lives (Few few) node leads is_of = absurd leads
+some_of before zero lives (Full' p items left right) node leads is_of = is_of.0
+some_of before (suc level) lives (Full' p items left right) node leads is_of = is_of.0
+
+-- a lifetime that lies in a span is one
+pub some_with : {A : Type 0} (level : ℕ) (life : Lifetime A) (lives : List (Lifetime A)) → life.from < life.to → life.from < 2 ^ level → AreSome level (life ∷ lives)
+some_with level life lives rises begins =
+    elim (touches level life) as (λ b. touches level life ≡ b → 0 < length (map (clipped level) (cond b (life ∷ filter (touches level) lives) (filter (touches level) lives)))) [
+      | true ↦ λ is. omega arith
+      | false ↦ λ is. absurd (grind (arith, nat_tests))
+    ] refl
 
 pub node_items : {A M : Type 0} (before : A → A → Bool) (level : ℕ) (lives : List (Lifetime A)) (node : Node A M) → IsOfNode before level lives node → node.items ≡ in_order before (wholes level lives)
 unfolding IsOfNode
-node_items before zero lives node is_of = is_of
+node_items before zero lives node is_of = is_of.0
 node_items before (suc level) lives node is_of = is_of.0
 
 pub node_left : {A M : Type 0} (before : A → A → Bool) (level : ℕ) (lives : List (Lifetime A)) (node : Node A M) → IsOfNode before (suc level) lives node → IsOf before level (in_first level lives) node.left
@@ -58,7 +75,7 @@ of_none before (suc level) trie none = subst (IsOf before (suc level) []) (sym n
 
 pub bare_of : {A M : Type 0} (before : A → A → Bool) (level : ℕ) (node : Node A M) → IsBare node → IsOfNode before level [] node
 unfolding IsOfNode
-bare_of before zero node bare = bare.no_items
+bare_of before zero node bare = (bare.no_items, bare.no_left, bare.no_right)
 bare_of before (suc level) node bare = (bare.no_items, of_none before level node.left bare.no_left, of_none before level node.right bare.no_right)
 
 -- and is as good as none
@@ -75,12 +92,41 @@ pub bare_nothing : {A M : Type 0} (before : A → A → Bool) (level : ℕ) (liv
     → IsOfNode before level lives node → (trie : Trie A M) → trie ≡ Few [] → IsOf before level lives trie
 unfolding IsOf IsOfNode
 bare_nothing before zero lives node bare is_of trie is =
-    subst (IsOf before zero lives) (sym is) (sym (ap (in_order (stands_earlier before)) (parts-nowhere-zero lives (nothing before (wholes zero lives) (sym bare.no_items ∙ is_of)))))
+    subst (IsOf before zero lives) (sym is) (sym (ap (in_order (stands_earlier before)) (parts-nowhere-zero lives (nothing before (wholes zero lives) (sym bare.no_items ∙ is_of.0)))))
 bare_nothing before (suc level) lives node bare is_of trie is =
     subst (IsOf before (suc level) lives) (sym is) (sym (ap (in_order (stands_earlier before)) (parts-nowhere level lives
     (nothing before (wholes (suc level) lives) (sym bare.no_items ∙ is_of.0))
     (no_parts before level (in_first level lives) node.left bare.no_left is_of.1)
     (no_parts before level (in_second level lives) node.right bare.no_right is_of.2))))
+
+-- the other way round, where nothing lies in a span there is nothing
+nothing_where : {A M : Type 0} (before : A → A → Bool) (level : ℕ) (lives : List (Lifetime A)) (trie : Trie A M) → parts level lives ≡ [] → IsOf before level lives trie → trie ≡ Few []
+unfolding IsOf
+nothing_where before zero lives (Few few) none is_of = ap Few (is_of ∙ ap (in_order (stands_earlier before)) none)
+nothing_where before (suc level) lives (Few few) none is_of = ap Few (is_of ∙ ap (in_order (stands_earlier before)) none)
+nothing_where before zero lives (Full' p items left right) none is_of = absurd (omega (arith, ap length none, is_of.0))
+nothing_where before (suc level) lives (Full' p items left right) none is_of = absurd (omega (arith, ap length none, is_of.0))
+
+bare_where : {A M : Type 0} (before : A → A → Bool) (level : ℕ) (lives : List (Lifetime A)) (node : Node A M) → parts level lives ≡ [] → IsOfNode before level lives node → IsBare node
+unfolding IsOfNode
+bare_where before zero lives node none is_of = record {
+  no_items = is_of.0 ∙ ap (in_order before) (wholes-parts zero lives ∙ ap (taken (whole_item zero)) none);
+  no_left = is_of.1;
+  no_right = is_of.2;
+}
+bare_where before (suc level) lives node none is_of = record {
+  no_items = is_of.0 ∙ ap (in_order before) (wholes-parts (suc level) lives ∙ ap (taken (whole_item (suc level))) none);
+  no_left = nothing_where before level (in_first level lives) node.left (first-parts level lives ∙ ap (taken (first_part level)) none) is_of.1;
+  no_right = nothing_where before level (in_second level lives) node.right (second-parts level lives ∙ ap (taken (second_part level)) none) is_of.2;
+}
+
+-- so a node that has something has lifetimes
+pub some_where : {A M : Type 0} (before : A → A → Bool) (level : ℕ) (lives : List (Lifetime A)) (node : Node A M) → (IsBare node → ⊥) → IsOfNode before level lives node → AreSome level lives
+some_where before level lives node some is_of =
+    elim (parts level lives) as (λ ps. parts level lives ≡ ps → 0 < length ps) [
+      | [] ↦ λ none. absurd (some (bare_where before level lives node none is_of))
+      | life ∷ others ↦ λ is. omega arith
+    ] refl
 
 -- the same of some lifetimes that it has
 pub node_has : {A M : Type 0} {before : A → A → Bool} {level : ℕ} {trie : Trie A M} {node : Node A M} → LeadsTo trie node → Has before level trie → NodeHas before level node
@@ -158,7 +204,8 @@ pub node_with_whole : {A M : Type 0} (before : A → A → Bool) (level : ℕ) (
     ≡ put_in before life.item node.items → after.left ≡ node.left → after.right ≡ node.right
     → NodeAdds before level life node after
 unfolding IsOfNode
-node_with_whole before zero life node after whole items left right lives is_of = items ∙ ap (put_in before life.item) is_of ∙ sym (ap (in_order before) (wholes-whole zero life lives whole))
+node_with_whole before zero life node after whole items left right lives is_of =
+    (items ∙ ap (put_in before life.item) is_of.0 ∙ sym (ap (in_order before) (wholes-whole zero life lives whole)), left ∙ is_of.1, right ∙ is_of.2)
 node_with_whole before (suc level) life node after whole items left right lives is_of = (
   items ∙ ap (put_in before life.item) is_of.0 ∙ sym (ap (in_order before) (wholes-whole (suc level) life lives whole)),
   subst (λ t. IsOf before level (in_first level (life ∷ lives)) t) (sym left) (subst (λ ls. IsOf before level ls node.left) (sym (first-whole level life lives whole)) is_of.1),
@@ -212,7 +259,7 @@ module _ {A : Type 0} {before : A → A → Bool} (order : IsOrder before) where
     pub node_without_whole : (level : ℕ) (life : Lifetime A) (node after : Node A M) → is_whole level life ≡ true → after.items ≡ without before life.item node.items → after.left ≡ node.left → after.right ≡ node.right
         → NodeTakes before level life node after
     unfolding IsOfNode
-    node_without_whole zero life node after whole items left right lives is_of = items ∙ without_whole zero life lives node.items whole is_of
+    node_without_whole zero life node after whole items left right lives is_of = (items ∙ without_whole zero life lives node.items whole is_of.0, left ∙ is_of.1, right ∙ is_of.2)
     node_without_whole (suc level) life node after whole items left right lives is_of = (
       items ∙ without_whole (suc level) life lives node.items whole is_of.0,
       subst (λ t. IsOf before level (in_first level lives) t) (sym left) (subst (λ ls. IsOf before level ls node.left) (first-whole level life lives whole) is_of.1),

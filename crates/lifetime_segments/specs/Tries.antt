@@ -53,27 +53,34 @@ pub record Touches {A : Type 0} (level : ℕ) (life : Lifetime A) : Type 0 where
 abbrev pub parts : {A : Type 0} → ℕ → List (Lifetime A) → List (Lifetime A)
 parts level lives = map (clipped level) (filter (touches level) lives)
 
--- the trie of a span has these lifetimes: as they lie in it, or each in the span where it holds it whole, and else in its halves
-unfoldable pub IsOf : {A M : Type 0} → (A → A → Bool) → ℕ → List (Lifetime A) → Trie A M → Type 0
-IsOf before zero lives (Few few) = few ≡ in_order (stands_earlier before) (parts zero lives)
-IsOf before (suc level) lives (Few few) = few ≡ in_order (stands_earlier before) (parts (suc level) lives)
-IsOf before zero lives (Full' p items left right) = items ≡ in_order before (wholes zero lives)
-IsOf before (suc level) lives (Full' p items left right) =
-    (items ≡ in_order before (wholes (suc level) lives))
-    × IsOf before level (in_first level lives) left
-    × IsOf before level (in_second level lives) right
-
--- the same of a node
-unfoldable pub IsOfNode : {A M : Type 0} → (A → A → Bool) → ℕ → List (Lifetime A) → Node A M → Type 0
-IsOfNode before zero lives node = node.items ≡ in_order before (wholes zero lives)
-IsOfNode before (suc level) lives node =
-    (node.items ≡ in_order before (wholes (suc level) lives))
-    × IsOf before level (in_first level lives) node.left
-    × IsOf before level (in_second level lives) node.right
+-- one at least of the lifetimes lies in the span
+abbrev pub AreSome : {A : Type 0} → ℕ → List (Lifetime A) → Type 0
+AreSome level lives = 0 < length (parts level lives)
 
 -- there are no lifetimes, and no node
 abbrev pub IsNothing : {A M : Type 0} → Trie A M → Type 0
 IsNothing trie = trie ≡ Few []
+
+-- the trie of a span has these lifetimes: as they lie in it, or each in the span where it holds it whole, and else in its halves. So
+-- a span is divided only where there are lifetimes in it, and that of one label never into halves
+unfoldable pub IsOf : {A M : Type 0} → (A → A → Bool) → ℕ → List (Lifetime A) → Trie A M → Type 0
+IsOf before zero lives (Few few) = few ≡ in_order (stands_earlier before) (parts zero lives)
+IsOf before (suc level) lives (Few few) = few ≡ in_order (stands_earlier before) (parts (suc level) lives)
+IsOf before zero lives (Full' p items left right) =
+    AreSome zero lives × (items ≡ in_order before (wholes zero lives)) × IsNothing left × IsNothing right
+IsOf before (suc level) lives (Full' p items left right) =
+    AreSome (suc level) lives
+    × (items ≡ in_order before (wholes (suc level) lives))
+    × IsOf before level (in_first level lives) left
+    × IsOf before level (in_second level lives) right
+
+-- the same of a node, which may have none
+unfoldable pub IsOfNode : {A M : Type 0} → (A → A → Bool) → ℕ → List (Lifetime A) → Node A M → Type 0
+IsOfNode before zero lives node = (node.items ≡ in_order before (wholes zero lives)) × IsNothing node.left × IsNothing node.right
+IsOfNode before (suc level) lives node =
+    (node.items ≡ in_order before (wholes (suc level) lives))
+    × IsOf before level (in_first level lives) node.left
+    × IsOf before level (in_second level lives) node.right
 
 -- the node has nothing
 pub record IsBare {A M : Type 0} (node : Node A M) : Type 0 where

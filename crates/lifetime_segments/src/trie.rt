@@ -1,4 +1,4 @@
-ghost use Rattle.std.specs.Prelude.{◌≡◌, true, IfOk};
+ghost use Rattle.std.specs.Prelude.{◌≡◌, true, false, IfOk};
 ghost use Rattle.lifetime_segments.specs.Tries.{IsNothing, IsBare};
 
 use crate::lifetime::Lifetime;
@@ -39,7 +39,8 @@ impl<T: Measured> Trie<T> {
 
     /// Whether there are no lifetimes, and no node.
     fn is_nothing(&self) -> bool
-        ensures { result ≡ true → IsNothing self.now }
+        ensures nothing { result ≡ true → IsNothing self.now }
+        ensures some { result ≡ false → IsNothing self.now → ⊥ }
     {
         match self {
             Trie::Few(few) => few.len() == 0,
@@ -63,7 +64,8 @@ impl<T: Measured> Node<T> {
 
     /// Whether it has nothing.
     pub(crate) fn is_bare(&self) -> bool
-        ensures { result ≡ true → IsBare self.now }
+        ensures bare { result ≡ true → IsBare self.now }
+        ensures some { result ≡ false → IsBare self.now → ⊥ }
     {
         self.items.len() == 0 && self.left.is_nothing() && self.right.is_nothing()
     }

@@ -1,5 +1,7 @@
 -- The name of each row, by the row's number.
-use Rattle.std.specs.Prelude.{◌≡◌, ℕ, Option, Some, None, ◌+◌, ◌/◌, ◌%◌, ◌<◌, List, [], ◌∷◌, ◌++◌, length, get_or, take, drop, replicate, ◌==◌, if◌then◌else◌}
+use Rattle.std.specs.Prelude.{◌≡◌, ◌⊎◌, ℕ, false, Option, Some, None, ◌+◌, ◌/◌, ◌%◌, ◌<◌, List, [], ◌∷◌, ◌++◌, length, get_or, take, drop, replicate, ◌==◌, if◌then◌else◌}
+use Rattle.std.specs.List.{list_all}
+use Rattle.std.specs.Option.{is_none}
 use Rattle.retro_base.specs.declared.row.Row.{Row}
 
 -- the name of the row with this number, where there is one; rows and names stand side by side
@@ -14,6 +16,14 @@ span = 256
 
 abbrev pub Pages : Type 0
 Pages = List (List (Option ℕ))
+
+-- what a page keeps in so much memory: no name in none, or room for the name of each number and one name at least
+abbrev pub IsPage : ℕ → List (Option ℕ) → Type 0
+IsPage capacity names = ((capacity ≡ 0) × (names ≡ [])) ⊎ ((length names ≡ span) × (list_all is_none names ≡ false))
+
+-- the place in a page gets this entry, and all others keep theirs
+abbrev pub PageChanges : List (Option ℕ) → List (Option ℕ) → ℕ → Option ℕ → Type 0
+PageChanges before after place entry = (other : ℕ) → get_or after other None ≡ (if place == other then entry else get_or before other None)
 
 -- the page of a number
 abbrev pub page_of : Pages → ℕ → List (Option ℕ)

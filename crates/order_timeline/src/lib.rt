@@ -20,7 +20,7 @@
 //! | `insert` | log n, and as much for each run where the runs are relabelled |
 //!
 //! - `timeline`: the type and its calls. `kept`: what it keeps of its rows. `edit`: a row comes or goes. `find`: rows, times and numbers.
-//! - `runs`: which run has a place, and where a run begins. `divide`: a run that has grown too long.
+//! - `runs`: which run has a place, and where a run begins. `divide`: a full run in halves, before a row comes in.
 //! - `names`: the names of the runs, found by labels. `table`: the label of each name. `numbers`, `page`: the name of each number's run.
 //! - `run`, `total`: a run of rows, and what runs add up to.
 #![tactic(auto)]

@@ -51,37 +51,42 @@ impl Numbers {
         }
     }
 
-    /// Makes room for the name of a number. What there is stays.
-    fn open(&mut self, number: u32) -> Result<(), NoMemory>
+    /// Sees to it that the table has the page of a number. What there is stays.
+    fn reach(&mut self, number: u32) -> Result<(), NoMemory>
         ensures same { IsSame self.old self.new }
-        ensures ok { OnOk result (HasPlace self.new number) }
+        ensures ok { OnOk result (number / span < length self.new) }
     {
         let index = (number / SPAN) as usize;
         while self.pages.len() <= index {
             self.pages.push(Page::new(self.alloc))?;
         }
-        self.pages[index].open()
+        Ok(())
     }
 
-    /// Gives the memory back of the page of a number, where it has no name any more.
-    fn close(&mut self, number: u32)
+    /// Writes the name of a number of which there is a page. After `NoMemory` all is as before.
+    fn put(&mut self, number: u32, name: u32) -> Result<(), NoMemory>
         requires { number / span < length self.old }
-        ensures { IsSame self.old self.new }
+        ensures ok { OnOk result (Writes self.old self.new number name) }
+        ensures err { OnErr result (IsSame self.old self.new) }
     {
-        let index = (number / SPAN) as usize;
-        if !self.pages[index].is_blank() {
-            return;
-        }
-        self.pages[index] = Page::new(self.alloc);
+        self.pages[(number / SPAN) as usize].add(self.alloc, number % SPAN, name)?;
+        Ok(())
     }
 
-    /// Writes what stands at a number for which there is room.
-    fn set(&mut self, number: u32, name: Option<u32>)
+    /// Writes the name of a number for which there is room.
+    fn set(&mut self, number: u32, name: u32)
         requires { HasPlace self.old number }
-        ensures names { Changes self.old self.new number name }
-        ensures pages { length self.new ≡ length self.old }
+        ensures { Writes self.old self.new number name }
     {
         self.pages[(number / SPAN) as usize].set(number % SPAN, name);
+    }
+
+    /// Takes the name of a number out for which there is room.
+    fn take_out(&mut self, number: u32)
+        requires { HasPlace self.old number }
+        ensures { Changes self.old self.new number None }
+    {
+        self.pages[(number / SPAN) as usize].forget(self.alloc, number % SPAN);
     }
 }
 
@@ -90,9 +95,8 @@ pub(crate) fn add(numbers: &mut Numbers, number: u32, name: u32) -> Result<(), N
     ensures ok { OnOk result (Writes numbers.old numbers.new number name) }
     ensures err { OnErr result (IsSame numbers.old numbers.new) }
 {
-    numbers.open(number)?;
-    numbers.set(number, Some(name));
-    Ok(())
+    numbers.reach(number)?;
+    numbers.put(number, name)
 }
 
 /// Writes the name of a number that has one already, which takes no memory.
@@ -100,7 +104,7 @@ pub(crate) fn write(numbers: &mut Numbers, number: u32, name: u32)
     requires { IsSome (name_in numbers.old number) }
     ensures { Writes numbers.old numbers.new number name }
 {
-    numbers.set(number, Some(name));
+    numbers.set(number, name);
 }
 
 /// Takes the name of a number out.
@@ -108,8 +112,7 @@ pub(crate) fn forget(numbers: &mut Numbers, number: u32)
     ensures { Changes numbers.old numbers.new number None }
 {
     if numbers.get(number).is_some() {
-        numbers.set(number, None);
-        numbers.close(number);
+        numbers.take_out(number);
     }
 }
 

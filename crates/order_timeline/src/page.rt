@@ -1,7 +1,7 @@
-ghost use Rattle.std.specs.Prelude.{◌≡◌, ◌<◌, ◌≤◌, ℕ, None, [], length, get_or, slice_set, OnOk};
+ghost use Rattle.std.specs.Prelude.{◌≡◌, ◌<◌, None, Some, [], length, get_or, replicate, IfOk, OnOk, OnErr};
 ghost use Rattle.std.specs.List.{list_all};
 ghost use Rattle.std.specs.Option.{is_none};
-ghost use Rattle.order_timeline.specs.Numbers.{span};
+ghost use Rattle.order_timeline.specs.Numbers.{span, PageChanges};
 
 use retro_base::NoMemory;
 use std::alloc::Global;
@@ -17,11 +17,14 @@ pub(crate) struct Page {
 }
 
 impl Model for Page {
-    ghost use Rattle.std.specs.Prelude.{List, Option, ℕ};
+    ghost use Rattle.std.specs.Prelude.{List, Option, ℕ, vec_capacity};
+    ghost use Rattle.order_timeline.specs.Numbers.{IsPage};
 
     ghost Value = { List (Option ℕ) };
 
     ghost view = { λ page. page.names.items };
+
+    ghost invariant = { λ page. IsPage (vec_capacity page.names) page.names.items };
 }
 
 impl Page {
@@ -43,29 +46,54 @@ impl Page {
         }
     }
 
-    /// Makes room for a name at each place. What there is stays.
-    pub(crate) fn open(&mut self) -> Result<(), NoMemory>
-        ensures same { (place : ℕ) → get_or self.new place None ≡ get_or self.old place None }
-        ensures ok { OnOk result (span ≤ length self.new) }
+    /// Writes a name at a place. After `NoMemory` the page is as before.
+    pub(crate) fn add(&mut self, alloc: Global, place: u32, name: u32) -> Result<(), NoMemory>
+        requires { place < span }
+        ensures ok { OnOk result (PageChanges self.old self.new place (Some name)) }
+        ensures err { OnErr result (self.new ≡ self.old) }
     {
-        while self.names.len() < SPAN as usize {
-            self.names.push(None)?;
+        if self.names.len() == 0 {
+            let mut names = without_names(alloc)?;
+            names[place as usize] = Some(name);
+            self.names = names;
+            return Ok(());
         }
+        self.names[place as usize] = Some(name);
         Ok(())
     }
 
-    /// Whether it has no name.
-    pub(crate) fn is_blank(&self) -> bool
-        ensures { result ≡ list_all is_none self.now }
+    /// Writes a name at a place for which there is room.
+    pub(crate) fn set(&mut self, place: u32, name: u32)
+        requires { place < length self.old }
+        ensures { PageChanges self.old self.new place (Some name) }
     {
-        self.names.iter().all(|name| name.is_none())
+        self.names[place as usize] = Some(name);
     }
 
-    /// Writes what stands at a place.
-    pub(crate) fn set(&mut self, place: u32, name: Option<u32>)
+    /// Takes the name at a place out. A page that has none left gives its memory back.
+    pub(crate) fn forget(&mut self, alloc: Global, place: u32)
         requires { place < length self.old }
-        ensures { self.new ≡ slice_set self.old place name }
+        ensures { PageChanges self.old self.new place None }
     {
-        self.names[place as usize] = name;
+        self.names[place as usize] = None;
+        if are_none(self.names.as_slice()) {
+            self.names = Vec::new(alloc);
+        }
     }
+}
+
+/// Room for the name of each number of a page.
+fn without_names(alloc: Global) -> Result<Vec<Option<u32>>, NoMemory>
+    ensures { IfOk result (λ names. names.items ≡ replicate span None) }
+{
+    let mut names = Vec::new(alloc);
+    names.resize(SPAN as usize, None)?;
+    Ok(names)
+}
+
+/// Whether none of these is a name.
+fn are_none(names: &[Option<u32>]) -> bool
+    ensures { result ≡ list_all is_none names.now }
+{
+    names.iter().all(|name| name.is_none())
 }

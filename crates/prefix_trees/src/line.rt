@@ -130,7 +130,7 @@ impl<S: Sequence> Partial for RetroLine<S> {
         list_sequence::<S>(&self.rows, self.rows.len())
     }
 
-    /// The later line answers of its own past, and needs no memory.
+    /// The later line answers of its own past, and always does.
     fn ask_after<L: Ledger>(
         &self,
         later: &RetroLine<S>,

@@ -6,7 +6,7 @@ use Rattle.lifetime_segments.specs.Lifetimes.{stands_earlier}
 use Rattle.lifetime_segments.specs.Ordered.{put_in}
 use Rattle.lifetime_segments.specs.Tries.{IsOfNode, Touches, NodeAdds, NodeKeeps, Has, NodeHas, is_whole, in_first, in_second}
 use Rattle.lifetime_segments.proofs.Results.{ok_weaker, err_weaker, err_always}
-use Rattle.lifetime_segments.proofs.Nodes.{LeadsTo, bare_of, node_of, trie_of, node_has, left_has, right_has, node_left, node_ordered, node_few, node_with_whole, node_with_parts, node_kept, below_level}
+use Rattle.lifetime_segments.proofs.Nodes.{LeadsTo, bare_of, node_of, trie_of, some_of, some_with, node_has, left_has, right_has, node_left, node_ordered, node_few, node_with_whole, node_with_parts, node_kept, below_level}
 use Rattle.lifetime_segments.proofs.FewLives.{few_of, of_few, few_ordered, few_with, few_touch, few_length, all_get, drop_get}
 use Rattle.lifetime_segments.proofs.Moved.{few_alike, node_of_alike}
 use Rattle.lifetime_segments.proofs.edit.+add.Goals as goal
@@ -23,7 +23,7 @@ add-returns-in-Full-clause-ok g t c =
     let leads : LeadsTo c.args.trie.now c.in-Full.node.value = subst (λ trie. LeadsTo trie c.in-Full.node.value) (sym c.in-Full.is) (refl, refl, refl) in
     ok_weaker c.add_to_node.result
     (λ adds lives is_of.
-    trie_of before c.args.level (c.args.life ∷ lives) _ c.add_to_node.new.node (refl, refl, refl)
+    trie_of before c.args.level (c.args.life ∷ lives) _ c.add_to_node.new.node (refl, refl, refl) (some_with c.args.level c.args.life lives c.requires.rises c.requires.begins)
     (adds lives (subst (IsOfNode before c.args.level lives) (sym c.deref_mut.ensures.value) (node_of before c.args.level lives c.args.trie.now c.in-Full.node.value leads is_of))))
     c.add_to_node.ensures.ok
 
@@ -33,7 +33,7 @@ add-returns-in-Full-clause-err g t c =
     let leads : LeadsTo c.args.trie.now c.in-Full.node.value = subst (λ trie. LeadsTo trie c.in-Full.node.value) (sym c.in-Full.is) (refl, refl, refl) in
     err_weaker c.add_to_node.result
     (λ keeps lives is_of.
-    trie_of before c.args.level lives _ c.add_to_node.new.node (refl, refl, refl)
+    trie_of before c.args.level lives _ c.add_to_node.new.node (refl, refl, refl) (some_of before c.args.level lives c.args.trie.now c.in-Full.node.value leads is_of)
     (keeps lives (subst (IsOfNode before c.args.level lives) (sym c.deref_mut.ensures.value) (node_of before c.args.level lives c.args.trie.now c.in-Full.node.value leads is_of))))
     c.add_to_node.ensures.err
 
@@ -147,7 +147,7 @@ pub add-returns-in_ok-add_to_node-in-Few-clause-ok : goal.add-returns-in_ok-add_
 add-returns-in_ok-add_to_node-in-Few-clause-ok g t c lives is_of =
     let before = g.D.Decomposable.stands_before in
     let kept = few_of before c.args.level lives c.in-Few.few c.args.trie.now c.in-Few.is is_of in
-    trie_of before c.args.level (c.args.life ∷ lives) _ c.add_to_node-in-Few.new.node (refl, refl, refl)
+    trie_of before c.args.level (c.args.life ∷ lives) _ c.add_to_node-in-Few.new.node (refl, refl, refl) (some_with c.args.level c.args.life lives c.requires.rises c.requires.begins)
     (c.in_ok-add_to_node-in-Few.ensures.ok lives (subst (IsOfNode before c.args.level lives) (sym c.deref_mut-in-Few.ensures.value)
     (node_of_alike g.met.D.Decomposable.order c.args.level c.in-Few.few lives c.in_ok-node-in-Few.node.value
     (few_alike g.met.D.Decomposable.order c.args.level lives c.in-Few.few kept) c.in_ok-node-in-Few.ensures)))

@@ -3,7 +3,7 @@ use Rattle.lifetime_segments.specs.Lifetimes.{stands_earlier}
 use Rattle.lifetime_segments.specs.Ordered.{is_in, put_in, without}
 use Rattle.lifetime_segments.specs.Tries.{IsOfNode, NodeMoves, NodeKeeps, Moves, AddsSecond, Has, NodeHas, HasOne, NodeHasOne, FirstHasOne, is_whole, clipped, ending, in_first, in_second, seen_from}
 use Rattle.lifetime_segments.proofs.Results.{ok_weaker, err_weaker, err_always}
-use Rattle.lifetime_segments.proofs.Nodes.{LeadsTo, node_of, trie_of, node_has, node_has_one, left_has, right_has, left_has_one, right_has_one, node_right, node_kept, below_level}
+use Rattle.lifetime_segments.proofs.Nodes.{LeadsTo, node_of, trie_of, some_of, some_with, node_has, node_has_one, left_has, right_has, left_has_one, right_has_one, node_right, node_kept, below_level}
 use Rattle.lifetime_segments.proofs.MovedEnds.{first_past, second_there, node_second_moved, node_shortened, node_lengthened, node_still_whole}
 use Rattle.lifetime_segments.proofs.Spans.{double}
 use Rattle.lifetime_segments.proofs.FewLives.{few_of, of_few, few_ordered, few_there, few_moved, few_length}
@@ -24,6 +24,7 @@ move_end-returns-in-Full-clause-ok g t c =
     ok_weaker c.move_in_node.result
     (λ moves lives is_of.
     trie_of before c.args.level (ending c.args.next c.args.life ∷ lives) _ c.move_in_node.new.node (refl, refl, refl)
+    (some_with c.args.level (ending c.args.next c.args.life) lives c.requires.next c.requires.begins)
     (moves lives (subst (IsOfNode before c.args.level (c.args.life ∷ lives)) (sym c.deref_mut.ensures.value) (node_of before c.args.level (c.args.life ∷ lives) c.args.trie.now c.in-Full.node.value leads is_of))))
     c.move_in_node.ensures.ok
 
@@ -33,7 +34,7 @@ move_end-returns-in-Full-clause-err g t c =
     let leads : LeadsTo c.args.trie.now c.in-Full.node.value = subst (λ trie. LeadsTo trie c.in-Full.node.value) (sym c.in-Full.is) (refl, refl, refl) in
     err_weaker c.move_in_node.result
     (λ keeps lives is_of.
-    trie_of before c.args.level lives _ c.move_in_node.new.node (refl, refl, refl)
+    trie_of before c.args.level lives _ c.move_in_node.new.node (refl, refl, refl) (some_of before c.args.level lives c.args.trie.now c.in-Full.node.value leads is_of)
     (keeps lives (subst (IsOfNode before c.args.level lives) (sym c.deref_mut.ensures.value) (node_of before c.args.level lives c.args.trie.now c.in-Full.node.value leads is_of))))
     c.move_in_node.ensures.err
 
