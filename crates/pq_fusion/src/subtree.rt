@@ -54,5 +54,5 @@ impl Model for Subtree {
 
     ghost use Rattle.pq_fusion.specs.NodesFall.{depth_le-length-rows};
 
-    ghost size_decreases = { λ t h. depth_le-length-rows t.link };
+    ghost size_decreases = { λ t h. depth_le-length-rows t.link h };
 }
