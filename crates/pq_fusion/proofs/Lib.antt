@@ -25,3 +25,4 @@ pub mod Edged
 pub mod Edited
 pub mod Parts
 pub mod Searched
+pub mod RowByRow

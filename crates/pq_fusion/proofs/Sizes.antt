@@ -53,7 +53,7 @@ take_size : (left removed : List Entry) (unmet : ℕ) → size_of (after_take le
 take_size [] removed unmet = omega arith
 take_size (x ∷ xs) removed unmet = omega (arith, length_with x removed)
 
-row_size : (op : Op) (number : ℕ) (a : PieceParts) → size_of (after_row op number a) ≤ suc (size_of a)
+pub row_size : (op : Op) (number : ℕ) (a : PieceParts) → size_of (after_row op number a) ≤ suc (size_of a)
 unfolding after_row
 row_size (Enq v) number a = omega arith
 row_size Deq number a = omega arith

@@ -1,6 +1,6 @@
 ghost use Rattle.std.specs.Prelude.{◌≡◌, ◌≤◌, length, IfOk, MatchResult};
 ghost use Rattle.retro_base.specs.Limits.{most_rows};
-ghost use Rattle.pq_fusion.specs.Edits.{Passes};
+ghost use Rattle.pq_fusion.specs.Edits.{Passes, takings};
 ghost use Rattle.pq_fusion.specs.Pieces.{IsPiece, PieceParts, no_parts};
 
 use crate::entry_list::{EntryList, RoomyList};
@@ -110,6 +110,13 @@ impl NodePiece {
         ensures few { result ≤ most_rows }
     {
         self.unmet
+    }
+
+    /// How many takings the rows make.
+    pub(crate) fn takings(&self) -> u32
+        ensures { result ≡ takings self.now }
+    {
+        self.removed.len() + self.unmet
     }
 
     /// How many entries are left.

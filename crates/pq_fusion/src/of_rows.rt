@@ -3,11 +3,12 @@ ghost use Rattle.retro_base.specs.declared.kind.Kind.TheVariants.{Pq};
 ghost use Rattle.retro_base.specs.Kind.{kind_of};
 ghost use Rattle.retro_base.specs.Limits.{most_rows};
 ghost use Rattle.retro_base.specs.Timeline.{AreOfKind};
-ghost use Rattle.pq_fusion.specs.Pieces.{after_row, size_of, tolerant};
+ghost use Rattle.retro_base.specs.State.{with_entry};
+ghost use Rattle.pq_fusion.specs.Pieces.{after_row, after_take, size_of, tolerant};
 
 use crate::Piece;
 use crate::exchange::{make_room, put_in};
-use retro_base::{NoMemory, Row};
+use retro_base::{Entry, NoMemory, Row};
 use std::alloc::Global;
 
 impl Piece {
@@ -30,23 +31,54 @@ impl Piece {
         requires few { size_of self + 1 ≤ most_rows }
         ensures { IfOk result (λ piece. piece ≡ after_row row.op row.number self) }
     {
+        match row.added_entry() {
+            Some(entry) => self.with_added(entry),
+            None => self.with_taking(),
+        }
+    }
+
+    /// The piece with an entry that is added behind its rows.
+    fn with_added(self, entry: Entry) -> Result<Piece, NoMemory>
+        requires { size_of self + 1 ≤ most_rows }
+        ensures { IfOk result (λ piece. piece ≡ record { left = with_entry entry self.left; removed = self.removed; unmet = self.unmet }) }
+    {
+        let Piece {
+            alloc,
+            mut left,
+            removed,
+            unmet,
+        } = self;
+        make_room(&mut left)?;
+        put_in(&mut left, entry);
+        Ok(Piece {
+            alloc,
+            left,
+            removed,
+            unmet,
+        })
+    }
+
+    /// The piece with a taking behind its rows.
+    fn with_taking(self) -> Result<Piece, NoMemory>
+        requires { size_of self + 1 ≤ most_rows }
+        ensures { IfOk result (λ piece. piece ≡ after_take self.left self.removed self.unmet) }
+    {
         let Piece {
             alloc,
             mut left,
             mut removed,
-            mut unmet,
+            unmet,
         } = self;
-        match row.added_entry() {
-            Some(entry) => {
-                make_room(&mut left)?;
-                put_in(&mut left, entry);
-            }
-            None if left.is_empty() => unmet += 1,
-            None => {
-                make_room(&mut removed)?;
-                put_in(&mut removed, left.remove(0));
-            }
+        if left.is_empty() {
+            return Ok(Piece {
+                alloc,
+                left,
+                removed,
+                unmet: unmet + 1,
+            });
         }
+        make_room(&mut removed)?;
+        put_in(&mut removed, left.remove(0));
         Ok(Piece {
             alloc,
             left,
