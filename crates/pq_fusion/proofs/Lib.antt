@@ -19,6 +19,8 @@ pub mod Bounded
 pub mod Parted
 pub mod Passed
 pub mod Ranked
+pub mod Cuts
+pub mod Exchanged
 pub mod Swapped
 pub mod Compared
 pub mod Edged

@@ -76,7 +76,7 @@ impl Tally {
 }
 
 /// How many of these entries do not come before this one, by halves.
-fn reaching<L: Ledger>(bound: Entry, entries: &[Entry], steps: &mut Steps<L>) -> u32
+pub(crate) fn reaching<L: Ledger>(bound: Entry, entries: &[Entry], steps: &mut Steps<L>) -> u32
     requires order { AreInOrder entries.now }
     requires few { length entries.now ≤ most_rows }
     ensures count { result ≡ reaching bound entries.now }
