@@ -9,7 +9,6 @@ pub mod Ranges
 pub mod Rooted
 pub mod Prefixes
 pub mod Stored
-pub mod Grown
 pub mod Listed
 pub mod Carried
 pub mod Tallied

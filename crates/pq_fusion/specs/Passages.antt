@@ -1,9 +1,13 @@
 -- A pair that is edited below.
-use Rattle.std.specs.Prelude.{◌≡◌, ℕ, Bool, false, ◌+◌, ◌-◌, ◌*◌, ◌<◌, ◌≤◌, ◌×◌, ◌⊎◌, List, length, nat_lt, nat_le, if◌then◌else◌}
+use Rattle.std.specs.Prelude.{◌≡◌, ℕ, Bool, false, ◌+◌, ◌-◌, ◌*◌, ◌<◌, ◌≤◌, ◌⊎◌, List, length, nat_lt, nat_le, if◌then◌else◌}
 use Rattle.std.specs.List.{insert, remove}
 use Rattle.retro_base.specs.declared.row.Row.{Row}
+use Rattle.retro_base.specs.Weights.{added_by}
+use Rattle.pq_fusion.specs.declared.bound.Bound.{Bound}
 use Rattle.pq_fusion.specs.declared.subtree.Pair.{Pair}
-use Rattle.pq_fusion.specs.Pieces.{PieceParts}
+use Rattle.pq_fusion.specs.Edits.{DiffersBy}
+use Rattle.pq_fusion.specs.Nodes.{IsPair, pair_rows}
+use Rattle.pq_fusion.specs.Pieces.{PieceParts, tolerant}
 
 -- both sides stay in balance where a row is put in at the place: where they meet it comes to the earlier
 abbrev pub bears : Pair → ℕ → Bool
@@ -27,12 +31,9 @@ with_earlier pair rows = record { earlier = rows; later = pair.later; size = pai
 abbrev pub with_later : Pair → List Row → Pair
 with_later pair rows = record { earlier = pair.earlier; later = rows; size = pair.size; piece = pair.piece }
 
--- a pair with another piece, and with another size too
+-- a pair with another piece
 abbrev pub with_piece : Pair → PieceParts → Pair
 with_piece pair piece = record { earlier = pair.earlier; later = pair.later; size = pair.size; piece = piece }
-
-abbrev pub renewed : Pair → ℕ → PieceParts → Pair
-renewed pair size piece = record { earlier = pair.earlier; later = pair.later; size = size; piece = piece }
 
 -- the pair where a row comes in on the side of a place, and where the row there goes
 abbrev pub Puts : Pair → ℕ → Row → Pair → Type 0
@@ -42,3 +43,14 @@ Puts pair place row edited = ((place ≤ length pair.earlier) × (edited ≡ wit
 abbrev pub Cuts : Pair → ℕ → Pair → Type 0
 Cuts pair place edited = ((place < length pair.earlier) × (edited ≡ with_earlier pair (remove pair.earlier place)))
     ⊎ ((length pair.earlier ≤ place) × (edited ≡ with_later pair (remove pair.later (place - length pair.earlier))))
+
+-- a pair of the edited rows, and what passes between what they leave and what they do not
+pub record IsPut (pair : Pair) (place : ℕ) (row : Row) (edited : Pair) (passed : Bound) : Type 0 where
+  pub sound : IsPair edited
+  pub rows_are : pair_rows edited ≡ insert (pair_rows pair) place row
+  pub differs : DiffersBy (added_by row) passed (tolerant (pair_rows pair)) (tolerant (insert (pair_rows pair) place row))
+
+pub record IsCut (pair : Pair) (place : ℕ) (row : Row) (edited : Pair) (passed : Bound) : Type 0 where
+  pub sound : IsPair edited
+  pub rows_are : pair_rows edited ≡ remove (pair_rows pair) place
+  pub differs : DiffersBy (added_by row) passed (tolerant (remove (pair_rows pair) place)) (tolerant (pair_rows pair))

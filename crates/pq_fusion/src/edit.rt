@@ -1,17 +1,17 @@
-ghost use Rattle.std.specs.Prelude.{◌≡◌, ◌+◌, ◌<◌, ◌≤◌, ◌++◌, length, slice_get, is_some, not, Some, IfOk, OnOk, OnErr, MatchResult};
+ghost use Rattle.std.specs.Prelude.{◌≡◌, ◌+◌, ◌<◌, ◌≤◌, ◌++◌, length, slice_get, is_some, not, true, Some, IfOk, OnOk, OnErr, MatchResult};
 ghost use Rattle.std.specs.List.{insert, remove};
 ghost use Rattle.retro_base.specs.declared.kind.Kind.TheVariants.{Pq};
 ghost use Rattle.retro_base.specs.Kind.{kind_of};
 ghost use Rattle.retro_base.specs.Limits.{most_rows};
 ghost use Rattle.retro_base.specs.Timeline.{AreOfKind};
 ghost use Rattle.retro_base.specs.Weights.{added_by};
-ghost use Rattle.pq_fusion.specs.Edits.{PassesIn, PassesOut, boundary_of};
+ghost use Rattle.pq_fusion.specs.Edits.{DiffersBy, boundary_of};
 ghost use Rattle.pq_fusion.specs.Nodes.{IsBalanced, IsPair, longest_run, pair_rows};
-ghost use Rattle.pq_fusion.specs.Passages.{Cuts, Puts, bears, renewed, spares, with_piece};
+ghost use Rattle.pq_fusion.specs.Passages.{Cuts, IsCut, IsPut, Puts, bears, spares, with_piece};
 ghost use Rattle.pq_fusion.specs.Pieces.{tolerant};
 
 use crate::difference::difference;
-use crate::list_boundary::list_boundary;
+use crate::list_boundary::boundary;
 use crate::node_piece::{NodePiece, RoomyPiece};
 use crate::subtree::{LONGEST_RUN, Link, Pair, Run, Subtree};
 use crate::{Bound, Piece};
@@ -49,12 +49,15 @@ impl Subtree {
         requires few { length earlier + length later ≤ most_rows }
         ensures { IfOk result (λ subtree. subtree ≡ earlier ++ later) }
     {
-        let piece = earlier.whole(alloc)?.fuse(&later.whole(alloc)?)?;
+        let first = earlier.whole(alloc)?;
+        let second = later.whole(alloc)?;
+        let both = first.fuse(&second)?;
+        let piece = NodePiece::of_piece(both)?;
         let pair = Pair {
             size: earlier.len() + later.len(),
             earlier,
             later,
-            piece: NodePiece::of_piece(piece)?,
+            piece,
         };
         Ok(Subtree::of_pair(Box::new(alloc, pair)?))
     }
@@ -119,7 +122,7 @@ impl Subtree {
         requires short { longest ≤ longest_run }
         ensures ok { OnOk result (self.new ≡ insert self.old place row) }
         ensures err { OnErr result (self.new ≡ self.old) }
-        ensures passed { IfOk result (PassesIn (added_by row) (tolerant self.old) (tolerant (insert self.old place row))) }
+        ensures passed { IfOk result (λ passed. DiffersBy (added_by row) passed (tolerant self.old) (tolerant (insert self.old place row))) }
     {
         let rows = self.rows_with(alloc, place, row)?;
         let new = Subtree::of_rows(alloc, rows.as_slice(), longest)?;
@@ -142,7 +145,7 @@ impl Subtree {
         requires short { longest ≤ longest_run }
         ensures ok { OnOk result (self.new ≡ remove self.old place) }
         ensures err { OnErr result (self.new ≡ self.old) }
-        ensures passed { IfOk result (PassesOut (added_by row) (tolerant self.old) (tolerant (remove self.old place))) }
+        ensures passed { IfOk result (λ passed. DiffersBy (added_by row) passed (tolerant (remove self.old place)) (tolerant self.old)) }
     {
         let rows = self.rows_without(alloc, place)?;
         let new = Subtree::of_rows(alloc, rows.as_slice(), longest)?;
@@ -166,7 +169,7 @@ impl Subtree {
         requires of_kind { kind_of row.op ≡ Pq }
         ensures ok { OnOk result (self.new ≡ insert self.old place row) }
         ensures err { OnErr result (self.new ≡ self.old) }
-        ensures passed { IfOk result (PassesIn (added_by row) (tolerant self.old) (tolerant (insert self.old place row))) }
+        ensures passed { IfOk result (λ passed. DiffersBy (added_by row) passed (tolerant self.old) (tolerant (insert self.old place row))) }
     {
         let pair = match mem::replace(&mut self.link, Link::Empty) {
             Link::Fork(pair) => pair,
@@ -179,25 +182,14 @@ impl Subtree {
             *self = Subtree::of_pair(pair);
             return self.insert_anew(alloc, place, row, LONGEST_ANEW);
         }
-        let gains = row.added_entry().is_some();
-        let boundary = pair.boundary(gains);
-        let (mut pair, piece) = match take_apart(alloc, pair) {
-            Ok(Opened { pair, piece }) => (pair, piece),
-            Err(pair) => {
+        match put_row(alloc, pair, place, row) {
+            Ok(Edited { pair, passed }) => {
                 *self = Subtree::of_pair(pair);
-                return Err(NoMemory);
-            }
-        };
-        match pair.insert_below(alloc, place, row, boundary) {
-            Ok(passed) => {
-                let size = pair.size + 1;
-                let piece = piece.after(gains, Bound::of_row(row), passed);
-                *self = renewed(pair, size, piece);
                 Ok(passed)
             }
-            Err(error) => {
-                *self = closed(pair, piece.into_piece());
-                Err(error)
+            Err(pair) => {
+                *self = Subtree::of_pair(pair);
+                Err(NoMemory)
             }
         }
     }
@@ -214,7 +206,7 @@ impl Subtree {
         requires there { slice_get self.old place ≡ Some row }
         ensures ok { OnOk result (self.new ≡ remove self.old place) }
         ensures err { OnErr result (self.new ≡ self.old) }
-        ensures passed { IfOk result (PassesOut (added_by row) (tolerant self.old) (tolerant (remove self.old place))) }
+        ensures passed { IfOk result (λ passed. DiffersBy (added_by row) passed (tolerant (remove self.old place)) (tolerant self.old)) }
     {
         let pair = match mem::replace(&mut self.link, Link::Empty) {
             Link::Fork(pair) => pair,
@@ -227,25 +219,14 @@ impl Subtree {
             *self = Subtree::of_pair(pair);
             return self.remove_anew(alloc, place, row, LONGEST_ANEW);
         }
-        let gains = row.added_entry().is_none();
-        let boundary = pair.boundary(gains);
-        let (mut pair, piece) = match take_apart(alloc, pair) {
-            Ok(Opened { pair, piece }) => (pair, piece),
-            Err(pair) => {
+        match cut_row(alloc, pair, place, row) {
+            Ok(Edited { pair, passed }) => {
                 *self = Subtree::of_pair(pair);
-                return Err(NoMemory);
-            }
-        };
-        match pair.remove_below(alloc, place, row, boundary) {
-            Ok(passed) => {
-                let size = pair.size - 1;
-                let piece = piece.after(gains, Bound::of_row(row), passed);
-                *self = renewed(pair, size, piece);
                 Ok(passed)
             }
-            Err(error) => {
-                *self = closed(pair, piece.into_piece());
-                Err(error)
+            Err(pair) => {
+                *self = Subtree::of_pair(pair);
+                Err(NoMemory)
             }
         }
     }
@@ -288,8 +269,7 @@ impl Pair {
         else {
             unreachable!()
         };
-        let takings = second.removed_len() + second.unmet();
-        list_boundary(first.left(), second.removed(), takings, gains)
+        boundary(first.left(), second.removed(), second.takings(), gains)
     }
 
     /// Puts a row in on its side, and says what passes in the pair, whose boundary this is.
@@ -308,7 +288,7 @@ impl Pair {
         requires boundary { boundary ≡ boundary_of (is_some (added_by row)) (tolerant self.old.earlier) (tolerant self.old.later) }
         ensures ok { OnOk result (Puts self.old place row self.new) }
         ensures err { OnErr result (self.new ≡ self.old) }
-        ensures passed { IfOk result (PassesIn (added_by row) (tolerant (pair_rows self.old)) (tolerant (insert (pair_rows self.old) place row))) }
+        ensures passed { IfOk result (λ passed. DiffersBy (added_by row) passed (tolerant (pair_rows self.old)) (tolerant (insert (pair_rows self.old) place row))) }
     {
         let before = self.earlier.len();
         if place <= before {
@@ -332,7 +312,7 @@ impl Pair {
         requires boundary { boundary ≡ boundary_of (not (is_some (added_by row))) (tolerant self.old.earlier) (tolerant self.old.later) }
         ensures ok { OnOk result (Cuts self.old place self.new) }
         ensures err { OnErr result (self.new ≡ self.old) }
-        ensures passed { IfOk result (PassesOut (added_by row) (tolerant (pair_rows self.old)) (tolerant (remove (pair_rows self.old) place))) }
+        ensures passed { IfOk result (λ passed. DiffersBy (added_by row) passed (tolerant (remove (pair_rows self.old) place)) (tolerant (pair_rows self.old))) }
     {
         let before = self.earlier.len();
         if place < before {
@@ -344,7 +324,64 @@ impl Pair {
     }
 }
 
-/// A pair that was taken out of its link, and its piece, which has room for an edit.
+/// A pair after an edit, and what passed in it.
+#[derive(Drop)]
+struct Edited {
+    pair: Box<Pair>,
+    passed: Bound,
+}
+
+/// Puts a row in below a pair, which bears it. Where there is no memory for it, the pair comes back as it was.
+#[cycle(put)]
+fn put_row(alloc: Global, pair: Box<Pair>, place: u32, row: Row) -> Result<Edited, Box<Pair>>
+    requires sound { IsPair pair.value }
+    requires bears { bears pair.value place ≡ true }
+    requires within { place ≤ length (pair_rows pair.value) }
+    requires room { length (pair_rows pair.value) < most_rows }
+    requires of_kind { kind_of row.op ≡ Pq }
+    ensures { MatchResult result (λ edited. IsPut pair.value place row edited.pair.value edited.passed) (λ same. same.value ≡ pair.value) }
+{
+    let gains = row.added_entry().is_some();
+    let boundary = pair.boundary(gains);
+    let Opened { mut pair, piece } = take_apart(alloc, pair)?;
+    match pair.insert_below(alloc, place, row, boundary) {
+        Ok(passed) => {
+            pair.size += 1;
+            pair.piece = piece.after(gains, Bound::of_row(row), passed);
+            Ok(Edited { pair, passed })
+        }
+        Err(_) => {
+            pair.piece = piece.into_piece();
+            Err(pair)
+        }
+    }
+}
+
+/// Takes the row at a place out below a pair, which spares it. Where there is no memory for it, the pair comes back as it was.
+#[cycle(cut)]
+fn cut_row(alloc: Global, pair: Box<Pair>, place: u32, row: Row) -> Result<Edited, Box<Pair>>
+    requires sound { IsPair pair.value }
+    requires spares { spares pair.value place ≡ true }
+    requires there { slice_get (pair_rows pair.value) place ≡ Some row }
+    ensures { MatchResult result (λ edited. IsCut pair.value place row edited.pair.value edited.passed) (λ same. same.value ≡ pair.value) }
+{
+    let gains = row.added_entry().is_none();
+    let boundary = pair.boundary(gains);
+    let Opened { mut pair, piece } = take_apart(alloc, pair)?;
+    match pair.remove_below(alloc, place, row, boundary) {
+        Ok(passed) => {
+            pair.size -= 1;
+            pair.piece = piece.after(gains, Bound::of_row(row), passed);
+            Ok(Edited { pair, passed })
+        }
+        Err(_) => {
+            pair.piece = piece.into_piece();
+            Err(pair)
+        }
+    }
+}
+
+/// A pair, and its piece, which has room for an edit.
 #[derive(Drop)]
 struct Opened {
     pair: Box<Pair>,
@@ -363,23 +400,4 @@ fn take_apart(alloc: Global, mut pair: Box<Pair>) -> Result<Opened, Box<Pair>>
             Err(pair)
         }
     }
-}
-
-/// The subtree of a pair with this piece.
-fn closed(mut pair: Box<Pair>, piece: NodePiece) -> Subtree
-    requires { IsPair (with_piece pair.value piece) }
-    ensures { result ≡ pair_rows pair.value }
-{
-    pair.piece = piece;
-    Subtree::of_pair(pair)
-}
-
-/// The subtree of a pair with this size and this piece.
-fn renewed(mut pair: Box<Pair>, size: u32, piece: NodePiece) -> Subtree
-    requires { IsPair (renewed pair.value size piece) }
-    ensures { result ≡ pair_rows pair.value }
-{
-    pair.size = size;
-    pair.piece = piece;
-    Subtree::of_pair(pair)
 }
