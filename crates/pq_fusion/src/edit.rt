@@ -11,7 +11,7 @@ ghost use Rattle.pq_fusion.specs.Passages.{Cuts, Puts, bears, renewed, spares, w
 ghost use Rattle.pq_fusion.specs.Pieces.{tolerant};
 
 use crate::difference::difference;
-use crate::list_boundary::list_boundary;
+use crate::list_boundary::boundary;
 use crate::node_piece::{NodePiece, RoomyPiece};
 use crate::subtree::{LONGEST_RUN, Link, Pair, Run, Subtree};
 use crate::{Bound, Piece};
@@ -155,12 +155,7 @@ impl Subtree {
     /// Puts a row in at a place. All memory of a node is taken before anything of it changes, so after `NoMemory` all is as before.
     /// It says what passes between what the rows leave and what they do not.
     #[cycle(put)]
-    pub(crate) fn insert(
-        &mut self,
-        alloc: Global,
-        place: u32,
-        row: Row,
-    ) -> Result<Bound, NoMemory>
+    pub(crate) fn insert(&mut self, alloc: Global, place: u32, row: Row) -> Result<Bound, NoMemory>
         requires within { place ≤ length self.old }
         requires room { length self.old < most_rows }
         requires of_kind { kind_of row.op ≡ Pq }
@@ -205,12 +200,7 @@ impl Subtree {
     /// Takes the row at a place out, which is this one. All memory of a node is taken before anything of it changes, so after `NoMemory`
     /// all is as before. It says what passes between what the rows leave and what they do not.
     #[cycle(cut)]
-    pub(crate) fn remove(
-        &mut self,
-        alloc: Global,
-        place: u32,
-        row: Row,
-    ) -> Result<Bound, NoMemory>
+    pub(crate) fn remove(&mut self, alloc: Global, place: u32, row: Row) -> Result<Bound, NoMemory>
         requires there { slice_get self.old place ≡ Some row }
         ensures ok { OnOk result (self.new ≡ remove self.old place) }
         ensures err { OnErr result (self.new ≡ self.old) }
@@ -289,7 +279,7 @@ impl Pair {
             unreachable!()
         };
         let takings = second.removed_len() + second.unmet();
-        list_boundary(first.left(), second.removed(), takings, gains)
+        boundary(first.left(), second.removed(), takings, gains)
     }
 
     /// Puts a row in on its side, and says what passes in the pair, whose boundary this is.
