@@ -1,12 +1,23 @@
--- What is known of the sides of a pair.
+-- What is known of the root of a tree of rows: of a run, and of a pair and its sides.
 use Rattle.std.proofs.Common.{◌≡◌, ℕ, ◌+◌, ◌-◌, ◌<◌, ◌≤◌, List, ◌++◌, length, take, drop, ap, sym, ◌∙◌, arith, length-append}
 use Rattle.std.specs.List.{slice_range}
 use Rattle.retro_base.specs.declared.row.Row.{Row}
 use Rattle.retro_base.specs.Limits.{most_rows}
 use Rattle.pq_fusion.specs.declared.subtree.Pair.{Pair}
-use Rattle.pq_fusion.specs.Nodes.{IsPairOf}
+use Rattle.pq_fusion.specs.declared.subtree.Run.{Run}
+use Rattle.pq_fusion.specs.Nodes.{IsRunOf, IsPairOf}
 use Rattle.pq_fusion.specs.Pieces.{tolerant}
 use Rattle.pq_fusion.proofs.Ranges.{take-earlier, take-later, drop-earlier, drop-later, range-earlier, range-later, range-across}
+
+module _ (rows : List Row) (run : Run) (root : IsRunOf rows run) where
+  pub run_piece_is : run.piece ≡ tolerant rows
+  run_piece_is = root.sound.piece_is ∙ sym (ap tolerant root.rows_are)
+
+  pub run_few : length rows ≤ 64
+  run_few = omega (arith, ap length root.rows_are, root.sound.few)
+
+  pub run_some : 0 < length rows
+  run_some = omega (arith, ap length root.rows_are, root.sound.some)
 
 module _ (rows : List Row) (pair : Pair) (root : IsPairOf rows pair) where
   pub sizes : length rows ≡ length pair.earlier + length pair.later

@@ -160,6 +160,20 @@ module _ (rows : List Row) (pair : Pair) (root : IsPairOf rows pair) where
   pub later_run : run_of pair.later ≤ run_of rows
   later_run = omega (arith, sizes rows pair root)
 
+  -- with no rows gone through
+  pub step_left : (levels start next end : ℕ) → IsWithinLevels (weight rows) levels → next ≡ start + 1
+      → ((below : ℕ) → IsWithinLevels (weight pair.earlier) below → VisitsUpTo ((below + 1) * 2) next end) → VisitsUpTo ((levels + 1) * 2) start end
+  step_left levels start next end within one rest =
+      no_more_than ((levels + 1) * 2 + 0) ((levels + 1) * 2) start end (omega arith)
+      (walk_left 2 0 0 levels start next end (omega arith) (omega arith) within one (λ below inside. no_more_than ((below + 1) * 2) ((below + 1) * 2 + 0) next end (omega arith) (rest below inside)))
+
+  pub step_right : (levels start first second end : ℕ) → IsWithinLevels (weight rows) levels → first ≡ start + 1 → VisitsUpTo 1 first second
+      → ((below : ℕ) → IsWithinLevels (weight pair.later) below → VisitsUpTo ((below + 1) * 2) second end) → VisitsUpTo ((levels + 1) * 2) start end
+  step_right levels start first second end within one left rest =
+      no_more_than ((levels + 1) * 2 + 0) ((levels + 1) * 2) start end (omega arith)
+      (walk_right 2 1 0 0 levels start first second end (omega arith) (omega arith) within one left
+      (λ below inside. no_more_than ((below + 1) * 2) ((below + 1) * 2 + 0) second end (omega arith) (rest below inside)))
+
 -- a walk that ends at a node that is read whole, or in a run
 pub whole_walk : (levels k run start end : ℕ) → VisitsUpTo (1 + 4 * k) start end → VisitsUpTo ((levels + 1) * (4 * k + 2) + run) start end
 whole_walk levels k run start end visits = no_more_than (1 + 4 * k) ((levels + 1) * (4 * k + 2) + run) start end (omega arith) visits

@@ -1,5 +1,5 @@
 -- What holds of all entries of two pieces holds of what they leave together; and a rising list lies between its first and its last.
-use Rattle.std.proofs.Common.{◌≡◌, ℕ, ℤ, zero, suc, ◌-◌, true, false, cond, List, [], ◌∷◌, length, take, drop, Some, ap, sym, ◌∙◌, subst, arith, slice_get}
+use Rattle.std.proofs.Common.{◌≡◌, ℕ, ℤ, zero, suc, ◌-◌, true, false, cond, List, [], ◌∷◌, length, take, drop, Some, None, refl, ap, sym, ◌∙◌, subst, arith, slice_get}
 use Rattle.std.specs.List.{AllByRecursion}
 use Rattle.std.specs.Prelude.{int_lt, nat_lt, ◌&&◌, ◌||◌, ◌≤ℤ◌}
 use Rattle.std.specs.Ordering.{int_eq}
@@ -11,11 +11,14 @@ use Rattle.retro_base.specs.declared.op.Op.TheVariants.{Enq, Deq, Push, Pop, Pus
 use Rattle.retro_base.specs.declared.row.Entry.{Entry}
 use Rattle.retro_base.specs.declared.row.Row.{Row}
 use Rattle.retro_base.specs.EntriesInOrder.{AreInOrder}
+use Rattle.retro_base.specs.OrderLaws.{all_weaker}
 use Rattle.retro_base.specs.State.{comes_before, with_entry}
 use Rattle.pq_fusion.specs.declared.span.Span.{Span}
 use Rattle.pq_fusion.specs.Pieces.{PieceParts, no_parts, after_take, after_row, after_rows, tolerant, together, fuse}
-use Rattle.pq_fusion.specs.Tallies.{LiesIn}
+use Rattle.pq_fusion.specs.Tallies.{LiesIn, LeadsSpan}
+use Rattle.pq_fusion.proofs.Carried.{carries_piece}
 use Rattle.pq_fusion.proofs.FromRows.{in_parts}
+use Rattle.pq_fusion.proofs.Halved.{entry_at}
 use Rattle.pq_fusion.proofs.Order.{IsLeast}
 
 module _ (P : Entry → Type 0) where
@@ -127,3 +130,23 @@ all_lie span first last (x ∷ xs) low high from up_to =
 pub in_span : (span : Span) (xs : List Entry) (first last : Entry) → AreInOrder xs → slice_get xs 0 ≡ Some first → slice_get xs (length xs - 1) ≡ Some last
     → span.low ≤ℤ first.key → last.key ≤ℤ span.high → AllByRecursion (LiesIn span) xs
 in_span span xs first last order begins ends low high = all_lie span first last xs low high (from_first xs first order begins) (up_to_last xs last order ends)
+
+-- where there is no first entry, or no last one, there is none
+pub none_first : (P : Entry → Type 0) (xs : List Entry) → slice_get xs 0 ≡ None → AllByRecursion P xs
+none_first P [] none = tt
+none_first P (x ∷ xs) none = absurd (cc)
+
+pub none_last : (P : Entry → Type 0) (xs : List Entry) → slice_get xs (length xs - 1) ≡ None → AllByRecursion P xs
+none_last P [] none = tt
+none_last P (x ∷ xs) none =
+    let found = entry_at (x ∷ xs) (length (x ∷ xs) - 1) (omega arith) in
+    let wrong : Some found.0 ≡ None = sym found.1 ∙ none in absurd (cc)
+
+-- the first of some rows carry a span into one in which all entries of the rows lie
+pub carries_span : (rows : List Row) (to : ℕ) (piece : PieceParts) (before after : Span) → piece ≡ tolerant rows
+    → AllByRecursion (LiesIn after) piece.left → AllByRecursion (LiesIn after) piece.removed → ((entry : Entry) → LiesIn before entry → LiesIn after entry)
+    → LeadsSpan before (take to rows) after
+carries_span rows to piece before after is left removed others =
+    let first = first_rows (LiesIn after) rows to (subst (λ p. AllByRecursion (LiesIn after) p.left) is left) (subst (λ p. AllByRecursion (LiesIn after) p.removed) is removed) in
+    carries_piece (AllByRecursion (LiesIn before)) (AllByRecursion (LiesIn after)) (take to rows) (tolerant (take to rows)) refl
+    (λ parts all. fused_all (LiesIn after) parts (tolerant (take to rows)) (all_weaker (LiesIn before) (LiesIn after) parts.left others all) first.0 first.1)

@@ -1,4 +1,4 @@
-ghost use Rattle.std.specs.Prelude.{◌≡◌, ◌≤◌, length, IfOk, MatchResult};
+ghost use Rattle.std.specs.Prelude.{◌≡◌, ◌+◌, ◌≤◌, length, IfOk, MatchResult};
 ghost use Rattle.retro_base.specs.EntriesInOrder.{AreInOrder};
 ghost use Rattle.retro_base.specs.Limits.{most_rows};
 ghost use Rattle.pq_fusion.specs.Edits.{Passes, takings};
@@ -134,6 +134,14 @@ impl NodePiece {
         ensures { result ≡ length self.now.removed }
     {
         self.removed.len()
+    }
+
+    /// How many entries the piece has.
+    pub(crate) fn stored(&self) -> u64
+        ensures count { result ≡ length self.now.left + length self.now.removed }
+        ensures few { result ≤ most_rows }
+    {
+        u64::from(self.left.len()) + u64::from(self.removed.len())
     }
 
     /// The piece with room in both lists. Where there is no memory for it, it comes back as it was.

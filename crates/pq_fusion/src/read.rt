@@ -8,7 +8,6 @@ ghost use Rattle.pq_fusion.specs.Pieces.{tolerant};
 ghost use Rattle.pq_fusion.specs.Nodes.{weight, IsRun, IsWithinLevels};
 
 use crate::Piece;
-use crate::node_piece::NodePiece;
 use crate::root::Root;
 use crate::subtree::{Run, Subtree};
 use retro_base::{NoMemory, Row};
@@ -146,15 +145,5 @@ impl Run {
         ensures { IfOk result (λ piece. piece ≡ tolerant (slice_range self.now.rows.items from to)) }
     {
         Piece::of_rows(alloc, &self.rows[from as usize..to as usize])
-    }
-}
-
-impl NodePiece {
-    /// How many entries the piece has.
-    fn stored(&self) -> u64
-        ensures count { result ≡ length self.now.left + length self.now.removed }
-        ensures few { result ≤ most_rows }
-    {
-        u64::from(self.left_len()) + u64::from(self.removed_len())
     }
 }

@@ -23,19 +23,19 @@ impl Subtree {
         ensures visits { WalksWithin self.now steps.old steps.new }
     {
         steps.tick();
+        if to == self.len() {
+            return match self.node_piece() {
+                None => before,
+                Some(piece) => before.after_piece(bound, piece, steps),
+            };
+        }
         match self.root() {
             Root::Nothing => before,
             Root::Run(run) => {
-                if to as usize == run.rows.len() {
-                    return before.after_piece(bound, &run.piece, steps);
-                }
                 let (first, _) = run.rows.as_slice().split_at(to as usize);
                 before.after_rows(bound, first, steps)
             }
             Root::Pair(pair) => {
-                if to == pair.size {
-                    return before.after_piece(bound, &pair.piece, steps);
-                }
                 let own = pair.earlier.len();
                 if to <= own {
                     return pair.earlier.tally(to, bound, before, steps);
@@ -46,7 +46,7 @@ impl Subtree {
         }
     }
 
-    /// The span of what is left after the first rows, where `before` is that of what is left before them. Of a run it takes all rows.
+    /// The span of what is left after the first rows, where `before` is that of what is left before them. A run it takes whole.
     fn span<L: Ledger>(&self, to: u32, before: Span, steps: &mut Steps<L>) -> Span
         requires { to ≤ length self.now }
         ensures span { LeadsSpan before (take to self.now) result }
@@ -58,12 +58,12 @@ impl Subtree {
             Root::Nothing => before,
             Root::Run(run) => before.with_piece(&run.piece),
             Root::Pair(pair) => {
-                if to == pair.size {
-                    return before.with_piece(&pair.piece);
-                }
                 let own = pair.earlier.len();
                 if to <= own {
                     return pair.earlier.span(to, before, steps);
+                }
+                if to == pair.size {
+                    return before.with_piece(&pair.piece);
                 }
                 let first = pair.earlier.span(own, before, steps);
                 pair.later.span(to - own, first, steps)

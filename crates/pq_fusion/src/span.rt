@@ -1,5 +1,6 @@
 ghost use Rattle.std.specs.List.{AllByRecursion};
 ghost use Rattle.retro_base.specs.declared.row.Entry.{Entry};
+ghost use Rattle.retro_base.specs.EntriesInOrder.{AreInOrder};
 ghost use Rattle.pq_fusion.specs.Tallies.{LiesIn};
 
 use crate::entry_list::EntryList;
@@ -16,6 +17,7 @@ pub(crate) struct Span {
 impl Span {
     /// The span of these entries and of those before.
     fn with(self, entries: &EntryList) -> Span
+        requires { AreInOrder entries.now }
         ensures own { AllByRecursion (LiesIn result) entries.now }
         ensures others { (entry : Entry) → LiesIn self entry → LiesIn result entry }
     {

@@ -1,4 +1,4 @@
-use Rattle.std.proofs.Common.{◌≡◌, arith, ap, [], ◌∷◌, sym, ◌∙◌}
+use Rattle.std.proofs.Common.{◌≡◌, ◌+◌, arith, ap, [], ◌∷◌, sym, ◌∙◌}
 use Rattle.pq_fusion.specs.declared.tally.Tally.{Tally}
 use Rattle.pq_fusion.specs.Tallies.{tally_of}
 use Rattle.pq_fusion.proofs.Carried.{carries_piece}
@@ -14,11 +14,11 @@ returns-in_default-clause-tally c =
     (λ entries. record { left = c.saturating_sub-left.result; reaching = c.min.result } ≡ tally_of c.args.bound entries) (c.args.row ∷ []) own
     (sym (of_taking c.args.row c.requires.of_kind (sym c.added_entry.ensures ∙ c.in_default.is)))
     (λ first same.
-        let left = ap (λ (t : Tally). t.left) same in
-        let reached = ap (λ (t : Tally). t.reaching) same in
-        same_tally _ _ _ _
-        (omega (arith, left, c.saturating_sub-left.ensures, fused_length first own))
-        (omega (arith, left, reached, c.saturating_sub-left.ensures, c.min.ensures, fused_reaching c.args.bound first own tt)))
+    let left = ap (λ (t : Tally). t.left) same in
+    let reached = ap (λ (t : Tally). t.reaching) same in
+    same_tally _ _ _ _
+    (omega (arith, left, c.saturating_sub-left.ensures, fused_length first own))
+    (omega (arith, left, reached, c.saturating_sub-left.ensures, c.min.ensures, fused_reaching c.args.bound first own tt)))
 
 pub returns-clause-tally : goal.returns-clause-tally
 returns-clause-tally c =
@@ -27,8 +27,8 @@ returns-clause-tally c =
     (λ entries. record { left = c.args.self.left + 1; reaching = c.min-2.result + c.reaches.result } ≡ tally_of c.args.bound entries) (c.args.row ∷ []) own
     (sym (of_adding c.args.row c.in-Some.entry (sym c.added_entry.ensures ∙ c.in-Some.is)))
     (λ first same.
-        let left = ap (λ (t : Tally). t.left) same in
-        let reached = ap (λ (t : Tally). t.reaching) same in
-        same_tally _ _ _ _
-        (omega (arith, left, fused_length first own))
-        (omega (arith, left, reached, c.min-2.ensures, c.reaches.ensures.count, fused_reaching c.args.bound first own tt)))
+    let left = ap (λ (t : Tally). t.left) same in
+    let reached = ap (λ (t : Tally). t.reaching) same in
+    same_tally _ _ _ _
+    (omega (arith, left, fused_length first own))
+    (omega (arith, left, reached, c.min-2.ensures, c.reaches.ensures.count, fused_reaching c.args.bound first own tt)))
