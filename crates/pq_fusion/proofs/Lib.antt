@@ -7,6 +7,7 @@ pub mod FromRows
 pub mod Replays
 pub mod Ranges
 pub mod Rooted
+pub mod Pairs
 pub mod Prefixes
 pub mod Stored
 pub mod Listed

@@ -1,48 +1,45 @@
--- Ranges and edits of rows around a middle one.
+-- Ranges of rows in two parts.
 use Rattle.std.proofs.Common.{◌≡◌, ℕ, zero, suc, ◌+◌, ◌-◌, ◌<◌, ◌≤◌, List, [], ◌∷◌, ◌++◌, length, take, drop, refl, ap, ◌∙◌, arith, add-one}
 use Rattle.std.proofs.lemmas.List.{take-append-le, drop-append-le, length-drop, length-take}
 use Rattle.std.proofs.Math.Seq.{take-append-add, drop-append-add}
 use Rattle.std.proofs.lemmas.List.Edits.{insert-append_left, insert-append_right, remove-append_left, remove-append_right}
-use Rattle.std.specs.List.{slice_range, insert, remove}
+use Rattle.std.specs.List.{slice_range, insert, remove, AllByRecursion}
 use Rattle.retro_base.specs.declared.row.Row.{Row}
 
+module _ (before after : List Row) (own : ℕ) (own_is : own ≡ length before) where
+  beyond_is : (k : ℕ) → own ≤ k → k ≡ length before + (k - own)
+  beyond_is k beyond = omega (arith, own_is, beyond)
+
+  pub take-earlier : (to : ℕ) → to ≤ own → take to (before ++ after) ≡ take to before
+  take-earlier to within = take-append-le to before after (omega (arith, own_is, within))
+
+  pub take-later : (to : ℕ) → own ≤ to → take to (before ++ after) ≡ before ++ take (to - own) after
+  take-later to beyond = ap (λ k. take k (before ++ after)) (beyond_is to beyond) ∙ take-append-add before after (to - own)
+
+  pub drop-earlier : (from : ℕ) → from ≤ own → drop from (before ++ after) ≡ drop from before ++ after
+  drop-earlier from within = drop-append-le from before after (omega (arith, own_is, within))
+
+  pub drop-later : (from : ℕ) → own ≤ from → drop from (before ++ after) ≡ drop (from - own) after
+  drop-later from beyond = ap (λ k. drop k (before ++ after)) (beyond_is from beyond) ∙ drop-append-add before after (from - own)
+
+  pub range-earlier : (from to : ℕ) → from ≤ to → to ≤ own → slice_range (before ++ after) from to ≡ slice_range before from to
+  range-earlier from to order within =
+      ap (take (to - from)) (drop-earlier from (omega arith))
+      ∙ take-append-le (to - from) (drop from before) after (omega (arith, own_is, length-drop from before))
+
+  pub range-later : (from to : ℕ) → own ≤ from → slice_range (before ++ after) from to ≡ slice_range after (from - own) (to - own)
+  range-later from to beyond =
+      ap (take (to - from)) (drop-later from beyond)
+      ∙ ap (λ k. take k (drop (from - own) after)) (let same : to - from ≡ to - own - (from - own) = omega (arith, beyond) in same)
+
+  pub range-across : (from to : ℕ) → from ≤ own → own ≤ to → slice_range (before ++ after) from to ≡ drop from before ++ take (to - own) after
+  range-across from to within beyond =
+      ap (take (to - from)) (drop-earlier from within)
+      ∙ ap (λ k. take k (drop from before ++ after)) (let same : to - from ≡ length (drop from before) + (to - own) = omega (arith, own_is, within, beyond, length-drop from before) in same)
+      ∙ take-append-add (drop from before) after (to - own)
+
+-- and edits of rows around a middle one
 module _ (before after : List Row) (middle : Row) where
-  beyond_is : (k : ℕ) → length before < k → k ≡ length before + suc (k - length before - 1)
-  beyond_is k beyond = omega arith
-
-  pub take-before : (to : ℕ) → to ≤ length before → take to (before ++ middle ∷ after) ≡ take to before
-  take-before to within = take-append-le to before (middle ∷ after) within
-
-  pub take-after : (to : ℕ) → length before < to → take to (before ++ middle ∷ after) ≡ before ++ middle ∷ take (to - length before - 1) after
-  take-after to beyond =
-      ap (λ k. take k (before ++ middle ∷ after)) (beyond_is to beyond)
-      ∙ take-append-add before (middle ∷ after) (suc (to - length before - 1))
-
-  pub drop-before : (from : ℕ) → from ≤ length before → drop from (before ++ middle ∷ after) ≡ drop from before ++ middle ∷ after
-  drop-before from within = drop-append-le from before (middle ∷ after) within
-
-  pub drop-after : (from : ℕ) → length before < from → drop from (before ++ middle ∷ after) ≡ drop (from - length before - 1) after
-  drop-after from beyond =
-      ap (λ k. drop k (before ++ middle ∷ after)) (beyond_is from beyond)
-      ∙ drop-append-add before (middle ∷ after) (suc (from - length before - 1))
-
-  pub range-before : (from to : ℕ) → from ≤ to → to ≤ length before → slice_range (before ++ middle ∷ after) from to ≡ slice_range before from to
-  range-before from to order within =
-      ap (take (to - from)) (drop-before from (omega arith))
-      ∙ take-append-le (to - from) (drop from before) (middle ∷ after) (omega (arith, length-drop from before))
-
-  pub range-after : (from to : ℕ) → length before < from → slice_range (before ++ middle ∷ after) from to ≡ slice_range after (from - length before - 1) (to - length before - 1)
-  range-after from to beyond =
-      ap (take (to - from)) (drop-after from beyond)
-      ∙ ap (λ k. take k (drop (from - length before - 1) after)) (let same : to - from ≡ to - length before - 1 - (from - length before - 1) = omega arith in same)
-
-  pub range-around : (from to : ℕ) → from ≤ length before → length before < to
-      → slice_range (before ++ middle ∷ after) from to ≡ drop from before ++ middle ∷ take (to - length before - 1) after
-  range-around from to within beyond =
-      ap (take (to - from)) (drop-before from within)
-      ∙ ap (λ k. take k (drop from before ++ middle ∷ after)) (let same : to - from ≡ length (drop from before) + suc (to - length before - 1) = omega (arith, length-drop from before) in same)
-      ∙ take-append-add (drop from before) (middle ∷ after) (suc (to - length before - 1))
-
   pub insert-before : (place : ℕ) (row : Row) → place ≤ length before → insert (before ++ middle ∷ after) place row ≡ insert before place row ++ middle ∷ after
   insert-before place row within = insert-append_left before (middle ∷ after) place row within
 
@@ -92,3 +89,17 @@ drop_size rows n = length-drop n rows
 
 pub removed_is : (rows : List Row) (place : ℕ) → take place rows ++ drop (place + 1) rows ≡ remove rows place
 removed_is rows place = ap (λ k. take place rows ++ drop k rows) (add-one place)
+
+-- what holds of all rows holds of some of them
+pub all_take : (P : Row → Type 0) (n : ℕ) (rows : List Row) → AllByRecursion P rows → AllByRecursion P (take n rows)
+all_take P zero rows all = tt
+all_take P (suc n) [] all = tt
+all_take P (suc n) (row ∷ rows) all = (all.0, all_take P n rows all.1)
+
+all_drop : (P : Row → Type 0) (n : ℕ) (rows : List Row) → AllByRecursion P rows → AllByRecursion P (drop n rows)
+all_drop P zero rows all = all
+all_drop P (suc n) [] all = tt
+all_drop P (suc n) (row ∷ rows) all = all_drop P n rows all.1
+
+pub all_range : (P : Row → Type 0) (from to : ℕ) (rows : List Row) → AllByRecursion P rows → AllByRecursion P (slice_range rows from to)
+all_range P from to rows all = all_take P (to - from) (drop from rows) (all_drop P from rows all)

@@ -75,3 +75,7 @@ rows_size_from (row ∷ rows) a = omega (arith, row_size row.op row.number a, ro
 
 pub rows_size : (rows : List Row) → size_of (tolerant rows) ≤ length rows
 rows_size rows = omega (arith, rows_size_from rows no_parts)
+
+-- and leave no more
+pub left_size : (rows : List Row) (piece : PieceParts) → piece ≡ tolerant rows → length piece.left ≤ length rows
+left_size rows piece is = omega (arith, ap size_of is, rows_size rows)

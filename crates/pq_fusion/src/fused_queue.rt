@@ -67,12 +67,13 @@ impl FusedQueue {
         self.rows.piece(self.alloc, from, to)
     }
 
-    /// How many entries there are in all pieces of the tree of rows: one for each row that adds and each node above it. So at each
-    /// level at least as many rows count as there are more than nodes above that level.
+    /// How many entries there are in all pieces of the tree of rows: one for each row that adds and each node that it stands below. A run
+    /// has no more than 64 rows, so for any number of levels the rows count at least that often, all but 16 of them for each node
+    /// that a tree has on its last level.
     pub fn stored(&self) -> u64
         ensures least { length (added self.now) ≤ result }
         ensures most { result ≤ 3 * length self.now * digits (length self.now + 1) }
-        ensures levels { (levels : ℕ) → levels * length (added self.now) < result + 2 ^ levels }
+        ensures levels { (levels : ℕ) → levels * length (added self.now) ≤ result + 16 * 2 ^ levels }
         ensures entries { result ≤ 3 * length (added self.now) * digits (length self.now + 1) }
     {
         self.rows.stored()

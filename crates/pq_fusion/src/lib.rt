@@ -61,7 +61,6 @@ mod answer;
 mod bound;
 mod boundary;
 mod difference;
-mod entry_list;
 mod edit;
 mod entry_list;
 mod exchange;

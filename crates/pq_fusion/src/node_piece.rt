@@ -1,4 +1,5 @@
-ghost use Rattle.std.specs.Prelude.{◌≡◌, ◌≤◌, length, IfOk, MatchResult};
+ghost use Rattle.std.specs.Prelude.{◌≡◌, ◌+◌, ◌≤◌, length, IfOk, MatchResult};
+ghost use Rattle.retro_base.specs.EntriesInOrder.{AreInOrder};
 ghost use Rattle.retro_base.specs.Limits.{most_rows};
 ghost use Rattle.pq_fusion.specs.Edits.{Passes, takings};
 ghost use Rattle.pq_fusion.specs.Pieces.{IsPiece, PieceParts, no_parts};
@@ -93,6 +94,7 @@ impl NodePiece {
     /// The entries that are left, the least first.
     pub(crate) fn left(&self) -> &EntryList
         ensures list { result.now ≡ self.now.left }
+        ensures order { AreInOrder self.now.left }
     {
         &self.left
     }
@@ -100,6 +102,7 @@ impl NodePiece {
     /// The entries that were put in and removed again, the least first.
     pub(crate) fn removed(&self) -> &EntryList
         ensures list { result.now ≡ self.now.removed }
+        ensures order { AreInOrder self.now.removed }
     {
         &self.removed
     }
@@ -131,6 +134,14 @@ impl NodePiece {
         ensures { result ≡ length self.now.removed }
     {
         self.removed.len()
+    }
+
+    /// How many entries the piece has.
+    pub(crate) fn stored(&self) -> u64
+        ensures count { result ≡ length self.now.left + length self.now.removed }
+        ensures few { result ≤ most_rows }
+    {
+        u64::from(self.left.len()) + u64::from(self.removed.len())
     }
 
     /// The piece with room in both lists. Where there is no memory for it, it comes back as it was.
