@@ -38,27 +38,6 @@ module _ (before after : List Row) (own : ℕ) (own_is : own ≡ length before) 
       ∙ ap (λ k. take k (drop from before ++ after)) (let same : to - from ≡ length (drop from before) + (to - own) = omega (arith, own_is, within, beyond, length-drop from before) in same)
       ∙ take-append-add (drop from before) after (to - own)
 
--- and edits of rows around a middle one
-module _ (before after : List Row) (middle : Row) where
-  pub insert-before : (place : ℕ) (row : Row) → place ≤ length before → insert (before ++ middle ∷ after) place row ≡ insert before place row ++ middle ∷ after
-  insert-before place row within = insert-append_left before (middle ∷ after) place row within
-
-  one_less : (place : ℕ) → length before < place → place - length before ≡ suc (place - length before - 1)
-  one_less place beyond = omega arith
-
-  pub insert-after : (place : ℕ) (row : Row) → length before < place → insert (before ++ middle ∷ after) place row ≡ before ++ middle ∷ insert after (place - length before - 1) row
-  insert-after place row beyond =
-      insert-append_right before (middle ∷ after) (length before) place row refl (omega arith)
-      ∙ ap (λ k. before ++ insert (middle ∷ after) k row) (one_less place beyond)
-
-  pub remove-before : (place : ℕ) → place < length before → remove (before ++ middle ∷ after) place ≡ remove before place ++ middle ∷ after
-  remove-before place within = remove-append_left before (middle ∷ after) place within
-
-  pub remove-after : (place : ℕ) → length before < place → remove (before ++ middle ∷ after) place ≡ before ++ middle ∷ remove after (place - length before - 1)
-  remove-after place beyond =
-      remove-append_right before (middle ∷ after) (length before) place refl (omega arith)
-      ∙ ap (λ k. before ++ remove (middle ∷ after) k) (one_less place beyond)
-
 -- of no rows there are none
 pub take_none : (n : ℕ) → take {A = Row} n [] ≡ []
 take_none zero = refl

@@ -5,13 +5,14 @@ ghost use Rattle.retro_base.specs.Kind.{kind_of};
 ghost use Rattle.retro_base.specs.Limits.{most_rows};
 ghost use Rattle.retro_base.specs.Timeline.{AreOfKind};
 ghost use Rattle.retro_base.specs.Weights.{added_by};
+ghost use Rattle.pq_fusion.specs.Bounds.{higher, lower};
 ghost use Rattle.pq_fusion.specs.Edits.{DiffersBy, boundary_of};
 ghost use Rattle.pq_fusion.specs.Nodes.{IsBalanced, IsPair, longest_run, pair_rows};
 ghost use Rattle.pq_fusion.specs.Passages.{Cuts, IsCut, IsPut, Puts, bears, spares, with_piece};
 ghost use Rattle.pq_fusion.specs.Pieces.{tolerant};
 
+use crate::boundary::boundary;
 use crate::difference::difference;
-use crate::list_boundary::boundary;
 use crate::node_piece::{NodePiece, RoomyPiece};
 use crate::subtree::{LONGEST_RUN, Link, Pair, Run, Subtree};
 use crate::{Bound, Piece};
@@ -158,12 +159,7 @@ impl Subtree {
     /// Puts a row in at a place. All memory of a node is taken before anything of it changes, so after `NoMemory` all is as before.
     /// It says what passes between what the rows leave and what they do not.
     #[cycle(put)]
-    pub(crate) fn insert(
-        &mut self,
-        alloc: Global,
-        place: u32,
-        row: Row,
-    ) -> Result<Bound, NoMemory>
+    pub(crate) fn insert(&mut self, alloc: Global, place: u32, row: Row) -> Result<Bound, NoMemory>
         requires within { place ≤ length self.old }
         requires room { length self.old < most_rows }
         requires of_kind { kind_of row.op ≡ Pq }
@@ -197,12 +193,7 @@ impl Subtree {
     /// Takes the row at a place out, which is this one. All memory of a node is taken before anything of it changes, so after `NoMemory`
     /// all is as before. It says what passes between what the rows leave and what they do not.
     #[cycle(cut)]
-    pub(crate) fn remove(
-        &mut self,
-        alloc: Global,
-        place: u32,
-        row: Row,
-    ) -> Result<Bound, NoMemory>
+    pub(crate) fn remove(&mut self, alloc: Global, place: u32, row: Row) -> Result<Bound, NoMemory>
         requires there { slice_get self.old place ≡ Some row }
         ensures ok { OnOk result (self.new ≡ remove self.old place) }
         ensures err { OnErr result (self.new ≡ self.old) }
@@ -296,7 +287,7 @@ impl Pair {
             return Ok(passed.higher(boundary));
         }
         let passed = self.later.insert(alloc, place - before, row)?;
-        Ok(Bound::of_row(row).higher(passed.lower(boundary)))
+        Ok(from_later(Bound::of_row(row), passed, boundary))
     }
 
     /// Takes the row at a place out of its side, and says what passes in the pair, whose boundary this is.
@@ -320,7 +311,7 @@ impl Pair {
             return Ok(passed.higher(boundary));
         }
         let passed = self.later.remove(alloc, place - before, row)?;
-        Ok(Bound::of_row(row).higher(passed.lower(boundary)))
+        Ok(from_later(Bound::of_row(row), passed, boundary))
     }
 }
 
@@ -400,4 +391,11 @@ fn take_apart(alloc: Global, mut pair: Box<Pair>) -> Result<Opened, Box<Pair>>
             Err(pair)
         }
     }
+}
+
+/// What passes in a pair with this boundary where `passed` does in its later side, by an edit of a row with the bound `own`.
+fn from_later(own: Bound, passed: Bound, boundary: Bound) -> Bound
+    ensures { result ≡ higher own (lower passed boundary) }
+{
+    own.higher(passed.lower(boundary))
 }

@@ -80,7 +80,7 @@ impl FusedQueue {
     }
 
     /// The answer to a question about the state at a place, after so many rows. No piece is made, so it takes no memory. It visits at most 25
-    /// nodes and entries for each of the 64 digits of a key and each pair of digits of one more than the length.
+    /// nodes, rows and entries for each of the 64 digits of a key and each pair of digits of one more than the length.
     pub fn ask_past<L: Ledger>(
         &self,
         place: u32,

@@ -4,7 +4,7 @@ ghost use Rattle.retro_base.specs.Kind.{kind_of};
 ghost use Rattle.retro_base.specs.Limits.{most_rows};
 ghost use Rattle.retro_base.specs.Timeline.{AreOfKind};
 ghost use Rattle.retro_base.specs.State.{with_entry};
-ghost use Rattle.pq_fusion.specs.Pieces.{after_row, after_take, size_of, tolerant};
+ghost use Rattle.pq_fusion.specs.Pieces.{after_row, after_take, no_parts, size_of, tolerant};
 
 use crate::Piece;
 use crate::exchange::{make_room, put_in};
@@ -18,11 +18,25 @@ impl Piece {
         requires few { length rows.now ≤ most_rows }
         ensures { IfOk result (λ piece. piece ≡ tolerant rows.now) }
     {
-        let mut piece = Piece::empty(alloc);
+        let mut piece = Piece::with_capacity(alloc, rows.len())?;
         for row in rows {
             piece = piece.with_row(*row)?;
         }
         Ok(piece)
+    }
+
+    /// What no rows come to, with memory for so many entries in each list.
+    fn with_capacity(alloc: Global, entries: usize) -> Result<Piece, NoMemory>
+        ensures { IfOk result (λ piece. piece ≡ no_parts) }
+    {
+        let left = Vec::with_capacity(alloc, entries)?;
+        let removed = Vec::with_capacity(alloc, entries)?;
+        Ok(Piece {
+            alloc,
+            left,
+            removed,
+            unmet: 0,
+        })
     }
 
     /// The piece with one row more behind its rows.

@@ -54,7 +54,7 @@ subtree::Pair::remove_below-returns-clause-passed t c =
     let row = c.args.row in
     let x = c.in_ok-passed-2.passed in
     subst (λ y. DiffersBy (added_by row) y (tolerant (remove (pair_rows pair) c.args.place)) (tolerant (pair_rows pair)))
-    (sym (c.higher-2.ensures ∙ ap (higher c.of_row.result) c.lower.ensures ∙ ap (λ o. higher o (lower x c.args.boundary)) c.of_row.ensures))
+    (sym (c.from_later.ensures ∙ ap (λ o. higher o (lower x c.args.boundary)) c.of_row.ensures))
     (cut_later row pair.earlier pair.later c.args.place x c.args.boundary c.requires.boundary
     (omega (arith, c.if-place-before.false, c.len-before.ensures.count))
     (subst (λ k. DiffersBy (added_by row) x (tolerant (remove pair.later (c.args.place - k))) (tolerant pair.later)) c.len-before.ensures.count c.in_ok-passed-2.ensures.passed))

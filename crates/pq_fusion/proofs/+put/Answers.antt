@@ -45,7 +45,7 @@ subtree::Pair::insert_below-returns-clause-passed t c =
     let row = c.args.row in
     let x = c.in_ok-passed-2.passed in
     subst (λ y. DiffersBy (added_by row) y (tolerant (pair_rows pair)) (tolerant (insert (pair_rows pair) c.args.place row)))
-    (sym (c.higher-2.ensures ∙ ap (higher c.of_row.result) c.lower.ensures ∙ ap (λ o. higher o (lower x c.args.boundary)) c.of_row.ensures))
+    (sym (c.from_later.ensures ∙ ap (λ o. higher o (lower x c.args.boundary)) c.of_row.ensures))
     (put_later row pair.earlier pair.later c.args.place x c.args.boundary c.requires.boundary
     (omega (arith, c.if-place-before.false, c.len-before.ensures.count))
     (subst (λ k. DiffersBy (added_by row) x (tolerant pair.later) (tolerant (insert pair.later (c.args.place - k) row))) c.len-before.ensures.count c.in_ok-passed-2.ensures.passed))
