@@ -7,7 +7,7 @@ use Rattle.pq_fusion.specs.declared.subtree.Pair.{Pair}
 use Rattle.pq_fusion.specs.declared.subtree.Run.{Run}
 use Rattle.pq_fusion.specs.Nodes.{IsRunOf, IsPairOf}
 use Rattle.pq_fusion.specs.Pieces.{tolerant}
-use Rattle.pq_fusion.proofs.Ranges.{take-earlier, take-later, drop-earlier, drop-later, range-earlier, range-later, range-across}
+use Rattle.pq_fusion.proofs.Ranges.{take-later, drop-earlier, drop-later, range-later, range-across}
 
 module _ (rows : List Row) (run : Run) (root : IsRunOf rows run) where
   pub run_piece_is : run.piece ≡ tolerant rows
@@ -40,9 +40,6 @@ module _ (rows : List Row) (pair : Pair) (root : IsPairOf rows pair) where
 
   -- the first rows, the last ones, and those between two places
   module _ (own : ℕ) (own_is : own ≡ length pair.earlier) where
-    pub take_earlier : (to : ℕ) → to ≤ own → take to rows ≡ take to pair.earlier
-    take_earlier to within = ap (take to) root.rows_are ∙ take-earlier pair.earlier pair.later own own_is to within
-
     pub take_later : (to : ℕ) → own ≤ to → take to rows ≡ pair.earlier ++ take (to - own) pair.later
     take_later to beyond = ap (take to) root.rows_are ∙ take-later pair.earlier pair.later own own_is to beyond
 
@@ -51,10 +48,6 @@ module _ (rows : List Row) (pair : Pair) (root : IsPairOf rows pair) where
 
     pub drop_later : (from : ℕ) → own ≤ from → drop from rows ≡ drop (from - own) pair.later
     drop_later from beyond = ap (drop from) root.rows_are ∙ drop-later pair.earlier pair.later own own_is from beyond
-
-    pub range_earlier : (from to : ℕ) → from ≤ to → to ≤ own → slice_range rows from to ≡ slice_range pair.earlier from to
-    range_earlier from to order within =
-        ap (λ l. slice_range l from to) root.rows_are ∙ range-earlier pair.earlier pair.later own own_is from to order within
 
     pub range_later : (from to : ℕ) → own ≤ from → slice_range rows from to ≡ slice_range pair.later (from - own) (to - own)
     range_later from to beyond = ap (λ l. slice_range l from to) root.rows_are ∙ range-later pair.earlier pair.later own own_is from to beyond

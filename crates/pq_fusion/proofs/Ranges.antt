@@ -1,17 +1,13 @@
 -- Ranges of rows in two parts.
-use Rattle.std.proofs.Common.{◌≡◌, ℕ, zero, suc, ◌+◌, ◌-◌, ◌<◌, ◌≤◌, List, [], ◌∷◌, ◌++◌, length, take, drop, refl, ap, ◌∙◌, arith, add-one}
-use Rattle.std.proofs.lemmas.List.{take-append-le, drop-append-le, length-drop, length-take}
+use Rattle.std.proofs.Common.{◌≡◌, ℕ, zero, suc, ◌+◌, ◌-◌, ◌≤◌, List, [], ◌∷◌, ◌++◌, length, take, drop, refl, ap, ◌∙◌, arith, add-one}
+use Rattle.std.proofs.lemmas.List.{drop-append-le, length-drop, length-take}
 use Rattle.std.proofs.Math.Seq.{take-append-add, drop-append-add}
-use Rattle.std.proofs.lemmas.List.Edits.{insert-append_left, insert-append_right, remove-append_left, remove-append_right}
-use Rattle.std.specs.List.{slice_range, insert, remove, AllByRecursion}
+use Rattle.std.specs.List.{slice_range, remove}
 use Rattle.retro_base.specs.declared.row.Row.{Row}
 
 module _ (before after : List Row) (own : ℕ) (own_is : own ≡ length before) where
   beyond_is : (k : ℕ) → own ≤ k → k ≡ length before + (k - own)
   beyond_is k beyond = omega (arith, own_is, beyond)
-
-  pub take-earlier : (to : ℕ) → to ≤ own → take to (before ++ after) ≡ take to before
-  take-earlier to within = take-append-le to before after (omega (arith, own_is, within))
 
   pub take-later : (to : ℕ) → own ≤ to → take to (before ++ after) ≡ before ++ take (to - own) after
   take-later to beyond = ap (λ k. take k (before ++ after)) (beyond_is to beyond) ∙ take-append-add before after (to - own)
@@ -21,11 +17,6 @@ module _ (before after : List Row) (own : ℕ) (own_is : own ≡ length before) 
 
   pub drop-later : (from : ℕ) → own ≤ from → drop from (before ++ after) ≡ drop (from - own) after
   drop-later from beyond = ap (λ k. drop k (before ++ after)) (beyond_is from beyond) ∙ drop-append-add before after (from - own)
-
-  pub range-earlier : (from to : ℕ) → from ≤ to → to ≤ own → slice_range (before ++ after) from to ≡ slice_range before from to
-  range-earlier from to order within =
-      ap (take (to - from)) (drop-earlier from (omega arith))
-      ∙ take-append-le (to - from) (drop from before) after (omega (arith, own_is, length-drop from before))
 
   pub range-later : (from to : ℕ) → own ≤ from → slice_range (before ++ after) from to ≡ slice_range after (from - own) (to - own)
   range-later from to beyond =
@@ -43,22 +34,11 @@ pub take_none : (n : ℕ) → take {A = Row} n [] ≡ []
 take_none zero = refl
 take_none (suc n) = refl
 
-pub drop_none : (n : ℕ) → drop {A = Row} n [] ≡ []
-drop_none zero = refl
-drop_none (suc n) = refl
-
-pub range_none : (from to : ℕ) → slice_range {X = Row} [] from to ≡ []
-range_none from to = ap (take (to - from)) (drop_none from) ∙ take_none (to - from)
-
 -- all of them
 pub take_all : (rows : List Row) (n : ℕ) → n ≡ length rows → take n rows ≡ rows
 take_all [] n all = rw all refl
 take_all (row ∷ rows) zero all = absurd (omega (arith, all))
 take_all (row ∷ rows) (suc n) all = ap (λ l. row ∷ l) (take_all rows n (omega (arith, all)))
-
--- the first ones
-pub range_start : (rows : List Row) (to : ℕ) → slice_range rows 0 to ≡ take to rows
-range_start rows to = ap (λ n. take n rows) (let same : to - 0 ≡ to = omega arith in same)
 
 pub take_size : (rows : List Row) (n : ℕ) → length (take n rows) ≤ n
 take_size rows n = omega (arith, length-take n rows)
@@ -68,17 +48,3 @@ drop_size rows n = length-drop n rows
 
 pub removed_is : (rows : List Row) (place : ℕ) → take place rows ++ drop (place + 1) rows ≡ remove rows place
 removed_is rows place = ap (λ k. take place rows ++ drop k rows) (add-one place)
-
--- what holds of all rows holds of some of them
-pub all_take : (P : Row → Type 0) (n : ℕ) (rows : List Row) → AllByRecursion P rows → AllByRecursion P (take n rows)
-all_take P zero rows all = tt
-all_take P (suc n) [] all = tt
-all_take P (suc n) (row ∷ rows) all = (all.0, all_take P n rows all.1)
-
-all_drop : (P : Row → Type 0) (n : ℕ) (rows : List Row) → AllByRecursion P rows → AllByRecursion P (drop n rows)
-all_drop P zero rows all = all
-all_drop P (suc n) [] all = tt
-all_drop P (suc n) (row ∷ rows) all = all_drop P n rows all.1
-
-pub all_range : (P : Row → Type 0) (from to : ℕ) (rows : List Row) → AllByRecursion P rows → AllByRecursion P (slice_range rows from to)
-all_range P from to rows all = all_take P (to - from) (drop from rows) (all_drop P from rows all)

@@ -17,7 +17,6 @@ use Rattle.retro_base.specs.Timeline.{AreOfKind, IsReplayable}
 use Rattle.retro_base.specs.Weights.{added_as, added_by}
 use Rattle.pq_fusion.specs.Pieces.{PieceParts, no_parts, after_take, after_row, after_rows, tolerant}
 use Rattle.pq_fusion.proofs.Fused.{parts}
-use Rattle.pq_fusion.proofs.Ranges.{all_take}
 
 -- a row of a priority queue adds an entry or takes one
 pub adds_or_takes : (op : Op) → kind_of op ≡ Pq → ((k : ℤ) × (op ≡ Ins k)) ⊎ (op ≡ DelMin)
@@ -152,6 +151,11 @@ adds_where_some DelMin number entry some = absurd (cc)
 pub of_adding : (row : Row) (entry : Entry) → added_by row ≡ Some entry → tolerant (row ∷ []) ≡ parts (entry ∷ []) [] 0
 unfolding after_rows
 of_adding row entry some = adds_where_some row.op row.number entry some
+
+all_take : (P : Row → Type 0) (n : ℕ) (rows : List Row) → AllByRecursion P rows → AllByRecursion P (take n rows)
+all_take P zero rows all = tt
+all_take P (suc n) [] all = tt
+all_take P (suc n) (row ∷ rows) all = (all.0, all_take P n rows all.1)
 
 -- the state at a place is what the rows before it leave
 pub state_is_left : (rows : List Row) (place : ℕ) → IsReplayable Pq rows → state_at Pq rows place ≡ entries (tolerant (take place rows)).left

@@ -101,9 +101,6 @@ after_one most start next end one rest = record { none_lost = omega (arith, one,
 pub no_more_than : (most more start end : ℕ) → most ≤ more → VisitsUpTo most start end → VisitsUpTo more start end
 no_more_than most more start end less visits = record { none_lost = visits.none_lost; few = omega (arith, visits.few, less) }
 
-pub one_visit : (start end : ℕ) → end ≡ start + 1 → VisitsUpTo 1 start end
-one_visit start end one = record { none_lost = omega (arith, one); few = omega (arith, one) }
-
 -- a level more of a walk
 pub level_left : (levels d less more start next end : ℕ) → 1 ≤ d → less ≤ more → next ≡ start + 1
     → VisitsUpTo ((levels + 1) * d + less) next end → VisitsUpTo ((suc levels + 1) * d + more) start end

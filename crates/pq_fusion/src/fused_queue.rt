@@ -67,9 +67,9 @@ impl FusedQueue {
         self.rows.piece(self.alloc, from, to)
     }
 
-    /// How many entries there are in all pieces of the tree of rows: one for each row that adds and each node that it stands below. A run
-    /// has no more than 64 rows, so for any number of levels the rows count at least that often, all but 16 of them for each node
-    /// that a tree has on its last level.
+    /// How many entries there are in all pieces of the tree of rows: one for each row that adds and each run or pair that it stands in. A
+    /// run has no more than 64 rows, so the tree has many levels: whatever number of them is named, each row that adds counts as often, but
+    /// for at most 16 entries times 2 to the power of that number.
     pub fn stored(&self) -> u64
         ensures least { length (added self.now) ≤ result }
         ensures most { result ≤ 3 * length self.now * digits (length self.now + 1) }
