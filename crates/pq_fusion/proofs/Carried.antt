@@ -1,14 +1,12 @@
--- What rows carry from the entries that are left before them to those that are left after them: by parts, and by the piece of a node.
-use Rattle.std.proofs.Common.{◌≡◌, ℕ, ◌-◌, ◌<◌, List, [], ◌∷◌, ◌++◌, length, take, ap, sym, ◌∙◌, subst}
+-- What rows carry from the entries that are left before them to those that are left after them: by parts, and by what they come to.
+use Rattle.std.proofs.Common.{◌≡◌, ℕ, suc, ◌+◌, ◌-◌, ◌<◌, ◌≤◌, List, [], ◌∷◌, ◌++◌, length, get_or, take, ap, sym, ◌∙◌, subst, add-one}
+use Rattle.std.proofs.Math.Seq.{take-suc}
 use Rattle.retro_base.specs.declared.row.Entry.{Entry}
 use Rattle.retro_base.specs.declared.row.Row.{Row}
-use Rattle.pq_fusion.specs.declared.subtree.Node.{Node}
-use Rattle.pq_fusion.specs.Nodes.{IsRoot}
 use Rattle.pq_fusion.specs.Pieces.{PieceParts, after_rows, tolerant, fuse}
 use Rattle.pq_fusion.specs.Tallies.{Carries}
 use Rattle.pq_fusion.proofs.FromRows.{in_parts, rising_rows, fuse_tolerant, no_more}
-use Rattle.pq_fusion.proofs.Ranges.{take-after, take_all, take_none}
-use Rattle.pq_fusion.proofs.Rooted.{size_is, piece_is}
+use Rattle.pq_fusion.proofs.Ranges.{take-later, take_all, take_none}
 
 -- no rows carry what there is
 pub carries_none : (Before : List Entry → Type 0) (rows : List Row) (to : ℕ) → rows ≡ [] → Carries Before (take to rows) Before
@@ -26,24 +24,24 @@ pub carries_piece : (Before After : List Entry → Type 0) (rows : List Row) (pi
 carries_piece Before After rows piece is leads first rising before =
     subst (λ p. After p.left) (ap (fuse first) is ∙ fuse_tolerant rows first rising) (leads first before)
 
-module _ (rows : List Row) (node : Node) (root : IsRoot rows node) (to : ℕ) where
-  -- all rows of a node by its piece
-  pub carries_whole : (Before After : List Entry → Type 0) → to ≡ node.size
-      → ((first : PieceParts) → Before first.left → After (fuse first node.piece).left) → Carries Before (take to rows) After
-  carries_whole Before After all leads =
-      carries_piece Before After (take to rows) node.piece
-      (piece_is rows node root ∙ ap tolerant (sym (take_all rows to (all ∙ size_is rows node root)))) leads
+pub carries_whole : (Before After : List Entry → Type 0) (rows : List Row) (to : ℕ) (piece : PieceParts) → to ≡ length rows → piece ≡ tolerant rows
+    → ((first : PieceParts) → Before first.left → After (fuse first piece).left) → Carries Before (take to rows) After
+carries_whole Before After rows to piece all is leads =
+    carries_piece Before After (take to rows) piece (is ∙ ap tolerant (sym (take_all rows to all))) leads
 
-  -- rows of both sides: those of the left, the node's own, and some of the right
-  pub carries_sides : (Before First Second After : List Entry → Type 0) (own : ℕ) → own ≡ length node.left → own < to
-      → Carries Before (take own node.left) First → Carries First (node.row ∷ []) Second → Carries Second (take (to - own - 1) node.right) After
-      → Carries Before (take to rows) After
-  carries_sides Before First Second After own is beyond left here right =
-      let rest = take (to - own - 1) node.right in
-      let rows_are : node.left ++ node.row ∷ rest ≡ take to rows =
-      ap (λ n. node.left ++ node.row ∷ take (to - n - 1) node.right) is
-      ∙ sym (ap (take to) root.rows_are ∙ take-after node.left node.right node.row to (subst (λ n. n < to) is beyond)) in
-      subst (λ xs. Carries Before xs After) rows_are
-      (carries_both Before First After node.left (node.row ∷ rest)
-      (subst (λ xs. Carries Before xs First) (take_all node.left own is) left)
-      (carries_both First Second After (node.row ∷ []) rest here right))
+-- rows of two parts: all of the first, and some of the second
+pub carries_sides : (Before First After : List Entry → Type 0) (rows earlier later : List Row) (to own : ℕ) → rows ≡ earlier ++ later → own ≡ length earlier → own ≤ to
+    → Carries Before (take own earlier) First → Carries First (take (to - own) later) After → Carries Before (take to rows) After
+carries_sides Before First After rows earlier later to own rows_are own_is beyond first second =
+    subst (λ xs. Carries Before xs After) (sym (ap (take to) rows_are ∙ take-later earlier later own own_is to beyond))
+    (carries_both Before First After earlier (take (to - own) later) (subst (λ xs. Carries Before xs First) (take_all earlier own own_is) first) second)
+
+-- rows gone through one by one
+pub carries_more : (Before Between After : List Entry → Type 0) (rows : List Row) (n : ℕ) (d : Row) → n < length rows → Carries Before (take n rows) Between
+    → Carries Between (get_or rows n d ∷ []) After → Carries Before (take (n + 1) rows) After
+carries_more Before Between After rows n d within first second =
+    subst (λ xs. Carries Before xs After) (sym (ap (λ k. take k rows) (add-one n) ∙ take-suc rows n d within))
+    (carries_both Before Between After (take n rows) (get_or rows n d ∷ []) first second)
+
+pub carries_all : (Before After : List Entry → Type 0) (rows : List Row) (n : ℕ) → n ≡ length rows → Carries Before (take n rows) After → Carries Before rows After
+carries_all Before After rows n all carries = subst (λ xs. Carries Before xs After) (take_all rows n all) carries

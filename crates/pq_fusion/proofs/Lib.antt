@@ -7,9 +7,9 @@ pub mod FromRows
 pub mod Replays
 pub mod Ranges
 pub mod Rooted
+pub mod Pairs
 pub mod Prefixes
 pub mod Stored
-pub mod Grown
 pub mod Listed
 pub mod Carried
 pub mod Tallied
@@ -19,9 +19,12 @@ pub mod Bounded
 pub mod Parted
 pub mod Passed
 pub mod Ranked
+pub mod Cuts
+pub mod Exchanged
 pub mod Swapped
 pub mod Compared
 pub mod Edged
 pub mod Edited
 pub mod Parts
 pub mod Searched
+pub mod RowByRow

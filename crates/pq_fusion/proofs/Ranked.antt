@@ -25,11 +25,6 @@ low_top Low = refl
 low_top (At e) = refl
 low_top Top = refl
 
-pub at_get : (xs : List Entry) (n : ℕ) (d : Entry) → n < length xs → at_rank xs n ≡ At (get_or xs n d)
-at_get [] n d within = absurd (omega arith)
-at_get (x ∷ xs) zero d within = refl
-at_get (x ∷ xs) (suc n) d within = at_get xs n d (omega arith)
-
 pub at_some : (xs : List Entry) (n : ℕ) (x : Entry) → slice_get xs n ≡ Some x → At x ≡ at_rank xs n
 at_some [] n x there = absurd (cc)
 at_some (y ∷ ys) zero x there = let same : y ≡ x = cc in ap At (sym same)
@@ -39,10 +34,6 @@ pub at_none : (xs : List Entry) (n : ℕ) → slice_get xs n ≡ None → Top �
 at_none [] n there = refl
 at_none (y ∷ ys) zero there = absurd (cc)
 at_none (y ∷ ys) (suc n) there = at_none ys n there
-
-pub last_get : (xs : List Entry) (n : ℕ) (d : Entry) → 0 < n → n ≤ length xs → last_of xs n ≡ At (get_or xs (n - 1) d)
-last_get xs zero d some within = absurd (omega arith)
-last_get xs (suc n) d some within = at_get xs n d (omega arith) ∙ ap (λ k. At (get_or xs k d)) (let same : n ≡ suc n - 1 = omega arith in same)
 
 pub at_end : (xs : List Entry) (n : ℕ) → length xs ≤ n → at_rank xs n ≡ Top
 at_end [] n over = refl
@@ -233,37 +224,6 @@ last_of_cut (suc r) (x ∷ xs) (y ∷ ys) (suc i) (suc j) sum first second parts
           }))
     ] refl
 
--- with one entry more
-rank_rises : (xs : List Entry) (n : ℕ) → AreInOrder xs → is_below (at_rank xs (suc n)) (at_rank xs n) ≡ false
-rank_rises [] n order = refl
-rank_rises (x ∷ xs) zero order = rank_above x xs zero order.0
-rank_rises (x ∷ xs) (suc n) order = rank_rises xs n order.1
-
-pub rank_more : (e : Entry) (xs : List Entry) (n : ℕ) → AreInOrder xs → at_rank (with_entry e xs) n ≡ lower (higher (At e) (last_of xs n)) (at_rank xs n)
-rank_more e [] zero order = refl
-rank_more e [] (suc n) order = refl
-rank_more e (x ∷ xs) zero order = elim (comes_before e x) as (λ t. comes_before e x ≡ t → at_rank (cond t (e ∷ x ∷ xs) (x ∷ with_entry e xs)) 0 ≡ lower (At e) (At x)) [
-  | true ↦ λ before. sym (lower_first (At e) (At x) (before_one_way e x before))
-  | false ↦ λ after. sym (lower_second (At e) (At x) after)
-] refl
-rank_more e (x ∷ xs) (suc zero) order = elim (comes_before e x) as (λ t. comes_before e x ≡ t → at_rank (cond t (e ∷ x ∷ xs) (x ∷ with_entry e xs)) 1 ≡ lower (higher (At e) (At x)) (at_rank xs 0)) [
-  | true ↦ λ before.
-      sym (ap (λ b. lower b (at_rank xs 0)) (higher_second (At e) (At x) (before_one_way e x before)) ∙ lower_first (At x) (at_rank xs 0) (rank_above x xs zero order.0))
-  | false ↦ λ after. rank_more e xs zero order.1 ∙ ap (λ b. lower b (at_rank xs 0)) (sym (higher_first (At e) (At x) after))
-] refl
-rank_more e (x ∷ xs) (suc (suc n)) order = elim (comes_before e x) as
-    (λ t. comes_before e x ≡ t → at_rank (cond t (e ∷ x ∷ xs) (x ∷ with_entry e xs)) (suc (suc n)) ≡ lower (higher (At e) (at_rank xs n)) (at_rank xs (suc n))) [
-      | true ↦ λ before.
-          let above = further (At e) (At x) (at_rank xs n) (before_one_way e x before) (rank_above x xs n order.0) in
-          sym (ap (λ b. lower b (at_rank xs (suc n))) (higher_second (At e) (at_rank xs n) above) ∙ lower_first (at_rank xs n) (at_rank xs (suc n)) (rank_rises xs n order.1))
-      | false ↦ λ after. rank_more e xs (suc n) order.1
-    ] refl
-
-pub rank_by : (e : Entry) (xs : List Entry) (n : ℕ) (last next : Bound) → AreInOrder xs → last ≡ last_of xs n → next ≡ at_rank xs n
-    → lower (higher (At e) last) next ≡ at_rank (with_entry e xs) n
-rank_by e xs n last next order last_is next_is =
-    ap (λ b. lower (higher (At e) b) next) last_is ∙ ap (lower (higher (At e) (last_of xs n))) next_is ∙ sym (rank_more e xs n order)
-
 -- a search by halves for the parts: those up to the lower place are of the first, and those from the upper one on are not
 pub record IsBetween (xs ys : List Entry) (rank low high : ℕ) : Type 0 where
   pub order : low ≤ high
@@ -298,34 +258,3 @@ between_starts xs ys rank low high within low_is high_is = record {
   lesser = lowest xs ys rank low low_is;
   greater = highest xs ys rank high within high_is;
 }
-
-pub between_lower : (xs ys : List Entry) (rank low high middle : ℕ) (d e : Entry) → IsBetween xs ys rank low high → low ≤ middle → middle < high
-    → comes_before (get_or ys (rank - middle - 1) d) (get_or xs middle e) ≡ true → IsBetween xs ys rank low middle
-between_lower xs ys rank low high middle d e between from to before =
-    let place : rank - middle ≡ suc (rank - middle - 1) = omega (arith, between.within) in
-    record {
-      order = from;
-      first = omega (arith, between.first);
-      second = between.second;
-      within = omega (arith, between.within);
-      lesser = between.lesser;
-      greater = ap (λ n. is_below (last_of ys n) (at_rank xs middle)) place
-          ∙ ap (λ b. is_below b (at_rank xs middle)) (at_get ys (rank - middle - 1) d (omega (arith, between.second, between.within)))
-          ∙ ap (is_below (At (get_or ys (rank - middle - 1) d))) (at_get xs middle e (omega (arith, between.first))) ∙ before;
-    }
-
-pub between_upper : (xs ys : List Entry) (rank low high middle : ℕ) (d e : Entry) → IsBetween xs ys rank low high → low ≤ middle → middle < high
-    → comes_before (get_or ys (rank - middle - 1) d) (get_or xs middle e) ≡ false → IsBetween xs ys rank (middle + 1) high
-between_upper xs ys rank low high middle d e between from to after =
-    let place : rank - (middle + 1) ≡ rank - middle - 1 = omega arith in
-    let last : last_of xs (middle + 1) ≡ at_rank xs middle = ap (last_of xs) (add-one middle) in
-    record {
-      order = omega arith;
-      first = between.first;
-      second = omega (arith, between.second);
-      within = between.within;
-      lesser = ap (is_below (at_rank ys (rank - (middle + 1)))) (last ∙ at_get xs middle e (omega (arith, between.first)))
-          ∙ ap (λ n. is_below (at_rank ys n) (At (get_or xs middle e))) place
-          ∙ ap (λ b. is_below b (At (get_or xs middle e))) (at_get ys (rank - middle - 1) d (omega (arith, between.second, between.within))) ∙ after;
-      greater = between.greater;
-    }

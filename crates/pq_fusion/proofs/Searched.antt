@@ -7,11 +7,11 @@ use Rattle.retro_base.specs.EntriesInOrder.{AreInOrder}
 use Rattle.retro_base.specs.State.{comes_before}
 use Rattle.retro_base.specs.lemmas.EntrySteps.{partitioned}
 use Rattle.retro_base.specs.declared.row.Row.{Row}
-use Rattle.pq_fusion.specs.declared.subtree.Node.{Node}
-use Rattle.pq_fusion.specs.Nodes.{weight, IsRoot, IsWithinLevels}
-use Rattle.pq_fusion.specs.Pieces.{size_of, tolerant}
-use Rattle.pq_fusion.specs.Searches.{VisitsUpTo}
-use Rattle.pq_fusion.proofs.Rooted.{sizes, piece_is}
+use Rattle.pq_fusion.specs.declared.subtree.Pair.{Pair}
+use Rattle.pq_fusion.specs.Nodes.{weight, longest_run, IsPairOf, IsWithinLevels}
+use Rattle.pq_fusion.specs.Pieces.{PieceParts, size_of, tolerant}
+use Rattle.pq_fusion.specs.Searches.{VisitsUpTo, run_of}
+use Rattle.pq_fusion.proofs.Pairs.{sizes, some_earlier, some_later}
 use Rattle.pq_fusion.proofs.Sizes.{rows_size}
 use Rattle.pq_fusion.specs.Tallies.{reaching}
 use Rattle.pq_fusion.proofs.Tallied.{reaching_counts}
@@ -101,53 +101,86 @@ after_one most start next end one rest = record { none_lost = omega (arith, one,
 pub no_more_than : (most more start end : ℕ) → most ≤ more → VisitsUpTo most start end → VisitsUpTo more start end
 no_more_than most more start end less visits = record { none_lost = visits.none_lost; few = omega (arith, visits.few, less) }
 
-pub one_visit : (start end : ℕ) → end ≡ start + 1 → VisitsUpTo 1 start end
-one_visit start end one = record { none_lost = omega (arith, one); few = omega (arith, one) }
-
 -- a level more of a walk
-pub level_left : (levels d start next end : ℕ) → 1 ≤ d → next ≡ start + 1 → VisitsUpTo ((levels + 1) * d) next end → VisitsUpTo ((suc levels + 1) * d) start end
-level_left levels d start next end some one rest = record { none_lost = omega (arith, one, rest.none_lost); few = omega (arith, one, rest.few, some) }
-
-pub level_right : (levels whole row d start first second third end : ℕ) → 1 + whole + row ≤ d → first ≡ start + 1 → VisitsUpTo whole first second → VisitsUpTo row second third
-    → VisitsUpTo ((levels + 1) * d) third end → VisitsUpTo ((suc levels + 1) * d) start end
-level_right levels whole row d start first second third end sum one left own right = record {
-  none_lost = omega (arith, one, left.none_lost, own.none_lost, right.none_lost);
-  few = omega (arith, one, left.few, own.few, right.few, sum);
+pub level_left : (levels d less more start next end : ℕ) → 1 ≤ d → less ≤ more → next ≡ start + 1
+    → VisitsUpTo ((levels + 1) * d + less) next end → VisitsUpTo ((suc levels + 1) * d + more) start end
+level_left levels d less more start next end some grows one rest = record {
+  none_lost = omega (arith, one, rest.none_lost);
+  few = omega (arith, one, rest.few, some, grows);
 }
 
--- walks at a node
-module _ (rows : List Row) (node : Node) (root : IsRoot rows node) where
-  side_left : 4 * weight node.left ≤ 3 * weight rows
-  side_left = omega (arith, sizes rows node root, root.sound.balanced.left_light)
+pub level_right : (levels whole d less more start first second end : ℕ) → 1 + whole ≤ d → less ≤ more → first ≡ start + 1 → VisitsUpTo whole first second
+    → VisitsUpTo ((levels + 1) * d + less) second end → VisitsUpTo ((suc levels + 1) * d + more) start end
+level_right levels whole d less more start first second end sum grows one left right = record {
+  none_lost = omega (arith, one, left.none_lost, right.none_lost);
+  few = omega (arith, one, left.few, right.few, sum, grows);
+}
 
-  side_right : 4 * weight node.right ≤ 3 * weight rows
-  side_right = omega (arith, sizes rows node root, root.sound.balanced.right_light)
+-- the lists of a piece are no longer than its rows
+pub piece_few : (rows : List Row) (piece : PieceParts) → piece ≡ tolerant rows → (k : ℕ) → length rows < 2 ^ k → (length piece.left < 2 ^ k) × (length piece.removed < 2 ^ k)
+piece_few rows piece is k small =
+    let size : size_of piece ≡ size_of (tolerant rows) = ap size_of is in
+    (omega (arith, size, rows_size rows, small), omega (arith, size, rows_size rows, small))
 
-  pub piece_few : (k : ℕ) → length rows < 2 ^ k → (length node.piece.left < 2 ^ k) × (length node.piece.removed < 2 ^ k)
-  piece_few k small =
-      let size : size_of node.piece ≡ size_of (tolerant rows) = ap size_of (piece_is rows node root) in
-      (omega (arith, size, rows_size rows, small), omega (arith, size, rows_size rows, small))
+-- walks at a pair
+module _ (rows : List Row) (pair : Pair) (root : IsPairOf rows pair) where
+  side_earlier : 4 * weight pair.earlier ≤ 3 * weight rows
+  side_earlier = omega (arith, sizes rows pair root, root.sound.balanced.earlier_light)
 
-  pub walk_left : (d levels start next end : ℕ) → 1 ≤ d → IsWithinLevels (weight rows) levels → next ≡ start + 1
-      → ((below : ℕ) → IsWithinLevels (weight node.left) below → VisitsUpTo ((below + 1) * d) next end) → VisitsUpTo ((levels + 1) * d) start end
-  walk_left d zero start next end some within one rest = absurd (omega (arith, within, sizes rows node root))
-  walk_left d (suc levels) start next end some within one rest = level_left levels d start next end some one (rest levels (within (weight node.left) side_left))
+  side_later : 4 * weight pair.later ≤ 3 * weight rows
+  side_later = omega (arith, sizes rows pair root, root.sound.balanced.later_light)
 
-  pub walk_right : (d whole row levels start first second third end : ℕ) → 1 + whole + row ≤ d → IsWithinLevels (weight rows) levels → first ≡ start + 1
-      → VisitsUpTo whole first second → VisitsUpTo row second third
-      → ((below : ℕ) → IsWithinLevels (weight node.right) below → VisitsUpTo ((below + 1) * d) third end) → VisitsUpTo ((levels + 1) * d) start end
-  walk_right d whole row zero start first second third end sum within one left own rest = absurd (omega (arith, within, sizes rows node root))
-  walk_right d whole row (suc levels) start first second third end sum within one left own rest =
-      level_right levels whole row d start first second third end sum one left own (rest levels (within (weight node.right) side_right))
+  pub walk_left : (d less more levels start next end : ℕ) → 1 ≤ d → less ≤ more → IsWithinLevels (weight rows) levels → next ≡ start + 1
+      → ((below : ℕ) → IsWithinLevels (weight pair.earlier) below → VisitsUpTo ((below + 1) * d + less) next end)
+      → VisitsUpTo ((levels + 1) * d + more) start end
+  walk_left d less more zero start next end some grows within one rest = absurd (omega (arith, within, sizes rows pair root, some_earlier rows pair root))
+  walk_left d less more (suc levels) start next end some grows within one rest =
+      level_left levels d less more start next end some grows one (rest levels (within (weight pair.earlier) side_earlier))
 
-  pub left_shorter : (k : ℕ) → length rows < 2 ^ k → length node.left < 2 ^ k
-  left_shorter k small = omega (arith, sizes rows node root, small)
+  pub walk_right : (d whole less more levels start first second end : ℕ) → 1 + whole ≤ d → less ≤ more → IsWithinLevels (weight rows) levels → first ≡ start + 1
+      → VisitsUpTo whole first second
+      → ((below : ℕ) → IsWithinLevels (weight pair.later) below → VisitsUpTo ((below + 1) * d + less) second end)
+      → VisitsUpTo ((levels + 1) * d + more) start end
+  walk_right d whole less more zero start first second end sum grows within one left rest = absurd (omega (arith, within, sizes rows pair root, some_later rows pair root))
+  walk_right d whole less more (suc levels) start first second end sum grows within one left rest =
+      level_right levels whole d less more start first second end sum grows one left (rest levels (within (weight pair.later) side_later))
 
-  pub right_less : (k : ℕ) → length rows < 2 ^ k → length node.right < 2 ^ k
-  right_less k small = omega (arith, sizes rows node root, small)
+  pub earlier_shorter : (k : ℕ) → length rows < 2 ^ k → length pair.earlier < 2 ^ k
+  earlier_shorter k small = omega (arith, sizes rows pair root, small)
 
-pub whole_walk : (levels k start end : ℕ) → VisitsUpTo (1 + 2 * k) start end → VisitsUpTo ((levels + 1) * (2 * k + 4)) start end
-whole_walk levels k start end visits = no_more_than (1 + 2 * k) ((levels + 1) * (2 * k + 4)) start end (omega arith) visits
+  pub later_shorter : (k : ℕ) → length rows < 2 ^ k → length pair.later < 2 ^ k
+  later_shorter k small = omega (arith, sizes rows pair root, small)
+
+  pub earlier_run : run_of pair.earlier ≤ run_of rows
+  earlier_run = omega (arith, sizes rows pair root)
+
+  pub later_run : run_of pair.later ≤ run_of rows
+  later_run = omega (arith, sizes rows pair root)
+
+  -- with no rows gone through
+  pub step_left : (levels start next end : ℕ) → IsWithinLevels (weight rows) levels → next ≡ start + 1
+      → ((below : ℕ) → IsWithinLevels (weight pair.earlier) below → VisitsUpTo ((below + 1) * 2) next end) → VisitsUpTo ((levels + 1) * 2) start end
+  step_left levels start next end within one rest =
+      no_more_than ((levels + 1) * 2 + 0) ((levels + 1) * 2) start end (omega arith)
+      (walk_left 2 0 0 levels start next end (omega arith) (omega arith) within one (λ below inside. no_more_than ((below + 1) * 2) ((below + 1) * 2 + 0) next end (omega arith) (rest below inside)))
+
+  pub step_right : (levels start first second end : ℕ) → IsWithinLevels (weight rows) levels → first ≡ start + 1 → VisitsUpTo 1 first second
+      → ((below : ℕ) → IsWithinLevels (weight pair.later) below → VisitsUpTo ((below + 1) * 2) second end) → VisitsUpTo ((levels + 1) * 2) start end
+  step_right levels start first second end within one left rest =
+      no_more_than ((levels + 1) * 2 + 0) ((levels + 1) * 2) start end (omega arith)
+      (walk_right 2 1 0 0 levels start first second end (omega arith) (omega arith) within one left
+      (λ below inside. no_more_than ((below + 1) * 2) ((below + 1) * 2 + 0) second end (omega arith) (rest below inside)))
+
+-- a walk that ends at a node that is read whole, or in a run
+pub whole_walk : (levels k run start end : ℕ) → VisitsUpTo (1 + 4 * k) start end → VisitsUpTo ((levels + 1) * (4 * k + 2) + run) start end
+whole_walk levels k run start end visits = no_more_than (1 + 4 * k) ((levels + 1) * (4 * k + 2) + run) start end (omega arith) visits
+
+pub run_walk : (levels k some run start end : ℕ) → some ≤ run → VisitsUpTo (1 + some) start end → VisitsUpTo ((levels + 1) * (4 * k + 2) + run) start end
+run_walk levels k some run start end few visits = no_more_than (1 + some) ((levels + 1) * (4 * k + 2) + run) start end (omega (arith, few)) visits
+
+-- one visit more, of a loop
+pub visits_more : (n start steps end : ℕ) → end ≡ steps + 1 → VisitsUpTo n start steps → VisitsUpTo (n + 1) start end
+visits_more n start steps end one visits = record { none_lost = omega (arith, one, visits.none_lost); few = omega (arith, one, visits.few) }
 
 pub no_change : (start end : ℕ) → end ≡ start → VisitsUpTo 0 start end
 no_change start end same = record { none_lost = omega (arith, same); few = omega (arith, same) }
@@ -174,20 +207,25 @@ sought_more width walk start steps next end some sought half visits = by sought.
       none_lost = omega (arith, sought.none_lost, visits.none_lost);
     }
 
-pub sought_ends : (levels k width start first second end : ℕ) → VisitsUpTo ((levels + 1) * (2 * k + 4)) start first → VisitsUpTo ((levels + 1) * 2) first second
-    → IsSought width ((levels + 1) * (2 * k + 4)) second end → VisitsUpTo ((levels + 1) * (65 * (2 * k + 4) + 2)) start end
-sought_ends levels k width start first second end one two sought = record {
+pub sought_ends : (levels k run width start first second end : ℕ) → VisitsUpTo ((levels + 1) * (4 * k + 2) + run) start first → VisitsUpTo ((levels + 1) * 2) first second
+    → IsSought width ((levels + 1) * (4 * k + 2) + run) second end → VisitsUpTo ((levels + 1) * (65 * (4 * k + 2) + 2) + 65 * run) start end
+sought_ends levels k run width start first second end one two sought = record {
   none_lost = omega (arith, one.none_lost, two.none_lost, sought.none_lost);
   few = omega (arith, one.few, two.few, sought.few);
 }
 
-pub seek_none : (levels k start end : ℕ) → VisitsUpTo ((levels + 1) * (2 * k + 4)) start end → VisitsUpTo ((levels + 1) * (65 * (2 * k + 4) + 2)) start end
-seek_none levels k start end visits = no_more_than ((levels + 1) * (2 * k + 4)) ((levels + 1) * (65 * (2 * k + 4) + 2)) start end (omega arith) visits
+pub seek_none : (levels k run start end : ℕ) → VisitsUpTo ((levels + 1) * (4 * k + 2) + run) start end → VisitsUpTo ((levels + 1) * (65 * (4 * k + 2) + 2) + 65 * run) start end
+seek_none levels k run start end visits =
+    no_more_than ((levels + 1) * (4 * k + 2) + run) ((levels + 1) * (65 * (4 * k + 2) + 2) + 65 * run) start end (omega arith) visits
 
--- in digits
-squared : (d : ℕ) → (3 * suc d + 1) * (65 * (2 * suc d + 4) + 2) ≤ 1600 * suc d * suc d
-squared d = omega arith
+-- in digits: a run has no more rows than there are
+squared : (n d run : ℕ) → n + 1 < 2 ^ d → run ≤ 64 → run ≤ n → (3 * d + 1) * (65 * (4 * d + 2) + 2) + 65 * run ≤ 1600 * d * d
+squared n zero run small few less = absurd (omega (arith, small))
+squared n (suc zero) run small few less = omega (arith, small, less)
+squared n (suc (suc zero)) run small few less = omega (arith, small, less)
+squared n (suc (suc (suc d))) run small few less = omega (arith, few)
 
-pub sought_digits : (n d start end : ℕ) → n + 1 < 2 ^ d → VisitsUpTo ((3 * d + 1) * (65 * (2 * d + 4) + 2)) start end → VisitsUpTo (1600 * d * d) start end
-sought_digits n zero start end small visits = absurd (omega (arith, small))
-sought_digits n (suc d) start end small visits = no_more_than ((3 * suc d + 1) * (65 * (2 * suc d + 4) + 2)) (1600 * suc d * suc d) start end (squared d) visits
+pub sought_digits : (n d run start end : ℕ) → n + 1 < 2 ^ d → run ≤ 64 → run ≤ n
+    → VisitsUpTo ((3 * d + 1) * (65 * (4 * d + 2) + 2) + 65 * run) start end → VisitsUpTo (1600 * d * d) start end
+sought_digits n d run start end small few less visits =
+    no_more_than ((3 * d + 1) * (65 * (4 * d + 2) + 2) + 65 * run) (1600 * d * d) start end (squared n d run small few less) visits

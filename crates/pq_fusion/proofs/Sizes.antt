@@ -53,7 +53,7 @@ take_size : (left removed : List Entry) (unmet : ℕ) → size_of (after_take le
 take_size [] removed unmet = omega arith
 take_size (x ∷ xs) removed unmet = omega (arith, length_with x removed)
 
-row_size : (op : Op) (number : ℕ) (a : PieceParts) → size_of (after_row op number a) ≤ suc (size_of a)
+pub row_size : (op : Op) (number : ℕ) (a : PieceParts) → size_of (after_row op number a) ≤ suc (size_of a)
 unfolding after_row
 row_size (Enq v) number a = omega arith
 row_size Deq number a = omega arith
@@ -75,3 +75,7 @@ rows_size_from (row ∷ rows) a = omega (arith, row_size row.op row.number a, ro
 
 pub rows_size : (rows : List Row) → size_of (tolerant rows) ≤ length rows
 rows_size rows = omega (arith, rows_size_from rows no_parts)
+
+-- and leave no more
+pub left_size : (rows : List Row) (piece : PieceParts) → piece ≡ tolerant rows → length piece.left ≤ length rows
+left_size rows piece is = omega (arith, ap size_of is, rows_size rows)

@@ -12,11 +12,10 @@ use Rattle.retro_base.specs.declared.op.Op.{Op}
 use Rattle.retro_base.specs.declared.op.Op.TheVariants.{Enq, Deq, Push, Pop, PushL, PushR, PopL, PopR, Put, Del, Ins, DelMin}
 use Rattle.retro_base.specs.declared.row.Entry.{Entry}
 use Rattle.retro_base.specs.Weights.{added_as, added_by}
-use Rattle.pq_fusion.specs.declared.subtree.Node.{Node}
-use Rattle.pq_fusion.specs.Nodes.{IsRoot, IsWithinLevels}
+use Rattle.pq_fusion.specs.declared.subtree.Pair.{Pair}
+use Rattle.pq_fusion.specs.Nodes.{IsPairOf, IsWithinLevels}
 use Rattle.pq_fusion.specs.Pieces.{PieceParts, no_parts, after_take, after_row, after_rows, tolerant}
 use Rattle.pq_fusion.proofs.Order.{length_with}
-use Rattle.pq_fusion.proofs.Rooted.{piece_is}
 
 -- how many entries a piece has
 abbrev pub count_of : PieceParts → ℕ
@@ -40,45 +39,58 @@ three_levels (suc digits) whole below = λ first a second b third c. three_level
 pub levels-of_digits : (whole : ℕ) → IsWithinLevels whole (3 * digits whole)
 levels-of_digits whole = subst (IsWithinLevels whole) (triple-is (digits whole)) (three_levels (digits whole) whole (below-digits whole))
 
--- a node's piece and those of its sides, on one level more than the sides have
-pub one_level_more : (whole left right all first own second more_left more_right : ℕ) → whole ≡ left + 1 + right → all ≡ first + own + second
-    → (left + 1 ≤ 3 * (right + 1)) → (right + 1 ≤ 3 * (left + 1))
-    → ((levels : ℕ) → IsWithinLevels (left + 1) levels → more_left ≤ first * levels) → ((levels : ℕ) → IsWithinLevels (right + 1) levels → more_right ≤ second * levels)
-    → (levels : ℕ) → IsWithinLevels (whole + 1) levels → more_left + all + more_right ≤ all * levels
-one_level_more whole left right all first own second more_left more_right sizes counts light heavy below above zero within = absurd (omega (arith, within))
-one_level_more whole left right all first own second more_left more_right sizes counts light heavy below above (suc levels) within =
-    level_sum all first own second more_left more_right levels counts (below levels (within (left + 1) (omega arith))) (above levels (within (right + 1) (omega arith)))
+-- a pair's piece and those of its sides, on one level more than the sides have
+pub one_level_more : (whole earlier later all first second more_earlier more_later : ℕ) → whole ≡ earlier + later → all ≡ first + second
+    → earlier < 3 * later → later < 3 * earlier
+    → ((levels : ℕ) → IsWithinLevels (earlier + 1) levels → more_earlier ≤ first * levels) → ((levels : ℕ) → IsWithinLevels (later + 1) levels → more_later ≤ second * levels)
+    → (levels : ℕ) → IsWithinLevels (whole + 1) levels → more_earlier + all + more_later ≤ all * levels
+one_level_more whole earlier later all first second more_earlier more_later sizes counts light heavy below above zero within = absurd (omega (arith, within))
+one_level_more whole earlier later all first second more_earlier more_later sizes counts light heavy below above (suc levels) within =
+    level_sum all first second more_earlier more_later levels counts (below levels (within (earlier + 1) (omega arith))) (above levels (within (later + 1) (omega arith)))
   where
-    level_sum : (all first own second more_left more_right levels : ℕ) → all ≡ first + own + second → more_left ≤ first * levels → more_right ≤ second * levels
-        → more_left + all + more_right ≤ all * suc levels
-    level_sum all first own second more_left more_right levels counts below above = rw counts (omega (arith, below, above))
+    level_sum : (all first second more_earlier more_later levels : ℕ) → all ≡ first + second → more_earlier ≤ first * levels → more_later ≤ second * levels
+        → more_earlier + all + more_later ≤ all * suc levels
+    level_sum all first second more_earlier more_later levels counts below above = rw counts (omega (arith, below, above))
 
--- and on so many levels at least as many as there are more than nodes above them
-pub below_power : (n : ℕ) → n + 1 ≤ 2 ^ n
+-- the piece of a run, on as many levels
+pub one_level : (all rows levels : ℕ) → 0 < rows → IsWithinLevels (rows + 1) levels → all ≤ all * levels
+one_level all rows zero some within = absurd (omega (arith, within))
+one_level all rows (suc levels) some within = omega arith
+
+-- and on so many levels at least as many as there are more than 16 for each node of the last
+below_power : (n : ℕ) → n + 1 ≤ 2 ^ n
 below_power zero = omega arith
 below_power (suc n) = omega (arith, below_power n, pow-add 2 n 1)
 
-pub one_level_least : (all first own second more_left more_right : ℕ) → all ≡ first + own + second → own ≤ 1
-    → ((levels : ℕ) → levels * first + levels + 1 ≤ more_left + 2 ^ levels) → ((levels : ℕ) → levels * second + levels + 1 ≤ more_right + 2 ^ levels)
-    → (levels : ℕ) → levels * all + levels + 1 ≤ more_left + all + more_right + 2 ^ levels
-one_level_least all first own second more_left more_right counts one below above zero = omega arith
-one_level_least all first own second more_left more_right counts one below above (suc levels) =
-    level_least all first own second more_left more_right levels counts one (below levels) (above levels)
+run_times : (all n : ℕ) → all ≤ 64 → all * (n + 1) ≤ 64 * 2 ^ n
+run_times all n few = omega (arith, mul-le-mul_right (n + 1) few, below_power n)
+
+pub run_least : (all levels : ℕ) → all ≤ 64 → levels * all ≤ all + 16 * 2 ^ levels
+run_least all zero few = omega arith
+run_least all (suc zero) few = omega arith
+run_least all (suc (suc n)) few = omega (arith, run_times all n few, pow-add 2 n 2)
+
+pub one_level_least : (all first second more_earlier more_later : ℕ) → all ≡ first + second
+    → ((levels : ℕ) → levels * first ≤ more_earlier + 16 * 2 ^ levels) → ((levels : ℕ) → levels * second ≤ more_later + 16 * 2 ^ levels)
+    → (levels : ℕ) → levels * all ≤ more_earlier + all + more_later + 16 * 2 ^ levels
+one_level_least all first second more_earlier more_later counts below above zero = omega arith
+one_level_least all first second more_earlier more_later counts below above (suc levels) =
+    level_least all first second more_earlier more_later levels counts (below levels) (above levels)
   where
-    times : (n own : ℕ) → own ≤ 1 → n * own ≤ n
-    times n zero one = omega arith
-    times n (suc zero) one = omega arith
-    times n (suc (suc own)) one = absurd (omega arith)
+    level_least : (all first second more_earlier more_later levels : ℕ) → all ≡ first + second
+        → levels * first ≤ more_earlier + 16 * 2 ^ levels → levels * second ≤ more_later + 16 * 2 ^ levels
+        → suc levels * all ≤ more_earlier + all + more_later + 16 * 2 ^ suc levels
+    level_least all first second more_earlier more_later levels counts below above = rw counts (omega (arith, below, above, pow-add 2 levels 1))
 
-    level_least : (all first own second more_left more_right levels : ℕ) → all ≡ first + own + second → own ≤ 1
-        → levels * first + levels + 1 ≤ more_left + 2 ^ levels → levels * second + levels + 1 ≤ more_right + 2 ^ levels
-        → suc levels * all + suc levels + 1 ≤ more_left + all + more_right + 2 ^ suc levels
-    level_least all first own second more_left more_right levels counts one below above =
-        rw counts (omega (arith, below, above, times levels own one, pow-add 2 levels 1))
+pub squares : (whole earlier later own more_earlier more_later : ℕ) → whole ≡ earlier + later → 0 < earlier → 0 < later → own ≤ whole
+    → more_earlier ≤ earlier * earlier → more_later ≤ later * later → more_earlier + own + more_later ≤ whole * whole
+squares whole zero later own more_earlier more_later sizes some others few first second = absurd (omega arith)
+squares whole (suc earlier) zero own more_earlier more_later sizes some others few first second = absurd (omega arith)
+squares whole (suc earlier) (suc later) own more_earlier more_later sizes some others few first second = rw sizes (omega (arith, few, sizes, first, second))
 
-pub squares : (whole left right own more_left more_right : ℕ) → whole ≡ left + 1 + right → own ≤ whole → more_left ≤ left * left → more_right ≤ right * right
-    → more_left + own + more_right ≤ whole * whole
-squares whole left right own more_left more_right sizes few first second = rw sizes (omega (arith, few, sizes, first, second))
+pub one_square : (own whole : ℕ) → own ≤ whole → own ≤ whole * whole
+one_square own zero few = few
+one_square own (suc whole) few = omega (arith, few)
 
 -- what rows leave and remove is all that they add
 take_count : (left removed : List Entry) (unmet : ℕ) → count_of (after_take left removed unmet) ≡ length left + length removed
@@ -129,15 +141,13 @@ added_few (x ∷ xs) = omega (arith, added_more (added_by x) xs, option_few (add
 pub more_rows : (stored few rows digits : ℕ) → few ≤ rows → stored ≤ few * (3 * digits) → stored ≤ 3 * rows * digits
 more_rows stored few rows digits less most = omega (arith, most, mul-le-mul_right digits less)
 
--- what the rows of a node add
-module _ (rows : List Row) (node : Node) (root : IsRoot rows node) where
-  pub added_parts : length (added rows) ≡ length (added node.left) + length (option_to_list (added_by node.row)) + length (added node.right)
-  added_parts =
-      ap (λ l. length (added l)) root.rows_are
-      ∙ omega (arith, added-append node.left (node.row ∷ node.right), added_more (added_by node.row) node.right)
+-- a piece of rows has what they add
+pub piece_count : (rows : List Row) (piece : PieceParts) → piece ≡ tolerant rows → count_of piece ≡ length (added rows)
+piece_count rows piece is = ap count_of is ∙ rows_count rows
 
-  pub own_few : length (option_to_list (added_by node.row)) ≤ 1
-  own_few = option_few (added_by node.row)
+pub piece_less : (rows : List Row) (piece : PieceParts) → piece ≡ tolerant rows → count_of piece ≤ length rows
+piece_less rows piece is = omega (arith, piece_count rows piece is, added_few rows)
 
-  pub piece_count : count_of node.piece ≡ length (added rows)
-  piece_count = ap count_of (piece_is rows node root) ∙ rows_count rows
+-- what the rows of a pair add
+pub added_parts : (rows : List Row) (pair : Pair) → IsPairOf rows pair → length (added rows) ≡ length (added pair.earlier) + length (added pair.later)
+added_parts rows pair root = ap (λ l. length (added l)) root.rows_are ∙ added-append pair.earlier pair.later

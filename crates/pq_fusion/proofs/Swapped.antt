@@ -1,5 +1,5 @@
 -- An entry is put into a rising list behind those that do not come after it, and taken out at the first that does not come before it.
-use Rattle.std.proofs.Common.{◌≡◌, ℕ, zero, suc, ◌+◌, ◌<◌, ◌≤◌, inl, inr, true, false, cond, List, [], ◌∷◌, length, refl, ap, sym, ◌∙◌, arith, subst, ◌-◌}
+use Rattle.std.proofs.Common.{◌≡◌, ℕ, zero, suc, ◌+◌, ◌<◌, ◌≤◌, inl, inr, Bool, true, false, cond, List, [], ◌∷◌, length, refl, ap, sym, ◌∙◌, arith, subst, ◌-◌}
 use Rattle.std.specs.List.{AllWithin, insert, remove}
 use Rattle.retro_base.specs.declared.row.Entry.{Entry}
 use Rattle.retro_base.specs.EntriesInOrder.{AreInOrder}
@@ -9,7 +9,7 @@ use Rattle.retro_base.specs.lemmas.bridges.Entries.{with_later}
 use Rattle.pq_fusion.specs.declared.bound.Bound.{Bound}
 use Rattle.pq_fusion.specs.declared.bound.Bound.TheVariants.{Low, At, Top}
 use Rattle.pq_fusion.specs.Bounds.{is_below, with_bound, tops}
-use Rattle.pq_fusion.specs.Edits.{Apart}
+use Rattle.pq_fusion.specs.Edits.{Apart, Passes}
 use Rattle.pq_fusion.specs.Exchanges.{Has, HasBound, IsExchange}
 use Rattle.pq_fusion.specs.Pieces.{PieceParts, IsPiece, IsRising}
 use Rattle.pq_fusion.proofs.Order.{IsLeast, same_by_order, least_first}
@@ -119,3 +119,18 @@ module _ (own x : Bound) (before after : PieceParts) (left removed : List Entry)
   piece_lost unmet piece is apart first second =
       let same = lost apart first second in
       subst IsPiece (sym (same_parts left after.left removed after.removed unmet after.unmet same.0 same.1 (is ∙ same.2))) piece
+
+-- so it is, whichever the edit does, where it was seen as `seen`
+module _ (gains : Bool) (own x : Bound) (seen before : PieceParts) (is : before ≡ seen) (some : (after : PieceParts) × (IsPiece after × Passes gains own x seen after)) where
+  there_as : (way : Bool) → gains ≡ way → Passes way own x before some.0
+  there_as way same = subst (λ p. Passes way own x p some.0) (sym is) (subst (λ g. Passes g own x seen some.0) same some.1.1)
+
+  pub after_gain : gains ≡ true → (left removed : List Entry) (unmet tops_x : ℕ) → tops_x ≡ tops x → unmet ≡ before.unmet - tops_x
+      → IsExchange x Low before.left left → IsExchange own x before.removed removed → IsPiece (parts left removed unmet)
+  after_gain same left removed unmet tops_x tops_is unmet_is first second =
+      piece_gained own x before some.0 left removed some.1.0.rising unmet some.1.0 (unmet_is ∙ ap (λ n. before.unmet - n) tops_is) (there_as true same) first second
+
+  pub after_loss : gains ≡ false → (left removed : List Entry) (unmet tops_x : ℕ) → tops_x ≡ tops x → unmet ≡ before.unmet + tops_x
+      → IsExchange Low x before.left left → IsExchange x own before.removed removed → IsPiece (parts left removed unmet)
+  after_loss same left removed unmet tops_x tops_is unmet_is first second =
+      piece_lost own x before some.0 left removed some.1.0.rising unmet some.1.0 (unmet_is ∙ ap (λ n. before.unmet + n) tops_is) (there_as false same) first second

@@ -61,35 +61,20 @@ LaterPasses = (own x : Bound) (first fewer more : PieceParts) → IsRising first
     → Apart own (higher own (lower x (last_taken first fewer))) (fuse first fewer) (fuse first more)
     × (higher own (lower x (last_taken first fewer)) ≡ higher own (lower x (first_staying first more)))
 
--- the entry of an edited row, or Low for a taking, and whether what is left gains by the edit
+-- the entry of an edited row, or Low for a taking
 abbrev pub own_of : Option Entry → Bound
 own_of (Some entry) = At entry
 own_of None = Low
-
--- what passes where the row stands alone
-abbrev pub alone_of : Bound → Bound
-alone_of Low = Top
-alone_of (At entry) = At entry
-alone_of Top = Top
 
 -- a piece before an edit and after it
 abbrev pub Passes : Bool → Bound → Bound → PieceParts → PieceParts → Type 0
 Passes true own x before after = Apart own x before after
 Passes false own x before after = Apart own x after before
 
--- what stands at the boundary of n takings, seen from before an edit
+-- what stands at the boundary of n takings, seen from before an edit by which what is left gains, or loses
 abbrev pub boundary_at : Bool → List Entry → ℕ → Bound
 boundary_at true entries n = last_of entries n
 boundary_at false entries n = at_rank entries n
 
 abbrev pub boundary_of : Bool → PieceParts → PieceParts → Bound
 boundary_of gains first second = boundary_at gains (met first second) (takings second)
-
--- the pieces before a row comes in and after it, and before one goes and after it
-abbrev pub PassesIn : Option Entry → PieceParts → PieceParts → Bound → Type 0
-PassesIn (Some entry) before after passed = Passes true (At entry) passed before after
-PassesIn None before after passed = Passes false Low passed before after
-
-abbrev pub PassesOut : Option Entry → PieceParts → PieceParts → Bound → Type 0
-PassesOut (Some entry) before after passed = Passes false (At entry) passed before after
-PassesOut None before after passed = Passes true Low passed before after

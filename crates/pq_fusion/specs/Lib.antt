@@ -5,6 +5,7 @@ pub mod Edits
 pub mod Exchanges
 pub mod Differences
 pub mod Nodes
+pub mod Roots
 pub mod NodesFall
 pub mod Passages
 pub mod Tallies

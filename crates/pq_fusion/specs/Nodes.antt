@@ -1,65 +1,67 @@
 -- What a link of the tree of rows leads to.
-use Rattle.std.specs.Prelude.{◌≡◌, ◌≢◌, ℕ, zero, suc, ◌+◌, ◌*◌, ◌<◌, ◌≤◌, ◌⊎◌, List, [], ◌∷◌, ◌++◌, length, slice_get, Some}
+use Rattle.std.specs.Prelude.{◌≡◌, ℕ, zero, suc, ◌+◌, ◌*◌, ◌<◌, ◌≤◌, List, [], ◌++◌, length}
 use Rattle.retro_base.specs.declared.kind.Kind.TheVariants.{Pq}
 use Rattle.retro_base.specs.declared.row.Row.{Row}
 use Rattle.retro_base.specs.Limits.{most_rows}
 use Rattle.retro_base.specs.Timeline.{AreOfKind}
 use Rattle.pq_fusion.specs.declared.subtree.Link.{Link}
-use Rattle.pq_fusion.specs.declared.subtree.Link.TheVariants.{Empty, Full}
-use Rattle.pq_fusion.specs.declared.subtree.Node.{Node}
+use Rattle.pq_fusion.specs.declared.subtree.Link.TheVariants.{Empty, Leaf, Fork}
+use Rattle.pq_fusion.specs.declared.subtree.Pair.{Pair}
+use Rattle.pq_fusion.specs.declared.subtree.Run.{Run}
 use Rattle.pq_fusion.specs.Pieces.{tolerant}
+
+-- a run has so many rows at most
+abbrev pub longest_run : ℕ
+longest_run = 64
 
 -- the weight of a subtree: its size and one
 abbrev pub weight : List Row → ℕ
 weight rows = length rows + 1
 
--- neither side weighs over 3 times the other
-pub record IsBalanced (left right : ℕ) : Type 0 where
-  pub left_light : left ≤ 3 * right
-  pub right_light : right ≤ 3 * left
+-- neither side has 3 times as many rows as the other, so neither has none
+pub record IsBalanced (earlier later : ℕ) : Type 0 where
+  pub earlier_light : earlier < 3 * later
+  pub later_light : later < 3 * earlier
 
--- the rows below a node, in order
-abbrev pub node_rows : Node → List Row
-node_rows node = node.left ++ node.row ∷ node.right
-
--- the sides stay in balance where a row is put in at the place: at the place of the node's own row it comes to the left
-pub record Bears (node : Node) (place : ℕ) : Type 0 where
-  pub left : place ≤ length node.left → weight node.left < 3 * weight node.right
-  pub right : length node.left < place → weight node.right < 3 * weight node.left
-
--- they do where the row at the place goes, which is not the node's own
-pub record Spares (node : Node) (place : ℕ) : Type 0 where
-  pub elsewhere : place ≢ length node.left
-  pub left : place < length node.left → weight node.right + 3 ≤ 3 * weight node.left
-  pub right : length node.left < place → weight node.left + 3 ≤ 3 * weight node.right
-
--- where the row at a place is taken out, a row goes from here, and the node has this one then: that place and the node's own, or, at the
--- place of the node's own, the next place and the row there
-abbrev pub Replaces : Node → ℕ → ℕ → Row → Type 0
-Replaces node place from row = ((from ≡ place) × (row ≡ node.row)) ⊎ ((place ≡ length node.left) × (from ≡ place + 1) × (slice_get node.right 0 ≡ Some row))
+-- the rows below a pair, in order
+abbrev pub pair_rows : Pair → List Row
+pair_rows pair = pair.earlier ++ pair.later
 
 -- the rows that a link leads to, in order
 abbrev pub rows_of : Link → List Row
 rows_of Empty = []
-rows_of (Full node) = node_rows node.value
+rows_of (Leaf run) = run.value.rows.items
+rows_of (Fork pair) = pair_rows pair.value
 
--- the size and the piece are those of the rows below the node, whose sides are in balance
-pub record IsNode (node : Node) : Type 0 where
-  pub size_is : node.size ≡ length (node_rows node)
-  pub piece_is : node.piece ≡ tolerant (node_rows node)
-  pub balanced : IsBalanced (weight node.left) (weight node.right)
-  pub of_kind : AreOfKind Pq (node_rows node)
-  pub few : length (node_rows node) ≤ most_rows
+-- a run has some rows and not too many, and the piece is what they come to
+pub record IsRun (run : Run) : Type 0 where
+  pub some : 0 < length run.rows.items
+  pub few : length run.rows.items ≤ longest_run
+  pub piece_is : run.piece ≡ tolerant run.rows.items
+  pub of_kind : AreOfKind Pq run.rows.items
 
--- the node is the root of a tree of these rows
-pub record IsRoot (rows : List Row) (node : Node) : Type 0 where
-  pub rows_are : rows ≡ node_rows node
-  pub sound : IsNode node
+-- the size and the piece are those of the rows below the pair, whose sides are in balance
+pub record IsPair (pair : Pair) : Type 0 where
+  pub size_is : pair.size ≡ length (pair_rows pair)
+  pub piece_is : pair.piece ≡ tolerant (pair_rows pair)
+  pub balanced : IsBalanced (length pair.earlier) (length pair.later)
+  pub of_kind : AreOfKind Pq (pair_rows pair)
+  pub few : length (pair_rows pair) ≤ most_rows
+
+-- the run, or the pair, is the root of a tree of these rows
+pub record IsRunOf (rows : List Row) (run : Run) : Type 0 where
+  pub rows_are : rows ≡ run.rows.items
+  pub sound : IsRun run
+
+pub record IsPairOf (rows : List Row) (pair : Pair) : Type 0 where
+  pub rows_are : rows ≡ pair_rows pair
+  pub sound : IsPair pair
 
 -- what a link leads to is as it says
 abbrev pub IsSound : Link → Type 0
 IsSound Empty = Unit {0}
-IsSound (Full node) = IsNode node.value
+IsSound (Leaf run) = IsRun run.value
+IsSound (Fork pair) = IsPair pair.value
 
 -- a balanced tree of this weight has no path of more levels: a side weighs at most 3 quarters of the whole
 abbrev pub IsWithinLevels : ℕ → ℕ → Type 0

@@ -1,12 +1,13 @@
--- Each side of a node has fewer rows than the node.
-use Rattle.std.specs.Prelude.{◌≤◌, max, ◌∷◌, length}
+-- Each side of a pair has fewer rows than the pair.
+use Rattle.std.specs.Prelude.{◌≤◌, max, length}
 use Rattle.std.proofs.Common.{arith, length-append}
 use Rattle.pq_fusion.specs.declared.subtree.Link.{Link}
-use Rattle.pq_fusion.specs.declared.subtree.Link.TheVariants.{Empty, Full}
+use Rattle.pq_fusion.specs.declared.subtree.Link.TheVariants.{Empty, Leaf, Fork}
 use Rattle.pq_fusion.specs.declared.subtree.Subtree.TheDeep.{deep-Link}
-use Rattle.pq_fusion.specs.Nodes.{rows_of}
+use Rattle.pq_fusion.specs.Nodes.{rows_of, IsSound}
 
 -- no side is deeper than the link has rows
-pub depth_le-length-rows : (link : Link) → max (deep-Link link) 0 ≤ length (rows_of link)
-depth_le-length-rows Empty = omega arith
-depth_le-length-rows (Full node) = omega (arith, length-append node.value.left (node.value.row ∷ node.value.right))
+pub depth_le-length-rows : (link : Link) → IsSound link → max (deep-Link link) 0 ≤ length (rows_of link)
+depth_le-length-rows Empty sound = omega arith
+depth_le-length-rows (Leaf run) sound = omega arith
+depth_le-length-rows (Fork pair) sound = omega (arith, length-append pair.value.earlier pair.value.later, sound.balanced.earlier_light, sound.balanced.later_light)

@@ -1,33 +1,56 @@
--- What passes at a node by an edit below it.
-use Rattle.std.specs.Prelude.{ℕ, Bool, [], ◌∷◌}
+-- A pair that is edited below.
+use Rattle.std.specs.Prelude.{◌≡◌, ℕ, Bool, false, ◌+◌, ◌-◌, ◌*◌, ◌<◌, ◌≤◌, ◌⊎◌, List, length, nat_lt, nat_le, if◌then◌else◌}
+use Rattle.std.specs.List.{insert, remove}
+use Rattle.retro_base.specs.declared.row.Row.{Row}
+use Rattle.retro_base.specs.Weights.{added_by}
 use Rattle.pq_fusion.specs.declared.bound.Bound.{Bound}
-use Rattle.pq_fusion.specs.declared.edges.Edges.{Edges}
-use Rattle.pq_fusion.specs.declared.subtree.Node.{Node}
-use Rattle.pq_fusion.specs.Bounds.{higher, lower}
-use Rattle.pq_fusion.specs.Edits.{alone_of, boundary_of}
-use Rattle.pq_fusion.specs.Pieces.{PieceParts, tolerant, fuse}
+use Rattle.pq_fusion.specs.declared.subtree.Pair.{Pair}
+use Rattle.pq_fusion.specs.Edits.{DiffersBy}
+use Rattle.pq_fusion.specs.Nodes.{IsPair, pair_rows}
+use Rattle.pq_fusion.specs.Pieces.{PieceParts, tolerant}
 
--- the boundaries of a node, seen from before an edit
-abbrev pub edges_of : Bool → Node → Edges
-edges_of gains node = record {
-  row = boundary_of gains (tolerant node.left) (tolerant (node.row ∷ []));
-  behind = boundary_of gains (fuse (tolerant node.left) (tolerant (node.row ∷ []))) (tolerant node.right);
-}
+-- both sides stay in balance where a row is put in at the place: where they meet it comes to the earlier
+abbrev pub bears : Pair → ℕ → Bool
+bears pair place = if nat_le place (length pair.earlier) then nat_lt (length pair.earlier + 1) (3 * length pair.later)
+    else nat_lt (length pair.later + 1) (3 * length pair.earlier)
 
--- what passes at a node from its left side, from its right side, and where its own row goes
-abbrev pub from_left : Edges → Bound → Bound
-from_left edges passed = higher (higher passed edges.row) edges.behind
+-- a pair of fewer rows is made a run
+abbrev pub least_pair : ℕ
+least_pair = 33
 
-abbrev pub from_right : Edges → Bound → Bound → Bound
-from_right edges own passed = higher own (lower passed edges.behind)
+-- both sides stay in balance, and the rows those of a pair, where the row at the place goes
+abbrev pub spares : Pair → ℕ → Bool
+spares pair place = if nat_le (length pair.earlier + length pair.later) least_pair then false
+    else (if nat_lt place (length pair.earlier) then nat_lt (length pair.later + 3) (3 * length pair.earlier)
+    else nat_lt (length pair.earlier + 3) (3 * length pair.later))
 
-abbrev pub from_own : Edges → Bound → Bound
-from_own edges own = higher (higher own (lower (alone_of own) edges.row)) edges.behind
+-- a pair with other rows on a side
+abbrev pub with_earlier : Pair → List Row → Pair
+with_earlier pair rows = record { earlier = rows; later = pair.later; size = pair.size; piece = pair.piece }
 
--- a node with its piece apart
-abbrev pub with_piece : Node → PieceParts → Node
-with_piece node piece = record { left = node.left; row = node.row; right = node.right; size = node.size; piece = piece }
+abbrev pub with_later : Pair → List Row → Pair
+with_later pair rows = record { earlier = pair.earlier; later = rows; size = pair.size; piece = pair.piece }
 
--- a node with another size and another piece
-abbrev pub renewed : Node → ℕ → PieceParts → Node
-renewed node size piece = record { left = node.left; row = node.row; right = node.right; size = size; piece = piece }
+-- a pair with another piece
+abbrev pub with_piece : Pair → PieceParts → Pair
+with_piece pair piece = record { earlier = pair.earlier; later = pair.later; size = pair.size; piece = piece }
+
+-- the pair where a row comes in on the side of a place, and where the row there goes
+abbrev pub Puts : Pair → ℕ → Row → Pair → Type 0
+Puts pair place row edited = ((place ≤ length pair.earlier) × (edited ≡ with_earlier pair (insert pair.earlier place row)))
+    ⊎ ((length pair.earlier < place) × (edited ≡ with_later pair (insert pair.later (place - length pair.earlier) row)))
+
+abbrev pub Cuts : Pair → ℕ → Pair → Type 0
+Cuts pair place edited = ((place < length pair.earlier) × (edited ≡ with_earlier pair (remove pair.earlier place)))
+    ⊎ ((length pair.earlier ≤ place) × (edited ≡ with_later pair (remove pair.later (place - length pair.earlier))))
+
+-- a pair of the edited rows, and what passes between what they leave and what they do not
+pub record IsPut (pair : Pair) (place : ℕ) (row : Row) (edited : Pair) (passed : Bound) : Type 0 where
+  pub sound : IsPair edited
+  pub rows_are : pair_rows edited ≡ insert (pair_rows pair) place row
+  pub differs : DiffersBy (added_by row) passed (tolerant (pair_rows pair)) (tolerant (insert (pair_rows pair) place row))
+
+pub record IsCut (pair : Pair) (place : ℕ) (row : Row) (edited : Pair) (passed : Bound) : Type 0 where
+  pub sound : IsPair edited
+  pub rows_are : pair_rows edited ≡ remove (pair_rows pair) place
+  pub differs : DiffersBy (added_by row) passed (tolerant (remove (pair_rows pair) place)) (tolerant (pair_rows pair))

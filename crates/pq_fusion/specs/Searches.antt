@@ -1,7 +1,8 @@
--- How many visits a question about the past may make: a node that is opened is one, and so is each turn of a search in one of its lists.
-use Rattle.std.specs.Prelude.{ℕ, ◌+◌, ◌*◌, ◌^◌, ◌<◌, ◌≤◌, List, length}
+-- How many visits a question about the past may make: a node that is opened is one, and so is each turn of a search in one of its lists,
+-- and each row of a run that is gone through.
+use Rattle.std.specs.Prelude.{ℕ, min, ◌+◌, ◌*◌, ◌^◌, ◌<◌, ◌≤◌, List, length}
 use Rattle.retro_base.specs.declared.row.Row.{Row}
-use Rattle.pq_fusion.specs.Nodes.{weight, IsWithinLevels}
+use Rattle.pq_fusion.specs.Nodes.{weight, longest_run, IsWithinLevels}
 
 -- so many visits more, at most
 pub record VisitsUpTo (most before after : ℕ) : Type 0 where
@@ -12,18 +13,24 @@ pub record VisitsUpTo (most before after : ℕ) : Type 0 where
 abbrev pub SearchesWithin : ℕ → ℕ → ℕ → ℕ → Type 0
 SearchesWithin times entries before after = (k : ℕ) → entries < 2 ^ k → VisitsUpTo (times * k) before after
 
--- a node and two searches; and so many on each level
+-- a node and the searches of its two lists, of which each is one among chunks and one within a chunk
 abbrev pub OpensWithin : ℕ → ℕ → ℕ → Type 0
-OpensWithin entries before after = (k : ℕ) → entries < 2 ^ k → VisitsUpTo (2 * k + 1) before after
+OpensWithin entries before after = (k : ℕ) → entries < 2 ^ k → VisitsUpTo (4 * k + 1) before after
 
+-- the rows of a run
+abbrev pub run_of : List Row → ℕ
+run_of rows = min longest_run (length rows)
+
+-- on each level a pair and the node beside it, and the rows of a run
 abbrev pub WalksWithin : List Row → ℕ → ℕ → Type 0
-WalksWithin rows before after = (levels k : ℕ) → IsWithinLevels (weight rows) levels → length rows < 2 ^ k → VisitsUpTo ((levels + 1) * (2 * k + 4)) before after
+WalksWithin rows before after = (levels k : ℕ) → IsWithinLevels (weight rows) levels → length rows < 2 ^ k
+    → VisitsUpTo ((levels + 1) * (4 * k + 2) + run_of rows) before after
 
--- a node on each level, and the one beside it
+-- a pair on each level, and the node beside it
 abbrev pub StepsWithin : List Row → ℕ → ℕ → Type 0
 StepsWithin rows before after = (levels : ℕ) → IsWithinLevels (weight rows) levels → VisitsUpTo ((levels + 1) * 2) before after
 
 -- a walk for each of the 64 digits of a key and one more, and one of the keys on the path
 abbrev pub SeeksWithin : List Row → ℕ → ℕ → Type 0
 SeeksWithin rows before after = (levels k : ℕ) → IsWithinLevels (weight rows) levels → length rows < 2 ^ k
-    → VisitsUpTo ((levels + 1) * (65 * (2 * k + 4) + 2)) before after
+    → VisitsUpTo ((levels + 1) * (65 * (4 * k + 2) + 2) + 65 * run_of rows) before after

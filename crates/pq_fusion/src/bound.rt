@@ -1,7 +1,7 @@
 ghost use Rattle.std.specs.Prelude.{◌≡◌, ◌≤◌};
 ghost use Rattle.retro_base.specs.Weights.{added_by};
 ghost use Rattle.pq_fusion.specs.Bounds.{is_below, higher, lower, tops};
-ghost use Rattle.pq_fusion.specs.Edits.{own_of, alone_of};
+ghost use Rattle.pq_fusion.specs.Edits.{own_of};
 
 use retro_base::{Entry, Row};
 
@@ -49,16 +49,6 @@ impl Bound {
         match row.added_entry() {
             Some(entry) => Bound::At(entry),
             None => Bound::Low,
-        }
-    }
-
-    /// What passes where the row of this bound stands alone.
-    pub(crate) fn alone(self) -> Bound
-        ensures { result ≡ alone_of self }
-    {
-        match self {
-            Bound::At(entry) => Bound::At(entry),
-            _ => Bound::Top,
         }
     }
 

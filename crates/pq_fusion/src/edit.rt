@@ -1,297 +1,401 @@
-ghost use Rattle.std.specs.Prelude.{◌≡◌, ◌+◌, ◌<◌, ◌≤◌, length, slice_get, true, Some, IfOk, OnOk, OnErr, MatchResult};
+ghost use Rattle.std.specs.Prelude.{◌≡◌, ◌+◌, ◌<◌, ◌≤◌, ◌++◌, length, slice_get, is_some, not, true, Some, IfOk, OnOk, OnErr, MatchResult};
 ghost use Rattle.std.specs.List.{insert, remove};
 ghost use Rattle.retro_base.specs.declared.kind.Kind.TheVariants.{Pq};
 ghost use Rattle.retro_base.specs.Kind.{kind_of};
 ghost use Rattle.retro_base.specs.Limits.{most_rows};
 ghost use Rattle.retro_base.specs.Timeline.{AreOfKind};
 ghost use Rattle.retro_base.specs.Weights.{added_by};
-ghost use Rattle.pq_fusion.specs.Edits.{PassesIn, PassesOut};
-ghost use Rattle.pq_fusion.specs.Nodes.{Bears, IsNode, Replaces, Spares, node_rows};
-ghost use Rattle.pq_fusion.specs.Passages.{with_piece, renewed};
+ghost use Rattle.pq_fusion.specs.Bounds.{higher, lower};
+ghost use Rattle.pq_fusion.specs.Edits.{DiffersBy, boundary_of};
+ghost use Rattle.pq_fusion.specs.Nodes.{IsBalanced, IsPair, longest_run, pair_rows};
+ghost use Rattle.pq_fusion.specs.Passages.{Cuts, IsCut, IsPut, Puts, bears, spares, with_piece};
 ghost use Rattle.pq_fusion.specs.Pieces.{tolerant};
 
+use crate::boundary::boundary;
 use crate::difference::difference;
-use crate::roomy::Roomy;
-use crate::subtree::{Link, Node, Subtree};
+use crate::node_piece::{NodePiece, RoomyPiece};
+use crate::subtree::{LONGEST_RUN, Link, Pair, Run, Subtree};
 use crate::{Bound, Piece};
 use retro_base::{NoMemory, Row};
 use std::alloc::Global;
 use std::mem;
 
-impl Node {
-    /// Whether the sides stay in balance where a row is put in at a place.
-    fn bears(&self, place: u32) -> bool
-        ensures { result ≡ true → Bears self.now place }
-    {
-        let (left, right) = (self.left.weight(), self.right.weight());
-        if place < left {
-            left < 3 * right
-        } else {
-            right < 3 * left
-        }
-    }
+/// The runs of a part that is made anew have so many rows at most, so that each has room.
+const LONGEST_ANEW: usize = 48;
 
-    /// Whether they do where the row at the place goes, and it is not the node's own.
-    fn spares(&self, place: u32) -> bool
-        ensures { result ≡ true → Spares self.now place }
-    {
-        let (left, right) = (self.left.weight(), self.right.weight());
-        if place < left {
-            place + 1 < left && right + 3 <= 3 * left
-        } else {
-            left + 3 <= 3 * right
-        }
-    }
-
-    /// The place from which a row goes where the one at `place` is taken out, and the row that the node has then. Where its own is
-    /// taken out, the next one takes its place.
-    fn replacement(&self, place: u32) -> (u32, Row)
-        ensures rows { Replaces self.now place result.0 result.1 }
-        ensures within { place ≤ length self.now.left + length self.now.right → result.0 ≤ length self.now.left + length self.now.right }
-    {
-        match self.right.first() {
-            Some(next) if place == self.left.len() => (place + 1, next),
-            _ => (place, self.row),
-        }
-    }
-}
+/// A pair that would have fewer rows than this is made a run.
+const LEAST_PAIR: u32 = 33;
 
 impl Subtree {
-    /// The subtree of these rows, as light as it can be on both sides of each node.
-    fn of_rows(alloc: Global, rows: &[Row]) -> Result<Subtree, NoMemory>
+    /// The subtree of a run of these rows.
+    fn of_few(alloc: Global, rows: &[Row]) -> Result<Subtree, NoMemory>
         requires of_kind { AreOfKind Pq rows.now }
-        requires few { length rows.now ≤ most_rows }
+        requires few { length rows.now ≤ longest_run }
         ensures { IfOk result (λ subtree. subtree ≡ rows.now) }
     {
-        let (before, rest) = rows.split_at(rows.len() / 2);
-        let Some((row, after)) = rest.split_first() else {
+        if rows.is_empty() {
             return Ok(Subtree::new());
+        }
+        let piece = Piece::of_rows(alloc, rows)?.copy()?;
+        let run = Run {
+            rows: Vec::from_slice(alloc, rows)?,
+            piece: NodePiece::of_piece(piece)?,
         };
-        let left = Subtree::of_rows(alloc, before)?;
-        let right = Subtree::of_rows(alloc, after)?;
-        Subtree::of_sides(alloc, left, *row, right)
+        Ok(Subtree::of_run(Box::new(alloc, run)?))
     }
 
-    /// The subtree of these rows and one more at a place, made anew.
-    fn with_row(&self, alloc: Global, place: u32, row: Row) -> Result<Subtree, NoMemory>
+    /// The subtree of two sides that are in balance.
+    fn of_sides(alloc: Global, earlier: Subtree, later: Subtree) -> Result<Subtree, NoMemory>
+        requires balanced { IsBalanced (length earlier) (length later) }
+        requires few { length earlier + length later ≤ most_rows }
+        ensures { IfOk result (λ subtree. subtree ≡ earlier ++ later) }
+    {
+        let first = earlier.whole(alloc)?;
+        let second = later.whole(alloc)?;
+        let both = first.fuse(&second)?;
+        let piece = NodePiece::of_piece(both)?;
+        let pair = Pair {
+            size: earlier.len() + later.len(),
+            earlier,
+            later,
+            piece,
+        };
+        Ok(Subtree::of_pair(Box::new(alloc, pair)?))
+    }
+
+    /// The subtree of these rows, halved until a run has no more than `longest`.
+    fn of_rows(alloc: Global, rows: &[Row], longest: usize) -> Result<Subtree, NoMemory>
+        requires of_kind { AreOfKind Pq rows.now }
+        requires few { length rows.now ≤ most_rows }
+        requires some { 1 ≤ longest }
+        requires short { longest ≤ longest_run }
+        ensures { IfOk result (λ subtree. subtree ≡ rows.now) }
+    {
+        if rows.len() <= longest {
+            return Subtree::of_few(alloc, rows);
+        }
+        let (before, after) = rows.split_at(rows.len() / 2);
+        let earlier = Subtree::of_rows(alloc, before, longest)?;
+        let later = Subtree::of_rows(alloc, after, longest)?;
+        Subtree::of_sides(alloc, earlier, later)
+    }
+
+    /// The rows and one more at a place.
+    fn rows_with(&self, alloc: Global, place: u32, row: Row) -> Result<Vec<Row>, NoMemory>
         requires within { place ≤ length self.now }
         requires room { length self.now < most_rows }
         requires of_kind { kind_of row.op ≡ Pq }
-        ensures { IfOk result (λ subtree. subtree ≡ insert self.now place row) }
+        ensures rows { IfOk result (λ rows. rows.items ≡ insert self.now place row) }
+        ensures of_kind { IfOk result (λ rows. AreOfKind Pq rows.items) }
+        ensures few { IfOk result (λ rows. length rows.items ≤ most_rows) }
     {
-        let mut rows = Vec::new(alloc);
+        let mut rows = Vec::with_capacity(alloc, self.len() as usize + 1)?;
         self.append_to(&mut rows)?;
         rows.insert(place as usize, row)?;
-        Subtree::of_rows(alloc, rows.as_slice())
+        Ok(rows)
     }
 
-    /// The subtree of these rows but the one at a place, made anew.
-    fn without_row(&self, alloc: Global, place: u32) -> Result<Subtree, NoMemory>
+    /// The rows but the one at a place.
+    fn rows_without(&self, alloc: Global, place: u32) -> Result<Vec<Row>, NoMemory>
         requires within { place < length self.now }
-        ensures { IfOk result (λ subtree. subtree ≡ remove self.now place) }
+        ensures rows { IfOk result (λ rows. rows.items ≡ remove self.now place) }
+        ensures of_kind { IfOk result (λ rows. AreOfKind Pq rows.items) }
+        ensures few { IfOk result (λ rows. length rows.items ≤ most_rows) }
     {
-        let mut rows = Vec::new(alloc);
+        let mut rows = Vec::with_capacity(alloc, self.len() as usize)?;
         self.append_to(&mut rows)?;
         rows.remove(place as usize);
-        Subtree::of_rows(alloc, rows.as_slice())
+        Ok(rows)
     }
 
-    /// Puts a row in at a place, with all rows made anew. What passes is found by comparing.
-    fn insert_anew(&mut self, alloc: Global, place: u32, row: Row) -> Result<Bound, NoMemory>
+    /// Puts a row in at a place, with all rows made anew, in runs of no more than `longest`. What passes is found by comparing.
+    fn insert_anew(
+        &mut self,
+        alloc: Global,
+        place: u32,
+        row: Row,
+        longest: usize,
+    ) -> Result<Bound, NoMemory>
         requires within { place ≤ length self.old }
         requires room { length self.old < most_rows }
         requires of_kind { kind_of row.op ≡ Pq }
+        requires some { 1 ≤ longest }
+        requires short { longest ≤ longest_run }
         ensures ok { OnOk result (self.new ≡ insert self.old place row) }
         ensures err { OnErr result (self.new ≡ self.old) }
-        ensures passed { IfOk result (PassesIn (added_by row) (tolerant self.old) (tolerant (insert self.old place row))) }
+        ensures passed { IfOk result (λ passed. DiffersBy (added_by row) passed (tolerant self.old) (tolerant (insert self.old place row))) }
     {
-        let new = self.with_row(alloc, place, row)?;
-        let none = Piece::empty(alloc);
+        let rows = self.rows_with(alloc, place, row)?;
+        let new = Subtree::of_rows(alloc, rows.as_slice(), longest)?;
         let gains = row.added_entry().is_some();
-        let passed = difference(gains, self.whole(&none), new.whole(&none));
+        let passed = difference(gains, &self.whole(alloc)?, &new.whole(alloc)?);
         *self = new;
         Ok(passed)
     }
 
-    /// Takes the row at a place out, with all others made anew. What passes is found by comparing.
-    fn remove_anew(&mut self, alloc: Global, place: u32, row: Row) -> Result<Bound, NoMemory>
+    /// Takes the row at a place out, with all others made anew, in runs of no more than `longest`. What passes is found by comparing.
+    fn remove_anew(
+        &mut self,
+        alloc: Global,
+        place: u32,
+        row: Row,
+        longest: usize,
+    ) -> Result<Bound, NoMemory>
         requires there { slice_get self.old place ≡ Some row }
+        requires some { 1 ≤ longest }
+        requires short { longest ≤ longest_run }
         ensures ok { OnOk result (self.new ≡ remove self.old place) }
         ensures err { OnErr result (self.new ≡ self.old) }
-        ensures passed { IfOk result (PassesOut (added_by row) (tolerant self.old) (tolerant (remove self.old place))) }
+        ensures passed { IfOk result (λ passed. DiffersBy (added_by row) passed (tolerant (remove self.old place)) (tolerant self.old)) }
     {
-        let new = self.without_row(alloc, place)?;
-        let none = Piece::empty(alloc);
-        let adds = row.added_entry().is_some();
-        let gains = !adds;
-        let passed = difference(gains, self.whole(&none), new.whole(&none));
+        let rows = self.rows_without(alloc, place)?;
+        let new = Subtree::of_rows(alloc, rows.as_slice(), longest)?;
+        let gains = row.added_entry().is_none();
+        let passed = difference(gains, &self.whole(alloc)?, &new.whole(alloc)?);
         *self = new;
         Ok(passed)
     }
 
     /// Puts a row in at a place. All memory of a node is taken before anything of it changes, so after `NoMemory` all is as before.
     /// It says what passes between what the rows leave and what they do not.
+    #[cycle(put)]
     pub(crate) fn insert(&mut self, alloc: Global, place: u32, row: Row) -> Result<Bound, NoMemory>
         requires within { place ≤ length self.old }
         requires room { length self.old < most_rows }
         requires of_kind { kind_of row.op ≡ Pq }
         ensures ok { OnOk result (self.new ≡ insert self.old place row) }
         ensures err { OnErr result (self.new ≡ self.old) }
-        ensures passed { IfOk result (PassesIn (added_by row) (tolerant self.old) (tolerant (insert self.old place row))) }
+        ensures passed { IfOk result (λ passed. DiffersBy (added_by row) passed (tolerant self.old) (tolerant (insert self.old place row))) }
     {
-        let own = Bound::of_row(row);
-        let gains = row.added_entry().is_some();
-        let Link::Full(node) = mem::replace(&mut self.link, Link::Empty) else {
-            *self = Subtree::of_sides(alloc, Subtree::new(), row, Subtree::new())?;
-            return Ok(own.alone());
+        let pair = match mem::replace(&mut self.link, Link::Empty) {
+            Link::Fork(pair) => pair,
+            link => {
+                self.link = link;
+                return self.insert_anew(alloc, place, row, LONGEST_RUN);
+            }
         };
-        if !node.bears(place) {
-            *self = Subtree::of_root(node);
-            return self.insert_anew(alloc, place, row);
+        if !pair.bears(place) {
+            *self = Subtree::of_pair(pair);
+            return self.insert_anew(alloc, place, row, LONGEST_ANEW);
         }
-        let before = node.left.len();
-        let edges = node.edges(alloc, gains);
-        let (mut node, piece) = match take_apart(alloc, node) {
-            Ok(Opened { node, piece }) => (node, piece),
-            Err(node) => {
-                *self = Subtree::of_root(node);
-                return Err(NoMemory);
+        match put_row(alloc, pair, place, row) {
+            Ok(Edited { pair, passed }) => {
+                *self = Subtree::of_pair(pair);
+                Ok(passed)
             }
-        };
-        let size = node.size + 1;
-        if place <= before {
-            match node.left.insert(alloc, place, row) {
-                Ok(passed) => {
-                    let passed = edges.from_left(passed);
-                    *self = renewed(node, size, piece.after(gains, own, passed));
-                    Ok(passed)
-                }
-                Err(error) => {
-                    *self = closed(node, piece.into_piece());
-                    Err(error)
-                }
-            }
-        } else {
-            match node.right.insert(alloc, place - before - 1, row) {
-                Ok(passed) => {
-                    let passed = edges.from_right(own, passed);
-                    *self = renewed(node, size, piece.after(gains, own, passed));
-                    Ok(passed)
-                }
-                Err(error) => {
-                    *self = closed(node, piece.into_piece());
-                    Err(error)
-                }
+            Err(pair) => {
+                *self = Subtree::of_pair(pair);
+                Err(NoMemory)
             }
         }
     }
 
     /// Takes the row at a place out, which is this one. All memory of a node is taken before anything of it changes, so after `NoMemory`
     /// all is as before. It says what passes between what the rows leave and what they do not.
+    #[cycle(cut)]
     pub(crate) fn remove(&mut self, alloc: Global, place: u32, row: Row) -> Result<Bound, NoMemory>
         requires there { slice_get self.old place ≡ Some row }
         ensures ok { OnOk result (self.new ≡ remove self.old place) }
         ensures err { OnErr result (self.new ≡ self.old) }
-        ensures passed { IfOk result (PassesOut (added_by row) (tolerant self.old) (tolerant (remove self.old place))) }
+        ensures passed { IfOk result (λ passed. DiffersBy (added_by row) passed (tolerant (remove self.old place)) (tolerant self.old)) }
     {
-        let own = Bound::of_row(row);
-        let adds = row.added_entry().is_some();
-        let gains = !adds;
-        let Link::Full(node) = mem::replace(&mut self.link, Link::Empty) else {
+        let pair = match mem::replace(&mut self.link, Link::Empty) {
+            Link::Fork(pair) => pair,
+            link => {
+                self.link = link;
+                return self.remove_anew(alloc, place, row, LONGEST_RUN);
+            }
+        };
+        if !pair.spares(place) {
+            *self = Subtree::of_pair(pair);
+            return self.remove_anew(alloc, place, row, LONGEST_ANEW);
+        }
+        match cut_row(alloc, pair, place, row) {
+            Ok(Edited { pair, passed }) => {
+                *self = Subtree::of_pair(pair);
+                Ok(passed)
+            }
+            Err(pair) => {
+                *self = Subtree::of_pair(pair);
+                Err(NoMemory)
+            }
+        }
+    }
+}
+
+impl Pair {
+    /// Whether the sides stay in balance where a row is put in at a place.
+    fn bears(&self, place: u32) -> bool
+        ensures { result ≡ bears self.now place }
+    {
+        let (earlier, later) = (self.earlier.len(), self.later.len());
+        if place <= earlier {
+            earlier + 1 < 3 * later
+        } else {
+            later + 1 < 3 * earlier
+        }
+    }
+
+    /// Whether they do, and the rows stay those of a pair, where the row at a place goes.
+    fn spares(&self, place: u32) -> bool
+        ensures { result ≡ spares self.now place }
+    {
+        let (earlier, later) = (self.earlier.len(), self.later.len());
+        if earlier + later <= LEAST_PAIR {
+            return false;
+        }
+        if place < earlier {
+            later + 3 < 3 * earlier
+        } else {
+            earlier + 3 < 3 * later
+        }
+    }
+
+    /// What stands at the boundary of what the later side takes of the earlier one, seen from before an edit that gains or loses.
+    fn boundary(&self, gains: bool) -> Bound
+        requires { IsPair self.now }
+        ensures { result ≡ boundary_of gains (tolerant self.now.earlier) (tolerant self.now.later) }
+    {
+        let (Some(first), Some(second)) = (self.earlier.node_piece(), self.later.node_piece())
+        else {
             unreachable!()
         };
-        let (from, next) = node.replacement(place);
-        if !node.spares(from) {
-            *self = Subtree::of_root(node);
-            return self.remove_anew(alloc, place, row);
+        boundary(first.left(), second.removed(), second.takings(), gains)
+    }
+
+    /// Puts a row in on its side, and says what passes in the pair, whose boundary this is.
+    #[cycle(put)]
+    fn insert_below(
+        &mut self,
+        alloc: Global,
+        place: u32,
+        row: Row,
+        boundary: Bound,
+    ) -> Result<Bound, NoMemory>
+        requires within { place ≤ length (pair_rows self.old) }
+        requires room { length (pair_rows self.old) < most_rows }
+        requires of_kind { kind_of row.op ≡ Pq }
+        requires some { 0 < length self.old.later }
+        requires boundary { boundary ≡ boundary_of (is_some (added_by row)) (tolerant self.old.earlier) (tolerant self.old.later) }
+        ensures ok { OnOk result (Puts self.old place row self.new) }
+        ensures err { OnErr result (self.new ≡ self.old) }
+        ensures passed { IfOk result (λ passed. DiffersBy (added_by row) passed (tolerant (pair_rows self.old)) (tolerant (insert (pair_rows self.old) place row))) }
+    {
+        let before = self.earlier.len();
+        if place <= before {
+            let passed = self.earlier.insert(alloc, place, row)?;
+            return Ok(passed.higher(boundary));
         }
-        let before = node.left.len();
-        let edges = node.edges(alloc, gains);
-        let (mut node, piece) = match take_apart(alloc, node) {
-            Ok(Opened { node, piece }) => (node, piece),
-            Err(node) => {
-                *self = Subtree::of_root(node);
-                return Err(NoMemory);
-            }
-        };
-        let size = node.size - 1;
-        if from < before {
-            match node.left.remove(alloc, place, row) {
-                Ok(passed) => {
-                    let passed = edges.from_left(passed);
-                    *self = renewed(node, size, piece.after(gains, own, passed));
-                    Ok(passed)
-                }
-                Err(error) => {
-                    *self = closed(node, piece.into_piece());
-                    Err(error)
-                }
-            }
-        } else if place == before {
-            match node.right.remove(alloc, 0, next) {
-                Ok(_) => {
-                    let passed = edges.from_own(own);
-                    node.row = next;
-                    *self = renewed(node, size, piece.after(gains, own, passed));
-                    Ok(passed)
-                }
-                Err(error) => {
-                    *self = closed(node, piece.into_piece());
-                    Err(error)
-                }
-            }
-        } else {
-            match node.right.remove(alloc, place - before - 1, row) {
-                Ok(passed) => {
-                    let passed = edges.from_right(own, passed);
-                    *self = renewed(node, size, piece.after(gains, own, passed));
-                    Ok(passed)
-                }
-                Err(error) => {
-                    *self = closed(node, piece.into_piece());
-                    Err(error)
-                }
-            }
+        let passed = self.later.insert(alloc, place - before, row)?;
+        Ok(from_later(Bound::of_row(row), passed, boundary))
+    }
+
+    /// Takes the row at a place out of its side, and says what passes in the pair, whose boundary this is.
+    #[cycle(cut)]
+    fn remove_below(
+        &mut self,
+        alloc: Global,
+        place: u32,
+        row: Row,
+        boundary: Bound,
+    ) -> Result<Bound, NoMemory>
+        requires there { slice_get (pair_rows self.old) place ≡ Some row }
+        requires boundary { boundary ≡ boundary_of (not (is_some (added_by row))) (tolerant self.old.earlier) (tolerant self.old.later) }
+        ensures ok { OnOk result (Cuts self.old place self.new) }
+        ensures err { OnErr result (self.new ≡ self.old) }
+        ensures passed { IfOk result (λ passed. DiffersBy (added_by row) passed (tolerant (remove (pair_rows self.old) place)) (tolerant (pair_rows self.old))) }
+    {
+        let before = self.earlier.len();
+        if place < before {
+            let passed = self.earlier.remove(alloc, place, row)?;
+            return Ok(passed.higher(boundary));
+        }
+        let passed = self.later.remove(alloc, place - before, row)?;
+        Ok(from_later(Bound::of_row(row), passed, boundary))
+    }
+}
+
+/// A pair after an edit, and what passed in it.
+#[derive(Drop)]
+struct Edited {
+    pair: Box<Pair>,
+    passed: Bound,
+}
+
+/// Puts a row in below a pair, which bears it. Where there is no memory for it, the pair comes back as it was.
+#[cycle(put)]
+fn put_row(alloc: Global, pair: Box<Pair>, place: u32, row: Row) -> Result<Edited, Box<Pair>>
+    requires sound { IsPair pair.value }
+    requires bears { bears pair.value place ≡ true }
+    requires within { place ≤ length (pair_rows pair.value) }
+    requires room { length (pair_rows pair.value) < most_rows }
+    requires of_kind { kind_of row.op ≡ Pq }
+    ensures { MatchResult result (λ edited. IsPut pair.value place row edited.pair.value edited.passed) (λ same. same.value ≡ pair.value) }
+{
+    let gains = row.added_entry().is_some();
+    let boundary = pair.boundary(gains);
+    let Opened { mut pair, piece } = take_apart(alloc, pair)?;
+    match pair.insert_below(alloc, place, row, boundary) {
+        Ok(passed) => {
+            pair.size += 1;
+            pair.piece = piece.after(gains, Bound::of_row(row), passed);
+            Ok(Edited { pair, passed })
+        }
+        Err(_) => {
+            pair.piece = piece.into_piece();
+            Err(pair)
         }
     }
 }
 
-/// A node that was taken out of its link, and its piece, which has room for an edit.
+/// Takes the row at a place out below a pair, which spares it. Where there is no memory for it, the pair comes back as it was.
+#[cycle(cut)]
+fn cut_row(alloc: Global, pair: Box<Pair>, place: u32, row: Row) -> Result<Edited, Box<Pair>>
+    requires sound { IsPair pair.value }
+    requires spares { spares pair.value place ≡ true }
+    requires there { slice_get (pair_rows pair.value) place ≡ Some row }
+    ensures { MatchResult result (λ edited. IsCut pair.value place row edited.pair.value edited.passed) (λ same. same.value ≡ pair.value) }
+{
+    let gains = row.added_entry().is_none();
+    let boundary = pair.boundary(gains);
+    let Opened { mut pair, piece } = take_apart(alloc, pair)?;
+    match pair.remove_below(alloc, place, row, boundary) {
+        Ok(passed) => {
+            pair.size -= 1;
+            pair.piece = piece.after(gains, Bound::of_row(row), passed);
+            Ok(Edited { pair, passed })
+        }
+        Err(_) => {
+            pair.piece = piece.into_piece();
+            Err(pair)
+        }
+    }
+}
+
+/// A pair, and its piece, which has room for an edit.
 #[derive(Drop)]
 struct Opened {
-    node: Box<Node>,
-    piece: Roomy,
+    pair: Box<Pair>,
+    piece: RoomyPiece,
 }
 
-/// The node with its piece apart. Where there is no memory for the room, it comes back as it was.
-fn take_apart(alloc: Global, mut node: Box<Node>) -> Result<Opened, Box<Node>>
-    ensures { MatchResult result (λ opened. with_piece opened.node.value opened.piece ≡ node.value) (λ same. same.value ≡ node.value) }
+/// The pair with its piece apart. Where there is no memory for the room, it comes back as it was.
+fn take_apart(alloc: Global, mut pair: Box<Pair>) -> Result<Opened, Box<Pair>>
+    ensures { MatchResult result (λ opened. with_piece opened.pair.value opened.piece ≡ pair.value) (λ same. same.value ≡ pair.value) }
 {
-    let whole = mem::replace(&mut node.piece, Piece::empty(alloc));
+    let whole = mem::replace(&mut pair.piece, NodePiece::empty(alloc));
     match whole.with_room() {
-        Ok(piece) => Ok(Opened { node, piece }),
+        Ok(piece) => Ok(Opened { pair, piece }),
         Err(piece) => {
-            node.piece = piece;
-            Err(node)
+            pair.piece = piece;
+            Err(pair)
         }
     }
 }
 
-/// The subtree of a node with this piece.
-fn closed(mut node: Box<Node>, piece: Piece) -> Subtree
-    requires { IsNode (with_piece node.value piece) }
-    ensures { result ≡ node_rows node.value }
+/// What passes in a pair with this boundary where `passed` does in its later side, by an edit of a row with the bound `own`.
+fn from_later(own: Bound, passed: Bound, boundary: Bound) -> Bound
+    ensures { result ≡ higher own (lower passed boundary) }
 {
-    node.piece = piece;
-    Subtree::of_root(node)
-}
-
-/// The subtree of a node with this size and this piece.
-fn renewed(mut node: Box<Node>, size: u32, piece: Piece) -> Subtree
-    requires { IsNode (renewed node.value size piece) }
-    ensures { result ≡ node_rows node.value }
-{
-    node.size = size;
-    node.piece = piece;
-    Subtree::of_root(node)
+    own.higher(passed.lower(boundary))
 }

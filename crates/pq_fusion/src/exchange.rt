@@ -22,7 +22,7 @@ pub(crate) fn make_room(list: &mut Vec<Entry>) -> Result<(), NoMemory>
 }
 
 /// Puts an entry into a rising list that has room for it.
-fn put_in(list: &mut Vec<Entry>, entry: Entry)
+pub(crate) fn put_in(list: &mut Vec<Entry>, entry: Entry)
     requires room { vec_len list.old < vec_capacity list.old }
     requires order { AreInOrder list.old.items }
     ensures { list.new.items ≡ with_entry entry list.old.items }

@@ -67,19 +67,20 @@ impl FusedQueue {
         self.rows.piece(self.alloc, from, to)
     }
 
-    /// How many entries there are in all pieces of the tree of rows: one for each row that adds and each node above it. So at each
-    /// level at least as many rows count as there are more than nodes above that level.
+    /// How many entries there are in all pieces of the tree of rows: one for each row that adds and each run or pair that it stands in. A
+    /// run has no more than 64 rows, so the tree has many levels: whatever number of them is named, each row that adds counts as often, but
+    /// for at most 16 entries times 2 to the power of that number.
     pub fn stored(&self) -> u64
         ensures least { length (added self.now) ≤ result }
         ensures most { result ≤ 3 * length self.now * digits (length self.now + 1) }
-        ensures levels { (levels : ℕ) → levels * length (added self.now) < result + 2 ^ levels }
+        ensures levels { (levels : ℕ) → levels * length (added self.now) ≤ result + 16 * 2 ^ levels }
         ensures entries { result ≤ 3 * length (added self.now) * digits (length self.now + 1) }
     {
         self.rows.stored()
     }
 
     /// The answer to a question about the state at a place, after so many rows. No piece is made, so it takes no memory. It visits at most 25
-    /// nodes and entries for each of the 64 digits of a key and each pair of digits of one more than the length.
+    /// nodes, rows and entries for each of the 64 digits of a key and each pair of digits of one more than the length.
     pub fn ask_past<L: Ledger>(
         &self,
         place: u32,

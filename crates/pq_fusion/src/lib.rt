@@ -8,18 +8,18 @@
 //! What `ins 4`, `ins 2` come to leaves 2 and 4. What `delmin`, `delmin`, `delmin`, `ins 7` come to leaves 7, with three takings
 //! unmet. Fused they leave 7, have removed 2 and 4, and one taking is unmet: the third one of these rows cannot be performed.
 //!
-//! `FusedQueue` is a priority queue of `retro_base`'s trait `Retro`. It keeps its rows in a weight-balanced tree of which each node
-//! has the piece of all rows below it, so what the rows before a place come to is a product of a few pieces; what they leave is the
-//! state there. A question about the past makes no piece: how many entries are left, and how many of them have a key that is no less
-//! than a given one, follows from piece to piece by a search of each list by halves, and the key at an index is the greatest one
-//! that enough entries reach.
+//! `FusedQueue` is a priority queue of `retro_base`'s trait `Retro`. It keeps its rows in runs of up to 64, and pairs of these and of pairs
+//! in a balanced tree above. Each run and each pair has the piece of all rows below it, so what the rows before a place come to is a
+//! product of a few pieces and of some rows of one run; what they leave is the state there. A question about the past makes no piece: how
+//! many entries are left, and how many of them have a key that is no less than a given one, follows from piece to piece by a search of
+//! each list by halves, and from row to row in one run, and the key at an index is the greatest one that enough entries reach.
 //!
-//! Verdicts, changes and the present are those of a `BridgeQueue` beside the tree. An edit goes down one path of the tree; on the
-//! way up each node learns what passes below it, finds by two boundaries what passes in its own piece, and puts this one entry into a list
-//! or takes it out. So it takes a search of each list of the path by halves, and moves the entries behind a place in each: that is
-//! proportional to m at worst, and a copy within memory. Where a side would weigh over 3 times the other, the part of the tree
-//! below that node is made anew, as light as it can be on both sides of each node; a share of its rows have come or gone
-//! before that is so again.
+//! Verdicts, changes and the present are those of a `BridgeQueue` beside the tree. An edit goes down one path of the tree to a run, which
+//! is made anew with its piece, and what passes there is found by comparing; on the way up each pair learns what passes in one of its sides, finds by
+//! one boundary what passes in its own piece, and puts this one entry into a list or takes it out. So it takes a search of two lists a
+//! level by halves, and moves the entries behind a place in each: that is proportional to m at worst, and a copy within memory.
+//! A run that is full is made two, a pair that comes to few rows is made a run, and where a side would have 3 times as many rows as the
+//! other the whole pair is made anew, halved until its runs have no more than 48 rows; a share of its rows have come or gone before that is so again.
 //!
 //! | Call | Cost, with m rows | Memory |
 //! |---|---|---|
@@ -29,10 +29,10 @@
 //! | `ask_now`, `failure_after_insert`, `failure_after_remove` | those of `BridgeQueue`, log m | none |
 //! | `ask_past`, `answer_at`, `ask` | one walk of the path, log² m, for each binary digit of the difference of the keys on it | none |
 //! | `all`, `piece` | in proportion to the rows asked about | as many entries |
-//! | `insert`, `remove` | log² m comparisons and a move of the entries behind a place in each list; m log m where a part is made anew | room in each list |
-//! | `stored` | each node once | none |
+//! | `insert`, `remove` | log² m comparisons, a run made anew and a move of the entries behind a place in each list; m log m where a part is made anew | a run, and room in each list |
+//! | `stored` | each run and pair once | none |
 //!
-//! An edit takes all memory of a node before anything of it changes, and its child's edit is done or leaves all as before; so after
+//! An edit takes all memory of a pair before anything of it changes, and the edit of its side is done or leaves all as before; so after
 //! `NoMemory` all is as before, and nothing has to be taken back. `remove` takes memory too. A list grows by an eighth, and keeps its
 //! memory where it shrinks, until the part that it stands in is made anew.
 //! The pieces have at least as many entries as there are rows that add, and at most 3 m for each binary digit of m + 1: a side
@@ -42,16 +42,18 @@
 //! it, with the edited row's own entry in its place. Which entry it is goes from part to part, by one comparison or two with the entry at
 //! the boundary of what a later part takes of an earlier one. This is a law (`edits_pass_one`) of all rows, places and edits.
 //!
-//! `ask_past` counts its visits, a node that is opened and each turn of a search in a list: at most 25 for each of the 64 digits of a
-//! key and each pair of digits of m + 1.
+//! `ask_past` counts its visits, a run or a pair that is opened, each row of a run that is gone through and each turn of a search in a list: at
+//! most 25 for each of the 64 digits of a key and each pair of digits of m + 1.
 //!
 //! What the layer above may rely on: the clauses of `Piece` and `FusedQueue`, the definitions of specs/Pieces.antt, and the laws of
 //! specs/PieceLaws.antt and specs/Edits.antt, which are the contracts of `laws`.
 //!
-//! - `piece`, `merge`: a piece, and two rising lists together. `bound`: an entry, or what is less or greater than each.
-//! - `subtree`: the tree of rows. `read`: its products. `remaining`: what a product leaves. `edit`: a row more or less.
-//! - `boundary`: the entry at a rank of two lists together. `edges`: the two boundaries of a node, and what passes at it. `exchange`,
-//!   `roomy`: one entry of a list in the place of another, and a piece that has room for that. `difference`: what passed, by comparing.
+//! - `piece`, `merge`, `of_rows`: a piece, two rising lists together, and the piece of rows one after another. `bound`: an entry, or what is
+//!   less or greater than each.
+//! - `subtree`, `root`: the tree of rows, and what stands at its root. `read`: its products. `remaining`: what a product leaves. `edit`: a row
+//!   more or less.
+//! - `entry_list`: entries in rising order, with room for an edit. `node_piece`: a piece in two of them. `exchange`: one entry of a list in the
+//!   place of another. `boundary`: the entry at a rank of two lists together. `difference`: what passed, by comparing.
 //! - `tally`, `span`: how many entries are left after a path, how many of them reach a key, and between which keys they lie.
 //!   `select`: the key at an index of what the first rows leave. `answer`: the answers of that. `fused_queue`.
 #![tactic(auto)]
@@ -60,16 +62,18 @@ mod answer;
 mod bound;
 mod boundary;
 mod difference;
-mod edges;
 mod edit;
+mod entry_list;
 mod exchange;
 mod fused_queue;
 pub mod laws;
 mod merge;
+mod node_piece;
+mod of_rows;
 mod piece;
 mod read;
 mod remaining;
-mod roomy;
+mod root;
 mod select;
 mod span;
 mod subtree;

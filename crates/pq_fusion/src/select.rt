@@ -5,6 +5,7 @@ ghost use Rattle.retro_base.specs.Limits.{most_rows};
 ghost use Rattle.pq_fusion.specs.Searches.{OpensWithin, SeeksWithin, StepsWithin, VisitsUpTo, WalksWithin};
 ghost use Rattle.pq_fusion.specs.Tallies.{LeadsTally, LeadsSpan, reaching, left_by};
 
+use crate::root::Root;
 use crate::span::Span;
 use crate::subtree::Subtree;
 use crate::tally::Tally;
@@ -22,22 +23,30 @@ impl Subtree {
         ensures visits { WalksWithin self.now steps.old steps.new }
     {
         steps.tick();
-        let Some(node) = self.root() else {
-            return before;
-        };
-        if to == node.size {
-            return before.after_piece(bound, &node.piece, steps);
+        if to == self.len() {
+            return match self.node_piece() {
+                None => before,
+                Some(piece) => before.after_piece(bound, piece, steps),
+            };
         }
-        let own = node.left.len();
-        if to <= own {
-            return node.left.tally(to, bound, before, steps);
+        match self.root() {
+            Root::Nothing => before,
+            Root::Run(run) => {
+                let (first, _) = run.rows.as_slice().split_at(to as usize);
+                before.after_rows(bound, first, steps)
+            }
+            Root::Pair(pair) => {
+                let own = pair.earlier.len();
+                if to <= own {
+                    return pair.earlier.tally(to, bound, before, steps);
+                }
+                let first = pair.earlier.tally(own, bound, before, steps);
+                pair.later.tally(to - own, bound, first, steps)
+            }
         }
-        let first = node.left.tally(own, bound, before, steps);
-        let second = first.after_row(bound, node.row, steps);
-        node.right.tally(to - own - 1, bound, second, steps)
     }
 
-    /// The span of what is left after the first rows, where `before` is that of what is left before them.
+    /// The span of what is left after the first rows, where `before` is that of what is left before them. A run it takes whole.
     fn span<L: Ledger>(&self, to: u32, before: Span, steps: &mut Steps<L>) -> Span
         requires { to ≤ length self.now }
         ensures span { LeadsSpan before (take to self.now) result }
@@ -45,19 +54,21 @@ impl Subtree {
         ensures visits { StepsWithin self.now steps.old steps.new }
     {
         steps.tick();
-        let Some(node) = self.root() else {
-            return before;
-        };
-        if to == node.size {
-            return before.with_piece(&node.piece);
+        match self.root() {
+            Root::Nothing => before,
+            Root::Run(run) => before.with_piece(&run.piece),
+            Root::Pair(pair) => {
+                let own = pair.earlier.len();
+                if to <= own {
+                    return pair.earlier.span(to, before, steps);
+                }
+                if to == pair.size {
+                    return before.with_piece(&pair.piece);
+                }
+                let first = pair.earlier.span(own, before, steps);
+                pair.later.span(to - own, first, steps)
+            }
         }
-        let own = node.left.len();
-        if to <= own {
-            return node.left.span(to, before, steps);
-        }
-        let first = node.left.span(own, before, steps);
-        let second = first.with_row(node.row);
-        node.right.span(to - own - 1, second, steps)
     }
 
     /// How many of the entries that the first rows leave have a key that is no less than this one.

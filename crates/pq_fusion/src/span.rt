@@ -1,13 +1,11 @@
-ghost use Rattle.std.specs.Prelude.{◌≡◌, [], ◌∷◌};
 ghost use Rattle.std.specs.List.{AllByRecursion};
-ghost use Rattle.retro_base.specs.declared.kind.Kind.TheVariants.{Pq};
 ghost use Rattle.retro_base.specs.declared.row.Entry.{Entry};
 ghost use Rattle.retro_base.specs.EntriesInOrder.{AreInOrder};
-ghost use Rattle.retro_base.specs.Kind.{kind_of};
-ghost use Rattle.pq_fusion.specs.Tallies.{LiesIn, LeadsSpan};
+ghost use Rattle.pq_fusion.specs.Tallies.{LiesIn};
 
-use crate::Piece;
-use retro_base::{Entry, Row};
+use crate::entry_list::EntryList;
+use crate::node_piece::NodePiece;
+use retro_base::Entry;
 
 /// Two keys, of which the first is no greater, and the second no less, than those of some entries.
 #[derive(Clone, Copy)]
@@ -18,12 +16,12 @@ pub(crate) struct Span {
 
 impl Span {
     /// The span of these entries and of those before.
-    fn with(self, entries: &[Entry]) -> Span
+    fn with(self, entries: &EntryList) -> Span
         requires { AreInOrder entries.now }
         ensures own { AllByRecursion (LiesIn result) entries.now }
         ensures others { (entry : Entry) → LiesIn self entry → LiesIn result entry }
     {
-        match (entries.first(), entries.last()) {
+        match (entries.get(0), entries.last()) {
             (Some(first), Some(last)) => Span {
                 low: self.low.min(first.key),
                 high: self.high.max(last.key),
@@ -33,22 +31,11 @@ impl Span {
     }
 
     /// The span where the rows of a piece follow.
-    pub(crate) fn with_piece(self, piece: &Piece) -> Span
+    pub(crate) fn with_piece(self, piece: &NodePiece) -> Span
         ensures left { AllByRecursion (LiesIn result) piece.now.left }
         ensures removed { AllByRecursion (LiesIn result) piece.now.removed }
         ensures others { (entry : Entry) → LiesIn self entry → LiesIn result entry }
     {
         self.with(piece.left()).with(piece.removed())
-    }
-
-    /// The span where one row follows.
-    pub(crate) fn with_row(self, row: Row) -> Span
-        requires { kind_of row.op ≡ Pq }
-        ensures { LeadsSpan self (row ∷ []) result }
-    {
-        match row.added_entry() {
-            Some(entry) => self.with(&[entry]),
-            None => self,
-        }
     }
 }

@@ -1,30 +1,41 @@
-use crate::Piece;
+use crate::node_piece::NodePiece;
 use retro_base::Row;
 use std::marker::Model;
 
-/// The rows of a tree or of one side of a node, in order.
+/// A run has so many rows at most.
+pub(crate) const LONGEST_RUN: usize = 64;
+
+/// The rows of a tree or of one side of a pair, in order.
 #[cycle(subtree)]
 #[derive(Drop)]
 pub(crate) struct Subtree {
     pub(crate) link: Link,
 }
 
+/// Only a tree without rows is empty; no side of a pair is.
 #[cycle(subtree)]
 #[derive(Drop)]
 pub(crate) enum Link {
     Empty,
-    Full(Box<Node>),
+    Leaf(Box<Run>),
+    Fork(Box<Pair>),
 }
 
-/// A row with what stands before and after it in its subtree, and what all of them come to.
+/// Neighbouring rows, and what all of them come to.
+#[derive(Drop)]
+pub(crate) struct Run {
+    pub(crate) rows: Vec<Row>,
+    pub(crate) piece: NodePiece,
+}
+
+/// Rows in two parts, and what all of them come to.
 #[cycle(subtree)]
 #[derive(Drop)]
-pub(crate) struct Node {
-    pub(crate) left: Subtree,
-    pub(crate) row: Row,
-    pub(crate) right: Subtree,
+pub(crate) struct Pair {
+    pub(crate) earlier: Subtree,
+    pub(crate) later: Subtree,
     pub(crate) size: u32,
-    pub(crate) piece: Piece,
+    pub(crate) piece: NodePiece,
 }
 
 impl Model for Subtree {
@@ -43,5 +54,5 @@ impl Model for Subtree {
 
     ghost use Rattle.pq_fusion.specs.NodesFall.{depth_le-length-rows};
 
-    ghost size_decreases = { λ t h. depth_le-length-rows t.link };
+    ghost size_decreases = { λ t h. depth_le-length-rows t.link h };
 }

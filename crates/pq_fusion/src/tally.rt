@@ -3,11 +3,12 @@ ghost use Rattle.retro_base.specs.declared.kind.Kind.TheVariants.{Pq};
 ghost use Rattle.retro_base.specs.EntriesInOrder.{AreInOrder};
 ghost use Rattle.retro_base.specs.Kind.{kind_of};
 ghost use Rattle.retro_base.specs.Limits.{most_rows};
+ghost use Rattle.retro_base.specs.Timeline.{AreOfKind};
 ghost use Rattle.pq_fusion.specs.Pieces.{PieceParts, fuse};
 ghost use Rattle.pq_fusion.specs.Searches.{SearchesWithin, VisitsUpTo};
 ghost use Rattle.pq_fusion.specs.Tallies.{reaching, tally_of, LeadsTally};
 
-use crate::Piece;
+use crate::node_piece::NodePiece;
 use retro_base::{Entry, Row, Steps};
 use std::sync::ledger::Ledger;
 
@@ -19,64 +20,79 @@ pub(crate) struct Tally {
 }
 
 impl Tally {
-    /// The tally where other rows follow that leave `left`, remove `removed` and have so many unmet takings.
-    fn after<L: Ledger>(
-        self,
-        bound: Entry,
-        left: &[Entry],
-        removed: &[Entry],
-        unmet: u32,
-        steps: &mut Steps<L>,
-    ) -> Tally
-        requires left { AreInOrder left.now }
-        requires removed { AreInOrder removed.now }
-        requires few { self.left + length left.now ≤ most_rows }
-        requires few_removed { length removed.now ≤ most_rows }
-        ensures tally { (piece : PieceParts) → self ≡ tally_of bound piece.left
-            → result ≡ tally_of bound (fuse piece (record { left = left.now; removed = removed.now; unmet = unmet })).left }
-        ensures few { result.left ≤ self.left + length left.now }
-        ensures visits { (k : ℕ) → length left.now < 2 ^ k → length removed.now < 2 ^ k → VisitsUpTo (2 * k) steps.old steps.new }
-    {
-        let kept = self.left.saturating_sub(unmet);
-        let met = u64::from(self.reaching) + u64::from(reaching(bound, removed, steps));
-        Tally {
-            left: left.len() as u32 + kept,
-            reaching: reaching(bound, left, steps) + met.min(u64::from(kept)) as u32,
-        }
-    }
-
     /// The tally where the rows of a piece follow.
     pub(crate) fn after_piece<L: Ledger>(
         self,
         bound: Entry,
-        piece: &Piece,
+        piece: &NodePiece,
         steps: &mut Steps<L>,
     ) -> Tally
         requires few { self.left + length piece.now.left ≤ most_rows }
         ensures tally { (first : PieceParts) → self ≡ tally_of bound first.left → result ≡ tally_of bound (fuse first piece.now).left }
         ensures few { result.left ≤ self.left + length piece.now.left }
-        ensures visits { (k : ℕ) → length piece.now.left < 2 ^ k → length piece.now.removed < 2 ^ k → VisitsUpTo (2 * k) steps.old steps.new }
+        ensures visits { (k : ℕ) → length piece.now.left < 2 ^ k → length piece.now.removed < 2 ^ k → VisitsUpTo (4 * k) steps.old steps.new }
     {
-        self.after(bound, piece.left(), piece.removed(), piece.unmet(), steps)
+        let (left, removed) = (piece.left(), piece.removed());
+        let kept = self.left.saturating_sub(piece.unmet());
+        let met = u64::from(self.reaching) + u64::from(removed.reaching(bound, steps));
+        Tally {
+            left: left.len() + kept,
+            reaching: left.reaching(bound, steps) + met.min(u64::from(kept)) as u32,
+        }
     }
 
     /// The tally where one row follows.
-    pub(crate) fn after_row<L: Ledger>(self, bound: Entry, row: Row, steps: &mut Steps<L>) -> Tally
+    fn after_row(self, bound: Entry, row: Row) -> Tally
         requires few { self.left + 1 ≤ most_rows }
         requires of_kind { kind_of row.op ≡ Pq }
         ensures tally { LeadsTally bound self (row ∷ []) result }
         ensures few { result.left ≤ self.left + 1 }
-        ensures visits { VisitsUpTo 2 steps.old steps.new }
     {
-        match row.added_entry() {
-            Some(entry) => self.after(bound, &[entry], &[], 0, steps),
-            None => self.after(bound, &[], &[], 1, steps),
+        let Some(entry) = row.added_entry() else {
+            let left = self.left.saturating_sub(1);
+            return Tally {
+                left,
+                reaching: self.reaching.min(left),
+            };
+        };
+        Tally {
+            left: self.left + 1,
+            reaching: self.reaching.min(self.left) + reaches(bound, entry),
         }
+    }
+
+    /// The tally where these rows follow, one after another.
+    pub(crate) fn after_rows<L: Ledger>(
+        self,
+        bound: Entry,
+        rows: &[Row],
+        steps: &mut Steps<L>,
+    ) -> Tally
+        requires few { self.left + length rows.now ≤ most_rows }
+        requires of_kind { AreOfKind Pq rows.now }
+        ensures tally { LeadsTally bound self rows.now result }
+        ensures few { result.left ≤ self.left + length rows.now }
+        ensures visits { VisitsUpTo (length rows.now) steps.old steps.new }
+    {
+        let mut tally = self;
+        for row in rows {
+            steps.tick();
+            tally = tally.after_row(bound, *row);
+        }
+        tally
     }
 }
 
+/// Once where the entry does not come before the bound.
+fn reaches(bound: Entry, entry: Entry) -> u32
+    ensures count { result ≡ reaching bound (entry ∷ []) }
+    ensures few { result ≤ 1 }
+{
+    if entry.comes_before(bound) { 0 } else { 1 }
+}
+
 /// How many of these entries do not come before this one, by halves.
-fn reaching<L: Ledger>(bound: Entry, entries: &[Entry], steps: &mut Steps<L>) -> u32
+pub(crate) fn reaching<L: Ledger>(bound: Entry, entries: &[Entry], steps: &mut Steps<L>) -> u32
     requires order { AreInOrder entries.now }
     requires few { length entries.now ≤ most_rows }
     ensures count { result ≡ reaching bound entries.now }

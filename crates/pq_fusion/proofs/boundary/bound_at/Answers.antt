@@ -1,9 +1,9 @@
-use Rattle.std.proofs.Common.{arith, sym}
-use Rattle.pq_fusion.proofs.Ranked.{at_get, at_end}
+use Rattle.std.proofs.Common.{sym, ◌∙◌}
+use Rattle.pq_fusion.proofs.Ranked.{at_some, at_none}
 use Rattle.pq_fusion.proofs.boundary.bound_at.Goals as goal
 
-pub returns-then-rank-entries : goal.returns-then-rank-entries
-returns-then-rank-entries c = sym (at_end c.args.entries.now c.args.rank (omega arith))
+pub returns-in-Some : goal.returns-in-Some
+returns-in-Some c = at_some c.args.entries.now c.args.rank c.in-Some.entry (sym c.get.ensures ∙ c.in-Some.is)
 
-pub returns : goal.returns
-returns c = sym (at_get c.args.entries.now c.args.rank _ (omega arith))
+pub returns-in-None : goal.returns-in-None
+returns-in-None c = at_none c.args.entries.now c.args.rank (sym c.get.ensures ∙ c.in-None.is)

@@ -6,7 +6,7 @@ use Rattle.retro_base.specs.State.{entries}
 use Rattle.pq_fusion.specs.Tallies.{left_by}
 use Rattle.retro_base.specs.Digits.{digits}
 use Rattle.retro_base.specs.VisitsLaws.{below-digits}
-use Rattle.pq_fusion.specs.Searches.{VisitsUpTo}
+use Rattle.pq_fusion.specs.Searches.{VisitsUpTo, run_of}
 use Rattle.pq_fusion.proofs.Searched.{sought_digits}
 use Rattle.pq_fusion.proofs.Stored.{levels-of_digits}
 use Rattle.pq_fusion.proofs.Replays.{state_is_left}
@@ -26,5 +26,5 @@ returns-clause-visits g c =
     let size = digits (length rows + 1) in
     let below : length rows + 1 < 2 ^ size = below-digits (length rows + 1) in
     subst (λ l. VisitsUpTo (1600 * digits (length l + 1) * digits (length l + 1)) c.args.steps.now c.answer.new.steps) same
-    (sought_digits (length rows) size c.args.steps.now c.answer.new.steps below
+    (sought_digits (length rows) size (run_of rows) c.args.steps.now c.answer.new.steps below (omega arith) (omega arith)
     (c.answer.ensures.visits (3 * size) size (levels-of_digits (length rows + 1)) (omega (arith, below))))

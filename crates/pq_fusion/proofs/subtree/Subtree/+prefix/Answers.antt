@@ -1,32 +1,26 @@
-use Rattle.std.proofs.Common.{◌≡◌, take, ap, subst, ◌∙◌, sym, IfOk}
-use Rattle.pq_fusion.specs.Pieces.{no_parts, tolerant}
-use Rattle.pq_fusion.proofs.FromRows.{no_more}
-use Rattle.pq_fusion.proofs.Prefixes.{after_few, sides_few, prefix_is}
-use Rattle.pq_fusion.proofs.Ranges.{take_none}
-use Rattle.pq_fusion.proofs.Rooted.{kind_here}
+use Rattle.std.proofs.Common.{◌≡◌, ◌-◌, take, arith, subst, sym, IfOk}
+use Rattle.pq_fusion.specs.Pieces.{tolerant}
+use Rattle.pq_fusion.proofs.Pairs.{sizes, few, take_later}
+use Rattle.pq_fusion.proofs.Prefixes.{sides_few, sides_are}
+use Rattle.pq_fusion.proofs.Ranges.{take_size}
 use Rattle.pq_fusion.proofs.subtree.Subtree.+prefix.Goals as goal
 
-pub returns-in_default : goal.returns-in_default
-returns-in_default t c =
-    c.empty-none.ensures ∙ sym (no_more no_parts) ∙ ap tolerant (sym (ap (take c.args.to) c.in_default.ensures ∙ take_none c.args.to))
-
-pub led-requires-clause-of_kind : goal.led-requires-clause-of_kind
-led-requires-clause-of_kind t c = kind_here c.args.self.now c.in-Some.node.now c.in-Some.ensures
-
-pub led-requires-clause-few : goal.led-requires-clause-few
-led-requires-clause-few t c =
-    after_few c.args.self.now c.in-Some.node.now c.in-Some.ensures c.args.to c.len-before.result c.len-before.ensures.count
-    c.if-to-before.false c.requires c.in_ok-after.after c.in_ok-after.ensures
-
 pub fuse-requires : goal.fuse-requires
-fuse-requires t c = record {
-  few = sides_few c.args.self.now c.in-Some.node.now c.in-Some.ensures c.args.to c.len-before.result c.len-before.ensures.count
-      c.if-to-before.false c.requires c.in_ok-after.after c.in_ok-after.ensures c.whole.result.now c.in_ok-rest.rest c.whole.ensures c.in_ok-rest.ensures;
-}
+fuse-requires t c =
+    let rows = c.args.self.now in
+    let pair = c.in-Pair.pair.now in
+    let rest = take (c.args.to - c.len-before.result) pair.later in
+    record {
+      few = sides_few pair.earlier rest c.in_ok-whole-in-Pair.field-0 c.in_ok-second-in-Pair.second c.in_ok-whole-in-Pair.ensures c.in_ok-second-in-Pair.ensures
+          (omega (arith, sizes rows pair c.in-Pair.ensures, few rows pair c.in-Pair.ensures, take_size pair.later (c.args.to - c.len-before.result), c.requires, c.len-before.ensures.count, c.if-to-before.false));
+    }
 
-pub returns : goal.returns
-returns t c =
-    subst (λ parts. IfOk c.fuse.result (λ piece. piece ≡ parts))
-    (prefix_is c.args.self.now c.in-Some.node.now c.in-Some.ensures c.args.to c.len-before.result c.len-before.ensures.count
-    c.if-to-before.false c.requires c.in_ok-after.after c.in_ok-after.ensures c.whole.result.now c.in_ok-rest.rest c.whole.ensures c.in_ok-rest.ensures)
-    c.fuse.ensures
+pub returns-in_ok-whole-in-Pair : goal.returns-in_ok-whole-in-Pair
+returns-in_ok-whole-in-Pair t c =
+    let rows = c.args.self.now in
+    let pair = c.in-Pair.pair.now in
+    let rest = take (c.args.to - c.len-before.result) pair.later in
+    subst (λ parts. IfOk c.fuse-in-Pair.result (λ piece. piece ≡ parts))
+    (sides_are pair.earlier rest c.in_ok-whole-in-Pair.field-0 c.in_ok-second-in-Pair.second c.in_ok-whole-in-Pair.ensures c.in_ok-second-in-Pair.ensures (take c.args.to rows)
+    (take_later rows pair c.in-Pair.ensures c.len-before.result c.len-before.ensures.count c.args.to (omega (arith, c.if-to-before.false))))
+    c.fuse-in-Pair.ensures

@@ -1,31 +1,51 @@
-use Rattle.std.proofs.Common.{◌≡◌, take, ap, subst, ◌∙◌, sym, IfOk}
-use Rattle.pq_fusion.specs.Pieces.{no_parts, PieceParts, tolerant}
-use Rattle.pq_fusion.proofs.FromRows.{no_more}
-use Rattle.pq_fusion.proofs.Prefixes.{after_few, sides_few, prefix_is}
-use Rattle.pq_fusion.proofs.Ranges.{take_none}
-use Rattle.pq_fusion.proofs.Rooted.{kind_here}
+use Rattle.std.proofs.Common.{◌≡◌, ◌-◌, ◌++◌, length, take, refl, ap, subst, ◌∙◌, sym, arith, IfOk}
+use Rattle.retro_base.specs.EntriesInOrder.{AreInOrder}
+use Rattle.pq_fusion.specs.Pieces.{PieceParts, size_of, tolerant}
+use Rattle.pq_fusion.proofs.FromRows.{tolerant_rise}
+use Rattle.pq_fusion.proofs.Pairs.{sizes, few, take_later}
+use Rattle.pq_fusion.proofs.Prefixes.{none_left, sides_are}
+use Rattle.pq_fusion.proofs.Ranges.{take_all, take_size}
+use Rattle.pq_fusion.proofs.Sizes.{left_size, rows_size}
 use Rattle.pq_fusion.proofs.subtree.Subtree.+remaining.Goals as goal
 
-pub returns-in_default : goal.returns-in_default
-returns-in_default t c =
-    c.new.ensures.items ∙ ap (λ (p : PieceParts). p.left) (sym (no_more no_parts) ∙ ap tolerant (sym (ap (take c.args.to) c.in_default.ensures ∙ take_none c.args.to)))
+pub returns-in-None : goal.returns-in-None
+returns-in-None t c = c.new.ensures.items ∙ sym (none_left c.args.self.now c.args.to c.in-None.ensures)
 
-pub led-requires-clause-of_kind : goal.led-requires-clause-of_kind
-led-requires-clause-of_kind t c = kind_here c.args.self.now c.in-Some.node.now c.in-Some.ensures
+pub left_after-requires-clause-order : goal.left_after-requires-clause-order
+left_after-requires-clause-order t c =
+    subst AreInOrder (sym (c.as_slice.ensures.value ∙ c.in_ok-first-in-Pair.ensures)) (tolerant_rise (take c.len-own.result c.in-Pair.pair.now.earlier)).left
 
-pub led-requires-clause-few : goal.led-requires-clause-few
-led-requires-clause-few t c =
-    after_few c.args.self.now c.in-Some.node.now c.in-Some.ensures c.args.to c.len-before.result c.len-before.ensures.count
-    c.if-to-before.false c.requires c.in_ok-after.after c.in_ok-after.ensures
+pub left_after-requires-clause-few : goal.left_after-requires-clause-few
+left_after-requires-clause-few t c =
+    let rows = c.args.self.now in
+    let pair = c.in-Pair.pair.now in
+    let first = take c.len-own.result pair.earlier in
+    let rest = take (c.args.to - c.len-own.result) pair.later in
+    omega (
+      arith,
+      ap length (c.as_slice.ensures.value ∙ c.in_ok-first-in-Pair.ensures),
+      left_size first (tolerant first) refl,
+      take_size pair.earlier c.len-own.result,
+      ap size_of c.in_ok-second-in-Pair.ensures,
+      rows_size rest,
+      take_size pair.later (c.args.to - c.len-own.result),
+      sizes rows pair c.in-Pair.ensures,
+      few rows pair c.in-Pair.ensures,
+      c.requires,
+      c.len-own.ensures.count,
+      c.if-to-own.false,
+    )
 
-pub left_with-requires : goal.left_with-requires
-left_with-requires t c =
-    sides_few c.args.self.now c.in-Some.node.now c.in-Some.ensures c.args.to c.len-before.result c.len-before.ensures.count
-    c.if-to-before.false c.requires c.in_ok-after.after c.in_ok-after.ensures c.whole.result.now c.in_ok-rest.rest c.whole.ensures c.in_ok-rest.ensures
-
-pub returns : goal.returns
-returns t c =
-    subst (λ (parts : PieceParts). IfOk c.left_with.result (λ left. left.items ≡ parts.left))
-    (prefix_is c.args.self.now c.in-Some.node.now c.in-Some.ensures c.args.to c.len-before.result c.len-before.ensures.count
-    c.if-to-before.false c.requires c.in_ok-after.after c.in_ok-after.ensures c.whole.result.now c.in_ok-rest.rest c.whole.ensures c.in_ok-rest.ensures)
-    c.left_with.ensures
+pub returns-in_ok-first-in-Pair : goal.returns-in_ok-first-in-Pair
+returns-in_ok-first-in-Pair t c =
+    let rows = c.args.self.now in
+    let pair = c.in-Pair.pair.now in
+    let own = c.len-own.result in
+    let first = take own pair.earlier in
+    let rest = take (c.args.to - own) pair.later in
+    let parted : take c.args.to rows ≡ first ++ rest =
+    take_later rows pair c.in-Pair.ensures own c.len-own.ensures.count c.args.to (omega (arith, c.if-to-own.false))
+    ∙ ap (λ l. l ++ rest) (sym (take_all pair.earlier own c.len-own.ensures.count)) in
+    subst (λ (parts : PieceParts). IfOk c.left_after.result (λ left. left.items ≡ parts.left))
+    (sides_are first rest (tolerant first) c.in_ok-second-in-Pair.second refl c.in_ok-second-in-Pair.ensures (take c.args.to rows) parted)
+    (c.left_after.ensures (tolerant first) (c.as_slice.ensures.value ∙ c.in_ok-first-in-Pair.ensures))

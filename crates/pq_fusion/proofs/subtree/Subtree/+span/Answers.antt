@@ -1,38 +1,37 @@
-use Rattle.std.proofs.Common.{arith, refl}
-use Rattle.pq_fusion.proofs.Searched.{walk_left, walk_right, no_change}
+use Rattle.std.proofs.Common.{arith}
 use Rattle.std.specs.List.{AllByRecursion}
-use Rattle.retro_base.specs.OrderLaws.{all_weaker}
 use Rattle.pq_fusion.specs.Tallies.{LiesIn}
-use Rattle.pq_fusion.proofs.Carried.{carries_none, carries_whole, carries_sides}
-use Rattle.pq_fusion.proofs.Rooted.{kind_here}
-use Rattle.pq_fusion.proofs.Spanned.{fused_all}
+use Rattle.pq_fusion.proofs.Carried.{carries_none, carries_sides}
+use Rattle.pq_fusion.proofs.Pairs.{piece_is, run_piece_is}
+use Rattle.pq_fusion.proofs.Searched.{step_left, step_right}
+use Rattle.pq_fusion.proofs.Spanned.{carries_span}
 use Rattle.pq_fusion.proofs.subtree.Subtree.+span.Goals as goal
-
-pub returns-in_default-clause-span : goal.returns-in_default-clause-span
-returns-in_default-clause-span g t c = carries_none (AllByRecursion (LiesIn c.args.before)) c.args.self.now c.args.to c.in_default.ensures
-
-pub returns-then-to-node-clause-span : goal.returns-then-to-node-clause-span
-returns-then-to-node-clause-span g t c =
-    let node = c.in-Some.node.now in
-    let after = c.with_piece.result in
-    carries_whole c.args.self.now node c.in-Some.ensures c.args.to (AllByRecursion (LiesIn c.args.before)) (AllByRecursion (LiesIn after)) c.if-to-node.true
-    (λ first before. fused_all (LiesIn after) first node.piece (all_weaker (LiesIn c.args.before) (LiesIn after) first.left c.with_piece.ensures.others before)
-    c.with_piece.ensures.left c.with_piece.ensures.removed)
-
-pub with_row-second-requires : goal.with_row-second-requires
-with_row-second-requires g t c = kind_here c.args.self.now c.in-Some.node.now c.in-Some.ensures
-
-pub returns-clause-span : goal.returns-clause-span
-returns-clause-span g t c =
-    carries_sides c.args.self.now c.in-Some.node.now c.in-Some.ensures c.args.to
-    (AllByRecursion (LiesIn c.args.before)) (AllByRecursion (LiesIn c.span-first.result)) (AllByRecursion (LiesIn c.with_row-second.result)) (AllByRecursion (LiesIn c.span-2.result))
-    c.len-own.result c.len-own.ensures.count c.if-to-own.false c.span-first.ensures.span c.with_row-second.ensures c.span-2.ensures.span
 
 pub returns-then-to-own-clause-visits : goal.returns-then-to-own-clause-visits
 returns-then-to-own-clause-visits g t c = λ levels within.
-    walk_left c.args.self.now c.in-Some.node.now c.in-Some.ensures 2 levels _ _ _ (omega arith) within c.tick.ensures c.span.ensures.visits
+    step_left c.args.self.now c.in-Pair.pair.now c.in-Pair.ensures levels _ _ _ within c.tick.ensures c.span.ensures.visits
 
-pub returns-clause-visits : goal.returns-clause-visits
-returns-clause-visits g t c = λ levels within.
-    walk_right c.args.self.now c.in-Some.node.now c.in-Some.ensures 2 1 0 levels _ _ _ _ _ (omega arith) within c.tick.ensures
-    (c.span-first.ensures.whole c.len-own.ensures.count) (no_change c.span-first.new.steps c.span-first.new.steps refl) c.span-2.ensures.visits
+pub returns-in-Nothing-clause-span : goal.returns-in-Nothing-clause-span
+returns-in-Nothing-clause-span g t c = carries_none (AllByRecursion (LiesIn c.args.before)) c.args.self.now c.args.to c.in-Nothing.ensures
+
+pub returns-in-Run-clause-span : goal.returns-in-Run-clause-span
+returns-in-Run-clause-span g t c =
+    carries_span c.args.self.now c.args.to c.in-Run.run'.now.piece c.args.before c.with_piece.result (run_piece_is c.args.self.now c.in-Run.run'.now c.in-Run.ensures)
+    c.with_piece.ensures.left c.with_piece.ensures.removed c.with_piece.ensures.others
+
+pub returns-then-to-pair-clause-span : goal.returns-then-to-pair-clause-span
+returns-then-to-pair-clause-span g t c =
+    carries_span c.args.self.now c.args.to c.in-Pair.pair.now.piece c.args.before c.with_piece-then-to-pair.result (piece_is c.args.self.now c.in-Pair.pair.now c.in-Pair.ensures)
+    c.with_piece-then-to-pair.ensures.left c.with_piece-then-to-pair.ensures.removed c.with_piece-then-to-pair.ensures.others
+
+pub returns-else-to-pair-clause-span : goal.returns-else-to-pair-clause-span
+returns-else-to-pair-clause-span g t c =
+    let pair = c.in-Pair.pair.now in
+    carries_sides (AllByRecursion (LiesIn c.args.before)) (AllByRecursion (LiesIn c.span-first.result)) (AllByRecursion (LiesIn c.span-in-Pair.result))
+    c.args.self.now pair.earlier pair.later c.args.to c.len-own.result c.in-Pair.ensures.rows_are c.len-own.ensures.count (omega (arith, c.if-to-own.false))
+    c.span-first.ensures.span c.span-in-Pair.ensures.span
+
+pub returns-else-to-pair-clause-visits : goal.returns-else-to-pair-clause-visits
+returns-else-to-pair-clause-visits g t c = λ levels within.
+    step_right c.args.self.now c.in-Pair.pair.now c.in-Pair.ensures levels _ _ _ _ within c.tick.ensures
+    (c.span-first.ensures.whole c.len-own.ensures.count) c.span-in-Pair.ensures.visits

@@ -1,53 +1,62 @@
-use Rattle.std.proofs.Common.{◌≡◌, ◌+◌, ◌*◌, ◌≤◌, ◌^◌, length, arith, ap}
-use Rattle.std.specs.Option.{option_to_list}
+use Rattle.std.proofs.Common.{◌≡◌, ◌+◌, ◌*◌, ◌≤◌, ◌^◌, length, arith}
 use Rattle.retro_base.specs.BridgeTable.{added}
-use Rattle.retro_base.specs.Weights.{added_by}
-use Rattle.pq_fusion.specs.Pieces.{size_of, tolerant}
-use Rattle.pq_fusion.proofs.Rooted.{sizes, few, piece_is}
-use Rattle.pq_fusion.proofs.Sizes.{rows_size}
-use Rattle.pq_fusion.proofs.Stored.{one_level_more, one_level_least, below_power, squares, added_parts, own_few, piece_count}
+use Rattle.pq_fusion.proofs.Pairs.{sizes, piece_is, some_earlier, some_later, run_piece_is, run_few, run_some}
+use Rattle.pq_fusion.proofs.Stored.{one_level, one_level_more, run_least, one_level_least, squares, one_square, added_few, added_parts, piece_count, piece_less}
 use Rattle.pq_fusion.proofs.subtree.Subtree.+stored.Goals as goal
 
-pub overflow_add-own : goal.overflow_add-own
-overflow_add-own t c =
-    let node = c.in-Some.node.now in
-    let root = c.in-Some.ensures in
-    let piece : size_of node.piece ≡ size_of (tolerant c.args.self.now) = ap size_of (piece_is c.args.self.now node root) in
-    omega (arith, piece, rows_size c.args.self.now, few c.args.self.now node root)
-
-pub returns-in_default-clause-levels : goal.returns-in_default-clause-levels
-returns-in_default-clause-levels t c = λ levels.
-    let none : length (added c.args.self.now) ≡ 0 = ap (λ rows. length (added rows)) c.in_default.ensures in
-    omega (arith, below_power levels, ap (λ n. levels * n) none)
-
-pub returns-clause-least : goal.returns-clause-least
-returns-clause-least t c = omega (arith, piece_count c.args.self.now c.in-Some.node.now c.in-Some.ensures)
-
-pub returns-clause-levels : goal.returns-clause-levels
-returns-clause-levels t c = λ levels.
+pub returns-in-Run-clause-least : goal.returns-in-Run-clause-least
+returns-in-Run-clause-least t c =
     let rows = c.args.self.now in
-    let node = c.in-Some.node.now in
-    let root = c.in-Some.ensures in
-    let least : levels * length (added rows) + levels + 1 ≤ c.stored.result + length (added rows) + c.stored-2.result + 2 ^ levels =
-    one_level_least (length (added rows)) (length (added node.left)) (length (option_to_list (added_by node.row))) (length (added node.right)) c.stored.result c.stored-2.result
-    (added_parts rows node root) (own_few rows node root) c.stored.ensures.levels c.stored-2.ensures.levels levels in
-    omega (arith, least, piece_count rows node root)
+    omega (arith, c.stored.ensures.count, piece_count rows c.in-Run.run'.now.piece (run_piece_is rows c.in-Run.run'.now c.in-Run.ensures))
 
-pub returns-clause-most : goal.returns-clause-most
-returns-clause-most t c = λ levels within.
+pub returns-in-Run-clause-levels : goal.returns-in-Run-clause-levels
+returns-in-Run-clause-levels t c = λ levels.
     let rows = c.args.self.now in
-    let node = c.in-Some.node.now in
-    let root = c.in-Some.ensures in
-    let most : c.stored.result + length (added rows) + c.stored-2.result ≤ length (added rows) * levels =
-    one_level_more (length rows) (length node.left) (length node.right) (length (added rows)) (length (added node.left)) (length (option_to_list (added_by node.row)))
-    (length (added node.right)) c.stored.result c.stored-2.result (sizes rows node root) (added_parts rows node root)
-    root.sound.balanced.left_light root.sound.balanced.right_light c.stored.ensures.most c.stored-2.ensures.most levels within in
-    omega (arith, most, piece_count rows node root)
+    let run = c.in-Run.run'.now in
+    let least = run_least (length (added rows)) levels (omega (arith, added_few rows, run_few rows run c.in-Run.ensures)) in
+    omega (arith, least, c.stored.ensures.count, piece_count rows run.piece (run_piece_is rows run c.in-Run.ensures))
 
-pub returns-clause-fits : goal.returns-clause-fits
-returns-clause-fits t c =
-    let node = c.in-Some.node.now in
-    let root = c.in-Some.ensures in
-    let piece : size_of node.piece ≡ size_of (tolerant c.args.self.now) = ap size_of (piece_is c.args.self.now node root) in
-    squares (length c.args.self.now) (length node.left) (length node.right) _ _ _ (sizes c.args.self.now node root)
-    (omega (arith, piece, rows_size c.args.self.now)) c.stored.ensures.fits c.stored-2.ensures.fits
+pub returns-in-Run-clause-most : goal.returns-in-Run-clause-most
+returns-in-Run-clause-most t c = λ levels within.
+    let rows = c.args.self.now in
+    let run = c.in-Run.run'.now in
+    let most = one_level (length (added rows)) (length rows) levels (run_some rows run c.in-Run.ensures) within in
+    omega (arith, most, c.stored.ensures.count, piece_count rows run.piece (run_piece_is rows run c.in-Run.ensures))
+
+pub returns-in-Run-clause-fits : goal.returns-in-Run-clause-fits
+returns-in-Run-clause-fits t c =
+    let rows = c.args.self.now in
+    let run = c.in-Run.run'.now in
+    one_square c.stored.result (length rows) (omega (arith, c.stored.ensures.count, piece_less rows run.piece (run_piece_is rows run c.in-Run.ensures)))
+
+pub returns-in-Pair-clause-least : goal.returns-in-Pair-clause-least
+returns-in-Pair-clause-least t c =
+    let rows = c.args.self.now in
+    let pair = c.in-Pair.pair.now in
+    omega (arith, piece_count rows pair.piece (piece_is rows pair c.in-Pair.ensures), c.stored-in-Pair-2.ensures.count)
+
+pub returns-in-Pair-clause-levels : goal.returns-in-Pair-clause-levels
+returns-in-Pair-clause-levels t c = λ levels.
+    let rows = c.args.self.now in
+    let pair = c.in-Pair.pair.now in
+    let least = one_level_least (length (added rows)) (length (added pair.earlier)) (length (added pair.later)) c.stored-in-Pair.result c.stored-in-Pair-3.result
+    (added_parts rows pair c.in-Pair.ensures) c.stored-in-Pair.ensures.levels c.stored-in-Pair-3.ensures.levels levels in
+    omega (arith, least, piece_count rows pair.piece (piece_is rows pair c.in-Pair.ensures), c.stored-in-Pair-2.ensures.count)
+
+pub returns-in-Pair-clause-most : goal.returns-in-Pair-clause-most
+returns-in-Pair-clause-most t c = λ levels within.
+    let rows = c.args.self.now in
+    let pair = c.in-Pair.pair.now in
+    let root = c.in-Pair.ensures in
+    let most = one_level_more (length rows) (length pair.earlier) (length pair.later) (length (added rows)) (length (added pair.earlier)) (length (added pair.later))
+    c.stored-in-Pair.result c.stored-in-Pair-3.result (sizes rows pair root) (added_parts rows pair root) root.sound.balanced.earlier_light root.sound.balanced.later_light
+    c.stored-in-Pair.ensures.most c.stored-in-Pair-3.ensures.most levels within in
+    omega (arith, most, piece_count rows pair.piece (piece_is rows pair root), c.stored-in-Pair-2.ensures.count)
+
+pub returns-in-Pair-clause-fits : goal.returns-in-Pair-clause-fits
+returns-in-Pair-clause-fits t c =
+    let rows = c.args.self.now in
+    let pair = c.in-Pair.pair.now in
+    let root = c.in-Pair.ensures in
+    squares (length rows) (length pair.earlier) (length pair.later) _ _ _ (sizes rows pair root) (some_earlier rows pair root) (some_later rows pair root)
+    (omega (arith, piece_less rows pair.piece (piece_is rows pair root), c.stored-in-Pair-2.ensures.count)) c.stored-in-Pair.ensures.fits c.stored-in-Pair-3.ensures.fits

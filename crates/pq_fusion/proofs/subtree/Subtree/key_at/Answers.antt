@@ -1,5 +1,6 @@
 use Rattle.std.proofs.Common.{◌<◌, ◌+◌, ◌*◌, Some, take, length, arith, ap, w64, of_z, to_z}
 use Rattle.std.proofs.lemmas.Int.{ints}
+use Rattle.pq_fusion.specs.Searches.{run_of}
 use Rattle.pq_fusion.specs.Tallies.{left_by}
 use Rattle.pq_fusion.proofs.Halved.{entry_at, key_from, key_below, key_within, width_is}
 use Rattle.pq_fusion.proofs.Searched.{sought_starts, sought_more, sought_ends, seek_none}
@@ -17,7 +18,7 @@ halve-init g c =
           let own = key_within rows c.args.index x there _ c.span-low.result c.span-low.ensures.span in
           (omega (arith, ints, own.0), omega (arith, ints, own.1)),
       width_is low high c.abs_diff-width.result (omega (arith, ints, lies.0, lies.1)) c.abs_diff-width.ensures,
-      λ levels k inside small. sought_starts c.abs_diff-width.result ((levels + 1) * (2 * k + 4)) c.span-low.new.steps (omega arith),
+      λ levels k inside small. sought_starts c.abs_diff-width.result ((levels + 1) * (4 * k + 2) + run_of c.args.self.now) c.span-low.new.steps (omega arith),
     )
 
 pub halve-preserved-then-reaching-rank : goal.halve-preserved-then-reaching-rank
@@ -29,7 +30,7 @@ halve-preserved-then-reaching-rank g c =
       ),
       omega (arith, ints, c.halve.invariant.1),
       λ levels k inside small.
-          sought_more c.halve.width ((levels + 1) * (2 * k + 4)) _ c.halve.steps _ c.reaching.new.steps (omega (arith, c.halve-test.true))
+          sought_more c.halve.width ((levels + 1) * (4 * k + 2) + run_of c.args.self.now) _ c.halve.steps _ c.reaching.new.steps (omega (arith, c.halve-test.true))
           (c.halve.invariant.2 levels k inside small) (omega arith) (c.reaching.ensures.visits levels k inside small),
     )
 
@@ -42,7 +43,7 @@ halve-preserved g c =
           (was.0, omega (arith, ints, below, c.halve.invariant.1)),
       omega (arith, ints, c.halve.invariant.1, c.halve-test.true),
       λ levels k inside small.
-          sought_more c.halve.width ((levels + 1) * (2 * k + 4)) _ c.halve.steps _ c.reaching.new.steps (omega (arith, c.halve-test.true))
+          sought_more c.halve.width ((levels + 1) * (4 * k + 2) + run_of c.args.self.now) _ c.halve.steps _ c.reaching.new.steps (omega (arith, c.halve-test.true))
           (c.halve.invariant.2 levels k inside small) (omega arith) (c.reaching.ensures.visits levels k inside small),
     )
 
@@ -55,9 +56,9 @@ returns-clause-key g c =
     rw found.1 (ap Some (omega (arith, ints, own.0, own.1, c.halve.invariant.1, c.halve-test.false)))
 
 pub returns-then-index-from-clause-visits : goal.returns-then-index-from-clause-visits
-returns-then-index-from-clause-visits g c = λ levels k inside small. seek_none levels k _ _ (c.left_len-left.ensures.visits levels k inside small)
+returns-then-index-from-clause-visits g c = λ levels k inside small. seek_none levels k (run_of c.args.self.now) _ _ (c.left_len-left.ensures.visits levels k inside small)
 
 pub returns-clause-visits : goal.returns-clause-visits
 returns-clause-visits g c = λ levels k inside small.
-    sought_ends levels k c.halve.width _ _ _ _ (c.left_len-left.ensures.visits levels k inside small) (c.span-low.ensures.visits levels inside)
+    sought_ends levels k (run_of c.args.self.now) c.halve.width _ _ _ _ (c.left_len-left.ensures.visits levels k inside small) (c.span-low.ensures.visits levels inside)
     (c.halve.invariant.2 levels k inside small)

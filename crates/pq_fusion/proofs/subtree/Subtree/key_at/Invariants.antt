@@ -2,6 +2,7 @@ use Rattle.std.proofs.Common.{◌≡◌, ℕ, ◌+◌, ◌*◌, ◌^◌, ◌<◌
 use Rattle.std.specs.Prelude.{pos, ◌-ℤ◌, ◌≤ℤ◌}
 use Rattle.retro_base.specs.declared.row.Entry.{Entry}
 use Rattle.pq_fusion.specs.Nodes.{weight, IsWithinLevels}
+use Rattle.pq_fusion.specs.Searches.{run_of}
 use Rattle.pq_fusion.specs.Tallies.{left_by}
 use Rattle.pq_fusion.proofs.Searched.{IsSought}
 use Rattle.pq_fusion.proofs.subtree.Subtree.key_at.Given as goal
@@ -10,7 +11,7 @@ abbrev pub invariant-halve : goal.invariant-halve
 invariant-halve g l =
     ((x : Entry) → slice_get (left_by (take l.to l.self)) l.index ≡ Some x → (l.low ≤ℤ x.key) × (x.key ≤ℤ l.high))
     × (pos l.width ≡ l.high -ℤ l.low)
-    × ((levels k : ℕ) → IsWithinLevels (weight l.self) levels → length l.self < 2 ^ k → IsSought l.width ((levels + 1) * (2 * k + 4)) l.initial.steps l.steps)
+    × ((levels k : ℕ) → IsWithinLevels (weight l.self) levels → length l.self < 2 ^ k → IsSought l.width ((levels + 1) * (4 * k + 2) + run_of l.self) l.initial.steps l.steps)
 
 abbrev pub decreases-halve : goal.decreases-halve
 decreases-halve g l = l.width

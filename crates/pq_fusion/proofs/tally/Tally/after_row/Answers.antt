@@ -1,21 +1,34 @@
-use Rattle.std.proofs.Common.{◌≡◌, arith, [], ◌∷◌, sym, ◌∙◌}
+use Rattle.std.proofs.Common.{◌≡◌, ◌+◌, arith, ap, [], ◌∷◌, sym, ◌∙◌}
+use Rattle.pq_fusion.specs.declared.tally.Tally.{Tally}
 use Rattle.pq_fusion.specs.Tallies.{tally_of}
 use Rattle.pq_fusion.proofs.Carried.{carries_piece}
 use Rattle.pq_fusion.proofs.Fused.{parts}
 use Rattle.pq_fusion.proofs.Replays.{of_adding, of_taking}
+use Rattle.pq_fusion.proofs.Tallied.{fused_length, fused_reaching, same_tally}
 use Rattle.pq_fusion.proofs.tally.Tally.after_row.Goals as goal
 
-pub returns-in-Some-clause-tally : goal.returns-in-Some-clause-tally
-returns-in-Some-clause-tally g c =
-    let adds = c.added_entry.ensures in
-    carries_piece (λ entries. c.args.self ≡ tally_of c.args.bound entries) (λ entries. c.after.result ≡ tally_of c.args.bound entries) (c.args.row ∷ [])
-    (parts (c.in-Some.entry ∷ []) [] 0) (sym (of_adding c.args.row c.in-Some.entry (sym adds ∙ c.in-Some.is))) c.after.ensures.tally
+pub returns-in_default-clause-tally : goal.returns-in_default-clause-tally
+returns-in_default-clause-tally c =
+    let own = parts [] [] 1 in
+    carries_piece (λ entries. c.args.self ≡ tally_of c.args.bound entries)
+    (λ entries. record { left = c.saturating_sub-left.result; reaching = c.min.result } ≡ tally_of c.args.bound entries) (c.args.row ∷ []) own
+    (sym (of_taking c.args.row c.requires.of_kind (sym c.added_entry.ensures ∙ c.in_default.is)))
+    (λ first same.
+    let left = ap (λ (t : Tally). t.left) same in
+    let reached = ap (λ (t : Tally). t.reaching) same in
+    same_tally _ _ _ _
+    (omega (arith, left, c.saturating_sub-left.ensures, fused_length first own))
+    (omega (arith, left, reached, c.saturating_sub-left.ensures, c.min.ensures, fused_reaching c.args.bound first own tt)))
 
-pub returns-in-None-clause-tally : goal.returns-in-None-clause-tally
-returns-in-None-clause-tally g c =
-    let adds = c.added_entry.ensures in
-    carries_piece (λ entries. c.args.self ≡ tally_of c.args.bound entries) (λ entries. c.after-in-None.result ≡ tally_of c.args.bound entries) (c.args.row ∷ [])
-    (parts [] [] 1) (sym (of_taking c.args.row c.requires.of_kind (sym adds ∙ c.in-None.is))) c.after-in-None.ensures.tally
-
-pub returns-in-Some-clause-visits : goal.returns-in-Some-clause-visits
-returns-in-Some-clause-visits g c = c.after.ensures.visits 1 (omega arith) (omega arith)
+pub returns-clause-tally : goal.returns-clause-tally
+returns-clause-tally c =
+    let own = parts (c.in-Some.entry ∷ []) [] 0 in
+    carries_piece (λ entries. c.args.self ≡ tally_of c.args.bound entries)
+    (λ entries. record { left = c.args.self.left + 1; reaching = c.min-2.result + c.reaches.result } ≡ tally_of c.args.bound entries) (c.args.row ∷ []) own
+    (sym (of_adding c.args.row c.in-Some.entry (sym c.added_entry.ensures ∙ c.in-Some.is)))
+    (λ first same.
+    let left = ap (λ (t : Tally). t.left) same in
+    let reached = ap (λ (t : Tally). t.reaching) same in
+    same_tally _ _ _ _
+    (omega (arith, left, fused_length first own))
+    (omega (arith, left, reached, c.min-2.ensures, c.reaches.ensures.count, fused_reaching c.args.bound first own tt)))

@@ -1,0 +1,60 @@
+use Rattle.std.proofs.Common.{◌≡◌, ◌-◌, ap, arith, rules, subst, sym, ◌∙◌, Some}
+use Rattle.std.specs.Prelude.{is_some, slice_get}
+use Rattle.std.specs.List.{remove}
+use Rattle.retro_base.specs.Weights.{added_by}
+use Rattle.pq_fusion.specs.declared.subtree.Pair.{Pair}
+use Rattle.pq_fusion.specs.Bounds.{higher, lower}
+use Rattle.pq_fusion.specs.Edits.{DiffersBy, own_of}
+use Rattle.pq_fusion.specs.Nodes.{pair_rows}
+use Rattle.pq_fusion.specs.Passages.{with_piece}
+use Rattle.pq_fusion.specs.Pieces.{tolerant}
+use Rattle.pq_fusion.proofs.Edged.{cut_earlier, cut_later, turned}
+use Rattle.pq_fusion.proofs.Edited.{cut_after, cut_pair}
+use Rattle.pq_fusion.proofs.Parts.{there_later}
+use Rattle.pq_fusion.proofs.+cut.Goals as goal
+
+pub edit::cut_row-after-requires : goal.edit::cut_row-after-requires
+edit::cut_row-after-requires t c =
+    cut_after c.args.pair.value c.deref_mut.result.now c.in_ok-pair.field-0.piece c.requires.sound
+    (ap (λ (p : Pair). with_piece p c.in_ok-pair.field-0.piece) c.deref_mut.ensures.value ∙ c.in_ok-pair.ensures)
+    c.args.place c.args.row c.requires.there c.is_none-gains.result c.of_row.result c.in-Ok.passed
+    (turned c.is_none-gains.result (is_some (added_by c.args.row)) (sym c.is_none-gains.ensures ∙ ap is_some c.added_entry.ensures)) c.of_row.ensures c.in-Ok.ensures.passed
+
+pub edit::cut_row-returns-in-Ok : goal.edit::cut_row-returns-in-Ok
+edit::cut_row-returns-in-Ok t c =
+    let below = c.remove_below.new.self in
+    let made : c.deref_mut-in-Ok-2.result.now ≡ record { earlier = below.earlier; later = below.later; size = below.size - 1; piece = below.piece } =
+    c.deref_mut-in-Ok-2.ensures.value ∙ ap (λ (p : Pair). record { earlier = p.earlier; later = p.later; size = p.size - 1; piece = p.piece }) c.deref_mut-in-Ok.ensures.value in
+    cut_pair c.args.pair.value c.deref_mut.result.now c.in_ok-pair.field-0.piece c.requires.sound
+    (ap (λ (p : Pair). with_piece p c.in_ok-pair.field-0.piece) c.deref_mut.ensures.value ∙ c.in_ok-pair.ensures)
+    c.args.place c.args.row c.requires.there c.is_none-gains.result c.of_row.result c.in-Ok.passed
+    (turned c.is_none-gains.result (is_some (added_by c.args.row)) (sym c.is_none-gains.ensures ∙ ap is_some c.added_entry.ensures)) c.of_row.ensures c.in-Ok.ensures.passed
+    c.requires.spares below _ c.after.result c.after.ensures.piece c.after.ensures.passes
+    (ap (λ (p : Pair). with_piece p c.after.result) made) c.in-Ok.ensures.ok
+
+pub subtree::Pair::remove_below-returns-then-place-before-clause-passed : goal.subtree::Pair::remove_below-returns-then-place-before-clause-passed
+subtree::Pair::remove_below-returns-then-place-before-clause-passed t c =
+    let pair = c.args.self.now in
+    let row = c.args.row in
+    subst (λ y. DiffersBy (added_by row) y (tolerant (remove (pair_rows pair) c.args.place)) (tolerant (pair_rows pair))) (sym c.higher.ensures)
+    (cut_earlier row pair.earlier pair.later c.args.place c.in_ok-passed.passed c.args.boundary c.requires.boundary
+    (omega (arith, c.if-place-before.true, c.len-before.ensures.count)) c.in_ok-passed.ensures.passed)
+
+pub subtree::Pair::remove_below-remove-requires-2 : goal.subtree::Pair::remove_below-remove-requires-2
+subtree::Pair::remove_below-remove-requires-2 t c =
+    let pair = c.args.self.now in
+    let there : slice_get pair.later (c.args.place - c.len-before.result) ≡ Some c.args.row =
+    ap (λ k. slice_get pair.later (c.args.place - k)) c.len-before.ensures.count
+    ∙ there_later pair.earlier pair.later c.args.place c.args.row (omega (arith, c.if-place-before.false, c.len-before.ensures.count)) c.requires.there in
+    search rules
+
+pub subtree::Pair::remove_below-returns-clause-passed : goal.subtree::Pair::remove_below-returns-clause-passed
+subtree::Pair::remove_below-returns-clause-passed t c =
+    let pair = c.args.self.now in
+    let row = c.args.row in
+    let x = c.in_ok-passed-2.passed in
+    subst (λ y. DiffersBy (added_by row) y (tolerant (remove (pair_rows pair) c.args.place)) (tolerant (pair_rows pair)))
+    (sym (c.from_later.ensures ∙ ap (λ o. higher o (lower x c.args.boundary)) c.of_row.ensures))
+    (cut_later row pair.earlier pair.later c.args.place x c.args.boundary c.requires.boundary
+    (omega (arith, c.if-place-before.false, c.len-before.ensures.count))
+    (subst (λ k. DiffersBy (added_by row) x (tolerant (remove pair.later (c.args.place - k))) (tolerant pair.later)) c.len-before.ensures.count c.in_ok-passed-2.ensures.passed))

@@ -1,0 +1,51 @@
+use Rattle.std.proofs.Common.{◌≡◌, ◌+◌, ◌-◌, ap, arith, subst, sym, ◌∙◌}
+use Rattle.std.specs.Prelude.{is_some}
+use Rattle.std.specs.List.{insert}
+use Rattle.retro_base.specs.Weights.{added_by}
+use Rattle.pq_fusion.specs.declared.subtree.Pair.{Pair}
+use Rattle.pq_fusion.specs.Bounds.{higher, lower}
+use Rattle.pq_fusion.specs.Edits.{DiffersBy, own_of}
+use Rattle.pq_fusion.specs.Nodes.{pair_rows}
+use Rattle.pq_fusion.specs.Passages.{with_piece}
+use Rattle.pq_fusion.specs.Pieces.{tolerant}
+use Rattle.pq_fusion.proofs.Edged.{put_earlier, put_later}
+use Rattle.pq_fusion.proofs.Edited.{put_after, put_pair}
+use Rattle.pq_fusion.proofs.+put.Goals as goal
+
+pub edit::put_row-after-requires : goal.edit::put_row-after-requires
+edit::put_row-after-requires t c =
+    put_after c.args.pair.value c.deref_mut.result.now c.in_ok-pair.field-0.piece c.requires.sound
+    (ap (λ (p : Pair). with_piece p c.in_ok-pair.field-0.piece) c.deref_mut.ensures.value ∙ c.in_ok-pair.ensures)
+    c.args.place c.args.row c.requires.within c.requires.room c.is_some-gains.result c.of_row.result c.in-Ok.passed
+    (c.is_some-gains.ensures ∙ ap is_some c.added_entry.ensures) c.of_row.ensures c.in-Ok.ensures.passed
+
+pub edit::put_row-returns-in-Ok : goal.edit::put_row-returns-in-Ok
+edit::put_row-returns-in-Ok t c =
+    let below = c.insert_below.new.self in
+    let made : c.deref_mut-in-Ok-2.result.now ≡ record { earlier = below.earlier; later = below.later; size = below.size + 1; piece = below.piece } =
+    c.deref_mut-in-Ok-2.ensures.value ∙ ap (λ (p : Pair). record { earlier = p.earlier; later = p.later; size = p.size + 1; piece = p.piece }) c.deref_mut-in-Ok.ensures.value in
+    put_pair c.args.pair.value c.deref_mut.result.now c.in_ok-pair.field-0.piece c.requires.sound
+    (ap (λ (p : Pair). with_piece p c.in_ok-pair.field-0.piece) c.deref_mut.ensures.value ∙ c.in_ok-pair.ensures)
+    c.args.place c.args.row c.requires.within c.requires.room c.is_some-gains.result c.of_row.result c.in-Ok.passed
+    (c.is_some-gains.ensures ∙ ap is_some c.added_entry.ensures) c.of_row.ensures c.in-Ok.ensures.passed
+    c.requires.of_kind c.requires.bears below _ c.after.result c.after.ensures.piece c.after.ensures.passes
+    (ap (λ (p : Pair). with_piece p c.after.result) made) c.in-Ok.ensures.ok
+
+pub subtree::Pair::insert_below-returns-then-place-before-clause-passed : goal.subtree::Pair::insert_below-returns-then-place-before-clause-passed
+subtree::Pair::insert_below-returns-then-place-before-clause-passed t c =
+    let pair = c.args.self.now in
+    let row = c.args.row in
+    subst (λ y. DiffersBy (added_by row) y (tolerant (pair_rows pair)) (tolerant (insert (pair_rows pair) c.args.place row))) (sym c.higher.ensures)
+    (put_earlier row pair.earlier pair.later c.args.place c.in_ok-passed.passed c.args.boundary c.requires.boundary
+    (omega (arith, c.if-place-before.true, c.len-before.ensures.count)) c.in_ok-passed.ensures.passed)
+
+pub subtree::Pair::insert_below-returns-clause-passed : goal.subtree::Pair::insert_below-returns-clause-passed
+subtree::Pair::insert_below-returns-clause-passed t c =
+    let pair = c.args.self.now in
+    let row = c.args.row in
+    let x = c.in_ok-passed-2.passed in
+    subst (λ y. DiffersBy (added_by row) y (tolerant (pair_rows pair)) (tolerant (insert (pair_rows pair) c.args.place row)))
+    (sym (c.from_later.ensures ∙ ap (λ o. higher o (lower x c.args.boundary)) c.of_row.ensures))
+    (put_later row pair.earlier pair.later c.args.place x c.args.boundary c.requires.boundary
+    (omega (arith, c.if-place-before.false, c.len-before.ensures.count))
+    (subst (λ k. DiffersBy (added_by row) x (tolerant pair.later) (tolerant (insert pair.later (c.args.place - k) row))) c.len-before.ensures.count c.in_ok-passed-2.ensures.passed))
