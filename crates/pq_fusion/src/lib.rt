@@ -52,7 +52,8 @@
 //! - `subtree`: the tree of rows. `read`: its products. `remaining`: what a product leaves. `edit`: a row more or less.
 //! - `boundary`: the entry at a rank of two lists together. `edges`: the two boundaries of a node, and what passes at it. `exchange`,
 //!   `roomy`: one entry of a list in the place of another, and a piece that has room for that. `difference`: what passed, by comparing.
-//! - `entry_list`: entries in rising order with what a node asks of them. `list_boundary`: the entry at a rank of two such lists together.
+//! - `entry_list`: entries in rising order with what a node asks of them. `chunks`, `chunk_edits`: a long list in chunks, and how one
+//!   entry comes into one of them or goes. `list_boundary`: the entry at a rank of two lists together.
 //! - `tally`, `span`: how many entries are left after a path, how many of them reach a key, and between which keys they lie.
 //!   `select`: the key at an index of what the first rows leave. `answer`: the answers of that. `fused_queue`.
 #![tactic(auto)]
@@ -60,6 +61,8 @@
 mod answer;
 mod bound;
 mod boundary;
+mod chunk_edits;
+mod chunks;
 mod difference;
 mod edges;
 mod edit;
