@@ -21,6 +21,7 @@ pub mod Passed
 pub mod Ranked
 pub mod Cuts
 pub mod Exchanged
+pub mod Chunked
 pub mod Swapped
 pub mod Compared
 pub mod Edged

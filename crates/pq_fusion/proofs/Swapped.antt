@@ -36,7 +36,7 @@ pub record IsTaken (e : Entry) (xs ys : List Entry) : Type 0 where
   pub items : with_entry e ys ≡ xs
   pub order : AreInOrder ys
 
-has_least : (x e : Entry) (xs : List Entry) → IsLeast x xs → Has e (x ∷ xs) → comes_before e x ≡ false
+pub has_least : (x e : Entry) (xs : List Entry) → IsLeast x xs → Has e (x ∷ xs) → comes_before e x ≡ false
 has_least x e xs least (inl same) = ap (λ d. comes_before d x) same ∙ before_irreflexive x
 has_least x e [] least (inr there) = absurd there
 has_least x e (y ∷ ys) least (inr there) = elim there [

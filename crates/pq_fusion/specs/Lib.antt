@@ -10,3 +10,5 @@ pub mod NodesFall
 pub mod Passages
 pub mod Tallies
 pub mod Searches
+pub mod Chunks
+pub mod Bodies

@@ -1,4 +1,4 @@
-ghost use Rattle.std.specs.Prelude.{◌≡◌, ◌+◌, ◌<◌, ◌≤◌, ◌++◌, length, slice_get, is_some, not, true, Some, IfOk, OnOk, OnErr, MatchResult};
+ghost use Rattle.std.specs.Prelude.{◌≡◌, ◌+◌, ◌<◌, ◌≤◌, ◌++◌, length, slice_get, is_ok, is_some, not, false, true, Some, Ok, IfOk, OnOk, OnErr, MatchResult};
 ghost use Rattle.std.specs.List.{insert, remove};
 ghost use Rattle.retro_base.specs.declared.kind.Kind.TheVariants.{Pq};
 ghost use Rattle.retro_base.specs.Kind.{kind_of};
@@ -156,7 +156,25 @@ impl Subtree {
         Ok(passed)
     }
 
-    /// Puts a row in at a place. All memory of a node is taken before anything of it changes, so after `NoMemory` all is as before.
+    /// Puts an edited pair back, or the pair as it was where there was no memory for the edit.
+    fn put_back(&mut self, edited: Result<Edited, Box<Pair>>) -> Result<Bound, NoMemory>
+        requires { MatchResult edited (λ edited. IsPair edited.pair.value) (λ same. IsPair same.value) }
+        ensures { MatchResult edited (λ edited. (result ≡ Ok edited.passed) × (self.new ≡ pair_rows edited.pair.value))
+            (λ same. (is_ok result ≡ false) × (self.new ≡ pair_rows same.value)) }
+    {
+        match edited {
+            Ok(Edited { pair, passed }) => {
+                *self = Subtree::of_pair(pair);
+                Ok(passed)
+            }
+            Err(pair) => {
+                *self = Subtree::of_pair(pair);
+                Err(NoMemory)
+            }
+        }
+    }
+
+    /// Puts a row in at a place. All memory of a pair is taken before anything of it changes, so after `NoMemory` all is as before.
     /// It says what passes between what the rows leave and what they do not.
     #[cycle(put)]
     pub(crate) fn insert(&mut self, alloc: Global, place: u32, row: Row) -> Result<Bound, NoMemory>
@@ -178,19 +196,11 @@ impl Subtree {
             *self = Subtree::of_pair(pair);
             return self.insert_anew(alloc, place, row, LONGEST_ANEW);
         }
-        match put_row(alloc, pair, place, row) {
-            Ok(Edited { pair, passed }) => {
-                *self = Subtree::of_pair(pair);
-                Ok(passed)
-            }
-            Err(pair) => {
-                *self = Subtree::of_pair(pair);
-                Err(NoMemory)
-            }
-        }
+        let edited = put_row(alloc, pair, place, row);
+        self.put_back(edited)
     }
 
-    /// Takes the row at a place out, which is this one. All memory of a node is taken before anything of it changes, so after `NoMemory`
+    /// Takes the row at a place out, which is this one. All memory of a pair is taken before anything of it changes, so after `NoMemory`
     /// all is as before. It says what passes between what the rows leave and what they do not.
     #[cycle(cut)]
     pub(crate) fn remove(&mut self, alloc: Global, place: u32, row: Row) -> Result<Bound, NoMemory>
@@ -210,16 +220,8 @@ impl Subtree {
             *self = Subtree::of_pair(pair);
             return self.remove_anew(alloc, place, row, LONGEST_ANEW);
         }
-        match cut_row(alloc, pair, place, row) {
-            Ok(Edited { pair, passed }) => {
-                *self = Subtree::of_pair(pair);
-                Ok(passed)
-            }
-            Err(pair) => {
-                *self = Subtree::of_pair(pair);
-                Err(NoMemory)
-            }
-        }
+        let edited = cut_row(alloc, pair, place, row);
+        self.put_back(edited)
     }
 }
 

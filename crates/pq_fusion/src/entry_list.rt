@@ -1,4 +1,4 @@
-ghost use Rattle.std.specs.Prelude.{◌≡◌, ◌++◌, ◌-◌, ◌≤◌, [], List, length, slice_get, IfOk, OnOk, MatchResult};
+ghost use Rattle.std.specs.Prelude.{◌≡◌, ◌++◌, ◌-◌, ◌<◌, ◌≤◌, [], List, length, slice_get, IfOk, OnOk, MatchResult, vec_capacity, vec_len};
 ghost use Rattle.retro_base.specs.declared.row.Entry.{Entry};
 ghost use Rattle.retro_base.specs.EntriesInOrder.{AreInOrder};
 ghost use Rattle.retro_base.specs.Limits.{most_rows};
@@ -7,6 +7,8 @@ ghost use Rattle.pq_fusion.specs.Searches.{SearchesWithin};
 ghost use Rattle.pq_fusion.specs.Tallies.{reaching};
 
 use crate::Bound;
+use crate::chunk_edits::FULL;
+use crate::chunks::{Chunks, RoomyChunks, entry_at, reaching_in_chunks};
 use crate::exchange::{exchange, make_room};
 use crate::tally::reaching;
 use retro_base::{Entry, NoMemory, Steps};
@@ -14,43 +16,52 @@ use std::alloc::Global;
 use std::marker::Model;
 use std::sync::ledger::Ledger;
 
-/// Entries in rising order.
+/// Entries in rising order. A short list is one vector, a longer one is in chunks, so that putting one in or taking one out moves few.
 #[derive(Drop)]
 pub(crate) struct EntryList {
-    entries: Vec<Entry>,
+    body: Body,
+}
+
+#[derive(Drop)]
+pub(crate) enum Body {
+    Whole(Vec<Entry>),
+    Parted(Chunks),
 }
 
 impl Model for EntryList {
-    ghost use Rattle.std.specs.Prelude.{◌≤◌, List, length};
+    ghost use Rattle.std.specs.Prelude.{List};
     ghost use Rattle.retro_base.specs.declared.row.Entry.{Entry};
-    ghost use Rattle.retro_base.specs.EntriesInOrder.{AreInOrder};
-    ghost use Rattle.retro_base.specs.Limits.{most_rows};
+    ghost use Rattle.pq_fusion.specs.Bodies.{IsSoundBody, kept_in};
 
     ghost Value = { List Entry };
 
-    ghost view = { λ list. list.entries.items };
+    ghost view = { λ list. kept_in list.body };
 
-    ghost invariant = { λ list. AreInOrder list.entries.items × (length list.entries.items ≤ most_rows) };
+    ghost invariant = { λ list. IsSoundBody list.body };
 }
 
 /// A list with room for one more entry, so that an edit takes no memory.
 #[derive(Drop)]
 pub(crate) struct RoomyList {
-    entries: Vec<Entry>,
+    body: RoomyBody,
+}
+
+#[derive(Drop)]
+pub(crate) enum RoomyBody {
+    Whole(Vec<Entry>),
+    Parted(RoomyChunks),
 }
 
 impl Model for RoomyList {
-    ghost use Rattle.std.specs.Prelude.{◌<◌, ◌≤◌, List, length, vec_capacity, vec_len};
+    ghost use Rattle.std.specs.Prelude.{List};
     ghost use Rattle.retro_base.specs.declared.row.Entry.{Entry};
-    ghost use Rattle.retro_base.specs.EntriesInOrder.{AreInOrder};
-    ghost use Rattle.retro_base.specs.Limits.{most_rows};
+    ghost use Rattle.pq_fusion.specs.Bodies.{IsRoomyBody, kept_in_roomy};
 
     ghost Value = { List Entry };
 
-    ghost view = { λ list. list.entries.items };
+    ghost view = { λ list. kept_in_roomy list.body };
 
-    ghost invariant = { λ list. AreInOrder list.entries.items × (length list.entries.items ≤ most_rows)
-        × (vec_len list.entries < vec_capacity list.entries) };
+    ghost invariant = { λ list. IsRoomyBody list.body };
 }
 
 impl EntryList {
@@ -59,7 +70,7 @@ impl EntryList {
         ensures { result ≡ [] }
     {
         EntryList {
-            entries: Vec::new(alloc),
+            body: Body::Whole(Vec::new(alloc)),
         }
     }
 
@@ -69,7 +80,15 @@ impl EntryList {
         requires few { length entries.items ≤ most_rows }
         ensures { IfOk result (λ list. list ≡ entries.items) }
     {
-        Ok(EntryList { entries })
+        if entries.as_slice().len() <= FULL {
+            return Ok(EntryList {
+                body: Body::Whole(entries),
+            });
+        }
+        let chunks = Chunks::of_entries(*entries.allocator(), entries.as_slice())?;
+        Ok(EntryList {
+            body: Body::Parted(chunks),
+        })
     }
 
     /// How many entries the list has.
@@ -78,21 +97,27 @@ impl EntryList {
         ensures few { result ≤ most_rows }
         ensures order { AreInOrder self.now }
     {
-        self.entries.as_slice().len() as u32
+        match &self.body {
+            Body::Whole(entries) => entries.as_slice().len() as u32,
+            Body::Parted(chunks) => chunks.len(),
+        }
     }
 
     /// The entry at a rank, where there is one.
     pub(crate) fn get(&self, rank: u32) -> Option<Entry>
         ensures { result ≡ slice_get self.now rank }
     {
-        self.entries.as_slice().get(rank as usize).copied()
+        match &self.body {
+            Body::Whole(entries) => entry_at(entries, rank),
+            Body::Parted(chunks) => chunks.get(rank),
+        }
     }
 
     /// The greatest entry, where there is one.
     pub(crate) fn last(&self) -> Option<Entry>
         ensures { result ≡ slice_get self.now (length self.now - 1) }
     {
-        self.entries.as_slice().last().copied()
+        self.get(self.len().saturating_sub(1))
     }
 
     /// How many entries do not come before this one, by halves.
@@ -101,26 +126,72 @@ impl EntryList {
         ensures few { result ≤ length self.now }
         ensures visits { SearchesWithin 2 (length self.now) steps.old steps.new }
     {
-        reaching(bound, self.entries.as_slice(), steps)
+        match &self.body {
+            Body::Whole(entries) => reaching(bound, entries.as_slice(), steps),
+            Body::Parted(chunks) => reaching_in_chunks(bound, chunks, steps),
+        }
     }
 
     /// Puts the entries behind those of a vector.
     pub(crate) fn append_to(&self, entries: &mut Vec<Entry>) -> Result<(), NoMemory>
         ensures { OnOk result (entries.new.items ≡ entries.old.items ++ self.now) }
     {
-        entries.extend_from_slice(self.entries.as_slice())?;
-        Ok(())
+        match &self.body {
+            Body::Whole(own) => {
+                entries.extend_from_slice(own.as_slice())?;
+                Ok(())
+            }
+            Body::Parted(chunks) => chunks.append_to(entries),
+        }
     }
 
     /// The list with room for one more entry. Where there is no memory for it, it comes back as it was.
     pub(crate) fn with_room(self) -> Result<RoomyList, EntryList>
         ensures { MatchResult result (λ roomy. roomy ≡ self) (λ list. list ≡ self) }
     {
-        let EntryList { mut entries } = self;
-        match make_room(&mut entries) {
-            Ok(()) => Ok(RoomyList { entries }),
-            Err(_) => Err(EntryList { entries }),
+        let EntryList { body } = self;
+        match body {
+            Body::Whole(entries) => whole_with_room(entries),
+            Body::Parted(chunks) => parted_with_room(chunks),
         }
+    }
+}
+
+/// Chunks with room for one more entry.
+fn parted_with_room(chunks: Chunks) -> Result<RoomyList, EntryList>
+    ensures { MatchResult result (λ roomy. roomy ≡ chunks) (λ list. list ≡ chunks) }
+{
+    match chunks.with_room() {
+        Ok(roomy) => Ok(RoomyList {
+            body: RoomyBody::Parted(roomy),
+        }),
+        Err(chunks) => Err(EntryList {
+            body: Body::Parted(chunks),
+        }),
+    }
+}
+
+/// Entries with room for one more: where they fill a chunk, they are divided into chunks first.
+fn whole_with_room(mut entries: Vec<Entry>) -> Result<RoomyList, EntryList>
+    requires order { AreInOrder entries.items }
+    requires few { length entries.items ≤ most_rows }
+    ensures { MatchResult result (λ roomy. roomy ≡ entries.items) (λ list. list ≡ entries.items) }
+{
+    if entries.as_slice().len() >= FULL {
+        return match Chunks::of_entries(*entries.allocator(), entries.as_slice()) {
+            Ok(chunks) => parted_with_room(chunks),
+            Err(_) => Err(EntryList {
+                body: Body::Whole(entries),
+            }),
+        };
+    }
+    match make_room(&mut entries) {
+        Ok(()) => Ok(RoomyList {
+            body: RoomyBody::Whole(entries),
+        }),
+        Err(_) => Err(EntryList {
+            body: Body::Whole(entries),
+        }),
     }
 }
 
@@ -129,8 +200,15 @@ impl RoomyList {
     pub(crate) fn into_list(self) -> EntryList
         ensures { result ≡ self }
     {
-        let RoomyList { entries } = self;
-        EntryList { entries }
+        let RoomyList { body } = self;
+        match body {
+            RoomyBody::Whole(entries) => EntryList {
+                body: Body::Whole(entries),
+            },
+            RoomyBody::Parted(chunks) => EntryList {
+                body: Body::Parted(chunks.into_list()),
+            },
+        }
     }
 
     /// Puts one entry in and takes another out.
@@ -138,8 +216,25 @@ impl RoomyList {
         requires there { (new : List Entry) × (IsExchange put take self new × (length new ≤ most_rows)) }
         ensures { IsExchange put take self result }
     {
-        let RoomyList { mut entries } = self;
-        exchange(&mut entries, put, take);
-        EntryList { entries }
+        let RoomyList { body } = self;
+        match body {
+            RoomyBody::Whole(entries) => exchanged(entries, put, take),
+            RoomyBody::Parted(chunks) => EntryList {
+                body: Body::Parted(chunks.exchange(put, take)),
+            },
+        }
+    }
+}
+
+/// The entries of one vector with one more and without another.
+fn exchanged(mut entries: Vec<Entry>, put: Bound, take: Bound) -> EntryList
+    requires room { vec_len entries < vec_capacity entries }
+    requires order { AreInOrder entries.items }
+    requires there { (new : List Entry) × (IsExchange put take entries.items new × (length new ≤ most_rows)) }
+    ensures { IsExchange put take entries.items result }
+{
+    exchange(&mut entries, put, take);
+    EntryList {
+        body: Body::Whole(entries),
     }
 }

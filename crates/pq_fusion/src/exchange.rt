@@ -8,8 +8,8 @@ ghost use Rattle.pq_fusion.specs.Exchanges.{Has, HasBound, IsExchange};
 use crate::Bound;
 use retro_base::{Entry, NoMemory};
 
-/// Sees to it that one more entry has room in a list, which otherwise grows by an eighth.
-pub(crate) fn make_room(list: &mut Vec<Entry>) -> Result<(), NoMemory>
+/// Sees to it that one more element has room in a list, which otherwise grows by an eighth.
+pub(crate) fn make_room<T>(list: &mut Vec<T>) -> Result<(), NoMemory>
     ensures items { list.new.items ≡ list.old.items }
     ensures room { OnOk result (vec_len list.new < vec_capacity list.new) }
 {
@@ -36,7 +36,7 @@ pub(crate) fn put_in(list: &mut Vec<Entry>, entry: Entry)
 }
 
 /// Takes an entry out of a rising list that has it.
-fn take_out(list: &mut Vec<Entry>, entry: Entry)
+pub(crate) fn take_out(list: &mut Vec<Entry>, entry: Entry)
     requires order { AreInOrder list.old.items }
     requires there { Has entry list.old.items }
     ensures items { with_entry entry list.new.items ≡ list.old.items }

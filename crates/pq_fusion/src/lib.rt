@@ -17,7 +17,8 @@
 //! Verdicts, changes and the present are those of a `BridgeQueue` beside the tree. An edit goes down one path of the tree to a run, which
 //! is made anew with its piece, and what passes there is found by comparing; on the way up each pair learns what passes in one of its sides, finds by
 //! one boundary what passes in its own piece, and puts this one entry into a list or takes it out. So it takes a search of two lists a
-//! level by halves, and moves the entries behind a place in each: that is proportional to m at worst, and a copy within memory.
+//! level by halves, and moves some entries of one chunk in each:
+//! a list of more than 256 entries is in chunks of at most so many, and counts anew how many stand before each.
 //! A run that is full is made two, a pair that comes to few rows is made a run, and where a side would have 3 times as many rows as the
 //! other the whole pair is made anew, halved until its runs have no more than 48 rows; a share of its rows have come or gone before that is so again.
 //!
@@ -29,12 +30,12 @@
 //! | `ask_now`, `failure_after_insert`, `failure_after_remove` | those of `BridgeQueue`, log m | none |
 //! | `ask_past`, `answer_at`, `ask` | one walk of the path, log² m, for each binary digit of the difference of the keys on it | none |
 //! | `all`, `piece` | in proportion to the rows asked about | as many entries |
-//! | `insert`, `remove` | log² m comparisons, a run made anew and a move of the entries behind a place in each list; m log m where a part is made anew | a run, and room in each list |
+//! | `insert`, `remove` | log² m comparisons, a run made anew, and in each list a move within a chunk and a count for each chunk; m log m where a part is made anew | a run, and room in each list |
 //! | `stored` | each run and pair once | none |
 //!
 //! An edit takes all memory of a pair before anything of it changes, and the edit of its side is done or leaves all as before; so after
-//! `NoMemory` all is as before, and nothing has to be taken back. `remove` takes memory too. A list grows by an eighth, and keeps its
-//! memory where it shrinks, until the part that it stands in is made anew.
+//! `NoMemory` all is as before, and nothing has to be taken back. `remove` takes memory too. A list of one vector
+//! and a chunk grow by an eighth; a chunk that shrinks gives memory back, a vector when the part that it stands in is made anew.
 //! The pieces have at least as many entries as there are rows that add, and at most 3 m for each binary digit of m + 1: a side
 //! weighs at most 3 quarters of the whole, so there are at most 3 levels for each digit.
 //!
@@ -52,7 +53,8 @@
 //!   less or greater than each.
 //! - `subtree`, `root`: the tree of rows, and what stands at its root. `read`: its products. `remaining`: what a product leaves. `edit`: a row
 //!   more or less.
-//! - `entry_list`: entries in rising order, with room for an edit. `node_piece`: a piece in two of them. `exchange`: one entry of a list in the
+//! - `entry_list`, `chunks`, `chunk_edits`: entries in rising order with room for an edit, a long list of them in chunks, and an entry that
+//!   comes into one of these or goes. `node_piece`: a piece in two such lists. `exchange`: one entry of a list in the
 //!   place of another. `boundary`: the entry at a rank of two lists together. `difference`: what passed, by comparing.
 //! - `tally`, `span`: how many entries are left after a path, how many of them reach a key, and between which keys they lie.
 //!   `select`: the key at an index of what the first rows leave. `answer`: the answers of that. `fused_queue`.
@@ -61,6 +63,8 @@
 mod answer;
 mod bound;
 mod boundary;
+mod chunk_edits;
+mod chunks;
 mod difference;
 mod edit;
 mod entry_list;

@@ -1,0 +1,28 @@
+use Rattle.std.proofs.Common.{rules, ◌≡◌, true, false, get_or}
+use Rattle.retro_base.specs.State.{comes_before}
+use Rattle.pq_fusion.proofs.Chunked.{put_earlier, put_later, one_more}
+use Rattle.pq_fusion.proofs.Split.{order_front, order_back}
+use Rattle.pq_fusion.proofs.chunk_edits.put_in_either.Goals as goal
+
+pub put_in-requires-clause-order : goal.put_in-requires-clause-order
+put_in-requires-clause-order c = order_front c.args.earlier.now.items c.args.later.now.items c.requires.order
+
+pub put_in-requires-else-comes_before-clause-order : goal.put_in-requires-else-comes_before-clause-order
+put_in-requires-else-comes_before-clause-order c = order_back c.args.earlier.now.items c.args.later.now.items c.requires.order
+
+pub returns-then-comes_before-clause-items : goal.returns-then-comes_before-clause-items
+returns-then-comes_before-clause-items c =
+    let first : comes_before c.args.entry (get_or c.args.later.now.items 0 c.index.result.now) ≡ true = search rules in
+    put_earlier c.args.entry c.args.earlier.now.items c.args.later.now.items c.put_in.new.list.items c.index.result.now first c.put_in.ensures
+
+pub returns-then-comes_before-clause-earlier : goal.returns-then-comes_before-clause-earlier
+returns-then-comes_before-clause-earlier c = one_more c.args.entry c.args.earlier.now.items c.put_in.new.list.items c.put_in.ensures
+
+pub returns-else-comes_before-clause-items : goal.returns-else-comes_before-clause-items
+returns-else-comes_before-clause-items c =
+    let first : comes_before c.args.entry (get_or c.args.later.now.items 0 c.index.result.now) ≡ false = search rules in
+    put_later c.args.entry c.args.earlier.now.items c.args.later.now.items c.put_in-else-comes_before.new.list.items c.index.result.now c.requires.order c.requires.some first
+    c.put_in-else-comes_before.ensures
+
+pub returns-else-comes_before-clause-later : goal.returns-else-comes_before-clause-later
+returns-else-comes_before-clause-later c = one_more c.args.entry c.args.later.now.items c.put_in-else-comes_before.new.list.items c.put_in-else-comes_before.ensures

@@ -1,0 +1,219 @@
+//! Edits of a list in chunks: one entry comes into a chunk or goes from one, and no other chunk changes.
+
+ghost use Rattle.std.specs.Prelude.{◌≡◌, ◌+◌, ◌<◌, ◌≤◌, ◌++◌, [], List, length, MatchOption, vec_capacity, vec_len};
+ghost use Rattle.retro_base.specs.declared.row.Entry.{Entry};
+ghost use Rattle.retro_base.specs.EntriesInOrder.{AreInOrder};
+ghost use Rattle.retro_base.specs.State.{with_entry};
+ghost use Rattle.pq_fusion.specs.Bounds.{with_bound};
+ghost use Rattle.pq_fusion.specs.Chunks.{AreChunks, IsChunk, IsHome, IsOneMoreAtMost, entries_of, most_in_chunk};
+ghost use Rattle.pq_fusion.specs.Exchanges.{Has, HasBound, IsExchange};
+
+use crate::Bound;
+use crate::exchange::{make_room, put_in, take_out};
+use retro_base::Entry;
+
+/// So many entries fill a chunk.
+pub(crate) const FULL: usize = 256;
+
+/// The chunk that an entry belongs to: the last one that begins no later, or the first. Sought by halves.
+fn home(chunks: &[Vec<Entry>], entry: Entry) -> usize
+    requires some { 0 < length chunks.now }
+    requires chunks { AreChunks chunks.now }
+    ensures { IsHome entry chunks.now result }
+{
+    let (mut low, mut high) = (1, chunks.len());
+    'halve: while low < high {
+        let middle = low + (high - low) / 2;
+        if entry.comes_before(chunks[middle][0]) {
+            high = middle;
+        } else {
+            low = middle + 1;
+        }
+    }
+    low - 1
+}
+
+/// Gives back memory of a chunk that has become much smaller than its room.
+fn trim(chunk: &mut Vec<Entry>)
+    ensures { chunk.new.items ≡ chunk.old.items }
+{
+    let length = chunk.as_slice().len();
+    if length + length / 4 < chunk.capacity() {
+        chunk.shrink_to(length + length / 8);
+    }
+}
+
+/// Puts an entry into a chunk. Where there is no memory for more room, all of it goes into the spare one.
+fn grow_into(chunk: &mut Vec<Entry>, mut spare: Vec<Entry>, entry: Entry)
+    requires order { AreInOrder chunk.old.items }
+    requires few { length chunk.old.items < most_in_chunk }
+    requires none { spare.items ≡ [] }
+    requires room { most_in_chunk < vec_capacity spare }
+    ensures { chunk.new.items ≡ with_entry entry chunk.old.items }
+{
+    if make_room(chunk).is_ok() {
+        put_in(chunk, entry);
+        return;
+    }
+    if spare.extend_from_slice(chunk.as_slice()).is_err() {
+        unreachable!()
+    }
+    put_in(&mut spare, entry);
+    *chunk = spare;
+}
+
+/// Puts an entry into one of two chunks, of which the second stands behind the first.
+fn put_in_either(earlier: &mut Vec<Entry>, later: &mut Vec<Entry>, entry: Entry)
+    requires order { AreInOrder (earlier.old.items ++ later.old.items) }
+    requires some { 0 < length later.old.items }
+    requires room_earlier { vec_len earlier.old < vec_capacity earlier.old }
+    requires room_later { vec_len later.old < vec_capacity later.old }
+    ensures items { earlier.new.items ++ later.new.items ≡ with_entry entry (earlier.old.items ++ later.old.items) }
+    ensures earlier { IsOneMoreAtMost earlier.old.items earlier.new.items }
+    ensures later { IsOneMoreAtMost later.old.items later.new.items }
+{
+    if entry.comes_before(later[0]) {
+        put_in(earlier, entry);
+    } else {
+        put_in(later, entry);
+    }
+}
+
+/// Divides a full chunk in halves, and puts an entry into its half. The later half comes back.
+fn divide(chunk: &mut Vec<Entry>, mut later: Vec<Entry>, entry: Entry) -> Vec<Entry>
+    requires order { AreInOrder chunk.old.items }
+    requires full { length chunk.old.items ≡ most_in_chunk }
+    requires none { later.items ≡ [] }
+    requires room { most_in_chunk < vec_capacity later }
+    ensures items { chunk.new.items ++ result.items ≡ with_entry entry chunk.old.items }
+    ensures earlier { IsChunk chunk.new }
+    ensures later { IsChunk result }
+{
+    if later
+        .extend_from_slice(chunk.as_slice().split_at(FULL / 2).1)
+        .is_err()
+    {
+        unreachable!()
+    }
+    chunk.truncate(FULL / 2);
+    put_in_either(chunk, &mut later, entry);
+    trim(chunk);
+    trim(&mut later);
+    later
+}
+
+/// Puts an entry into a chunk. Where the chunk was full, its later half comes back.
+fn put_into(chunk: &mut Vec<Entry>, spare: Vec<Entry>, entry: Entry) -> Option<Vec<Entry>>
+    requires order { AreInOrder chunk.old.items }
+    requires chunk { IsChunk chunk.old }
+    requires none { spare.items ≡ [] }
+    requires room { most_in_chunk < vec_capacity spare }
+    ensures items { MatchOption result (chunk.new.items ≡ with_entry entry chunk.old.items)
+        (λ later. (chunk.new.items ++ later.items ≡ with_entry entry chunk.old.items) × IsChunk later) }
+    ensures chunk { IsChunk chunk.new }
+{
+    if chunk.as_slice().len() >= FULL {
+        return Some(divide(chunk, spare, entry));
+    }
+    grow_into(chunk, spare, entry);
+    None
+}
+
+/// Puts an entry into its chunk.
+fn put_among(chunks: &mut Vec<Vec<Entry>>, mut spare: Vec<Entry>, entry: Entry)
+    requires order { AreInOrder (entries_of chunks.old.items) }
+    requires chunks { AreChunks chunks.old.items }
+    requires place { vec_len chunks.old < vec_capacity chunks.old }
+    requires none { spare.items ≡ [] }
+    requires room { most_in_chunk < vec_capacity spare }
+    ensures items { entries_of chunks.new.items ≡ with_entry entry (entries_of chunks.old.items) }
+    ensures chunks { AreChunks chunks.new.items }
+    ensures few { vec_len chunks.new ≤ vec_len chunks.old + 1 }
+{
+    if chunks.as_slice().len() == 0 {
+        put_in(&mut spare, entry);
+        chunks.push_reserved(spare);
+        return;
+    }
+    let place = home(chunks, entry);
+    let chunk = &mut chunks[place];
+    let Some(later) = put_into(chunk, spare, entry) else {
+        return;
+    };
+    if chunks.insert(place + 1, later).is_err() {
+        unreachable!()
+    }
+}
+
+/// Takes an entry out of its chunk. A chunk of this entry alone goes whole.
+fn take_among(chunks: &mut Vec<Vec<Entry>>, entry: Entry)
+    requires order { AreInOrder (entries_of chunks.old.items) }
+    requires chunks { AreChunks chunks.old.items }
+    requires there { Has entry (entries_of chunks.old.items) }
+    ensures items { with_entry entry (entries_of chunks.new.items) ≡ entries_of chunks.old.items }
+    ensures chunks { AreChunks chunks.new.items }
+    ensures few { vec_len chunks.new ≤ vec_len chunks.old }
+{
+    let place = home(chunks, entry);
+    let chunk = &mut chunks[place];
+    take_out(chunk, entry);
+    if chunk.as_slice().len() == 0 {
+        let _ = chunks.remove(place);
+    } else {
+        trim(chunk);
+    }
+}
+
+/// Puts in what the bound is, where that is an entry.
+fn put_bound_among(chunks: &mut Vec<Vec<Entry>>, spare: Vec<Entry>, put: Bound)
+    requires order { AreInOrder (entries_of chunks.old.items) }
+    requires chunks { AreChunks chunks.old.items }
+    requires place { vec_len chunks.old < vec_capacity chunks.old }
+    requires none { spare.items ≡ [] }
+    requires room { most_in_chunk < vec_capacity spare }
+    ensures items { entries_of chunks.new.items ≡ with_bound put (entries_of chunks.old.items) }
+    ensures chunks { AreChunks chunks.new.items }
+    ensures few { vec_len chunks.new ≤ vec_len chunks.old + 1 }
+{
+    if let Bound::At(entry) = put {
+        put_among(chunks, spare, entry);
+    }
+}
+
+/// Takes out what the bound is, where that is an entry.
+fn take_bound_among(chunks: &mut Vec<Vec<Entry>>, take: Bound)
+    requires order { AreInOrder (entries_of chunks.old.items) }
+    requires chunks { AreChunks chunks.old.items }
+    requires there { HasBound take (entries_of chunks.old.items) }
+    ensures items { with_bound take (entries_of chunks.new.items) ≡ entries_of chunks.old.items }
+    ensures chunks { AreChunks chunks.new.items }
+    ensures few { vec_len chunks.new ≤ vec_len chunks.old }
+{
+    if let Bound::At(entry) = take {
+        take_among(chunks, entry);
+    }
+}
+
+/// Puts one entry into its chunk and takes another out of its own. A full chunk is divided into the spare one.
+pub(crate) fn exchange_among(
+    chunks: &mut Vec<Vec<Entry>>,
+    spare: Vec<Entry>,
+    put: Bound,
+    take: Bound,
+)
+    requires order { AreInOrder (entries_of chunks.old.items) }
+    requires chunks { AreChunks chunks.old.items }
+    requires place { vec_len chunks.old < vec_capacity chunks.old }
+    requires none { spare.items ≡ [] }
+    requires room { most_in_chunk < vec_capacity spare }
+    requires there { (new : List Entry) × IsExchange put take (entries_of chunks.old.items) new }
+    ensures items { IsExchange put take (entries_of chunks.old.items) (entries_of chunks.new.items) }
+    ensures chunks { AreChunks chunks.new.items }
+    ensures few { vec_len chunks.new ≤ vec_len chunks.old + 1 }
+{
+    if !put.is_below(take) && !take.is_below(put) {
+        return;
+    }
+    put_bound_among(chunks, spare, put);
+    take_bound_among(chunks, take);
+}

@@ -1,0 +1,277 @@
+//! A list of entries in chunks, so that an edit moves the entries of one chunk at most.
+
+ghost use Rattle.std.specs.Prelude.{◌≡◌, ◌+◌, ◌-◌, ◌<◌, ◌≤◌, ◌++◌, [], List, length, get_or, slice_get, IfOk, OnOk, MatchResult, vec_capacity};
+ghost use Rattle.retro_base.specs.declared.row.Entry.{Entry};
+ghost use Rattle.retro_base.specs.EntriesInOrder.{AreInOrder};
+ghost use Rattle.retro_base.specs.Limits.{most_rows};
+ghost use Rattle.pq_fusion.specs.Chunks.{AreChunks, HoldsRank, entries_of, starts_of};
+ghost use Rattle.retro_base.specs.State.{comes_before};
+ghost use Rattle.pq_fusion.specs.Exchanges.{IsExchange};
+ghost use Rattle.pq_fusion.specs.Searches.{SearchesWithin};
+ghost use Rattle.pq_fusion.specs.Tallies.{reaching};
+
+use crate::Bound;
+use crate::chunk_edits::{FULL, exchange_among};
+use crate::exchange::make_room;
+use retro_base::{Entry, NoMemory, Steps};
+use std::alloc::Global;
+use std::marker::Model;
+use std::sync::ledger::Ledger;
+
+/// So many entries a chunk has at first.
+const FILLED: usize = 192;
+
+/// Entries in rising order in chunks, and how many stand before each chunk.
+#[derive(Drop)]
+pub(crate) struct Chunks {
+    alloc: Global,
+    chunks: Vec<Vec<Entry>>,
+    starts: Vec<u32>,
+    count: u32,
+}
+
+impl Model for Chunks {
+    ghost use Rattle.std.specs.Prelude.{List};
+    ghost use Rattle.retro_base.specs.declared.row.Entry.{Entry};
+    ghost use Rattle.pq_fusion.specs.Chunks.{AreKept, entries_of};
+
+    ghost Value = { List Entry };
+
+    ghost view = { λ list. entries_of list.chunks.items };
+
+    ghost invariant = { λ list. AreKept list.chunks.items list.starts.items list.count };
+}
+
+/// Chunks with one to spare and room for it, so that an edit takes no memory.
+#[derive(Drop)]
+pub(crate) struct RoomyChunks {
+    alloc: Global,
+    chunks: Vec<Vec<Entry>>,
+    starts: Vec<u32>,
+    count: u32,
+    spare: Vec<Entry>,
+}
+
+impl Model for RoomyChunks {
+    ghost use Rattle.std.specs.Prelude.{◌≡◌, ◌<◌, [], List, vec_capacity, vec_len};
+    ghost use Rattle.retro_base.specs.declared.row.Entry.{Entry};
+    ghost use Rattle.pq_fusion.specs.Chunks.{AreKept, entries_of, most_in_chunk};
+
+    ghost Value = { List Entry };
+
+    ghost view = { λ list. entries_of list.chunks.items };
+
+    ghost invariant = { λ list. AreKept list.chunks.items list.starts.items list.count
+        × (vec_len list.chunks < vec_capacity list.chunks) × (vec_len list.starts < vec_capacity list.starts)
+        × (list.spare.items ≡ []) × (most_in_chunk < vec_capacity list.spare) };
+}
+
+/// Divides entries into chunks.
+fn divided(alloc: Global, entries: &[Entry]) -> Result<Vec<Vec<Entry>>, NoMemory>
+    ensures { IfOk result (λ chunks. (entries_of chunks.items ≡ entries.now) × AreChunks chunks.items) }
+{
+    let mut chunks = Vec::with_capacity(alloc, entries.len() / FILLED + 1)?;
+    let mut rest = entries;
+    'divide: while rest.len() > 0 {
+        let (chunk, behind) = rest.split_at(rest.len().min(FILLED));
+        chunks.push(Vec::from_slice(alloc, chunk)?)?;
+        rest = behind;
+    }
+    Ok(chunks)
+}
+
+/// Counts anew how many entries stand before each chunk, and how many there are.
+fn count_anew(starts: &mut Vec<u32>, chunks: &[Vec<Entry>]) -> u32
+    requires few { length (entries_of chunks.now) ≤ most_rows }
+    requires room { length chunks.now ≤ vec_capacity starts.old }
+    ensures starts { starts.new.items ≡ starts_of 0 chunks.now }
+    ensures count { result ≡ length (entries_of chunks.now) }
+{
+    starts.clear();
+    let mut before = 0;
+    for chunk in chunks {
+        starts.push_reserved(before);
+        before += chunk.as_slice().len() as u32;
+    }
+    before
+}
+
+/// The chunk in which a rank lies: the last one before which no more entries stand. Sought by halves.
+fn holding(starts: &[u32], rank: u32) -> usize
+    requires some { 0 < length starts.now }
+    requires first { get_or starts.now 0 0 ≡ 0 }
+    ensures { HoldsRank starts.now rank result }
+{
+    let (mut low, mut high) = (1, starts.len());
+    'halve: while low < high {
+        let middle = low + (high - low) / 2;
+        if rank < starts[middle] {
+            high = middle;
+        } else {
+            low = middle + 1;
+        }
+    }
+    low - 1
+}
+
+/// The entry at a rank of a chunk, where there is one.
+pub(crate) fn entry_at(chunk: &Vec<Entry>, rank: u32) -> Option<Entry>
+    ensures { result ≡ slice_get chunk.now.items rank }
+{
+    chunk.as_slice().get(rank as usize).copied()
+}
+
+/// Whether the entry at a rank comes before this one.
+fn is_before(list: &Chunks, rank: u32, bound: Entry) -> bool
+    requires { rank < length list.now }
+    ensures { result ≡ comes_before (get_or list.now rank bound) bound }
+{
+    match list.get(rank) {
+        Some(entry) => entry.comes_before(bound),
+        None => false,
+    }
+}
+
+/// How many of these entries do not come before this one, by halves.
+pub(crate) fn reaching_in_chunks<L: Ledger>(
+    bound: Entry,
+    list: &Chunks,
+    steps: &mut Steps<L>,
+) -> u32
+    ensures count { result ≡ reaching bound list.now }
+    ensures few { result ≤ length list.now }
+    ensures visits { SearchesWithin 1 (length list.now) steps.old steps.new }
+{
+    let (mut low, mut high) = (0, list.len());
+    'halve: while low < high {
+        steps.tick();
+        let middle = low + (high - low) / 2;
+        if is_before(list, middle, bound) {
+            low = middle + 1;
+        } else {
+            high = middle;
+        }
+    }
+    list.len() - low
+}
+
+impl Chunks {
+    /// The list of these entries.
+    pub(crate) fn of_entries(alloc: Global, entries: &[Entry]) -> Result<Chunks, NoMemory>
+        requires order { AreInOrder entries.now }
+        requires few { length entries.now ≤ most_rows }
+        ensures { IfOk result (λ list. list ≡ entries.now) }
+    {
+        let chunks = divided(alloc, entries)?;
+        let mut starts = Vec::with_capacity(alloc, chunks.as_slice().len())?;
+        let count = count_anew(&mut starts, &chunks);
+        Ok(Chunks {
+            alloc,
+            chunks,
+            starts,
+            count,
+        })
+    }
+
+    /// How many entries the list has.
+    pub(crate) fn len(&self) -> u32
+        ensures count { result ≡ length self.now }
+        ensures few { result ≤ most_rows }
+        ensures order { AreInOrder self.now }
+    {
+        self.count
+    }
+
+    /// The entry at a rank, where there is one.
+    pub(crate) fn get(&self, rank: u32) -> Option<Entry>
+        ensures { result ≡ slice_get self.now rank }
+    {
+        if self.starts.as_slice().len() == 0 {
+            return None;
+        }
+        let place = holding(&self.starts, rank);
+        entry_at(&self.chunks[place], rank - self.starts[place])
+    }
+
+    /// Puts the entries behind those of a vector.
+    pub(crate) fn append_to(&self, entries: &mut Vec<Entry>) -> Result<(), NoMemory>
+        ensures { OnOk result (entries.new.items ≡ entries.old.items ++ self.now) }
+    {
+        for chunk in &self.chunks {
+            entries.extend_from_slice(chunk.as_slice())?;
+        }
+        Ok(())
+    }
+
+    /// The list with a chunk to spare. Where there is no memory for it, it comes back as it was.
+    pub(crate) fn with_room(self) -> Result<RoomyChunks, Chunks>
+        ensures { MatchResult result (λ roomy. roomy ≡ self) (λ list. list ≡ self) }
+    {
+        let Chunks {
+            alloc,
+            mut chunks,
+            mut starts,
+            count,
+        } = self;
+        let first = make_room(&mut chunks).is_ok();
+        let second = make_room(&mut starts).is_ok();
+        match Vec::with_capacity(alloc, FULL + 1) {
+            Ok(spare) if first && second => Ok(RoomyChunks {
+                alloc,
+                chunks,
+                starts,
+                count,
+                spare,
+            }),
+            _ => Err(Chunks {
+                alloc,
+                chunks,
+                starts,
+                count,
+            }),
+        }
+    }
+}
+
+impl RoomyChunks {
+    /// The list as it is.
+    pub(crate) fn into_list(self) -> Chunks
+        ensures { result ≡ self }
+    {
+        let RoomyChunks {
+            alloc,
+            chunks,
+            starts,
+            count,
+            ..
+        } = self;
+        Chunks {
+            alloc,
+            chunks,
+            starts,
+            count,
+        }
+    }
+
+    /// Puts one entry in and takes another out.
+    pub(crate) fn exchange(self, put: Bound, take: Bound) -> Chunks
+        requires there { (new : List Entry) × (IsExchange put take self new × (length new ≤ most_rows)) }
+        ensures { IsExchange put take self result }
+    {
+        let RoomyChunks {
+            alloc,
+            mut chunks,
+            mut starts,
+            spare,
+            ..
+        } = self;
+        exchange_among(&mut chunks, spare, put, take);
+        let count = count_anew(&mut starts, &chunks);
+        Chunks {
+            alloc,
+            chunks,
+            starts,
+            count,
+        }
+    }
+}
