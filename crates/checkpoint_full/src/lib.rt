@@ -28,6 +28,7 @@ mod past;
 mod reader;
 mod settle;
 mod snapshot;
+mod spares;
 mod width;
 
 pub use full::Full;
