@@ -16,8 +16,8 @@
 //! The other has the entries that the rows add, in order, with the same marks; a range measures how many are
 //! in the present, and the last entry.
 //! That weights and marks are those of the definitions is the invariant (`IsBridged` of specs/Bridged.antt),
-//! and the laws of `retro_base` on bridges give the changes and the refusals. It answers of the present alone; its
-//! past is asked by checkpoints (`checkpoint_full`).
+//! and the laws of `retro_base` on bridges give the changes and the refusals. It answers of the present alone, and for a later
+//! queue whose first rows it has; so its past is asked by checkpoints (`checkpoint_full`).
 //!
 //! | Call | Nodes visited, d being the digits of one more than the length | Memory |
 //! |---|---|---|
@@ -29,14 +29,20 @@
 //! | `insert` | at most 144 d | a node for the row, and one for its entry |
 //! | `remove` | at most 144 d | none |
 //! | `all_now` | at most 12 d for each entry that a row adds | the listing |
+//! | `ask_after`, with r rows between | at most (113 r + 180) d | the r rows, and those of their entries that stay |
+//! | `list_after`, the same | the same, and at most 56 d for each entry listed | the same, and the listing |
 //! | `copy` | each once | as many nodes |
 //!
-//! What the layer above may rely on: the clauses of `Partial`, of which 144 d is the bound for each call. The lesser
-//! numbers of this table follow from the bodies, and no public clause names them.
+//! `ask_after` and `list_after` answer for a later queue, and change neither. The entries of this queue are read in order over
+//! a cursor, and those that come in go into a heap; of a row that takes the lesser of the two firsts is taken.
+//!
+//! What the layer above may rely on: the clauses of `Partial`, of which 144 d is the bound for each call but `ask_after`,
+//! whose bound is (288 r + 144) d. The lesser numbers of this table follow from the bodies, and no public clause names them.
 //! Files: `marked_row`, `marked_entry` (what stands in the trees), `row_measure`, `entry_measure`, `extreme` (what
 //! a range of them measures, kept small, since each node has two), `row_search` (bridges and the changed
-//! entries), `entry_tree` (entries by their order), `flipped`, `changes`, `failure` (what an edit changes, or
-//! which row it stops), `edit` (the two trees together), `bridge_queue`.
+//! entries), `entry_tree` (entries by their order), `flip`, `changes`, `failure` (what an edit changes, or
+//! which row it stops), `edit` (the two trees together), `cursor`, `fresh`, `held`, `later` (what is held some rows later),
+//! `bridge_queue`.
 #![tactic(auto)]
 
 mod bridge_queue;
