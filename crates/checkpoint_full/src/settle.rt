@@ -1,13 +1,13 @@
 //! Which checkpoints are dropped after an edit. Dropping needs no memory.
 ghost use Rattle.std.specs.Prelude.{◌≡◌, ◌+◌, ◌<◌, ◌≤◌, ◌∷◌, nat_le, length, get_or, map};
-ghost use Rattle.std.specs.List.{AllByRecursion};
+ghost use Rattle.std.specs.List.{remove, AllByRecursion};
 ghost use Rattle.retro_base.specs.Limits.{most_rows};
 ghost use Rattle.checkpoint_full.specs.Checkpoints.{place_of, were_made, HoldsFirstRows, KeepsCheckpoints, KeepsRule};
 ghost use Rattle.checkpoint_full.specs.Widths.{most_checkpoints, settled, settled_width, thinned, IsWidth};
 
 use crate::checkpoints::neighbour_after;
 use crate::snapshot::Snapshot;
-use crate::spares::lay_aside;
+use crate::spares::{lay_aside, take_between};
 use crate::width::MOST_CHECKPOINTS;
 use retro_base::Partial;
 
@@ -24,6 +24,26 @@ fn is_between_close<P: Partial + Drop>(
 {
     let later = neighbour_after(present, checkpoints, index).place();
     later <= checkpoints[index + 1].place() + width
+}
+
+/// Drops the checkpoint at the index. It is laid aside in the place of one that was laid aside between its neighbours.
+fn drop_at<P: Partial + Drop>(
+    present: &Snapshot<P>,
+    checkpoints: &mut Vec<Snapshot<P>>,
+    spares: &mut Vec<Snapshot<P>>,
+    index: usize,
+)
+    requires there { index + 1 < length checkpoints.old.items }
+    requires first { AllByRecursion (HoldsFirstRows present.now) checkpoints.old.items }
+    requires spares { AllByRecursion (HoldsFirstRows present.now) spares.old.items }
+    ensures items { checkpoints.new.items ≡ remove checkpoints.old.items index }
+    ensures spares { AllByRecursion (HoldsFirstRows present.now) spares.new.items }
+{
+    let earlier = checkpoints[index + 1].place();
+    let later = neighbour_after(present, checkpoints.as_slice(), index).place();
+    let _replaced = take_between(present, spares, earlier, later);
+    let dropped = checkpoints.remove(index);
+    lay_aside(present, spares, dropped);
 }
 
 /// Drops each checkpoint whose neighbours are at most the width apart, from the latest to the start, and lays it aside.
@@ -43,8 +63,7 @@ fn thin<P: Partial + Drop>(
     let mut index = 0;
     while index + 1 < checkpoints.len() {
         if is_between_close(present, checkpoints.as_slice(), index, width) {
-            let dropped = checkpoints.remove(index);
-            lay_aside(present, spares, dropped);
+            drop_at(present, checkpoints, spares, index);
         } else {
             index += 1;
         }

@@ -41,7 +41,7 @@ fn found_between<P: Partial + Drop>(spares: &[Snapshot<P>], from: u32, to: u32) 
 }
 
 /// Takes the one out that was laid aside last of those between two places, where there is one.
-fn take_between<P: Partial + Drop>(
+pub(crate) fn take_between<P: Partial + Drop>(
     timeline: &Snapshot<P>,
     spares: &mut Vec<Snapshot<P>>,
     from: u32,

@@ -3,14 +3,8 @@ use Rattle.std.specs.List.{AllByRecursion}
 use Rattle.std.proofs.lemmas.List.{length-map}
 use Rattle.std.proofs.lemmas.List.Edits.{length-remove}
 use Rattle.checkpoint_full.specs.Checkpoints.{place_of, HoldsFirstRows}
-use Rattle.checkpoint_full.proofs.Mapped.{all_of}
 use Rattle.checkpoint_full.proofs.Settled.{all_without, drops_one, keeps_one, none_left}
 use Rattle.checkpoint_full.proofs.settle.thin.Goals as goal
-
-pub lay_aside-requires-clause-holds : goal.lay_aside-requires-clause-holds
-lay_aside-requires-clause-holds g c =
-    all_of (HoldsFirstRows c.args.present.now) c.loop-index.checkpoints.items c.loop-index.index _ c.remove-dropped.result c.loop-index.invariant.first
-    (omega (arith, c.loop-index-test.true, c.len.ensures)) c.remove-dropped.ensures.value
 
 pub loop-index-preserved-then-is_between_close : goal.loop-index-preserved-then-is_between_close
 loop-index-preserved-then-is_between_close g c =
@@ -18,17 +12,17 @@ loop-index-preserved-then-is_between_close g c =
     record {
       within = omega (
         arith,
-        ap (λ cs. length cs) c.remove-dropped.ensures.items,
+        ap (λ cs. length cs) c.drop_at.ensures.items,
         c.loop-index-test.true,
         c.len.ensures,
         length-remove c.loop-index.checkpoints.items c.loop-index.index (omega (arith, c.loop-index-test.true, c.len.ensures)),
       );
-      first = subst (λ cs. AllByRecursion (HoldsFirstRows c.args.present.now) cs) (sym c.remove-dropped.ensures.items)
+      first = subst (λ cs. AllByRecursion (HoldsFirstRows c.args.present.now) cs) (sym c.drop_at.ensures.items)
           (all_without (HoldsFirstRows c.args.present.now) c.loop-index.checkpoints.items c.loop-index.index loop.first);
-      spares = c.lay_aside.ensures.first;
+      spares = c.drop_at.ensures.spares;
       left = drops_one c.is_between_close.result c.loop-index.index (c.loop-index.index + 1) c.args.width c.args.present.now c.as_slice.result.now
-          c.loop-index.checkpoints.items c.remove-dropped.new.self.items _ c.as_slice.ensures.value (omega arith) c.is_between_close.ensures c.if-is_between_close.true
-          (omega (arith, c.loop-index-test.true, c.len.ensures)) c.remove-dropped.ensures.items loop.left;
+          c.loop-index.checkpoints.items c.drop_at.new.checkpoints.items _ c.as_slice.ensures.value (omega arith) c.is_between_close.ensures c.if-is_between_close.true
+          (omega (arith, c.loop-index-test.true, c.len.ensures)) c.drop_at.ensures.items loop.left;
     }
 
 pub loop-index-preserved : goal.loop-index-preserved
