@@ -365,7 +365,7 @@ pub struct SamePq {
     present: Bridges,
     /// Structures of first rows, the latest first and the start last; none before the first question about the past.
     checkpoints: Vec<Bridges>,
-    /// Those that were dropped, the last of them first.
+    /// Those that were dropped, the last of them first, one in each gap.
     spares: Vec<Bridges>,
     width: usize,
     /// A copy that follows close questions, the place of the last one, and how many there were.
@@ -449,13 +449,8 @@ impl SamePq {
         } else {
             earlier + (later - earlier) / 2
         };
-        let spare = self
-            .spares
-            .iter()
-            .position(|structure| (earlier..=later).contains(&structure.len()));
-        let between = match (spare, index) {
-            (Some(spare), _) => {
-                let mut structure = self.spares.remove(spare);
+        let between = match (self.spare_between(earlier, later), index) {
+            (Some(mut structure), _) => {
                 self.move_to(&mut structure, at);
                 structure
             }
@@ -465,11 +460,22 @@ impl SamePq {
         self.checkpoints.insert(index, between);
     }
 
+    /// Takes out what was dropped between two places.
+    fn spare_between(&mut self, earlier: usize, later: usize) -> Option<Bridges> {
+        let index = self
+            .spares
+            .iter()
+            .position(|structure| (earlier..=later).contains(&structure.len()))?;
+        Some(self.spares.remove(index))
+    }
+
     /// Drops each checkpoint whose neighbours are at most a width apart.
     fn thin(&mut self) {
         let mut index = 0;
         while index + 1 < self.checkpoints.len() {
-            if self.place_before(index) <= self.checkpoints[index + 1].len() + self.width {
+            let (earlier, later) = (self.checkpoints[index + 1].len(), self.place_before(index));
+            if later <= earlier + self.width {
+                self.spare_between(earlier, later);
                 let dropped = self.checkpoints.remove(index);
                 self.spares.insert(0, dropped);
             } else {
