@@ -1,5 +1,9 @@
 //! The priority queue by bridges, as crates/bridge_pq has it: rows with their marks in one tree, the entries in their order
-//! in another; and its past by checkpoints, as crates/checkpoint_full has it.
+//! in another; and its past by checkpoints, as crates/checkpoint_full has it. A checkpoint is lent to a question: its present
+//! is read over a cursor, and what came in since is kept in a heap.
+
+use std::cmp::Reverse;
+use std::collections::BinaryHeap;
 
 use crate::rows::{Answer, Change, Entry, Op, Past, Question, Row};
 use crate::timeline::Timeline;
@@ -229,24 +233,145 @@ impl Bridges {
         }
     }
 
+    fn len(&self) -> usize {
+        self.rows.len()
+    }
+
     pub fn nth(&self, index: u32) -> Option<i64> {
         let place = self.entries.first_place(0, &|present| present > index)?;
         Some(self.entries.get(place - 1).entry.0)
+    }
+
+    /// The key at an index of what a later queue, which has these rows first, holds at a place.
+    fn nth_after(&self, later: &Bridges, place: usize, index: u32) -> Option<i64> {
+        let mut moves = vec![None; place - self.len()];
+        later
+            .rows
+            .read(self.len(), |marked| marked.added(), &mut moves);
+        let mut held = Held::new(&self.entries);
+        for added in moves {
+            match added {
+                Some(entry) => held.fresh.push(Reverse(entry)),
+                None => {
+                    held.take();
+                }
+            }
+        }
+        let near = (held.fresh.len() as u32).min(index);
+        held.pass(index - near);
+        for _ in 0..near {
+            held.take();
+        }
+        held.take().map(|entry| entry.0)
+    }
+}
+
+impl MarkedRow {
+    fn added(&self) -> Option<Entry> {
+        match self.row.op {
+            Op::Ins { key } => Some((key, self.row.number)),
+            _ => None,
+        }
+    }
+}
+
+/// How many entries a cursor reads at a time.
+const WINDOW: usize = 32;
+
+/// A walk through the present of a queue, the least entry first.
+struct Cursor<'a> {
+    entries: &'a Tree<MarkedEntry>,
+    passed: u32,
+    window: [MarkedEntry; WINDOW],
+    next: usize,
+    end: usize,
+}
+
+impl Cursor<'_> {
+    fn take(&mut self) -> Option<Entry> {
+        while self.next < self.end {
+            let item = self.window[self.next];
+            self.next += 1;
+            if item.present {
+                self.passed += 1;
+                return Some(item.entry);
+            }
+        }
+        let passed = self.passed;
+        let place = self.entries.first_place(0, &|present| present > passed)? - 1;
+        self.end = self.entries.read(place, |item| *item, &mut self.window);
+        self.next = 1;
+        self.passed += 1;
+        Some(self.window[0].entry)
+    }
+}
+
+/// The entries of an earlier queue that were not taken, the first of them apart, and those that came in since.
+struct Held<'a> {
+    first: Option<Entry>,
+    left: Cursor<'a>,
+    fresh: BinaryHeap<Reverse<Entry>>,
+}
+
+impl<'a> Held<'a> {
+    fn new(entries: &'a Tree<MarkedEntry>) -> Held<'a> {
+        let none = MarkedEntry {
+            entry: (0, 0),
+            present: false,
+        };
+        let mut left = Cursor {
+            entries,
+            passed: 0,
+            window: [none; WINDOW],
+            next: 0,
+            end: 0,
+        };
+        Held {
+            first: left.take(),
+            left,
+            fresh: BinaryHeap::new(),
+        }
+    }
+
+    fn take(&mut self) -> Option<Entry> {
+        match (self.fresh.peek(), self.first) {
+            (Some(Reverse(fresh)), first) if first.is_none_or(|first| *fresh < first) => {
+                self.fresh.pop().map(|Reverse(fresh)| fresh)
+            }
+            (_, first) => {
+                self.first = self.left.take();
+                first
+            }
+        }
+    }
+
+    /// Goes over so many of the entries that were there.
+    fn pass(&mut self, count: u32) {
+        if count > 0 {
+            self.left.passed += count - 1;
+            self.left.end = 0;
+            self.first = self.left.take();
+        }
     }
 }
 
 const LEAST_WIDTH: usize = 1_024;
 const MOST_CHECKPOINTS: usize = 31;
+/// How far apart places are that follow one another closely.
+const CLOSE: usize = 32;
 
 pub struct SamePq {
     timeline: Timeline,
     present: Bridges,
-    /// Structures of first rows, fewest rows first; none before the first question about the past.
+    /// Structures of first rows, the latest first and the start last; none before the first question about the past.
     checkpoints: Vec<Bridges>,
+    /// Those that were dropped, the last of them first, one in each gap.
+    spares: Vec<Bridges>,
     width: usize,
-    /// A copy that questions which go forward in time roll on, and the place of the last question.
-    rolled: Option<Bridges>,
+    /// A copy that follows close questions, the place of the last one, and how many there were.
+    copy: Option<Bridges>,
     last: usize,
+    run: usize,
 }
 
 impl SamePq {
@@ -255,25 +380,33 @@ impl SamePq {
             timeline: Timeline::new(),
             present: Bridges::new(),
             checkpoints: Vec::new(),
-            width: 0,
-            rolled: None,
+            spares: Vec::new(),
+            width: LEAST_WIDTH,
+            copy: None,
             last: usize::MAX,
+            run: 0,
         }
     }
 
-    /// Makes a checkpoint at each multiple of the least width that needs few enough.
+    /// Makes a checkpoint at the start and at each multiple of the least width that needs few enough.
     fn make(&mut self) {
-        self.width = LEAST_WIDTH;
-        while self.timeline.len() / self.width > MOST_CHECKPOINTS {
+        let last = self.len().saturating_sub(1);
+        while last / self.width > MOST_CHECKPOINTS {
             self.width *= 2;
         }
-        let mut structure = Bridges::new();
-        for place in 0..self.timeline.len() {
-            structure.insert(place, self.timeline.row_at(place));
-            if (place + 1) % self.width == 0 {
-                self.checkpoints.push(structure.clone());
-            }
+        let mut structure = self.copy_at(&self.present, last / self.width * self.width);
+        while structure.len() > 0 {
+            let earlier = self.copy_at(&structure, structure.len().saturating_sub(self.width));
+            self.checkpoints.push(structure);
+            structure = earlier;
         }
+        self.checkpoints.push(structure);
+    }
+
+    fn copy_at(&self, later: &Bridges, place: usize) -> Bridges {
+        let mut structure = later.clone();
+        self.move_to(&mut structure, place);
+        structure
     }
 
     /// The copy is good as far as no row before its end has changed.
@@ -281,96 +414,145 @@ impl SamePq {
         if place < self.last {
             self.last = usize::MAX;
         }
-        self.rolled
-            .take_if(|structure| structure.rows.len() > place);
+        self.copy.take_if(|structure| structure.len() > place);
     }
 
-    /// Keeps neighbours at most a width apart.
-    fn keep_apart(&mut self) {
-        let mut at = 0;
-        while self.width > 0 && at <= self.checkpoints.len() {
-            let before = if at == 0 {
-                0
-            } else {
-                self.checkpoints[at - 1].rows.len()
-            };
-            let after = self
-                .checkpoints
-                .get(at)
-                .map_or(self.timeline.len(), |structure| structure.rows.len());
-            if after - before > self.width {
-                let middle = before + (after - before) / 2;
-                let mut structure = if at == 0 {
-                    Bridges::new()
-                } else {
-                    self.checkpoints[at - 1].clone()
-                };
-                self.roll(&mut structure, middle);
-                self.checkpoints.insert(at, structure);
-            }
-            at += 1;
-        }
-        if self.checkpoints.len() > MOST_CHECKPOINTS {
-            self.width *= 2;
-            let mut index = 0;
-            self.checkpoints.retain(|_| {
-                index += 1;
-                index % 2 == 0
-            });
-        }
-    }
-
-    /// How many checkpoints stand at a place or before it.
-    fn before(&self, place: usize) -> usize {
+    /// The index of the latest checkpoint that is not after the place.
+    fn nearest(&self, place: usize) -> usize {
         self.checkpoints
-            .partition_point(|structure| structure.rows.len() <= place)
+            .iter()
+            .position(|structure| structure.len() <= place)
+            .unwrap()
     }
 
-    /// Asks a structure that stays where it was rolled to.
-    fn ask_on(&mut self, place: usize, index: u32) -> Option<i64> {
-        let near = self
-            .rolled
-            .take()
-            .filter(|structure| structure.rows.len().abs_diff(place) <= self.width);
-        let mut structure = near.unwrap_or_else(|| match self.before(place) {
-            0 => Bridges::new(),
-            count => self.checkpoints[count - 1].clone(),
-        });
-        self.roll(&mut structure, place);
-        let answer = structure.nth(index);
-        self.rolled = Some(structure);
-        answer
+    /// Where the checkpoint before this index stands, or the present.
+    fn place_before(&self, index: usize) -> usize {
+        match index {
+            0 => self.present.len(),
+            _ => self.checkpoints[index - 1].len(),
+        }
     }
 
-    /// Asks the nearest checkpoint, which is rolled to the place and back.
-    fn ask_near(&mut self, place: usize, index: u32) -> Option<i64> {
-        let after = self.before(place);
-        let around = after.saturating_sub(1)..(after + 1).min(self.checkpoints.len());
-        let Some(at) = around.min_by_key(|at| self.checkpoints[*at].rows.len().abs_diff(place))
-        else {
-            let mut structure = Bridges::new();
-            self.roll(&mut structure, place);
-            return structure.nth(index);
+    /// Makes a checkpoint between the neighbours of the place where they are a width apart.
+    fn make_room(&mut self, place: usize) {
+        if self.checkpoints.is_empty() {
+            return;
+        }
+        let index = self.nearest(place);
+        let earlier = self.checkpoints[index].len();
+        let later = self.place_before(index);
+        if later < earlier + self.width {
+            return;
+        }
+        let at = if place == later {
+            later
+        } else {
+            earlier + (later - earlier) / 2
         };
-        let mut structure = std::mem::replace(&mut self.checkpoints[at], Bridges::new());
-        let kept = structure.rows.len();
-        self.roll(&mut structure, place);
-        let answer = structure.nth(index);
-        self.roll(&mut structure, kept);
-        self.checkpoints[at] = structure;
-        answer
+        let between = match (self.spare_between(earlier, later), index) {
+            (Some(mut structure), _) => {
+                self.move_to(&mut structure, at);
+                structure
+            }
+            (None, 0) => self.copy_at(&self.present, at),
+            (None, _) => self.copy_at(&self.checkpoints[index - 1], at),
+        };
+        self.checkpoints.insert(index, between);
+    }
+
+    /// Takes out what was dropped between two places.
+    fn spare_between(&mut self, earlier: usize, later: usize) -> Option<Bridges> {
+        let index = self
+            .spares
+            .iter()
+            .position(|structure| (earlier..=later).contains(&structure.len()))?;
+        Some(self.spares.remove(index))
+    }
+
+    /// Drops each checkpoint whose neighbours are at most a width apart.
+    fn thin(&mut self) {
+        let mut index = 0;
+        while index + 1 < self.checkpoints.len() {
+            let (earlier, later) = (self.checkpoints[index + 1].len(), self.place_before(index));
+            if later <= earlier + self.width {
+                self.spare_between(earlier, later);
+                let dropped = self.checkpoints.remove(index);
+                self.spares.insert(0, dropped);
+            } else {
+                index += 1;
+            }
+        }
+    }
+
+    fn settle(&mut self) {
+        self.thin();
+        if self.checkpoints.len() > 1 + MOST_CHECKPOINTS {
+            self.width *= 2;
+            self.thin();
+        }
+        self.spares
+            .truncate(1 + MOST_CHECKPOINTS - self.checkpoints.len());
+    }
+
+    fn changed(&mut self, place: usize) -> impl Iterator<Item = &mut Bridges> {
+        self.checkpoints
+            .iter_mut()
+            .chain(self.spares.iter_mut())
+            .filter(move |structure| structure.len() > place)
+    }
+
+    /// Whether a structure is moved to the place for a question.
+    fn serves(&self, structure: &Bridges, between: usize, place: usize) -> bool {
+        let apart = structure.len().abs_diff(place);
+        let goes_on = self.run >= self.width / CLOSE;
+        2 * apart <= 3 * between && (goes_on || CLOSE * apart <= between)
+    }
+
+    /// Copies the nearest checkpoint where close questions go on and no copy is near.
+    fn follow(&mut self, place: usize, index: usize) {
+        let follows = self.last <= place && place - self.last <= CLOSE;
+        self.run = if follows { self.run + 1 } else { 0 };
+        self.last = place;
+        let between = place - self.checkpoints[index].len();
+        let near = self.copy.as_ref().is_some_and(|structure| {
+            self.serves(structure, between, place) || structure.len().abs_diff(place) <= self.width
+        });
+        if self.run >= self.width / CLOSE && !near {
+            self.copy = Some(self.checkpoints[index].clone());
+        }
+    }
+
+    fn nth_at(&mut self, place: usize, index: u32) -> Option<i64> {
+        if self.checkpoints.is_empty() {
+            self.make();
+        }
+        let nearest = self.nearest(place);
+        self.follow(place, nearest);
+        let between = place - self.checkpoints[nearest].len();
+        if between == 0 {
+            return self.checkpoints[nearest].nth(index);
+        }
+        match self.copy.take() {
+            Some(mut structure) if self.serves(&structure, between, place) => {
+                self.move_to(&mut structure, place);
+                let answer = structure.nth(index);
+                self.copy = Some(structure);
+                answer
+            }
+            other => {
+                self.copy = other;
+                self.checkpoints[nearest].nth_after(&self.present, place, index)
+            }
+        }
     }
 
     /// Appends rows, or takes them off, until a structure performs as many first rows as this.
-    fn roll(&self, structure: &mut Bridges, place: usize) {
-        while structure.rows.len() < place {
-            structure.insert(
-                structure.rows.len(),
-                self.timeline.row_at(structure.rows.len()),
-            );
+    fn move_to(&self, structure: &mut Bridges, place: usize) {
+        while structure.len() < place {
+            structure.insert(structure.len(), self.present.rows.get(structure.len()).row);
         }
-        while structure.rows.len() > place {
-            structure.remove(structure.rows.len() - 1);
+        while structure.len() > place {
+            structure.remove(structure.len() - 1);
         }
     }
 }
@@ -414,49 +596,36 @@ impl Past for SamePq {
 
     fn insert(&mut self, place: usize, row: Row) -> Option<Change> {
         self.timeline.insert(place, row);
-        self.checkpoints
-            .iter_mut()
-            .filter(|structure| structure.rows.len() > place)
-            .for_each(|structure| {
-                structure.insert(place, row);
-            });
-        self.after_edit(place);
+        self.make_room(place);
         let change = self.present.insert(place, row);
-        self.keep_apart();
+        self.changed(place).for_each(|structure| {
+            structure.insert(place, row);
+        });
+        self.after_edit(place);
+        self.settle();
         Some(change)
     }
 
     fn remove(&mut self, place: usize) -> Option<Change> {
         self.timeline.remove(place);
-        self.checkpoints
-            .iter_mut()
-            .filter(|structure| structure.rows.len() > place)
-            .for_each(|structure| {
-                structure.remove(place);
-            });
+        self.changed(place).for_each(|structure| {
+            structure.remove(place);
+        });
         self.after_edit(place);
-        Some(self.present.remove(place))
+        let change = self.present.remove(place);
+        self.settle();
+        Some(change)
     }
 
     fn ask(&mut self, place: usize, question: Question) -> Answer {
-        let is_present = place == self.len();
         match question {
             Question::Size => {
                 Answer::Number(i128::from(self.present.rows.prefix(place).held.sum()))
             }
-            Question::Nth(index) if is_present => Answer::of(self.present.nth(index as u32)),
-            Question::Nth(index) => {
-                if self.width == 0 {
-                    self.make();
-                }
-                let follows = self.last <= place && place - self.last < self.width;
-                self.last = place;
-                Answer::of(if follows {
-                    self.ask_on(place, index as u32)
-                } else {
-                    self.ask_near(place, index as u32)
-                })
+            Question::Nth(index) if place == self.len() => {
+                Answer::of(self.present.nth(index as u32))
             }
+            Question::Nth(index) => Answer::of(self.nth_at(place, index as u32)),
             _ => Answer::Nothing,
         }
     }

@@ -10,3 +10,4 @@ pub mod Thinned
 pub mod Settled
 pub mod Rule
 pub mod Examples
+pub mod Aside

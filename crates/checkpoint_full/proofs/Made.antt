@@ -96,16 +96,31 @@ length-multiples width zero = refl
 length-multiples width (suc count) =
     length-append (multiples width count) (suc count * width ∷ []) ∙ omega (arith, length-multiples width count)
 
+-- those that were made and those to come are all
+counted : (width all now : ℕ) (checkpoints : List Structure) (latest : Structure) (to_come : AreToCome width all now checkpoints latest)
+    → all ≡ to_come.left + length checkpoints
+counted width all now checkpoints latest to_come =
+    sym (length-multiples width all) ∙ ap (λ places. length places) to_come.places ∙ length-append (multiples width to_come.left) (rising checkpoints)
+    ∙ ap (λ (n : ℕ). n + length (rising checkpoints)) (length-multiples width to_come.left)
+    ∙ ap (λ (n : ℕ). to_come.left + n) (length-reverse (map place_of checkpoints) ∙ length-map checkpoints place_of)
+
+pub no_more_were_made : (width all now : ℕ) (checkpoints : List Structure) (latest : Structure) → AreToCome width all now checkpoints latest → length checkpoints ≤ all
+no_more_were_made width all now checkpoints latest to_come = omega (arith, counted width all now checkpoints latest to_come)
+
+-- one is left where the latest of those to come is not the start
+pub one_is_left : (width all now : ℕ) (checkpoints : List Structure) (latest : Structure) → AreToCome width all now checkpoints latest → 0 < place_of latest
+    → length checkpoints + 1 ≤ all
+one_is_left width all now checkpoints latest to_come some = by_left to_come.left to_come.stands (counted width all now checkpoints latest to_come)
+  where
+    by_left : (left : ℕ) → place_of latest ≡ left * width → all ≡ left + length checkpoints → length checkpoints + 1 ≤ all
+    by_left zero stands sum = absurd (omega (arith, stands, some))
+    by_left (suc left) stands sum = omega (arith, sum)
+
 pub all_settled : (width all : ℕ) (now : Structure) (checkpoints more : List Structure) (latest : Structure) → 0 < width → all ≤ most_checkpoints
     → AreToCome width all (place_of now) checkpoints latest → more ≡ checkpoints ++ latest ∷ [] → AreSettled width now more
 all_settled width all now checkpoints more latest wide few to_come pushed =
-    let rising_length : length (rising checkpoints) ≡ length checkpoints =
-    length-reverse (map place_of checkpoints) ∙ length-map checkpoints place_of in
-    let counted : all ≡ to_come.left + length (rising checkpoints) =
-    sym (length-multiples width all) ∙ ap (λ places. length places) to_come.places ∙ length-append (multiples width to_come.left) (rising checkpoints)
-    ∙ ap (λ (n : ℕ). n + length (rising checkpoints)) (length-multiples width to_come.left) in
     rw pushed record {
       thin = subst (λ places. IsThin width (place_of now) places) (sym (map_push place_of checkpoints latest))
           (even_thin width (place_of now) (place_of latest) (map place_of checkpoints) wide to_come.even);
-      few = omega (arith, length-append checkpoints (latest ∷ []), counted, rising_length, few);
+      few = omega (arith, length-append checkpoints (latest ∷ []), no_more_were_made width all (place_of now) checkpoints latest to_come, few);
     }

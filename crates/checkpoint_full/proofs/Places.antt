@@ -193,3 +193,14 @@ room_there most place now (checkpoint ∷ checkpoints) (suc index) d below other
   λ _. room_there most place checkpoint checkpoints index d (omega arith) (λ k less. others (suc k) (omega arith)) here near,
   λ less. absurd (omega (arith, less, leb-false _ _ (others 0 (omega arith)))),
 )
+
+-- and where there is room they are
+pub room_found : (most place : ℕ) (now : Structure) (checkpoints : List Structure) (index : ℕ) (d : Structure)
+    → index < length checkpoints → ((k : ℕ) → k < index → is_up_to place (get_or checkpoints k d) ≡ false) → is_up_to place (get_or checkpoints index d) ≡ true
+    → FitsBetween most place (place_of now) (map place_of checkpoints)
+    → place_of (get_or (now ∷ checkpoints) index d) < place_of (get_or checkpoints index d) + most
+room_found most place now [] index d below others here fits = absurd (omega arith)
+room_found most place now (checkpoint ∷ checkpoints) zero d below others here fits = fits.1 (leb-true _ _ here)
+room_found most place now (checkpoint ∷ checkpoints) (suc index) d below others here fits =
+    room_found most place checkpoint checkpoints index d (omega arith) (λ k less. others (suc k) (omega arith)) here
+    (fits.0 (omega (arith, leb-false _ _ (others 0 (omega arith)))))

@@ -1,3 +1,4 @@
 pub mod Checkpoints
+pub mod Copies
 pub mod Rule
 pub mod Widths

@@ -1,10 +1,12 @@
 //! The checkpoints of a timeline, the latest first: how they are made, and which is nearest to a place.
 ghost use Rattle.std.specs.Prelude.{◌≡◌, ◌+◌, ◌-◌, ◌*◌, ◌/◌, ◌<◌, ◌≤◌, ◌∷◌, nat_le, length, get_or, map, position, true, IfOk, IfSome, OnOk, OnErr};
-ghost use Rattle.checkpoint_full.specs.Checkpoints.{place_of, places_of, were_made, without_made, AreCheckpoints, AreSettled, FitsBetween, KeepsCheckpoints};
+ghost use Rattle.std.specs.List.{AllByRecursion};
+ghost use Rattle.checkpoint_full.specs.Checkpoints.{place_of, places_of, were_made, without_made, AreCheckpoints, AreSettled, FitsBetween, HoldsFirstRows, KeepsCheckpoints};
 ghost use Rattle.checkpoint_full.specs.Rule.{between, with_room};
 ghost use Rattle.checkpoint_full.specs.Widths.{made_places, most_checkpoints, multiples_below, IsWidth};
 
 use crate::snapshot::Snapshot;
+use crate::spares::stand_between;
 use retro_base::{NoMemory, Partial, Steps};
 use std::alloc::Global;
 use std::sync::ledger::Ledger;
@@ -29,12 +31,13 @@ fn first_made(rows: u32, width: u32) -> u32
 }
 
 /// Makes the checkpoints of a timeline, at the start and at each multiple of the width below the number of rows. Each of
-/// them is a copy of the next one without its last rows.
-pub(crate) fn make<P: Partial + Drop, L: Ledger>(
+/// them is one copy, of the next one without its last rows.
+pub(crate) fn make<P: Partial + Drop, L: Ledger, M: Ledger>(
     alloc: Global,
     present: &Snapshot<P>,
     width: u32,
     steps: &mut Steps<L>,
+    copies: &mut Steps<M>,
 ) -> Result<Vec<Snapshot<P>>, NoMemory>
     requires of_widths { IsWidth width }
     requires few { multiples_below width (place_of present.now) ≤ most_checkpoints }
@@ -42,11 +45,12 @@ pub(crate) fn make<P: Partial + Drop, L: Ledger>(
     ensures checkpoints { IfOk result (λ checkpoints. AreCheckpoints width present.now checkpoints.items) }
     ensures places { IfOk result (λ checkpoints. places_of checkpoints.items ≡ made_places width (place_of present.now)) }
     ensures settled { IfOk result (λ checkpoints. AreSettled width present.now checkpoints.items) }
+    ensures copies { copies.new ≤ copies.old + 1 + multiples_below width (place_of present.now) }
 {
     let mut checkpoints = Vec::new(alloc);
-    let mut latest = present.copy_at(first_made(present.place(), width), steps)?;
+    let mut latest = present.copy_at(first_made(present.place(), width), steps, copies)?;
     while latest.place() > 0 {
-        let earlier = latest.copy_at(latest.place().saturating_sub(width), steps)?;
+        let earlier = latest.copy_at(latest.place().saturating_sub(width), steps, copies)?;
         checkpoints.push(latest)?;
         latest = earlier;
     }
@@ -86,17 +90,20 @@ fn place_between(earlier: u32, later: u32, place: u32) -> u32
 }
 
 /// Makes a checkpoint between the neighbours of the place where one more row would not fit between them, and answers its
-/// index where it made one. After `NoMemory` all are as before.
-pub(crate) fn make_room<P: Partial + Drop, L: Ledger>(
+/// index where it made one: one that was laid aside, or a copy. After `NoMemory` all are as before.
+pub(crate) fn make_room<P: Partial + Drop, L: Ledger, M: Ledger>(
     present: &Snapshot<P>,
     checkpoints: &mut Vec<Snapshot<P>>,
+    spares: &mut Vec<Snapshot<P>>,
     width: u32,
     place: u32,
     steps: &mut Steps<L>,
+    copies: &mut Steps<M>,
 ) -> Result<Option<usize>, NoMemory>
     requires of_widths { IsWidth width }
     requires within { place ≤ place_of present.now }
     requires keeps { KeepsCheckpoints width present.now checkpoints.old.items }
+    requires spares { AllByRecursion (HoldsFirstRows present.now) spares.old.items }
     ensures keeps { OnOk result (KeepsCheckpoints width present.now checkpoints.new.items) }
     ensures places { OnOk result (map place_of checkpoints.new.items ≡ with_room width place (place_of present.now) (map place_of checkpoints.old.items)) }
     ensures room { OnOk result (FitsBetween width place (place_of present.now) (map place_of checkpoints.new.items)) }
@@ -105,6 +112,9 @@ pub(crate) fn make_room<P: Partial + Drop, L: Ledger>(
     ensures back { IfOk result (λ split. without_made split checkpoints.new.items ≡ checkpoints.old.items) }
     ensures index { IfOk result (λ split. IfSome split (λ index. index < length checkpoints.new.items)) }
     ensures err { OnErr result (checkpoints.new.items ≡ checkpoints.old.items) }
+    ensures spares { AllByRecursion (HoldsFirstRows present.now) spares.new.items }
+    ensures few { copies.new ≤ copies.old + 1 }
+    ensures fits { FitsBetween width place (place_of present.now) (map place_of checkpoints.old.items) → copies.new ≡ copies.old }
 {
     let Some(index) = nearest(checkpoints.as_slice(), place) else {
         return Ok(None);
@@ -114,7 +124,8 @@ pub(crate) fn make_room<P: Partial + Drop, L: Ledger>(
     if later.place() < earlier + width {
         return Ok(None);
     }
-    let between = later.copy_at(place_between(earlier, later.place(), place), steps)?;
+    let at = place_between(earlier, later.place(), place);
+    let between = stand_between(present, spares, earlier, later, at, steps, copies)?;
     checkpoints.insert(index, between)?;
     Ok(Some(index))
 }

@@ -43,7 +43,7 @@ fn remove_in<P: Partial + Drop, L: Ledger>(
 }
 
 /// Takes the row at the place out of each checkpoint that stands after it.
-fn remove_in_each<P: Partial + Drop, L: Ledger>(
+pub(crate) fn remove_in_each<P: Partial + Drop, L: Ledger>(
     checkpoints: &mut [Snapshot<P>],
     place: u32,
     steps: &mut Steps<L>,
@@ -58,7 +58,7 @@ fn remove_in_each<P: Partial + Drop, L: Ledger>(
 
 /// Puts the row into each checkpoint that stands after the place. After `NoMemory` it is taken back from the first
 /// ones, and all are as before.
-fn insert_in_each<P: Partial + Drop, L: Ledger>(
+pub(crate) fn insert_in_each<P: Partial + Drop, L: Ledger>(
     checkpoints: &mut [Snapshot<P>],
     place: u32,
     row: Row,
@@ -91,6 +91,7 @@ pub(crate) fn insert_everywhere<P: Partial + Drop, L: Ledger>(
     requires can { CanTake present.old place row }
     requires first { AllByRecursion (HoldsFirstRows present.old) checkpoints.old }
     ensures present { OnOk result (present.new ≡ after present.old (add place row)) }
+    ensures before { IsReplayable present.old.kind present.old.rows }
     ensures checkpoints { OnOk result (checkpoints.new ≡ map (with_row place row) checkpoints.old) }
     ensures replayable { IsReplayable present.new.kind present.new.rows }
     ensures change { IfOk result (IsChange present.old.kind present.old.rows (add place row)) }

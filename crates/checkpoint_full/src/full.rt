@@ -8,16 +8,17 @@ ghost use Rattle.retro_base.specs.Questions.{suits};
 ghost use Rattle.retro_base.specs.Replay.{IsValid, present, state_at};
 ghost use Rattle.retro_base.specs.Timeline.{IsReplayable};
 ghost use Rattle.retro_base.specs.Visits.{OpensCounter, VisitsWithin};
-ghost use Rattle.checkpoint_full.specs.Checkpoints.{nearest_to};
+ghost use Rattle.checkpoint_full.specs.Checkpoints.{nearest_to, FitsBetween};
+ghost use Rattle.checkpoint_full.specs.Copies.{CopiesEach};
 ghost use Rattle.checkpoint_full.specs.Rule.{latest_first, FollowsRule};
 ghost use Rattle.checkpoint_full.specs.Widths.{least_width, made_places, narrowest};
 
-use crate::kept::{ask_kept, insert_kept, list_kept, remove_kept};
+use crate::kept::{ask_kept, follow_kept, insert_kept, list_kept, remove_kept};
 use crate::reader::Reader;
 use crate::snapshot::Snapshot;
 use crate::width::NARROWEST;
 use retro_base::{
-    Answer, Change, Kind, Listing, NoMemory, Op, Partial, Question, Retro, Row, Steps, uncounted,
+    Answer, Change, Kind, Listing, NoMemory, Op, Partial, Question, Retro, Row, Steps,
 };
 use std::alloc::Global;
 use std::marker::{Brand, Model};
@@ -38,25 +39,28 @@ use std::sync::ledger::{Blank, Ledger};
 /// 31, and each performs the first rows of the timeline, as many as it stands for.
 ///
 /// Where many questions have followed one another closely, a copy of a checkpoint is moved to each of their places in
-/// turn. Contracts do not see it, and copying it is not counted among the visits.
+/// turn. `follow` makes it, as part of `ask` and `all`; contracts do not see it.
 #[derive(Drop)]
 pub struct Full<P: Partial + Drop> {
     alloc: Global,
     present: Snapshot<P>,
     checkpoints: Vec<Snapshot<P>>,
+    spares: Vec<Snapshot<P>>,
     width: u32,
     reader: Reader<P>,
 }
 
 impl<P: Partial + Drop> Model for Full<P> {
     ghost use Rattle.std.specs.Prelude.{IfSome};
+    ghost use Rattle.std.specs.List.{AllByRecursion};
     ghost use Rattle.checkpoint_full.specs.Checkpoints.{Checkpointed, HoldsFirstRows, KeepsRule, seen};
 
     ghost Value = { Checkpointed };
 
     ghost view = { λ f. seen f.width f.present f.checkpoints.items };
 
-    ghost invariant = { λ f. KeepsRule f.width f.present f.checkpoints.items × IfSome f.reader (HoldsFirstRows f.present) };
+    ghost invariant = { λ f. KeepsRule f.width f.present f.checkpoints.items × IfSome f.reader.copy (HoldsFirstRows f.present)
+        × AllByRecursion (HoldsFirstRows f.present) f.spares.items };
 }
 
 impl<P: Partial + Drop> Full<P> {
@@ -69,6 +73,7 @@ impl<P: Partial + Drop> Full<P> {
             alloc,
             present: Snapshot::new(present),
             checkpoints: Vec::new(alloc),
+            spares: Vec::new(alloc),
             width: NARROWEST,
             reader: Reader::new(),
         }
@@ -77,13 +82,15 @@ impl<P: Partial + Drop> Full<P> {
     /// The answer to a question about the state at a place, after so many rows. The rows stay, whatever the answer, and
     /// so do the checkpoints where they had been made; then it visits at most 432 nodes for each row after the nearest
     /// checkpoint that is not later and 144 more, and each binary digit of one more than the number of rows. So it never
-    /// visits more than 432 for each row of a width and one more. Right at a checkpoint, and after all rows, it takes no
-    /// memory and always answers. After `NoMemory` all is as before.
-    pub fn ask_past<L: Ledger>(
+    /// visits more than 432 for each row of a width and one more, and it copies nothing. Right at a checkpoint, and after
+    /// all rows, it takes no memory and always answers. The first question copies once for each checkpoint that it makes.
+    /// After `NoMemory` all is as before.
+    pub fn ask_past<L: Ledger, M: Ledger>(
         &mut self,
         place: u32,
         question: Question,
         steps: &mut Steps<L>,
+        copies: &mut Steps<M>,
     ) -> Result<Answer, NoMemory>
         requires within { place ≤ length self.old.rows }
         requires suited { suits question self.old.kind ≡ true }
@@ -100,6 +107,8 @@ impl<P: Partial + Drop> Full<P> {
             → VisitsWithin (432 * (place - nearest_to place (latest_first self.old)) + 144) (length self.old.rows) steps.old steps.new }
         ensures here { self.old.made ≡ true → place ≡ nearest_to place (latest_first self.old) → IsOk result }
         ensures last { self.old.made ≡ true → place ≡ length self.old.rows → IsOk result }
+        ensures lent { self.old.made ≡ true → copies.new ≡ copies.old }
+        ensures each { self.old.made ≡ false → CopiesEach (length self.old.rows) copies.old copies.new }
     {
         ask_kept(
             self.alloc,
@@ -110,12 +119,90 @@ impl<P: Partial + Drop> Full<P> {
             place,
             question,
             steps,
+            copies,
         )
+    }
+
+    /// The place is to be asked next. Nothing that is seen changes. Where as many questions as the 32nd part of the width have
+    /// followed one another, each at most 32 rows after the one before, it copies the nearest checkpoint, unless the copy
+    /// that it has is near; `ask_past` and `all_past` then move that copy from place to place.
+    pub fn follow<M: Ledger>(&mut self, place: u32, copies: &mut Steps<M>)
+        requires { place ≤ length self.old.rows }
+        ensures same { self.new ≡ self.old }
+        ensures few { copies.new ≤ copies.old + 1 }
+        ensures unmade { self.old.made ≡ false → copies.new ≡ copies.old }
+    {
+        follow_kept(
+            &self.present,
+            self.checkpoints.as_slice(),
+            self.width,
+            &mut self.reader,
+            place,
+            copies,
+        );
+    }
+
+    /// Puts the row in, as `insert` of `Retro`, and counts what it copies: one checkpoint at the most, and none where one
+    /// more row fits between the neighbours of the place. After `NoMemory` all is as before.
+    pub fn insert_counted<M: Ledger>(
+        &mut self,
+        place: u32,
+        row: Row,
+        copies: &mut Steps<M>,
+    ) -> Result<Change, NoMemory>
+        requires within { place ≤ length self.old.rows }
+        requires replayable { IsReplayable self.old.kind (insert self.old.rows place row) }
+        ensures kind { self.new.kind ≡ self.old.kind }
+        ensures rows { OnOk result (self.new.rows ≡ insert self.old.rows place row) }
+        ensures replayable { OnOk result (IsReplayable self.new.kind self.new.rows) }
+        ensures change { IfOk result (IsChange self.old.kind self.old.rows (add place row)) }
+        ensures rule { OnOk result (FollowsRule self.old (add place row) self.new) }
+        ensures err { OnErr result (self.new ≡ self.old) }
+        ensures few { copies.new ≤ copies.old + 1 }
+        ensures fits { FitsBetween self.old.width place (length self.old.rows) (latest_first self.old) → copies.new ≡ copies.old }
+    {
+        let change = insert_kept::<P, Brand, M>(
+            &mut self.present,
+            &mut self.checkpoints,
+            &mut self.spares,
+            &mut self.width,
+            place,
+            row,
+            Blank::new(1),
+            copies,
+        )?;
+        self.reader.after_edit(place);
+        Ok(change)
+    }
+
+    /// `insert_counted` with a counter of its own.
+    fn insert_uncounted<M: Ledger>(
+        &mut self,
+        place: u32,
+        row: Row,
+        blank: Blank,
+    ) -> Result<Change, NoMemory>
+        requires within { place ≤ length self.old.rows }
+        requires replayable { IsReplayable self.old.kind (insert self.old.rows place row) }
+        requires counter { OpensCounter blank.name M.name blank.parts M.parts }
+        ensures kind { self.new.kind ≡ self.old.kind }
+        ensures rows { OnOk result (self.new.rows ≡ insert self.old.rows place row) }
+        ensures replayable { OnOk result (IsReplayable self.new.kind self.new.rows) }
+        ensures change { IfOk result (IsChange self.old.kind self.old.rows (add place row)) }
+        ensures rule { OnOk result (FollowsRule self.old (add place row) self.new) }
+        ensures err { OnErr result (self.new ≡ self.old) }
+    {
+        let mut copies = Steps::<M>::new(blank);
+        self.insert_counted(place, row, &mut copies)
     }
 
     /// The whole content at a place, after so many rows. The rows stay, whatever the answer, and so do the checkpoints
     /// where they had been made. After `NoMemory` all is as before.
-    pub fn all_past(&mut self, place: u32) -> Result<Listing, NoMemory>
+    pub fn all_past<M: Ledger>(
+        &mut self,
+        place: u32,
+        copies: &mut Steps<M>,
+    ) -> Result<Listing, NoMemory>
         requires { place ≤ length self.old.rows }
         ensures kind { self.new.kind ≡ self.old.kind }
         ensures rows { self.new.rows ≡ self.old.rows }
@@ -125,8 +212,10 @@ impl<P: Partial + Drop> Full<P> {
         ensures multiples { self.old.made ≡ false → OnOk result (self.new.places ≡ made_places self.new.width (length self.old.rows)) }
         ensures places { self.old.made ≡ true → self.new ≡ self.old }
         ensures err { OnErr result (self.new ≡ self.old) }
+        ensures lent { self.old.made ≡ true → copies.new ≡ copies.old }
+        ensures each { self.old.made ≡ false → CopiesEach (length self.old.rows) copies.old copies.new }
     {
-        list_kept::<P, Brand>(
+        list_kept::<P, Brand, M>(
             self.alloc,
             &self.present,
             &mut self.checkpoints,
@@ -134,19 +223,22 @@ impl<P: Partial + Drop> Full<P> {
             &mut self.reader,
             place,
             Blank::new(1),
+            copies,
         )
     }
 
-    /// `ask_past` with a counter of its own.
-    fn ask_counted<L: Ledger>(
+    /// `follow` and `ask_past`, with counters of their own.
+    fn ask_uncounted<L: Ledger, M: Ledger>(
         &mut self,
         place: u32,
         question: Question,
         blank: Blank,
+        for_copies: Blank,
     ) -> Result<Answer, NoMemory>
         requires within { place ≤ length self.old.rows }
         requires suited { suits question self.old.kind ≡ true }
         requires counter { OpensCounter blank.name L.name blank.parts L.parts }
+        requires other_counter { OpensCounter for_copies.name M.name for_copies.parts M.parts }
         ensures kind { self.new.kind ≡ self.old.kind }
         ensures rows { self.new.rows ≡ self.old.rows }
         ensures answer { IfOk result (λ answer. answer ≡ answer_of (state_at self.old.kind self.old.rows place) question) }
@@ -157,7 +249,27 @@ impl<P: Partial + Drop> Full<P> {
         ensures err { OnErr result (self.new ≡ self.old) }
     {
         let mut steps = Steps::<L>::new(blank);
-        self.ask_past(place, question, &mut steps)
+        let mut copies = Steps::<M>::new(for_copies);
+        self.follow(place, &mut copies);
+        self.ask_past(place, question, &mut steps, &mut copies)
+    }
+
+    /// `follow` and `all_past`, with a counter of their own.
+    fn list_uncounted<M: Ledger>(&mut self, place: u32, blank: Blank) -> Result<Listing, NoMemory>
+        requires within { place ≤ length self.old.rows }
+        requires counter { OpensCounter blank.name M.name blank.parts M.parts }
+        ensures kind { self.new.kind ≡ self.old.kind }
+        ensures rows { self.new.rows ≡ self.old.rows }
+        ensures content { IfOk result (λ listing. listing ≡ content (state_at self.old.kind self.old.rows place)) }
+        ensures made { OnOk result (self.new.made ≡ true) }
+        ensures first { self.old.made ≡ false → OnOk result (self.new.width ≡ least_width (length self.old.rows)) }
+        ensures multiples { self.old.made ≡ false → OnOk result (self.new.places ≡ made_places self.new.width (length self.old.rows)) }
+        ensures places { self.old.made ≡ true → self.new ≡ self.old }
+        ensures err { OnErr result (self.new ≡ self.old) }
+    {
+        let mut copies = Steps::<M>::new(blank);
+        self.follow(place, &mut copies);
+        self.all_past(place, &mut copies)
     }
 }
 
@@ -175,11 +287,11 @@ impl<P: Partial + Drop> Retro for Full<P> {
     }
 
     fn failure_after_insert(&self, place: u32, op: Op) -> Option<u32> {
-        uncounted::failure_after_insert(self.present.structure(), place, op)
+        self.present.failure_after_insert(place, op)
     }
 
     fn failure_after_remove(&self, place: u32) -> Option<u32> {
-        uncounted::failure_after_remove(self.present.structure(), place)
+        self.present.failure_after_remove(place)
     }
 
     /// The width and the places are then those of the rule; where no checkpoints were made, they stay as they are.
@@ -193,16 +305,7 @@ impl<P: Partial + Drop> Retro for Full<P> {
         ensures rule { OnOk result (FollowsRule self.old (add place row) self.new) }
         ensures err { OnErr result (self.new ≡ self.old) }
     {
-        let change = insert_kept::<P, Brand>(
-            &mut self.present,
-            &mut self.checkpoints,
-            &mut self.width,
-            place,
-            row,
-            Blank::new(1),
-        )?;
-        self.reader.after_edit(place);
-        Ok(change)
+        self.insert_uncounted::<Brand>(place, row, Blank::new(1))
     }
 
     /// It takes no memory, so it never answers `NoMemory`. The width and the places are then those of the rule; where no
@@ -222,6 +325,7 @@ impl<P: Partial + Drop> Retro for Full<P> {
         let taken = remove_kept::<P, Brand>(
             &mut self.present,
             &mut self.checkpoints,
+            &mut self.spares,
             &mut self.width,
             place,
             Blank::new(1),
@@ -231,7 +335,7 @@ impl<P: Partial + Drop> Retro for Full<P> {
     }
 
     fn ask_now(&self, question: Question) -> Answer {
-        uncounted::ask_now(self.present.structure(), question)
+        self.present.answer_now(question)
     }
 
     fn ask(&mut self, place: u32, question: Question) -> Result<Answer, NoMemory>
@@ -246,7 +350,7 @@ impl<P: Partial + Drop> Retro for Full<P> {
         ensures places { self.old.made ≡ true → self.new ≡ self.old }
         ensures err { OnErr result (self.new ≡ self.old) }
     {
-        self.ask_counted::<Brand>(place, question, Blank::new(1))
+        self.ask_uncounted::<Brand, Brand>(place, question, Blank::new(1), Blank::new(1))
     }
 
     fn all(&mut self, place: u32) -> Result<Listing, NoMemory>
@@ -260,6 +364,6 @@ impl<P: Partial + Drop> Retro for Full<P> {
         ensures places { self.old.made ≡ true → self.new ≡ self.old }
         ensures err { OnErr result (self.new ≡ self.old) }
     {
-        self.all_past(place)
+        self.list_uncounted::<Brand>(place, Blank::new(1))
     }
 }

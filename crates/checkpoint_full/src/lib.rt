@@ -3,14 +3,22 @@
 //! `Full<P>` keeps a structure of the present, and from the first question about the past on some more of the first
 //! rows of the same timeline: its checkpoints. The nearest checkpoint that is not later than a place is lent to answer a
 //! question about it for the timeline (`ask_after` of `Partial`), and stays as it is. Only where many questions have
-//! followed one another closely, a copy of a checkpoint is moved to each of their places in turn (`reader.rt`). An edit
+//! followed one another closely, a copy of a checkpoint is moved to each of their places in turn (`reader.rt`): `follow` makes
+//! it, which `ask` and `all` call. An edit
 //! goes to the present and to each checkpoint after its place. It is the general way from a partially to a fully
 //! retroactive structure of Demaine, Iacono and Langerman, "Retroactive Data Structures", with checkpoints at most a
 //! width apart.
 //!
 //! An edit makes a checkpoint where two neighbours would stand more than a width apart, and drops those whose neighbours
-//! do not; where more than 31 are left, the width is doubled (`settle.rt`). So there are never more than 31, and they
-//! keep the memory of at most 31 structures, however the timeline grows and shrinks.
+//! do not; where more than 31 are left, the width is doubled (`settle.rt`). Those that are dropped are laid aside and follow
+//! the edits too, so that one that is wanted near there again needs no copy (`spares.rt`): where rows come and go in a gap
+//! that is a width wide, a checkpoint is made in it and dropped again by turns. So there are never more than 31, and with
+//! those laid aside never more than 31 after an edit, however the timeline grows and shrinks.
+//!
+//! What is copied is counted: a structure can be reached only through `Snapshot` (`snapshot.rt`), each of whose calls that
+//! copies steps a counter. A question about the past copies nothing once the checkpoints were made, an insertion one
+//! checkpoint at the most, and none where one more row fits between the neighbours of its place. What the structure itself
+//! copies to answer `ask_after` is its own matter; that of `bridge_pq` copies nothing.
 //!
 //! A `Full` is seen as its kind and rows, whether its checkpoints were made, their width and their places, by
 //! `specs/Checkpoints.antt`. How far apart places may stand, and which are dropped, is `specs/Widths.antt`; what an edit
@@ -28,6 +36,7 @@ mod past;
 mod reader;
 mod settle;
 mod snapshot;
+mod spares;
 mod width;
 
 pub use full::Full;

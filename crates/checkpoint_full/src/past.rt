@@ -13,7 +13,7 @@ use retro_base::{Answer, Listing, NoMemory, Partial, Question, Steps};
 use std::sync::ledger::Ledger;
 
 /// The checkpoint that is nearest to the place, and not after it.
-fn nearest_earlier<P: Partial + Drop>(
+pub(crate) fn nearest_earlier<P: Partial + Drop>(
     checkpoints: &[Snapshot<P>],
     timeline: &Snapshot<P>,
     width: u32,
@@ -44,8 +44,9 @@ pub(crate) fn ask_at<P: Partial + Drop, L: Ledger>(
     requires checkpoints { AreCheckpoints width timeline.now checkpoints.now }
     requires within { place ≤ place_of timeline.now }
     requires suited { suits question timeline.now.kind ≡ true }
-    requires reads { IfSome reader.old (HoldsFirstRows timeline.now) }
-    ensures reads { IfSome reader.new (HoldsFirstRows timeline.now) }
+    requires reads { IfSome reader.old.copy (HoldsFirstRows timeline.now) }
+    ensures reads { IfSome reader.new.copy (HoldsFirstRows timeline.now) }
+    ensures run { reader.new.run ≡ reader.old.run }
     ensures answer { IfOk result (λ answer. answer ≡ answer_of (state_at timeline.now.kind timeline.now.rows place) question) }
     ensures visits { VisitsWithin (432 * (width + 1)) (place_of timeline.now) steps.old steps.new }
     ensures near { VisitsWithin (432 * (place - nearest_to place (map place_of checkpoints.now)) + 144) (place_of timeline.now) steps.old steps.new }
@@ -77,8 +78,9 @@ pub(crate) fn list_at<P: Partial + Drop, L: Ledger>(
     requires made { were_made checkpoints.now ≡ true }
     requires checkpoints { AreCheckpoints width timeline.now checkpoints.now }
     requires within { place ≤ place_of timeline.now }
-    requires reads { IfSome reader.old (HoldsFirstRows timeline.now) }
-    ensures reads { IfSome reader.new (HoldsFirstRows timeline.now) }
+    requires reads { IfSome reader.old.copy (HoldsFirstRows timeline.now) }
+    ensures reads { IfSome reader.new.copy (HoldsFirstRows timeline.now) }
+    ensures run { reader.new.run ≡ reader.old.run }
     ensures content { IfOk result (λ listing. listing ≡ content (state_at timeline.now.kind timeline.now.rows place)) }
 {
     if place == timeline.place() {

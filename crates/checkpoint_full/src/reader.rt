@@ -1,10 +1,11 @@
 //! A spare structure that follows questions which go forward in time.
-ghost use Rattle.std.specs.Prelude.{◌≡◌, ◌+◌, ◌-◌, ◌*◌, ◌≤◌, ◌⊎◌, true, Some, None, IfSome, IfOk};
+ghost use Rattle.std.specs.Prelude.{◌≡◌, ◌+◌, ◌-◌, ◌*◌, ◌/◌, ◌<◌, ◌≤◌, ◌⊎◌, true, Some, None, IfSome, IfOk};
 ghost use Rattle.retro_base.specs.Answers.{answer_of, content};
 ghost use Rattle.retro_base.specs.Questions.{suits};
 ghost use Rattle.retro_base.specs.Replay.{state_at};
 ghost use Rattle.retro_base.specs.Visits.{VisitsWithin};
 ghost use Rattle.checkpoint_full.specs.Checkpoints.{place_of, HoldsFirstRows};
+ghost use Rattle.checkpoint_full.specs.Copies.{close_by, IsCloseAfter};
 
 use crate::snapshot::Snapshot;
 use retro_base::{Answer, Listing, NoMemory, Partial, Question, Steps};
@@ -12,7 +13,7 @@ use std::marker::Model;
 use std::sync::ledger::Ledger;
 
 /// A structure that was moved to a place for a question, and stays there for the next one, beside the place that was
-/// asked last and how many questions have followed one another closely. Contracts see the structure, where there is one.
+/// asked last and how many questions have followed one another closely.
 #[derive(Drop)]
 pub(crate) struct Reader<P: Partial + Drop> {
     copy: Option<Snapshot<P>>,
@@ -21,24 +22,25 @@ pub(crate) struct Reader<P: Partial + Drop> {
 }
 
 impl<P: Partial + Drop> Model for Reader<P> {
-    ghost use Rattle.std.specs.Prelude.{Option};
-    ghost use Rattle.retro_base.specs.Timeline.{Structure};
+    ghost use Rattle.checkpoint_full.specs.Copies.{Reading};
 
-    ghost Value = { Option Structure };
+    ghost Value = { Reading };
 
-    ghost view = { λ r. r.copy };
+    ghost view = { λ r. record { copy = r.copy; last = r.last; run = r.run } };
 }
 
 /// No place was asked.
 const NOWHERE: u32 = u32::MAX;
 
+/// How far apart places are at the most that follow one another closely.
+const CLOSE: u32 = 32;
+
 /// Whether a place follows closely on the one that was asked last.
-fn follows(last: u32, place: u32) -> bool {
+fn follows(last: u32, place: u32) -> bool
+    ensures { result ≡ true → IsCloseAfter last place }
+{
     last <= place && place - last <= CLOSE
 }
-
-/// How far apart places are that follow one another closely.
-const CLOSE: u32 = 32;
 
 /// Whether the structure is moved to the place: it is near, and moving it costs no more than asking the checkpoint, or
 /// the questions go on.
@@ -62,7 +64,10 @@ fn is_far<P: Partial + Drop>(copy: &Snapshot<P>, place: u32, width: u32) -> bool
 }
 
 /// How many questions have followed one another closely, the one at this place among them.
-fn next_run(run: u32, last: u32, place: u32) -> u32 {
+fn next_run(run: u32, last: u32, place: u32) -> u32
+    ensures more { result ≤ run + 1 }
+    ensures close { 0 < result → IsCloseAfter last place }
+{
     if follows(last, place) {
         run.saturating_add(1)
     } else {
@@ -73,7 +78,7 @@ fn next_run(run: u32, last: u32, place: u32) -> u32 {
 impl<P: Partial + Drop> Reader<P> {
     /// No structure yet.
     pub(crate) fn new() -> Reader<P>
-        ensures { result ≡ None }
+        ensures { result.copy ≡ None }
     {
         Reader {
             copy: None,
@@ -84,8 +89,9 @@ impl<P: Partial + Drop> Reader<P> {
 
     /// Lets the structure go where an edit at the place changes its rows.
     pub(crate) fn after_edit(&mut self, place: u32)
-        ensures left { IfSome self.new (λ copy. self.old ≡ Some copy) }
-        ensures earlier { IfSome self.new (λ copy. place_of copy ≤ place) }
+        ensures left { IfSome self.new.copy (λ copy. self.old.copy ≡ Some copy) }
+        ensures earlier { IfSome self.new.copy (λ copy. place_of copy ≤ place) }
+        ensures run { self.new.run ≡ self.old.run }
     {
         if place < self.last {
             self.last = NOWHERE;
@@ -99,8 +105,48 @@ impl<P: Partial + Drop> Reader<P> {
         }
     }
 
-    /// Gives out a structure to ask at the place: its own where that serves, and a copy of the nearest checkpoint where
-    /// questions have gone forward in time for long and none is near; none otherwise, or out of memory.
+    /// Whether so many questions have followed one another closely that they are taken to go on.
+    fn goes_on(&self, width: u32) -> bool
+        ensures { result ≡ true → width / close_by ≤ self.now.run }
+    {
+        self.run >= width / CLOSE
+    }
+
+    /// Whether its structure would be moved to the place, or is within a width of it.
+    fn is_near(&self, checkpoint: &Snapshot<P>, place: u32, width: u32) -> bool
+        requires { place_of checkpoint.now ≤ place }
+    {
+        match &self.copy {
+            Some(copy) => serves(copy, checkpoint, place, true) || !is_far(copy, place, width),
+            None => false,
+        }
+    }
+
+    /// The place is to be asked next. Where questions have followed one another closely for long, and its structure is not
+    /// near, it copies the nearest checkpoint; out of memory it has none.
+    pub(crate) fn follow<M: Ledger>(
+        &mut self,
+        checkpoint: &Snapshot<P>,
+        place: u32,
+        width: u32,
+        copies: &mut Steps<M>,
+    )
+        requires earlier { place_of checkpoint.now ≤ place }
+        ensures last { self.new.last ≡ place }
+        ensures run { self.new.run ≤ self.old.run + 1 }
+        ensures close { 0 < self.new.run → IsCloseAfter self.old.last place }
+        ensures copy { IfSome self.new.copy (λ copy. (self.old.copy ≡ Some copy) ⊎ (copy ≡ checkpoint.now)) }
+        ensures few { copies.new ≤ copies.old + 1 }
+        ensures rare { self.new.run < width / close_by → copies.new ≡ copies.old }
+    {
+        self.run = next_run(self.run, self.last, place);
+        self.last = place;
+        if self.goes_on(width) && !self.is_near(checkpoint, place, width) {
+            self.copy = checkpoint.copy(copies).ok();
+        }
+    }
+
+    /// Gives out its structure to ask at the place, where that serves.
     pub(crate) fn choose(
         &mut self,
         checkpoint: &Snapshot<P>,
@@ -108,30 +154,17 @@ impl<P: Partial + Drop> Reader<P> {
         width: u32,
     ) -> Option<Snapshot<P>>
         requires earlier { place_of checkpoint.now ≤ place }
-        ensures left { IfSome self.new (λ copy. self.old ≡ Some copy) }
-        ensures chosen { IfSome result (λ copy. (self.old ≡ Some copy) ⊎ (copy ≡ checkpoint.now)) }
+        ensures left { IfSome self.new.copy (λ copy. self.old.copy ≡ Some copy) }
+        ensures chosen { IfSome result (λ copy. self.old.copy ≡ Some copy) }
         ensures near { IfSome result (λ copy. (2 * (place - place_of copy) ≤ 3 * (place - place_of checkpoint.now)) × (2 * (place_of copy - place) ≤ 3 * (place - place_of checkpoint.now))) }
+        ensures run { self.new.run ≡ self.old.run }
     {
-        let run = next_run(self.run, self.last, place);
-        self.last = place;
-        self.run = run;
-        let goes_on = run >= width / CLOSE;
+        let goes_on = self.goes_on(width);
         let own = match &self.copy {
             Some(copy) => serves(copy, checkpoint, place, goes_on),
             None => false,
         };
-        if own {
-            return self.copy.take();
-        }
-        let far = match &self.copy {
-            Some(copy) => is_far(copy, place, width),
-            None => true,
-        };
-        if goes_on && far {
-            self.copy = None;
-            return checkpoint.copy().ok();
-        }
-        None
+        if own { self.copy.take() } else { None }
     }
 
     /// Asks at the place with a structure that was given out, and keeps it there. Out of memory it is let go.
@@ -146,9 +179,10 @@ impl<P: Partial + Drop> Reader<P> {
         requires first { HoldsFirstRows timeline.now copy }
         requires within { place ≤ place_of timeline.now }
         requires suited { suits question timeline.now.kind ≡ true }
-        requires reads { IfSome self.old (HoldsFirstRows timeline.now) }
+        requires reads { IfSome self.old.copy (HoldsFirstRows timeline.now) }
         ensures answer { IfOk result (λ answer. answer ≡ answer_of (state_at timeline.now.kind timeline.now.rows place) question) }
-        ensures reads { IfSome self.new (HoldsFirstRows timeline.now) }
+        ensures reads { IfSome self.new.copy (HoldsFirstRows timeline.now) }
+        ensures run { self.new.run ≡ self.old.run }
         ensures visits { VisitsWithin (288 * (place - place_of copy + (place_of copy - place)) + 144) (place_of timeline.now) steps.old steps.new }
     {
         let mut copy = copy;
@@ -169,9 +203,10 @@ impl<P: Partial + Drop> Reader<P> {
     ) -> Result<Listing, NoMemory>
         requires first { HoldsFirstRows timeline.now copy }
         requires within { place ≤ place_of timeline.now }
-        requires reads { IfSome self.old (HoldsFirstRows timeline.now) }
+        requires reads { IfSome self.old.copy (HoldsFirstRows timeline.now) }
         ensures content { IfOk result (λ listing. listing ≡ content (state_at timeline.now.kind timeline.now.rows place)) }
-        ensures reads { IfSome self.new (HoldsFirstRows timeline.now) }
+        ensures reads { IfSome self.new.copy (HoldsFirstRows timeline.now) }
+        ensures run { self.new.run ≡ self.old.run }
     {
         let mut copy = copy;
         copy.move_to(timeline, place, steps)?;

@@ -1,21 +1,27 @@
 //! A structure with some first rows of a timeline: the present with all of them, a checkpoint with fewer.
-ghost use Rattle.std.specs.Prelude.{◌≡◌, ◌+◌, ◌-◌, ◌*◌, ◌<◌, ◌≤◌, nat_lt, slice_get, true, Some, IsOk, IfOk, OnOk, OnErr};
+ghost use Rattle.std.specs.Prelude.{◌≡◌, ◌+◌, ◌-◌, ◌*◌, ◌<◌, ◌≤◌, nat_lt, slice_get, true, Some, IfSome, IsOk, IfOk, OnOk, OnErr};
 ghost use Rattle.std.specs.List.{insert, remove};
 ghost use Rattle.retro_base.specs.declared.row.Row.{Row};
 ghost use Rattle.retro_base.specs.Answers.{answer_of, content};
 ghost use Rattle.retro_base.specs.Changes.{IsChange};
 ghost use Rattle.retro_base.specs.Edits.{add, cut};
+ghost use Rattle.retro_base.specs.Kind.{kind_of};
 ghost use Rattle.retro_base.specs.Questions.{suits};
-ghost use Rattle.retro_base.specs.Replay.{IsValid, present, state_at};
+ghost use Rattle.retro_base.specs.Replay.{failure, IsValid, present, state_at};
 ghost use Rattle.retro_base.specs.Timeline.{IsReplayable};
 ghost use Rattle.retro_base.specs.Visits.{VisitsWithin};
 ghost use Rattle.checkpoint_full.specs.Checkpoints.{after, first_of, place_of, CanTake, HoldsFirstRows};
 
-use retro_base::{Answer, Change, Kind, Listing, NoMemory, Partial, Question, Row, Steps};
+use retro_base::{
+    Answer, Change, Kind, Listing, NoMemory, Op, Partial, Question, Row, Steps, uncounted,
+};
 use std::marker::Model;
 use std::sync::ledger::Ledger;
 
 /// A structure that contracts see as its kind and its rows.
+///
+/// No other module sees the structure inside. Each call here that copies it steps a counter of copies, whether or not
+/// there was memory for one, so that a body elsewhere that copies without counting does not compile.
 #[derive(Drop)]
 pub(crate) struct Snapshot<P: Partial + Drop> {
     structure: P,
@@ -39,14 +45,6 @@ impl<P: Partial + Drop> Snapshot<P> {
         // Its clause says that the rows replay.
         let _kind = structure.kind();
         Snapshot { structure }
-    }
-
-    /// The structure.
-    pub(crate) fn structure(&self) -> &P
-        ensures kind { P.kind result.now ≡ self.now.kind }
-        ensures rows { P.rows result.now ≡ self.now.rows }
-    {
-        &self.structure
     }
 
     /// The kind.
@@ -80,6 +78,25 @@ impl<P: Partial + Drop> Snapshot<P> {
         ensures visits { VisitsWithin 144 (place_of self.now) steps.old steps.new }
     {
         self.structure.row_at(place, steps)
+    }
+
+    /// The index of the first row that could not be performed, were a row with this operation put in at the place.
+    pub(crate) fn failure_after_insert(&self, place: u32, op: Op) -> Option<u32>
+        requires within { place ≤ place_of self.now }
+        requires of_kind { kind_of op ≡ self.now.kind }
+        ensures first { (row : Row) → row.op ≡ op → result ≡ failure self.now.kind (insert self.now.rows place row) }
+        ensures index { IfSome result (λ index. index ≤ place_of self.now) }
+    {
+        uncounted::failure_after_insert(&self.structure, place, op)
+    }
+
+    /// The index of the first row that could not be performed, were the row at the place taken out.
+    pub(crate) fn failure_after_remove(&self, place: u32) -> Option<u32>
+        requires { place < place_of self.now }
+        ensures first { result ≡ failure self.now.kind (remove self.now.rows place) }
+        ensures index { IfSome result (λ index. index + 1 < place_of self.now) }
+    {
+        uncounted::failure_after_remove(&self.structure, place)
     }
 
     /// Puts a row in at a place, and answers the change of its present. After `NoMemory` all is as before.
@@ -121,6 +138,14 @@ impl<P: Partial + Drop> Snapshot<P> {
         ensures visits { VisitsWithin 144 (place_of self.now) steps.old steps.new }
     {
         self.structure.ask_now(question, steps)
+    }
+
+    /// `ask_now` with a counter of its own.
+    pub(crate) fn answer_now(&self, question: Question) -> Answer
+        requires { suits question self.now.kind ≡ true }
+        ensures { result ≡ answer_of (present self.now.kind self.now.rows) question }
+    {
+        uncounted::ask_now(&self.structure, question)
     }
 
     /// The whole content of its present.
@@ -243,23 +268,27 @@ impl<P: Partial + Drop> Snapshot<P> {
         self.roll_forward(timeline, place, steps)
     }
 
-    /// A snapshot of the same rows.
-    pub(crate) fn copy(&self) -> Result<Snapshot<P>, NoMemory>
-        ensures { IfOk result (λ copy. copy ≡ self.now) }
+    /// A snapshot of the same rows, which is one copy.
+    pub(crate) fn copy<M: Ledger>(&self, copies: &mut Steps<M>) -> Result<Snapshot<P>, NoMemory>
+        ensures copy { IfOk result (λ copy. copy ≡ self.now) }
+        ensures counted { copies.new ≡ copies.old + 1 }
     {
+        copies.tick();
         Ok(Snapshot::new(self.structure.copy()?))
     }
 
-    /// A snapshot of the first rows, up to a place.
-    pub(crate) fn copy_at<L: Ledger>(
+    /// A snapshot of the first rows, up to a place, which is one copy.
+    pub(crate) fn copy_at<L: Ledger, M: Ledger>(
         &self,
         place: u32,
         steps: &mut Steps<L>,
+        copies: &mut Steps<M>,
     ) -> Result<Snapshot<P>, NoMemory>
         requires { place ≤ place_of self.now }
-        ensures { IfOk result (λ copy. copy ≡ first_of place self.now) }
+        ensures copy { IfOk result (λ copy. copy ≡ first_of place self.now) }
+        ensures counted { copies.new ≡ copies.old + 1 }
     {
-        let mut copy = self.copy()?;
+        let mut copy = self.copy(copies)?;
         copy.roll_back(place, steps);
         Ok(copy)
     }

@@ -1,4 +1,4 @@
-ghost use Rattle.std.specs.Prelude.{◌≡◌, ◌+◌, ◌*◌, ◌<◌, ◌≤◌, [], length, slice_get, true, false, Some, IsOk, IfOk, OnOk, OnErr};
+ghost use Rattle.std.specs.Prelude.{◌≡◌, ◌+◌, ◌-◌, ◌*◌, ◌<◌, ◌≤◌, [], length, slice_get, true, false, Some, IsOk, IfOk, OnOk, OnErr};
 ghost use Rattle.std.specs.List.{insert, remove};
 ghost use Rattle.retro_base.specs.declared.kind.Kind.TheVariants.{Pq};
 ghost use Rattle.retro_base.specs.Answers.{answer_of, content};
@@ -8,8 +8,10 @@ ghost use Rattle.retro_base.specs.Edits.{add, cut};
 ghost use Rattle.retro_base.specs.Questions.{suits};
 ghost use Rattle.retro_base.specs.Replay.{IsValid, state_at};
 ghost use Rattle.retro_base.specs.Timeline.{IsReplayable};
-ghost use Rattle.retro_base.specs.Visits.{OpensCounter, VisitsWithin};
-ghost use Rattle.checkpoint_full.specs.Rule.{FollowsRule};
+ghost use Rattle.retro_base.specs.Visits.{VisitsWithin};
+ghost use Rattle.checkpoint_full.specs.Checkpoints.{nearest_to, FitsBetween};
+ghost use Rattle.checkpoint_full.specs.Copies.{CopiesEach};
+ghost use Rattle.checkpoint_full.specs.Rule.{latest_first, FollowsRule};
 ghost use Rattle.checkpoint_full.specs.Widths.{least_width, made_places};
 ghost use Rattle.pq_fusion.specs.Searches.{VisitsUpTo};
 ghost use Rattle.engine.specs.Engine.{kind_inside, rows_inside, is_line, is_pq, is_fused, made_inside, places_inside, seen_inside, width_inside, KeepsStructure};
@@ -23,8 +25,7 @@ use retro_dictionary::RetroDictionary;
 use retro_queue::RetroQueue;
 use retro_stack::RetroStack;
 use std::alloc::Global;
-use std::marker::Brand;
-use std::sync::ledger::{Blank, Ledger};
+use std::sync::ledger::Ledger;
 
 /// The structure of a kind; a priority queue has two. No call changes the variant.
 #[derive(Drop)]
@@ -80,14 +81,17 @@ impl Engine {
     ///
     /// A queue, a stack and a deque visit at most 144 nodes for each binary digit of one more than the number of rows, and
     /// always answer. A priority queue whose checkpoints were made visits at most 432 for each row of their width and one
-    /// more, and each digit; the first question about its past makes them, and no question moves them or their width. A fused
+    /// more, and each digit, and no more than 432 for each row after the nearest checkpoint that is not later, and 144; then it
+    /// copies nothing, and right at a checkpoint and after all rows it always answers. The first question about its past makes
+    /// them, with one copy for each, and no question moves them or their width. Nothing else is ever copied. A fused
     /// priority queue visits at most 25 for each of the 64 digits of a key and each pair of those digits, and always answers. Of a
     /// dictionary no bound is stated.
-    pub fn ask_past<L: Ledger>(
+    pub fn ask_past<L: Ledger, M: Ledger>(
         &mut self,
         place: u32,
         question: Question,
         steps: &mut Steps<L>,
+        copies: &mut Steps<M>,
     ) -> Result<Answer, NoMemory>
         requires within { place ≤ length (rows_inside self.old) }
         requires suited { suits question (kind_inside self.old) ≡ true }
@@ -104,6 +108,13 @@ impl Engine {
         ensures multiples { is_pq self.old ≡ true → made_inside self.old ≡ false → OnOk result (places_inside self.new ≡ made_places (width_inside self.new) (length (rows_inside self.old))) }
         ensures places { made_inside self.old ≡ true → (made_inside self.new ≡ true) × (width_inside self.new ≡ width_inside self.old) × (places_inside self.new ≡ places_inside self.old) }
         ensures visits { made_inside self.old ≡ true → VisitsWithin (432 * (width_inside self.old + 1)) (length (rows_inside self.old)) steps.old steps.new }
+        ensures near { made_inside self.old ≡ true
+            → VisitsWithin (432 * (place - nearest_to place (latest_first (seen_inside self.old))) + 144) (length (rows_inside self.old)) steps.old steps.new }
+        ensures here { made_inside self.old ≡ true → place ≡ nearest_to place (latest_first (seen_inside self.old)) → IsOk result }
+        ensures last { made_inside self.old ≡ true → place ≡ length (rows_inside self.old) → IsOk result }
+        ensures lent { made_inside self.old ≡ true → copies.new ≡ copies.old }
+        ensures each { is_pq self.old ≡ true → made_inside self.old ≡ false → CopiesEach (length (rows_inside self.old)) copies.old copies.new }
+        ensures others { is_pq self.old ≡ false → copies.new ≡ copies.old }
         ensures err { OnErr result (self.new ≡ self.old) }
     {
         match self {
@@ -111,33 +122,34 @@ impl Engine {
             Engine::Stack { inner } => Ok(inner.ask_past(place, question, steps)),
             Engine::Deque { inner } => Ok(inner.ask_past(place, question, steps)),
             Engine::Dict { inner } => inner.ask(place, question),
-            Engine::Pq { inner } => inner.ask_past(place, question, steps),
+            Engine::Pq { inner } => inner.ask_past(place, question, steps, copies),
             Engine::Fused { inner } => Ok(inner.ask_past(place, question, steps)),
         }
     }
 
-    /// `ask_past` with a counter of its own.
-    fn ask_counted<L: Ledger>(
+    /// Puts the row in, as `insert` of `Retro`, and counts what a priority queue by checkpoints copies: one checkpoint at the
+    /// most, and none where one more row fits between the neighbours of the place.
+    pub fn insert_counted<M: Ledger>(
         &mut self,
         place: u32,
-        question: Question,
-        blank: Blank,
-    ) -> Result<Answer, NoMemory>
+        row: Row,
+        copies: &mut Steps<M>,
+    ) -> Result<Change, NoMemory>
         requires within { place ≤ length (rows_inside self.old) }
-        requires suited { suits question (kind_inside self.old) ≡ true }
-        requires counter { OpensCounter blank.name L.name blank.parts L.parts }
-        ensures kind { kind_inside self.new ≡ kind_inside self.old }
-        ensures variant { is_fused self.new ≡ is_fused self.old }
-        ensures rows { rows_inside self.new ≡ rows_inside self.old }
-        ensures answer { IfOk result (λ answer. answer ≡ answer_of (state_at (kind_inside self.old) (rows_inside self.old) place) question) }
-        ensures made { is_pq self.old ≡ true → OnOk result (made_inside self.new ≡ true) }
-        ensures first { is_pq self.old ≡ true → made_inside self.old ≡ false → OnOk result (width_inside self.new ≡ least_width (length (rows_inside self.old))) }
-        ensures multiples { is_pq self.old ≡ true → made_inside self.old ≡ false → OnOk result (places_inside self.new ≡ made_places (width_inside self.new) (length (rows_inside self.old))) }
-        ensures places { made_inside self.old ≡ true → (made_inside self.new ≡ true) × (width_inside self.new ≡ width_inside self.old) × (places_inside self.new ≡ places_inside self.old) }
+        requires replayable { IsReplayable (kind_inside self.old) (insert (rows_inside self.old) place row) }
+        ensures keeps { KeepsStructure self.old self.new }
+        ensures rows { OnOk result (rows_inside self.new ≡ insert (rows_inside self.old) place row) }
+        ensures replayable { OnOk result (IsReplayable (kind_inside self.new) (rows_inside self.new)) }
+        ensures change { IfOk result (IsChange (kind_inside self.old) (rows_inside self.old) (add place row)) }
+        ensures rule { is_pq self.old ≡ true → OnOk result (FollowsRule (seen_inside self.old) (add place row) (seen_inside self.new)) }
         ensures err { OnErr result (self.new ≡ self.old) }
+        ensures few { copies.new ≤ copies.old + 1 }
+        ensures fits { FitsBetween (width_inside self.old) place (length (rows_inside self.old)) (latest_first (seen_inside self.old)) → copies.new ≡ copies.old }
     {
-        let mut steps = Steps::<L>::new(blank);
-        self.ask_past(place, question, &mut steps)
+        match self {
+            Engine::Pq { inner } => inner.insert_counted(place, row, copies),
+            _ => self.insert(place, row),
+        }
     }
 }
 
@@ -258,7 +270,14 @@ impl Retro for Engine {
         ensures places { made_inside self.old ≡ true → (made_inside self.new ≡ true) × (width_inside self.new ≡ width_inside self.old) × (places_inside self.new ≡ places_inside self.old) }
         ensures err { OnErr result (self.new ≡ self.old) }
     {
-        self.ask_counted::<Brand>(place, question, Blank::new(1))
+        match self {
+            Engine::Queue { inner } => inner.ask(place, question),
+            Engine::Stack { inner } => inner.ask(place, question),
+            Engine::Deque { inner } => inner.ask(place, question),
+            Engine::Dict { inner } => inner.ask(place, question),
+            Engine::Pq { inner } => inner.ask(place, question),
+            Engine::Fused { inner } => inner.ask(place, question),
+        }
     }
 
     fn all(&mut self, place: u32) -> Result<Listing, NoMemory>

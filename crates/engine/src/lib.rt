@@ -8,7 +8,8 @@
 //! first question about the past makes. `Engine::fused` makes one whose past is one product instead: it keeps no checkpoints,
 //! and its edits are dearer.
 //!
-//! - `Engine`, with `ask_past` for a caller who counts what a question about the past visits.
+//! - `Engine`, with `ask_past` for a caller who counts what a question about the past visits and copies, and `insert_counted` for
+//!   one who counts what an insertion copies.
 #![tactic(auto)]
 
 mod engine;

@@ -114,3 +114,31 @@ fn checkpoints_go_where_rows_go(rt: HostRuntime) {
     look(&rt, &mut history, 1000);
     assert_eq!(&rt; history.ask(&rt, 500, Question::Min), number(39_000));
 }
+
+#[test]
+fn questions_follow_one_another(rt: HostRuntime) {
+    let mut history = filled(&rt, rt.alloc(), 3000);
+    for place in 0..3000u32 {
+        assert_eq!(&rt;
+            history.ask(&rt, place, Question::Size),
+            number(i128::from(place))
+        );
+    }
+    history.put(&rt, 2500, 0, Op::Ins { key: 0 });
+    assert_eq!(&rt; history.ask(&rt, 2990, Question::Size), number(2990));
+}
+
+#[test]
+fn a_checkpoint_is_made_and_dropped_by_turns(rt: HostRuntime) {
+    let mut history = filled(&rt, rt.alloc(), 2100);
+    for _ in 0..20u32 {
+        history.put(&rt, 500, 0, Op::Ins { key: 0 });
+        look(&rt, &mut history, 2101);
+        history.cut(&rt, 500);
+    }
+    look(&rt, &mut history, 2100);
+    assert_eq!(&rt;
+        history.ask(&rt, 600, Question::Nth { index: 550 }),
+        number(550)
+    );
+}

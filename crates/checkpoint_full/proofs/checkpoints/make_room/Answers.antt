@@ -1,6 +1,6 @@
 use Rattle.std.proofs.Common.{◌∙◌, ap, position, refl, sym, arith}
 use Rattle.std.specs.List.{remove}
-use Rattle.checkpoint_full.proofs.Between.{between_kept, nearest_below, room_left, stands_between}
+use Rattle.checkpoint_full.proofs.Between.{below_of, between_kept, later_holds, nearest_below, no_room_left, one_is_there, room_left, stands_between}
 use Rattle.checkpoint_full.proofs.FirstRows.{taken_back}
 use Rattle.checkpoint_full.proofs.Places.{is_up_to, none_were_made}
 use Rattle.checkpoint_full.proofs.Rule.{room_is_made, room_was_there}
@@ -20,24 +20,24 @@ returns-then-place-earlier-clause-room g c =
     (omega (arith, c.if-place-earlier.true, c.place.ensures.place, c.place-earlier.ensures.place))
 
 pub returns-clause-keeps : goal.returns-clause-keeps
-returns-clause-keeps g c = λ _. (between_kept c.args.width c.args.present.now c.args.checkpoints.now.items c.insert.new.self.items c.args.place c.in-Some.index c.place_between.result
+returns-clause-keeps g c = λ _. (between_kept c.args.width c.args.present.now c.args.checkpoints.now.items c.insert.new.self.items c.args.place c.in-Some.index c.place_between-at.result
     c.index.result.now c.neighbour_after-later.result.now c.in_ok-between.between
     (stands_between c.args.present.now c.args.checkpoints.now.items _ _ _ c.args.place c.in-Some.index _ _ c.nearest.ensures c.as_slice.ensures.value c.in-Some.is
     c.index.ensures c.neighbour_after-later.ensures c.as_slice-2.ensures.value)
-    c.requires.keeps (omega (arith, c.place_between.ensures.within, c.place-earlier.ensures.place))
-    (omega (arith, c.place_between.ensures.within, c.place-2.ensures.place))
-    (λ same. c.place_between.ensures.end (same ∙ sym c.place-2.ensures.place) ∙ c.place-2.ensures.place)
-    c.in_ok-between.ensures c.in_ok-insert.ensures.items).0
+    c.requires.keeps (omega (arith, c.place_between-at.ensures.within, c.place-earlier.ensures.place))
+    (omega (arith, c.place_between-at.ensures.within, c.place-2.ensures.place))
+    (λ same. c.place_between-at.ensures.end (same ∙ sym c.place-2.ensures.place) ∙ c.place-2.ensures.place)
+    c.in_ok-between.ensures.made c.in_ok-insert.ensures.items).0
 
 pub returns-clause-room : goal.returns-clause-room
-returns-clause-room g c = (between_kept c.args.width c.args.present.now c.args.checkpoints.now.items c.insert.new.self.items c.args.place c.in-Some.index c.place_between.result
+returns-clause-room g c = (between_kept c.args.width c.args.present.now c.args.checkpoints.now.items c.insert.new.self.items c.args.place c.in-Some.index c.place_between-at.result
     c.index.result.now c.neighbour_after-later.result.now c.in_ok-between.between
     (stands_between c.args.present.now c.args.checkpoints.now.items _ _ _ c.args.place c.in-Some.index _ _ c.nearest.ensures c.as_slice.ensures.value c.in-Some.is
     c.index.ensures c.neighbour_after-later.ensures c.as_slice-2.ensures.value)
-    c.requires.keeps (omega (arith, c.place_between.ensures.within, c.place-earlier.ensures.place))
-    (omega (arith, c.place_between.ensures.within, c.place-2.ensures.place))
-    (λ same. c.place_between.ensures.end (same ∙ sym c.place-2.ensures.place) ∙ c.place-2.ensures.place)
-    c.in_ok-between.ensures c.in_ok-insert.ensures.items).1
+    c.requires.keeps (omega (arith, c.place_between-at.ensures.within, c.place-earlier.ensures.place))
+    (omega (arith, c.place_between-at.ensures.within, c.place-2.ensures.place))
+    (λ same. c.place_between-at.ensures.end (same ∙ sym c.place-2.ensures.place) ∙ c.place-2.ensures.place)
+    c.in_ok-between.ensures.made c.in_ok-insert.ensures.items).1
 
 pub returns-clause-back : goal.returns-clause-back
 returns-clause-back g c =
@@ -59,11 +59,40 @@ returns-then-place-earlier-clause-places g c =
 
 pub returns-clause-places : goal.returns-clause-places
 returns-clause-places g c =
-    room_is_made c.args.width c.args.present.now c.args.checkpoints.now.items c.insert.new.self.items c.args.place c.in-Some.index c.place_between.result
+    room_is_made c.args.width c.args.present.now c.args.checkpoints.now.items c.insert.new.self.items c.args.place c.in-Some.index c.place_between-at.result
     c.index.result.now c.neighbour_after-later.result.now c.in_ok-between.between
     (stands_between c.args.present.now c.args.checkpoints.now.items _ _ _ c.args.place c.in-Some.index _ _ c.nearest.ensures c.as_slice.ensures.value c.in-Some.is
     c.index.ensures c.neighbour_after-later.ensures c.as_slice-2.ensures.value)
     (omega (arith, c.if-place-earlier.false, c.place.ensures.place, c.place-earlier.ensures.place))
-    (omega (arith, c.place_between.ensures.within, c.place-2.ensures.place))
-    (c.place_between.ensures.place ∙ rw (c.place-earlier.ensures.place, c.place-2.ensures.place) refl)
-    c.in_ok-between.ensures c.in_ok-insert.ensures.items
+    (omega (arith, c.place_between-at.ensures.within, c.place-2.ensures.place))
+    (c.place_between-at.ensures.place ∙ rw (c.place-earlier.ensures.place, c.place-2.ensures.place) refl)
+    c.in_ok-between.ensures.made c.in_ok-insert.ensures.items
+
+pub returns-in_err-between-clause-fits : goal.returns-in_err-between-clause-fits
+returns-in_err-between-clause-fits g c fits =
+    let near = no_room_left c.args.width c.args.present.now c.args.checkpoints.now.items c.args.place c.in-Some.index _ _
+    (stands_between c.args.present.now c.args.checkpoints.now.items _ _ _ c.args.place c.in-Some.index _ _ c.nearest.ensures c.as_slice.ensures.value c.in-Some.is
+    c.index.ensures c.neighbour_after-later.ensures c.as_slice-2.ensures.value) fits in
+    absurd (omega (arith, near, c.if-place-earlier.false, c.place.ensures.place, c.place-earlier.ensures.place))
+
+pub returns-in_err-insert-clause-fits : goal.returns-in_err-insert-clause-fits
+returns-in_err-insert-clause-fits g c fits =
+    let near = no_room_left c.args.width c.args.present.now c.args.checkpoints.now.items c.args.place c.in-Some.index _ _
+    (stands_between c.args.present.now c.args.checkpoints.now.items _ _ _ c.args.place c.in-Some.index _ _ c.nearest.ensures c.as_slice.ensures.value c.in-Some.is
+    c.index.ensures c.neighbour_after-later.ensures c.as_slice-2.ensures.value) fits in
+    absurd (omega (arith, near, c.if-place-earlier.false, c.place.ensures.place, c.place-earlier.ensures.place))
+
+pub returns-clause-fits : goal.returns-clause-fits
+returns-clause-fits g c fits =
+    let near = no_room_left c.args.width c.args.present.now c.args.checkpoints.now.items c.args.place c.in-Some.index _ _
+    (stands_between c.args.present.now c.args.checkpoints.now.items _ _ _ c.args.place c.in-Some.index _ _ c.nearest.ensures c.as_slice.ensures.value c.in-Some.is
+    c.index.ensures c.neighbour_after-later.ensures c.as_slice-2.ensures.value) fits in
+    absurd (omega (arith, near, c.if-place-earlier.false, c.place.ensures.place, c.place-earlier.ensures.place))
+
+pub stand_between-requires-clause-later : goal.stand_between-requires-clause-later
+stand_between-requires-clause-later g c =
+    let stands = stands_between c.args.present.now c.args.checkpoints.now.items _ _ _ c.args.place c.in-Some.index _ _ c.nearest.ensures c.as_slice.ensures.value c.in-Some.is
+    c.index.ensures c.neighbour_after-later.ensures c.as_slice-2.ensures.value in
+    let below = (below_of c.args.present.now c.args.checkpoints.now.items c.args.place c.in-Some.index _ _ stands).0 in
+    later_holds c.args.present.now c.args.checkpoints.now.items c.in-Some.index _ _ (c.requires.keeps (one_is_there c.args.checkpoints.now.items _ below)).first_rows below
+    stands.later_is

@@ -12,16 +12,17 @@ loop-index-preserved-then-is_between_close g c =
     record {
       within = omega (
         arith,
-        ap (λ cs. length cs) c.remove.ensures.items,
+        ap (λ cs. length cs) c.drop_at.ensures.items,
         c.loop-index-test.true,
         c.len.ensures,
         length-remove c.loop-index.checkpoints.items c.loop-index.index (omega (arith, c.loop-index-test.true, c.len.ensures)),
       );
-      first = subst (λ cs. AllByRecursion (HoldsFirstRows c.args.present.now) cs) (sym c.remove.ensures.items)
+      first = subst (λ cs. AllByRecursion (HoldsFirstRows c.args.present.now) cs) (sym c.drop_at.ensures.items)
           (all_without (HoldsFirstRows c.args.present.now) c.loop-index.checkpoints.items c.loop-index.index loop.first);
+      spares = c.drop_at.ensures.spares;
       left = drops_one c.is_between_close.result c.loop-index.index (c.loop-index.index + 1) c.args.width c.args.present.now c.as_slice.result.now
-          c.loop-index.checkpoints.items c.remove.new.self.items _ c.as_slice.ensures.value (omega arith) c.is_between_close.ensures c.if-is_between_close.true
-          (omega (arith, c.loop-index-test.true, c.len.ensures)) c.remove.ensures.items loop.left;
+          c.loop-index.checkpoints.items c.drop_at.new.checkpoints.items _ c.as_slice.ensures.value (omega arith) c.is_between_close.ensures c.if-is_between_close.true
+          (omega (arith, c.loop-index-test.true, c.len.ensures)) c.drop_at.ensures.items loop.left;
     }
 
 pub loop-index-preserved : goal.loop-index-preserved
@@ -30,6 +31,7 @@ loop-index-preserved g c =
     record {
       within = omega (arith, c.loop-index-test.true, c.len.ensures);
       first = loop.first;
+      spares = loop.spares;
       left = keeps_one c.is_between_close.result c.loop-index.index (c.loop-index.index + 1) c.args.width c.args.present.now c.as_slice.result.now
           c.loop-index.checkpoints.items _ c.as_slice.ensures.value (omega arith) c.is_between_close.ensures c.if-is_between_close.false
           (omega (arith, c.loop-index-test.true, c.len.ensures)) loop.left;

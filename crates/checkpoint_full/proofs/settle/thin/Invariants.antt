@@ -9,6 +9,7 @@ abbrev pub invariant-loop-index : goal.invariant-loop-index
 invariant-loop-index g l = record {
   within : l.index ≤ length l.checkpoints.items;
   first : AllByRecursion (HoldsFirstRows l.present) l.checkpoints.items;
+  spares : AllByRecursion (HoldsFirstRows l.present) l.spares.items;
   left : thinned_from l.index l.width (place_of l.present) (map place_of l.checkpoints.items)
       ≡ thinned l.width (place_of l.present) (map place_of l.fn.checkpoints.items);
 }
