@@ -82,10 +82,66 @@ impl<P: Partial + Drop> Full<P> {
     /// The answer to a question about the state at a place, after so many rows. The rows stay, whatever the answer, and
     /// so do the checkpoints where they had been made; then it visits at most 432 nodes for each row after the nearest
     /// checkpoint that is not later and 144 more, and each binary digit of one more than the number of rows. So it never
-    /// visits more than 432 for each row of a width and one more, and it copies nothing. Right at a checkpoint, and after
-    /// all rows, it takes no memory and always answers. The first question copies once for each checkpoint that it makes.
-    /// After `NoMemory` all is as before.
-    pub fn ask_past<L: Ledger, M: Ledger>(
+    /// visits more than 432 for each row of a width and one more. Right at a checkpoint, and after all rows, it takes no
+    /// memory and always answers. After `NoMemory` all is as before. It is `follow` and then `ask_counted`.
+    pub fn ask_past<L: Ledger>(
+        &mut self,
+        place: u32,
+        question: Question,
+        steps: &mut Steps<L>,
+    ) -> Result<Answer, NoMemory>
+        requires within { place ≤ length self.old.rows }
+        requires suited { suits question self.old.kind ≡ true }
+        ensures kind { self.new.kind ≡ self.old.kind }
+        ensures rows { self.new.rows ≡ self.old.rows }
+        ensures answer { IfOk result (λ answer. answer ≡ answer_of (state_at self.old.kind self.old.rows place) question) }
+        ensures made { OnOk result (self.new.made ≡ true) }
+        ensures first { self.old.made ≡ false → OnOk result (self.new.width ≡ least_width (length self.old.rows)) }
+        ensures multiples { self.old.made ≡ false → OnOk result (self.new.places ≡ made_places self.new.width (length self.old.rows)) }
+        ensures places { self.old.made ≡ true → self.new ≡ self.old }
+        ensures err { OnErr result (self.new ≡ self.old) }
+        ensures visits { self.old.made ≡ true → VisitsWithin (432 * (self.old.width + 1)) (length self.old.rows) steps.old steps.new }
+        ensures near { self.old.made ≡ true
+            → VisitsWithin (432 * (place - nearest_to place (latest_first self.old)) + 144) (length self.old.rows) steps.old steps.new }
+        ensures here { self.old.made ≡ true → place ≡ nearest_to place (latest_first self.old) → IsOk result }
+        ensures last { self.old.made ≡ true → place ≡ length self.old.rows → IsOk result }
+    {
+        self.ask_following::<L, Brand>(place, question, steps, Blank::new(1))
+    }
+
+    /// `ask_past`, with a counter of copies of its own.
+    fn ask_following<L: Ledger, M: Ledger>(
+        &mut self,
+        place: u32,
+        question: Question,
+        steps: &mut Steps<L>,
+        blank: Blank,
+    ) -> Result<Answer, NoMemory>
+        requires within { place ≤ length self.old.rows }
+        requires suited { suits question self.old.kind ≡ true }
+        requires counter { OpensCounter blank.name M.name blank.parts M.parts }
+        ensures kind { self.new.kind ≡ self.old.kind }
+        ensures rows { self.new.rows ≡ self.old.rows }
+        ensures answer { IfOk result (λ answer. answer ≡ answer_of (state_at self.old.kind self.old.rows place) question) }
+        ensures made { OnOk result (self.new.made ≡ true) }
+        ensures first { self.old.made ≡ false → OnOk result (self.new.width ≡ least_width (length self.old.rows)) }
+        ensures multiples { self.old.made ≡ false → OnOk result (self.new.places ≡ made_places self.new.width (length self.old.rows)) }
+        ensures places { self.old.made ≡ true → self.new ≡ self.old }
+        ensures err { OnErr result (self.new ≡ self.old) }
+        ensures visits { self.old.made ≡ true → VisitsWithin (432 * (self.old.width + 1)) (length self.old.rows) steps.old steps.new }
+        ensures near { self.old.made ≡ true
+            → VisitsWithin (432 * (place - nearest_to place (latest_first self.old)) + 144) (length self.old.rows) steps.old steps.new }
+        ensures here { self.old.made ≡ true → place ≡ nearest_to place (latest_first self.old) → IsOk result }
+        ensures last { self.old.made ≡ true → place ≡ length self.old.rows → IsOk result }
+    {
+        let mut copies = Steps::<M>::new(blank);
+        self.follow(place, &mut copies);
+        self.ask_counted(place, question, steps, &mut copies)
+    }
+
+    /// `ask_past` without following, which counts what it copies too: once the checkpoints were made it copies nothing, and
+    /// before that once for each checkpoint that it makes.
+    pub fn ask_counted<L: Ledger, M: Ledger>(
         &mut self,
         place: u32,
         question: Question,
@@ -125,7 +181,7 @@ impl<P: Partial + Drop> Full<P> {
 
     /// The place is to be asked next. Nothing that is seen changes. Where as many questions as the 32nd part of the width have
     /// followed one another, each at most 32 rows after the one before, it copies the nearest checkpoint, unless the copy
-    /// that it has is near; `ask_past` and `all_past` then move that copy from place to place.
+    /// that it has is near; a question then moves that copy from place to place.
     pub fn follow<M: Ledger>(&mut self, place: u32, copies: &mut Steps<M>)
         requires { place ≤ length self.old.rows }
         ensures same { self.new ≡ self.old }
@@ -197,8 +253,23 @@ impl<P: Partial + Drop> Full<P> {
     }
 
     /// The whole content at a place, after so many rows. The rows stay, whatever the answer, and so do the checkpoints
-    /// where they had been made. After `NoMemory` all is as before.
-    pub fn all_past<M: Ledger>(
+    /// where they had been made. After `NoMemory` all is as before. It is `follow` and then `all_counted`.
+    pub fn all_past(&mut self, place: u32) -> Result<Listing, NoMemory>
+        requires { place ≤ length self.old.rows }
+        ensures kind { self.new.kind ≡ self.old.kind }
+        ensures rows { self.new.rows ≡ self.old.rows }
+        ensures content { IfOk result (λ listing. listing ≡ content (state_at self.old.kind self.old.rows place)) }
+        ensures made { OnOk result (self.new.made ≡ true) }
+        ensures first { self.old.made ≡ false → OnOk result (self.new.width ≡ least_width (length self.old.rows)) }
+        ensures multiples { self.old.made ≡ false → OnOk result (self.new.places ≡ made_places self.new.width (length self.old.rows)) }
+        ensures places { self.old.made ≡ true → self.new ≡ self.old }
+        ensures err { OnErr result (self.new ≡ self.old) }
+    {
+        self.list_following::<Brand>(place, Blank::new(1))
+    }
+
+    /// `all_past` without following, which counts what it copies, as `ask_counted` does.
+    pub fn all_counted<M: Ledger>(
         &mut self,
         place: u32,
         copies: &mut Steps<M>,
@@ -227,18 +298,16 @@ impl<P: Partial + Drop> Full<P> {
         )
     }
 
-    /// `follow` and `ask_past`, with counters of their own.
-    fn ask_uncounted<L: Ledger, M: Ledger>(
+    /// `ask_past` with a counter of its own.
+    fn ask_uncounted<L: Ledger>(
         &mut self,
         place: u32,
         question: Question,
         blank: Blank,
-        for_copies: Blank,
     ) -> Result<Answer, NoMemory>
         requires within { place ≤ length self.old.rows }
         requires suited { suits question self.old.kind ≡ true }
         requires counter { OpensCounter blank.name L.name blank.parts L.parts }
-        requires other_counter { OpensCounter for_copies.name M.name for_copies.parts M.parts }
         ensures kind { self.new.kind ≡ self.old.kind }
         ensures rows { self.new.rows ≡ self.old.rows }
         ensures answer { IfOk result (λ answer. answer ≡ answer_of (state_at self.old.kind self.old.rows place) question) }
@@ -249,13 +318,11 @@ impl<P: Partial + Drop> Full<P> {
         ensures err { OnErr result (self.new ≡ self.old) }
     {
         let mut steps = Steps::<L>::new(blank);
-        let mut copies = Steps::<M>::new(for_copies);
-        self.follow(place, &mut copies);
-        self.ask_past(place, question, &mut steps, &mut copies)
+        self.ask_past(place, question, &mut steps)
     }
 
-    /// `follow` and `all_past`, with a counter of their own.
-    fn list_uncounted<M: Ledger>(&mut self, place: u32, blank: Blank) -> Result<Listing, NoMemory>
+    /// `all_past`, with a counter of copies of its own.
+    fn list_following<M: Ledger>(&mut self, place: u32, blank: Blank) -> Result<Listing, NoMemory>
         requires within { place ≤ length self.old.rows }
         requires counter { OpensCounter blank.name M.name blank.parts M.parts }
         ensures kind { self.new.kind ≡ self.old.kind }
@@ -269,7 +336,7 @@ impl<P: Partial + Drop> Full<P> {
     {
         let mut copies = Steps::<M>::new(blank);
         self.follow(place, &mut copies);
-        self.all_past(place, &mut copies)
+        self.all_counted(place, &mut copies)
     }
 }
 
@@ -350,7 +417,7 @@ impl<P: Partial + Drop> Retro for Full<P> {
         ensures places { self.old.made ≡ true → self.new ≡ self.old }
         ensures err { OnErr result (self.new ≡ self.old) }
     {
-        self.ask_uncounted::<Brand, Brand>(place, question, Blank::new(1), Blank::new(1))
+        self.ask_uncounted::<Brand>(place, question, Blank::new(1))
     }
 
     fn all(&mut self, place: u32) -> Result<Listing, NoMemory>
@@ -364,6 +431,6 @@ impl<P: Partial + Drop> Retro for Full<P> {
         ensures places { self.old.made ≡ true → self.new ≡ self.old }
         ensures err { OnErr result (self.new ≡ self.old) }
     {
-        self.list_uncounted::<Brand>(place, Blank::new(1))
+        self.all_past(place)
     }
 }

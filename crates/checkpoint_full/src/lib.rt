@@ -4,7 +4,7 @@
 //! rows of the same timeline: its checkpoints. The nearest checkpoint that is not later than a place is lent to answer a
 //! question about it for the timeline (`ask_after` of `Partial`), and stays as it is. Only where many questions have
 //! followed one another closely, a copy of a checkpoint is moved to each of their places in turn (`reader.rt`): `follow` makes
-//! it, which `ask` and `all` call. An edit
+//! it, with which `ask_past` and `all_past` begin. An edit
 //! goes to the present and to each checkpoint after its place. It is the general way from a partially to a fully
 //! retroactive structure of Demaine, Iacono and Langerman, "Retroactive Data Structures", with checkpoints at most a
 //! width apart.
@@ -16,7 +16,7 @@
 //! those laid aside never more than 31 after an edit, however the timeline grows and shrinks.
 //!
 //! What is copied is counted: a structure can be reached only through `Snapshot` (`snapshot.rt`), each of whose calls that
-//! copies steps a counter. A question about the past copies nothing once the checkpoints were made, an insertion one
+//! copies steps a counter. A question about the past (`ask_counted`, `all_counted`) copies nothing once the checkpoints were made, an insertion one
 //! checkpoint at the most, and none where one more row fits between the neighbours of its place. What the structure itself
 //! copies to answer `ask_after` is its own matter; that of `bridge_pq` copies nothing.
 //!

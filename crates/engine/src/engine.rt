@@ -8,7 +8,7 @@ ghost use Rattle.retro_base.specs.Edits.{add, cut};
 ghost use Rattle.retro_base.specs.Questions.{suits};
 ghost use Rattle.retro_base.specs.Replay.{IsValid, state_at};
 ghost use Rattle.retro_base.specs.Timeline.{IsReplayable};
-ghost use Rattle.retro_base.specs.Visits.{VisitsWithin};
+ghost use Rattle.retro_base.specs.Visits.{OpensCounter, VisitsWithin};
 ghost use Rattle.checkpoint_full.specs.Checkpoints.{nearest_to, FitsBetween};
 ghost use Rattle.checkpoint_full.specs.Copies.{CopiesEach};
 ghost use Rattle.checkpoint_full.specs.Rule.{latest_first, FollowsRule};
@@ -25,7 +25,8 @@ use retro_dictionary::RetroDictionary;
 use retro_queue::RetroQueue;
 use retro_stack::RetroStack;
 use std::alloc::Global;
-use std::sync::ledger::Ledger;
+use std::marker::Brand;
+use std::sync::ledger::{Blank, Ledger};
 
 /// The structure of a kind; a priority queue has two. No call changes the variant.
 #[derive(Drop)]
@@ -81,12 +82,74 @@ impl Engine {
     ///
     /// A queue, a stack and a deque visit at most 144 nodes for each binary digit of one more than the number of rows, and
     /// always answer. A priority queue whose checkpoints were made visits at most 432 for each row of their width and one
-    /// more, and each digit, and no more than 432 for each row after the nearest checkpoint that is not later, and 144; then it
-    /// copies nothing, and right at a checkpoint and after all rows it always answers. The first question about its past makes
-    /// them, with one copy for each, and no question moves them or their width. Nothing else is ever copied. A fused
-    /// priority queue visits at most 25 for each of the 64 digits of a key and each pair of those digits, and always answers. Of a
-    /// dictionary no bound is stated.
-    pub fn ask_past<L: Ledger, M: Ledger>(
+    /// more, and each digit, and no more than 432 for each row after the nearest checkpoint that is not later, and 144; right at
+    /// a checkpoint and after all rows it always answers. The first question about its past makes them, and no question moves
+    /// them or their width. A fused priority queue visits at most 25 for each of the 64 digits of a key and each pair of those
+    /// digits, and always answers. Of a dictionary no bound is stated.
+    pub fn ask_past<L: Ledger>(
+        &mut self,
+        place: u32,
+        question: Question,
+        steps: &mut Steps<L>,
+    ) -> Result<Answer, NoMemory>
+        requires within { place ≤ length (rows_inside self.old) }
+        requires suited { suits question (kind_inside self.old) ≡ true }
+        ensures kind { kind_inside self.new ≡ kind_inside self.old }
+        ensures variant { is_fused self.new ≡ is_fused self.old }
+        ensures rows { rows_inside self.new ≡ rows_inside self.old }
+        ensures answer { IfOk result (λ answer. answer ≡ answer_of (state_at (kind_inside self.old) (rows_inside self.old) place) question) }
+        ensures line { is_line self.old ≡ true → IsOk result }
+        ensures line_visits { is_line self.old ≡ true → VisitsWithin 144 (length (rows_inside self.old)) steps.old steps.new }
+        ensures fused { is_fused self.old ≡ true → IsOk result }
+        ensures fused_visits { is_fused self.old ≡ true → VisitsUpTo (25 * 64 * digits (length (rows_inside self.old) + 1) * digits (length (rows_inside self.old) + 1)) steps.old steps.new }
+        ensures made { is_pq self.old ≡ true → OnOk result (made_inside self.new ≡ true) }
+        ensures first { is_pq self.old ≡ true → made_inside self.old ≡ false → OnOk result (width_inside self.new ≡ least_width (length (rows_inside self.old))) }
+        ensures multiples { is_pq self.old ≡ true → made_inside self.old ≡ false → OnOk result (places_inside self.new ≡ made_places (width_inside self.new) (length (rows_inside self.old))) }
+        ensures places { made_inside self.old ≡ true → (made_inside self.new ≡ true) × (width_inside self.new ≡ width_inside self.old) × (places_inside self.new ≡ places_inside self.old) }
+        ensures visits { made_inside self.old ≡ true → VisitsWithin (432 * (width_inside self.old + 1)) (length (rows_inside self.old)) steps.old steps.new }
+        ensures near { made_inside self.old ≡ true
+            → VisitsWithin (432 * (place - nearest_to place (latest_first (seen_inside self.old))) + 144) (length (rows_inside self.old)) steps.old steps.new }
+        ensures here { made_inside self.old ≡ true → place ≡ nearest_to place (latest_first (seen_inside self.old)) → IsOk result }
+        ensures last { made_inside self.old ≡ true → place ≡ length (rows_inside self.old) → IsOk result }
+        ensures err { OnErr result (self.new ≡ self.old) }
+    {
+        match self {
+            Engine::Queue { inner } => Ok(inner.ask_past(place, question, steps)),
+            Engine::Stack { inner } => Ok(inner.ask_past(place, question, steps)),
+            Engine::Deque { inner } => Ok(inner.ask_past(place, question, steps)),
+            Engine::Dict { inner } => inner.ask(place, question),
+            Engine::Pq { inner } => inner.ask_past(place, question, steps),
+            Engine::Fused { inner } => Ok(inner.ask_past(place, question, steps)),
+        }
+    }
+
+    /// `ask_past` with a counter of its own.
+    fn ask_uncounted<L: Ledger>(
+        &mut self,
+        place: u32,
+        question: Question,
+        blank: Blank,
+    ) -> Result<Answer, NoMemory>
+        requires within { place ≤ length (rows_inside self.old) }
+        requires suited { suits question (kind_inside self.old) ≡ true }
+        requires counter { OpensCounter blank.name L.name blank.parts L.parts }
+        ensures kind { kind_inside self.new ≡ kind_inside self.old }
+        ensures variant { is_fused self.new ≡ is_fused self.old }
+        ensures rows { rows_inside self.new ≡ rows_inside self.old }
+        ensures answer { IfOk result (λ answer. answer ≡ answer_of (state_at (kind_inside self.old) (rows_inside self.old) place) question) }
+        ensures made { is_pq self.old ≡ true → OnOk result (made_inside self.new ≡ true) }
+        ensures first { is_pq self.old ≡ true → made_inside self.old ≡ false → OnOk result (width_inside self.new ≡ least_width (length (rows_inside self.old))) }
+        ensures multiples { is_pq self.old ≡ true → made_inside self.old ≡ false → OnOk result (places_inside self.new ≡ made_places (width_inside self.new) (length (rows_inside self.old))) }
+        ensures places { made_inside self.old ≡ true → (made_inside self.new ≡ true) × (width_inside self.new ≡ width_inside self.old) × (places_inside self.new ≡ places_inside self.old) }
+        ensures err { OnErr result (self.new ≡ self.old) }
+    {
+        let mut steps = Steps::<L>::new(blank);
+        self.ask_past(place, question, &mut steps)
+    }
+
+    /// `ask_past` of one question alone, which counts what it copies too: a priority queue whose checkpoints were made copies
+    /// nothing, and before that once for each of them; nothing else is ever copied.
+    pub fn ask_counted<L: Ledger, M: Ledger>(
         &mut self,
         place: u32,
         question: Question,
@@ -118,12 +181,8 @@ impl Engine {
         ensures err { OnErr result (self.new ≡ self.old) }
     {
         match self {
-            Engine::Queue { inner } => Ok(inner.ask_past(place, question, steps)),
-            Engine::Stack { inner } => Ok(inner.ask_past(place, question, steps)),
-            Engine::Deque { inner } => Ok(inner.ask_past(place, question, steps)),
-            Engine::Dict { inner } => inner.ask(place, question),
-            Engine::Pq { inner } => inner.ask_past(place, question, steps, copies),
-            Engine::Fused { inner } => Ok(inner.ask_past(place, question, steps)),
+            Engine::Pq { inner } => inner.ask_counted(place, question, steps, copies),
+            _ => self.ask_past(place, question, steps),
         }
     }
 
@@ -270,14 +329,7 @@ impl Retro for Engine {
         ensures places { made_inside self.old ≡ true → (made_inside self.new ≡ true) × (width_inside self.new ≡ width_inside self.old) × (places_inside self.new ≡ places_inside self.old) }
         ensures err { OnErr result (self.new ≡ self.old) }
     {
-        match self {
-            Engine::Queue { inner } => inner.ask(place, question),
-            Engine::Stack { inner } => inner.ask(place, question),
-            Engine::Deque { inner } => inner.ask(place, question),
-            Engine::Dict { inner } => inner.ask(place, question),
-            Engine::Pq { inner } => inner.ask(place, question),
-            Engine::Fused { inner } => inner.ask(place, question),
-        }
+        self.ask_uncounted::<Brand>(place, question, Blank::new(1))
     }
 
     fn all(&mut self, place: u32) -> Result<Listing, NoMemory>

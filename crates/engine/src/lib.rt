@@ -6,10 +6,10 @@
 //! Queue, stack, deque and dictionary are kept in trees of their own, in which an edit and a question about any place
 //! visit a few nodes. A priority queue by bridges answers of the present alone; it gets its past by checkpoints, which the
 //! first question about the past makes. `Engine::fused` makes one whose past is one product instead: it keeps no checkpoints,
-//! and its edits are dearer.
+//! and an edit takes longer until the past is asked.
 //!
-//! - `Engine`, with `ask_past` for a caller who counts what a question about the past visits and copies, and `insert_counted` for
-//!   one who counts what an insertion copies.
+//! - `Engine`, with `ask_past` for a caller who counts what a question about the past visits, and `ask_counted` and `insert_counted`
+//!   for one who counts what is copied too.
 #![tactic(auto)]
 
 mod engine;

@@ -1,5 +1,5 @@
 use Rattle.checkpoint_full.proofs.Rule.{all_seen}
-use Rattle.checkpoint_full.proofs.full.Full.ask_past.Goals as goal
+use Rattle.checkpoint_full.proofs.full.Full.ask_counted.Goals as goal
 
 pub returns-clause-near : goal.returns-clause-near
 returns-clause-near g c =
