@@ -1,8 +1,8 @@
 -- Runs stay filled where a row comes or goes, and where a full one is divided.
-use Rattle.std.proofs.Common.{◌≡◌, ◌≢◌, ℕ, zero, suc, ◌+◌, ◌-◌, ◌<◌, ◌≤◌, inl, inr, List, [], ◌∷◌, length, take, slice_get, slice_set, slice_index, refl, sym, ap, ◌∙◌, subst, arith, add-one, Some}
+use Rattle.std.proofs.Common.{◌≡◌, ◌≢◌, ℕ, zero, suc, ◌+◌, ◌-◌, ◌<◌, ◌≤◌, inl, inr, List, [], ◌∷◌, length, slice_get, slice_set, refl, sym, ap, ◌∙◌, subst, arith, add-one, Some}
 use Rattle.std.specs.Prelude.{IfSome}
 use Rattle.std.specs.List.{insert, remove, AllByRecursion}
-use Rattle.order_timeline.specs.Runs.{rows_in, start_of, divided, IsFilled, AreFilled, IsInRun, TakesRow, HasRoom}
+use Rattle.order_timeline.specs.Runs.{rows_in, start_of, divided, IsFilled, AreFilled, IsInRun, HasRoom}
 
 abbrev AllFilled : List ℕ → Type 0
 AllFilled runs = AllByRecursion IsFilled runs

@@ -1,7 +1,6 @@
 -- Rows in three parts: those before a place, the row there, and those behind it.
-use Rattle.std.proofs.Common.{◌≡◌, ℕ, zero, suc, ◌-◌, ◌<◌, ◌≤◌, length, arith, List, [], ◌∷◌, ◌++◌, take, drop, refl, ap, sym, ◌∙◌, subst, Some}
+use Rattle.std.proofs.Common.{◌≡◌, ℕ, zero, suc, ◌-◌, ◌<◌, ◌≤◌, length, arith, List, [], ◌∷◌, ◌++◌, take, drop, ap, sym, ◌∙◌, subst, Some}
 use Rattle.std.specs.Prelude.{slice_get}
-use Rattle.std.specs.List.{remove}
 use Rattle.retro_base.specs.declared.kind.Kind.TheVariants.{Pq}
 use Rattle.retro_base.specs.declared.row.Row.{Row}
 use Rattle.retro_base.specs.Kind.{kind_of}

@@ -1,10 +1,10 @@
 -- The entry at a rank of two rising lists together, where so many of the least ones are of the first and so many of the second.
-use Rattle.std.proofs.Common.{◌≡◌, ℕ, zero, suc, ◌+◌, ◌-◌, ◌<◌, ◌≤◌, true, false, cond, List, [], ◌∷◌, length, get_or, Some, None, slice_get, refl, ap, sym, ◌∙◌, arith, min, add-one}
+use Rattle.std.proofs.Common.{◌≡◌, ℕ, zero, suc, ◌+◌, ◌-◌, ◌<◌, ◌≤◌, true, false, cond, List, [], ◌∷◌, length, Some, None, slice_get, refl, ap, sym, ◌∙◌, arith, min}
 use Rattle.std.specs.Prelude.{nat_lt}
 use Rattle.std.proofs.lemmas.Bool.Decides.{nat_tests}
 use Rattle.retro_base.specs.declared.row.Entry.{Entry}
 use Rattle.retro_base.specs.EntriesInOrder.{AreInOrder}
-use Rattle.retro_base.specs.State.{comes_before, with_entry}
+use Rattle.retro_base.specs.State.{comes_before}
 use Rattle.retro_base.specs.lemmas.bridges.EntryOrder.{before_one_way}
 use Rattle.pq_fusion.specs.declared.bound.Bound.{Bound}
 use Rattle.pq_fusion.specs.declared.bound.Bound.TheVariants.{Low, At, Top}
@@ -12,7 +12,7 @@ use Rattle.pq_fusion.specs.Bounds.{is_below, higher, lower, at_rank, last_of}
 use Rattle.pq_fusion.specs.Pieces.{together}
 use Rattle.pq_fusion.proofs.Order.{IsLeast, least_further, least_together, together_none, together_alone}
 use Rattle.pq_fusion.proofs.Merged.{second_first, first_first}
-use Rattle.pq_fusion.proofs.Bounded.{further, higher_first, higher_second, higher_low, higher_joined, higher_turned, lower_first, lower_second}
+use Rattle.pq_fusion.proofs.Bounded.{further, higher_first, higher_second, higher_low, higher_joined, higher_turned, lower_first}
 use Rattle.pq_fusion.proofs.Parted.{rank_above, rank_in, rank_some}
 
 never_low : (b : Bound) → is_below b Low ≡ false

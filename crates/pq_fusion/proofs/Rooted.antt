@@ -1,5 +1,5 @@
 -- What is known of the root of a tree of rows.
-use Rattle.std.proofs.Common.{◌≡◌, ◌+◌, ◌≤◌, List, [], ◌∷◌, ◌++◌, length, sym, ap, ◌∙◌, arith, length-append}
+use Rattle.std.proofs.Common.{◌≡◌, ◌+◌, ◌≤◌, List, [], ◌∷◌, ◌++◌, length, sym, ◌∙◌, arith, length-append}
 use Rattle.std.specs.List.{AllByRecursion}
 use Rattle.retro_base.specs.declared.kind.Kind.TheVariants.{Pq}
 use Rattle.retro_base.specs.declared.row.Row.{Row}

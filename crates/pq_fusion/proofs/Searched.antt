@@ -8,7 +8,7 @@ use Rattle.retro_base.specs.State.{comes_before}
 use Rattle.retro_base.specs.lemmas.EntrySteps.{partitioned}
 use Rattle.retro_base.specs.declared.row.Row.{Row}
 use Rattle.pq_fusion.specs.declared.subtree.Pair.{Pair}
-use Rattle.pq_fusion.specs.Nodes.{weight, longest_run, IsPairOf, IsWithinLevels}
+use Rattle.pq_fusion.specs.Nodes.{weight, IsPairOf, IsWithinLevels}
 use Rattle.pq_fusion.specs.Pieces.{PieceParts, size_of, tolerant}
 use Rattle.pq_fusion.specs.Searches.{VisitsUpTo, run_of}
 use Rattle.pq_fusion.proofs.Pairs.{sizes, some_earlier, some_later}

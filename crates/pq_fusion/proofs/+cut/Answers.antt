@@ -4,7 +4,7 @@ use Rattle.std.specs.List.{remove}
 use Rattle.retro_base.specs.Weights.{added_by}
 use Rattle.pq_fusion.specs.declared.subtree.Pair.{Pair}
 use Rattle.pq_fusion.specs.Bounds.{higher, lower}
-use Rattle.pq_fusion.specs.Edits.{DiffersBy, own_of}
+use Rattle.pq_fusion.specs.Edits.{DiffersBy}
 use Rattle.pq_fusion.specs.Nodes.{pair_rows}
 use Rattle.pq_fusion.specs.Passages.{with_piece}
 use Rattle.pq_fusion.specs.Pieces.{tolerant}

@@ -1,5 +1,5 @@
-use Rattle.std.proofs.Common.{◌≡◌, ◌-◌, ◌<◌, ◌≤◌, Some, length, sym, ap, ◌∙◌, subst, arith}
-use Rattle.std.specs.Prelude.{slice_get, IfSome}
+use Rattle.std.proofs.Common.{◌-◌, ◌<◌, Some, sym, ap, ◌∙◌, subst, arith}
+use Rattle.std.specs.Prelude.{IfSome}
 use Rattle.order_timeline.proofs.FilledRuns.{count_few, first_of_divided, second_of_divided}
 use Rattle.order_timeline.proofs.InRuns.{all_rows, few_divided, first_takes, second_takes}
 use Rattle.order_timeline.proofs.Totals.{run_within}

@@ -1,5 +1,5 @@
-use Rattle.std.proofs.Common.{Some, ap, None, get_or}
-use Rattle.order_timeline.proofs.Pages.{page_changed, page_same}
+use Rattle.std.proofs.Common.{Some}
+use Rattle.order_timeline.proofs.Pages.{page_changed}
 use Rattle.order_timeline.proofs.numbers.Numbers.put.Goals as goal
 
 pub returns-clause-ok : goal.returns-clause-ok

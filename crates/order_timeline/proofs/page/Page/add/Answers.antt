@@ -1,4 +1,4 @@
-use Rattle.std.proofs.Common.{◌≡◌, ◌<◌, Option, ℕ, [], None, Some, set, length, ap, sym, ◌∙◌, subst, inr, arith}
+use Rattle.std.proofs.Common.{◌≡◌, Option, ℕ, [], None, Some, set, length, ap, sym, ◌∙◌, subst, inr, arith}
 use Rattle.std.proofs.lemmas.List.{length-set, length-replicate}
 use Rattle.order_timeline.specs.Numbers.{PageChanges, span}
 use Rattle.order_timeline.proofs.Pages.{page_begun, has_name, full_some, empty_where}

@@ -1,6 +1,6 @@
 use Rattle.std.proofs.Common.{◌<◌, length, Some, ap, ◌∙◌, inr, arith}
 use Rattle.std.proofs.lemmas.List.{length-set}
-use Rattle.order_timeline.proofs.Pages.{page_with, has_name, full_where}
+use Rattle.order_timeline.proofs.Pages.{has_name, full_where}
 use Rattle.order_timeline.proofs.page.Page.set.Goals as goal
 
 pub invariant_of-self : goal.invariant_of-self

@@ -1,5 +1,5 @@
 use Rattle.std.proofs.Common.{◌≡◌, ◌-◌, drop, length, ap, ◌∙◌, refl, subst, arith, IfOk}
-use Rattle.pq_fusion.specs.Pieces.{PieceParts, together, met, kept, fuse}
+use Rattle.pq_fusion.specs.Pieces.{together, met, kept, fuse}
 use Rattle.pq_fusion.proofs.Order.{length_together}
 use Rattle.pq_fusion.proofs.Sizes.{back_order}
 use Rattle.pq_fusion.proofs.piece.Piece.left_after.Goals as goal

@@ -1,5 +1,4 @@
-use Rattle.std.proofs.Common.{◌≡◌, ◌-◌, take, arith, subst, sym, IfOk}
-use Rattle.pq_fusion.specs.Pieces.{tolerant}
+use Rattle.std.proofs.Common.{◌≡◌, ◌-◌, take, arith, subst, IfOk}
 use Rattle.pq_fusion.proofs.Pairs.{sizes, few, take_later}
 use Rattle.pq_fusion.proofs.Prefixes.{sides_few, sides_are}
 use Rattle.pq_fusion.proofs.Ranges.{take_size}

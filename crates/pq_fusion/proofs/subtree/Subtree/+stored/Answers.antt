@@ -1,4 +1,4 @@
-use Rattle.std.proofs.Common.{◌≡◌, ◌+◌, ◌*◌, ◌≤◌, ◌^◌, length, arith}
+use Rattle.std.proofs.Common.{length, arith}
 use Rattle.retro_base.specs.BridgeTable.{added}
 use Rattle.pq_fusion.proofs.Pairs.{sizes, piece_is, some_earlier, some_later, run_piece_is, run_few, run_some}
 use Rattle.pq_fusion.proofs.Stored.{one_level, one_level_more, run_least, one_level_least, squares, one_square, added_few, added_parts, piece_count, piece_less}

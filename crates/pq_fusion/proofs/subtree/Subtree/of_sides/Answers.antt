@@ -1,8 +1,8 @@
-use Rattle.std.proofs.Common.{◌≡◌, arith, ap, subst, ◌∙◌, sym, refl}
+use Rattle.std.proofs.Common.{arith, ap, subst, ◌∙◌, sym, refl}
 use Rattle.retro_base.specs.declared.kind.Kind.TheVariants.{Pq}
 use Rattle.retro_base.specs.Timeline.{AreOfKind}
 use Rattle.pq_fusion.specs.Nodes.{IsPair}
-use Rattle.pq_fusion.specs.Pieces.{size_of, tolerant}
+use Rattle.pq_fusion.specs.Pieces.{size_of}
 use Rattle.pq_fusion.proofs.Sizes.{rows_size}
 use Rattle.pq_fusion.proofs.Rooted.{kind_of_rows, made_pair}
 use Rattle.pq_fusion.proofs.subtree.Subtree.of_sides.Goals as goal

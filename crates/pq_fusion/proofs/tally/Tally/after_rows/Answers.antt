@@ -1,6 +1,6 @@
-use Rattle.std.proofs.Common.{◌≡◌, ◌+◌, ◌∷◌, [], get_or, refl, arith}
+use Rattle.std.proofs.Common.{◌≡◌, refl, arith}
 use Rattle.pq_fusion.specs.Tallies.{tally_of}
-use Rattle.pq_fusion.proofs.Carried.{carries_none, carries_more, carries_all}
+use Rattle.pq_fusion.proofs.Carried.{carries_more, carries_all}
 use Rattle.pq_fusion.proofs.FromRows.{no_more}
 use Rattle.pq_fusion.proofs.Searched.{no_change, no_more_than, visits_more}
 use Rattle.pq_fusion.proofs.tally.Tally.after_rows.Goals as goal
