@@ -5,6 +5,7 @@ ghost use Rattle.checkpoint_full.specs.Checkpoints.{place_of, places_of, were_ma
 ghost use Rattle.checkpoint_full.specs.Rule.{between, with_room};
 ghost use Rattle.checkpoint_full.specs.Widths.{made_places, most_checkpoints, multiples_below, IsWidth};
 
+use crate::copies::Copies;
 use crate::snapshot::Snapshot;
 use crate::spares::stand_between;
 use retro_base::{NoMemory, Partial, Steps};
@@ -37,7 +38,7 @@ pub(crate) fn make<P: Partial + Drop, L: Ledger, M: Ledger>(
     present: &Snapshot<P>,
     width: u32,
     steps: &mut Steps<L>,
-    copies: &mut Steps<M>,
+    copies: &mut Copies<M>,
 ) -> Result<Vec<Snapshot<P>>, NoMemory>
     requires of_widths { IsWidth width }
     requires few { multiples_below width (place_of present.now) ≤ most_checkpoints }
@@ -98,7 +99,7 @@ pub(crate) fn make_room<P: Partial + Drop, L: Ledger, M: Ledger>(
     width: u32,
     place: u32,
     steps: &mut Steps<L>,
-    copies: &mut Steps<M>,
+    copies: &mut Copies<M>,
 ) -> Result<Option<usize>, NoMemory>
     requires of_widths { IsWidth width }
     requires within { place ≤ place_of present.now }

@@ -13,6 +13,7 @@ ghost use Rattle.checkpoint_full.specs.Copies.{CopiesEach};
 ghost use Rattle.checkpoint_full.specs.Rule.{latest_first, FollowsRule};
 ghost use Rattle.checkpoint_full.specs.Widths.{least_width, made_places, narrowest};
 
+use crate::copies::Copies;
 use crate::kept::{ask_kept, follow_kept, insert_kept, list_kept, remove_kept};
 use crate::reader::Reader;
 use crate::snapshot::Snapshot;
@@ -82,8 +83,8 @@ impl<P: Partial + Drop> Full<P> {
     /// The answer to a question about the state at a place, after so many rows. The rows stay, whatever the answer, and
     /// so do the checkpoints where they had been made; then it visits at most 432 nodes for each row after the nearest
     /// checkpoint that is not later and 144 more, and each binary digit of one more than the number of rows. So it never
-    /// visits more than 432 for each row of a width and one more. Right at a checkpoint, and after all rows, it takes no
-    /// memory and always answers. After `NoMemory` all is as before. It is `follow` and then `ask_counted`.
+    /// visits more than 432 for each row of a width and one more. Right at a checkpoint, and after all rows, it needs no
+    /// memory: it always answers. After `NoMemory` all is as before. It is `follow` and then `ask_counted`.
     pub fn ask_past<L: Ledger>(
         &mut self,
         place: u32,
@@ -134,19 +135,19 @@ impl<P: Partial + Drop> Full<P> {
         ensures here { self.old.made ≡ true → place ≡ nearest_to place (latest_first self.old) → IsOk result }
         ensures last { self.old.made ≡ true → place ≡ length self.old.rows → IsOk result }
     {
-        let mut copies = Steps::<M>::new(blank);
+        let mut copies = Copies::<M>::new(blank);
         self.follow(place, &mut copies);
         self.ask_counted(place, question, steps, &mut copies)
     }
 
     /// `ask_past` without following, which counts what it copies too: once the checkpoints were made it copies nothing, and
-    /// before that once for each checkpoint that it makes.
+    /// before that at most once for each checkpoint that it makes.
     pub fn ask_counted<L: Ledger, M: Ledger>(
         &mut self,
         place: u32,
         question: Question,
         steps: &mut Steps<L>,
-        copies: &mut Steps<M>,
+        copies: &mut Copies<M>,
     ) -> Result<Answer, NoMemory>
         requires within { place ≤ length self.old.rows }
         requires suited { suits question self.old.kind ≡ true }
@@ -182,7 +183,7 @@ impl<P: Partial + Drop> Full<P> {
     /// The place is to be asked next. Nothing that is seen changes. Where as many questions as the 32nd part of the width have
     /// followed one another, each at most 32 rows after the one before, it copies the nearest checkpoint, unless the copy
     /// that it has is near; a question then moves that copy from place to place.
-    pub fn follow<M: Ledger>(&mut self, place: u32, copies: &mut Steps<M>)
+    pub fn follow<M: Ledger>(&mut self, place: u32, copies: &mut Copies<M>)
         requires { place ≤ length self.old.rows }
         ensures same { self.new ≡ self.old }
         ensures few { copies.new ≤ copies.old + 1 }
@@ -204,7 +205,7 @@ impl<P: Partial + Drop> Full<P> {
         &mut self,
         place: u32,
         row: Row,
-        copies: &mut Steps<M>,
+        copies: &mut Copies<M>,
     ) -> Result<Change, NoMemory>
         requires within { place ≤ length self.old.rows }
         requires replayable { IsReplayable self.old.kind (insert self.old.rows place row) }
@@ -248,7 +249,7 @@ impl<P: Partial + Drop> Full<P> {
         ensures rule { OnOk result (FollowsRule self.old (add place row) self.new) }
         ensures err { OnErr result (self.new ≡ self.old) }
     {
-        let mut copies = Steps::<M>::new(blank);
+        let mut copies = Copies::<M>::new(blank);
         self.insert_counted(place, row, &mut copies)
     }
 
@@ -272,7 +273,7 @@ impl<P: Partial + Drop> Full<P> {
     pub fn all_counted<M: Ledger>(
         &mut self,
         place: u32,
-        copies: &mut Steps<M>,
+        copies: &mut Copies<M>,
     ) -> Result<Listing, NoMemory>
         requires { place ≤ length self.old.rows }
         ensures kind { self.new.kind ≡ self.old.kind }
@@ -334,7 +335,7 @@ impl<P: Partial + Drop> Full<P> {
         ensures places { self.old.made ≡ true → self.new ≡ self.old }
         ensures err { OnErr result (self.new ≡ self.old) }
     {
-        let mut copies = Steps::<M>::new(blank);
+        let mut copies = Copies::<M>::new(blank);
         self.follow(place, &mut copies);
         self.all_counted(place, &mut copies)
     }

@@ -14,6 +14,7 @@ ghost use Rattle.checkpoint_full.specs.Rule.{places_after_insertion, places_afte
 ghost use Rattle.checkpoint_full.specs.Widths.{least_width, made_places};
 
 use crate::checkpoints::{drop_made, make, make_room};
+use crate::copies::Copies;
 use crate::follow::{insert_everywhere, remove_everywhere};
 use crate::past::{ask_at, list_at, nearest_earlier};
 use crate::reader::Reader;
@@ -34,7 +35,7 @@ pub(crate) fn insert_kept<P: Partial + Drop, L: Ledger, M: Ledger>(
     place: u32,
     row: Row,
     blank: Blank,
-    copies: &mut Steps<M>,
+    copies: &mut Copies<M>,
 ) -> Result<Change, NoMemory>
     requires within { place ≤ place_of present.old }
     requires can { CanTake present.old place row }
@@ -119,7 +120,7 @@ pub(crate) fn ask_kept<P: Partial + Drop, L: Ledger, M: Ledger>(
     place: u32,
     question: Question,
     steps: &mut Steps<L>,
-    copies: &mut Steps<M>,
+    copies: &mut Copies<M>,
 ) -> Result<Answer, NoMemory>
     requires within { place ≤ place_of present.now }
     requires suited { suits question present.now.kind ≡ true }
@@ -172,7 +173,7 @@ pub(crate) fn list_kept<P: Partial + Drop, L: Ledger, M: Ledger>(
     reader: &mut Reader<P>,
     place: u32,
     blank: Blank,
-    copies: &mut Steps<M>,
+    copies: &mut Copies<M>,
 ) -> Result<Listing, NoMemory>
     requires within { place ≤ place_of present.now }
     requires keeps { KeepsRule width.old present.now checkpoints.old.items }
@@ -217,7 +218,7 @@ pub(crate) fn follow_kept<P: Partial + Drop, M: Ledger>(
     width: u32,
     reader: &mut Reader<P>,
     place: u32,
-    copies: &mut Steps<M>,
+    copies: &mut Copies<M>,
 )
     requires within { place ≤ place_of present.now }
     requires keeps { KeepsRule width present.now checkpoints.now }

@@ -15,20 +15,22 @@
 //! that is a width wide, a checkpoint is made in it and dropped again by turns. So there are never more than 31, and with
 //! those laid aside never more than 31 after an edit, however the timeline grows and shrinks.
 //!
-//! What is copied is counted: a structure can be reached only through `Snapshot` (`snapshot.rt`), each of whose calls that
-//! copies steps a counter. A question about the past (`ask_counted`, `all_counted`) copies nothing once the checkpoints were made, an insertion one
-//! checkpoint at the most, and none where one more row fits between the neighbours of its place. What the structure itself
-//! copies to answer `ask_after` is its own matter; that of `bridge_pq` copies nothing.
+//! What is copied is counted: a structure can be reached only through `Snapshot` (`snapshot.rt`), of whose calls each that
+//! copies steps a counter of copies alone (`Copies`). A question about the past (`ask_counted`, `all_counted`) copies
+//! nothing once the checkpoints were made, an insertion one checkpoint at the most, and none where one more row fits between
+//! the neighbours of its place. What the structure itself copies to answer `ask_after` is its own matter; that of
+//! `bridge_pq` copies nothing.
 //!
 //! A `Full` is seen as its kind and rows, whether its checkpoints were made, their width and their places, by
 //! `specs/Checkpoints.antt`. How far apart places may stand, and which are dropped, is `specs/Widths.antt`; what an edit
 //! leaves of the width and the places, `specs/Rule.antt`, over these and the number of rows alone. It implements `Retro`
 //! of `retro_base`; after `NoMemory` each call leaves all that is seen, and the rows of every checkpoint, as they were.
 //!
-//! - `Full`. The least width: `NARROWEST`. The most checkpoints: `MOST_CHECKPOINTS`.
+//! - `Full`. The counter of what is copied: `Copies`. The least width: `NARROWEST`. The most checkpoints: `MOST_CHECKPOINTS`.
 #![tactic(auto)]
 
 mod checkpoints;
+mod copies;
 mod follow;
 mod full;
 mod kept;
@@ -39,5 +41,6 @@ mod snapshot;
 mod spares;
 mod width;
 
+pub use copies::Copies;
 pub use full::Full;
 pub use width::{MOST_CHECKPOINTS, NARROWEST};

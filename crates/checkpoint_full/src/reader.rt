@@ -7,6 +7,7 @@ ghost use Rattle.retro_base.specs.Visits.{VisitsWithin};
 ghost use Rattle.checkpoint_full.specs.Checkpoints.{place_of, HoldsFirstRows};
 ghost use Rattle.checkpoint_full.specs.Copies.{close_by, IsCloseAfter};
 
+use crate::copies::Copies;
 use crate::snapshot::Snapshot;
 use retro_base::{Answer, Listing, NoMemory, Partial, Question, Steps};
 use std::marker::Model;
@@ -129,7 +130,7 @@ impl<P: Partial + Drop> Reader<P> {
         checkpoint: &Snapshot<P>,
         place: u32,
         width: u32,
-        copies: &mut Steps<M>,
+        copies: &mut Copies<M>,
     )
         requires earlier { place_of checkpoint.now ≤ place }
         ensures last { self.new.last ≡ place }

@@ -12,6 +12,7 @@ ghost use Rattle.retro_base.specs.Timeline.{IsReplayable};
 ghost use Rattle.retro_base.specs.Visits.{VisitsWithin};
 ghost use Rattle.checkpoint_full.specs.Checkpoints.{after, first_of, place_of, CanTake, HoldsFirstRows};
 
+use crate::copies::Copies;
 use retro_base::{
     Answer, Change, Kind, Listing, NoMemory, Op, Partial, Question, Row, Steps, uncounted,
 };
@@ -20,8 +21,9 @@ use std::sync::ledger::Ledger;
 
 /// A structure that contracts see as its kind and its rows.
 ///
-/// No other module sees the structure inside. Each call here that copies it steps a counter of copies, whether or not
-/// there was memory for one, so that a body elsewhere that copies without counting does not compile.
+/// No other module sees the structure inside. `copy` and `copy_at` alone copy it whole, and each steps a counter of copies,
+/// whether or not there was memory for one: a body elsewhere that copies and counts nothing, or counts it as a visit, does
+/// not compile. What the structure copies in its own `ask_after` and `list_after` is its own matter.
 #[derive(Drop)]
 pub(crate) struct Snapshot<P: Partial + Drop> {
     structure: P,
@@ -269,11 +271,11 @@ impl<P: Partial + Drop> Snapshot<P> {
     }
 
     /// A snapshot of the same rows, which is one copy.
-    pub(crate) fn copy<M: Ledger>(&self, copies: &mut Steps<M>) -> Result<Snapshot<P>, NoMemory>
+    pub(crate) fn copy<M: Ledger>(&self, copies: &mut Copies<M>) -> Result<Snapshot<P>, NoMemory>
         ensures copy { IfOk result (λ copy. copy ≡ self.now) }
         ensures counted { copies.new ≡ copies.old + 1 }
     {
-        copies.tick();
+        copies.count();
         Ok(Snapshot::new(self.structure.copy()?))
     }
 
@@ -282,7 +284,7 @@ impl<P: Partial + Drop> Snapshot<P> {
         &self,
         place: u32,
         steps: &mut Steps<L>,
-        copies: &mut Steps<M>,
+        copies: &mut Copies<M>,
     ) -> Result<Snapshot<P>, NoMemory>
         requires { place ≤ place_of self.now }
         ensures copy { IfOk result (λ copy. copy ≡ first_of place self.now) }

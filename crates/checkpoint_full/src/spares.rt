@@ -7,6 +7,7 @@ ghost use Rattle.checkpoint_full.specs.Checkpoints.{first_of, place_of, with_row
 ghost use Rattle.checkpoint_full.specs.Copies.{stands_within};
 ghost use Rattle.checkpoint_full.specs.Widths.{most_checkpoints};
 
+use crate::copies::Copies;
 use crate::follow::{insert_in_each, remove_in_each};
 use crate::snapshot::Snapshot;
 use crate::width::MOST_CHECKPOINTS;
@@ -82,7 +83,7 @@ pub(crate) fn stand_between<P: Partial + Drop, L: Ledger, M: Ledger>(
     later: &Snapshot<P>,
     place: u32,
     steps: &mut Steps<L>,
-    copies: &mut Steps<M>,
+    copies: &mut Copies<M>,
 ) -> Result<Snapshot<P>, NoMemory>
     requires first { AllByRecursion (HoldsFirstRows timeline.now) spares.old.items }
     requires later { HoldsFirstRows timeline.now later.now }

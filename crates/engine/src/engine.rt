@@ -17,7 +17,7 @@ ghost use Rattle.pq_fusion.specs.Searches.{VisitsUpTo};
 ghost use Rattle.engine.specs.Engine.{kind_inside, rows_inside, is_line, is_pq, is_fused, made_inside, places_inside, seen_inside, width_inside, KeepsStructure};
 
 use bridge_pq::BridgeQueue;
-use checkpoint_full::Full;
+use checkpoint_full::{Copies, Full};
 use pq_fusion::FusedQueue;
 use retro_base::{Answer, Change, Kind, Listing, NoMemory, Op, Question, Retro, Row, Steps};
 use retro_deque::RetroDeque;
@@ -148,13 +148,13 @@ impl Engine {
     }
 
     /// `ask_past` of one question alone, which counts what it copies too: a priority queue whose checkpoints were made copies
-    /// nothing, and before that once for each of them; nothing else is ever copied.
+    /// nothing, and before that at most once for each of them; nothing else is ever copied.
     pub fn ask_counted<L: Ledger, M: Ledger>(
         &mut self,
         place: u32,
         question: Question,
         steps: &mut Steps<L>,
-        copies: &mut Steps<M>,
+        copies: &mut Copies<M>,
     ) -> Result<Answer, NoMemory>
         requires within { place ≤ length (rows_inside self.old) }
         requires suited { suits question (kind_inside self.old) ≡ true }
@@ -192,7 +192,7 @@ impl Engine {
         &mut self,
         place: u32,
         row: Row,
-        copies: &mut Steps<M>,
+        copies: &mut Copies<M>,
     ) -> Result<Change, NoMemory>
         requires within { place ≤ length (rows_inside self.old) }
         requires replayable { IsReplayable (kind_inside self.old) (insert (rows_inside self.old) place row) }

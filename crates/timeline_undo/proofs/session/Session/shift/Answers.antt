@@ -1,4 +1,4 @@
-use Rattle.std.proofs.Common.{◌+◌, true, [], ◌∷◌, Some, inl, inr, ap, refl, sym, ◌∙◌, subst}
+use Rattle.std.proofs.Common.{◌+◌, [], ◌∷◌, Some, inl, inr, ap, refl, sym, ◌∙◌, subst}
 use Rattle.std.specs.Option.{option_map}
 use Rattle.timeline_undo.specs.Kept.{edit_of}
 use Rattle.timeline_undo.specs.Session.{IsSpentWithin, spent_with}
