@@ -1,5 +1,5 @@
 -- What is found at a bridge is what the edit flips.
-use Rattle.std.proofs.Common.{◌≡◌, ◌≢◌, ℕ, suc, ◌+◌, ◌-◌, ◌≤◌, true, false, List, length, cond, ◌⊎◌, inl, inr, refl, sym, ap, ◌∙◌, arith, subst, add-one, Option, Some, None}
+use Rattle.std.proofs.Common.{◌≡◌, ◌≢◌, ℕ, suc, ◌+◌, ◌-◌, ◌≤◌, true, false, List, length, cond, ◌⊎◌, inl, inr, refl, sym, ap, ◌∙◌, arith, subst, add-one, Some, None}
 use Rattle.std.specs.Prelude.{nat_lt, Contains}
 use Rattle.std.specs.List.{insert, remove, slice_get}
 use Rattle.std.proofs.lemmas.Bool.{cases_lt}
@@ -17,6 +17,7 @@ use Rattle.retro_base.specs.lemmas.bridges.EntryOrder.{before_irreflexive}
 use Rattle.retro_base.specs.lemmas.bridges.Chain.{at_most_trans}
 use Rattle.retro_base.specs.lemmas.bridges.LossTable.{added_take_loses, cut_dead_loses}
 use Rattle.retro_base.specs.lemmas.bridges.NamedChange.{added_entry_changes, added_take_changes, cut_take_changes, cut_dead_changes, cut_take_leaves_dead}
+use Rattle.retro_base.specs.lemmas.bridges.Histories.{some_same, none_some}
 use Rattle.bridge_pq.specs.Bridged.{AddsAt}
 use Rattle.bridge_pq.specs.Flips.{Flips}
 use Rattle.bridge_pq.proofs.LowestPlaces.{lt_true, lt_false}
@@ -25,12 +26,6 @@ use Rattle.bridge_pq.proofs.FlippedRows.{flip-gain, flip-loss}
 
 one_row : (rows : List Row) (place : ℕ) (a b : Row) → slice_get rows place ≡ Some a → slice_get rows place ≡ Some b → a ≡ b
 one_row rows place a b e f = cc
-
-some_one : {X : Type 0} {x y : X} (o : Option X) → o ≡ Some x → o ≡ Some y → x ≡ y
-some_one o e f = cc
-
-none_one : {X : Type 0} {x : X} (o : Option X) → o ≡ None → o ≡ Some x → ⊥
-none_one o e f = cc
 
 -- the place of a row after another one came in or went
 pub adds-with : (rows : List Row) (place p : ℕ) (row : Row) (e : Entry) → place ≤ length rows → AddsAt rows p e → AddsAt (insert rows place row) (cond (nat_lt p place) p (p + 1)) e
@@ -52,7 +47,7 @@ adds-without rows place p e other at = elim (cases_lt p place) [
 
 pub same-entry : (rows : List Row) (p : ℕ) (a b : Entry) → AddsAt rows p a → AddsAt rows p b → a ≡ b
 same-entry rows p a b first second =
-    some_one (added_by first.0) first.2 (ap added_by (one_row rows p first.0 second.0 first.1 second.1) ∙ second.2)
+    some_same (added_by first.0) first.2 (ap added_by (one_row rows p first.0 second.0 first.1 second.1) ∙ second.2)
 
 -- a row put in that adds
 module _ (rows : List Row) (place : ℕ) (row : Row) (new : Entry) (bridge : ℕ) (possible : IsPqEdit rows (add place row)) (adds : added_by row ≡ Some new) (last : IsLastBridge rows place bridge) where
@@ -109,7 +104,7 @@ some-with rows place row bridge possible accepted takes first none =
 takes_not : (rows : List Row) (place p : ℕ) (row : Row) (e : Entry) → slice_get rows place ≡ Some row → added_by row ≡ None → AddsAt rows p e → p ≢ place
 takes_not rows place p row e there takes at same =
     let here : at.0 ≡ row = one_row rows place at.0 row (subst (λ n. slice_get rows n ≡ Some at.0) same at.1) there in
-    none_one (added_by at.0) (ap added_by here ∙ takes) at.2
+    none_some (added_by at.0) (ap added_by here ∙ takes) at.2
 
 pub gain-without-place : (rows : List Row) (place : ℕ) (row : Row) (p : ℕ) (e : Entry) → IsPqEdit rows (cut place row) → added_by row ≡ None → AddsAt rows p e → p ≢ place
 gain-without-place rows place row p e possible takes at = takes_not rows place p row e possible.within takes at

@@ -11,6 +11,7 @@ use Rattle.retro_base.specs.State.{comes_before, with_entry}
 use Rattle.retro_base.specs.lemmas.EntrySteps.{in_order_with}
 use Rattle.retro_base.specs.lemmas.bridges.EntryOrder.{before_irreflexive, before_transitive, before_or_after, same_or_other}
 use Rattle.retro_base.specs.lemmas.bridges.Entries.{with_first, with_later, with_swapped}
+use Rattle.retro_base.specs.lemmas.CountedEntries.{with_length}
 use Rattle.bridge_pq.specs.declared.marked_entry.MarkedEntry.{MarkedEntry}
 use Rattle.bridge_pq.specs.MarkedEntries.{entries_in, present_in}
 use Rattle.bridge_pq.specs.Gathered.{with_all, in_front, fresh_first, HeldLater, IsHeld, IsTaken}
@@ -52,17 +53,10 @@ unfolding with_all
 gathered_in_order [] others order = order
 gathered_in_order (e ∷ entries) others order = in_order_with e (with_all entries others) (gathered_in_order entries others order)
 
-pub length_put : (e : Entry) (xs : List Entry) → length (with_entry e xs) ≡ suc (length xs)
-length_put e [] = refl
-length_put e (x ∷ xs) = elim (comes_before e x) as (λ b. length (cond b (e ∷ x ∷ xs) (x ∷ with_entry e xs)) ≡ suc (suc (length xs))) [
-  | true ↦ refl
-  | false ↦ ap suc (length_put e xs)
-]
-
 pub length_gathered : (entries others : List Entry) → length (with_all entries others) ≡ length entries + length others
 unfolding with_all
 length_gathered [] others = omega arith
-length_gathered (e ∷ entries) others = omega (arith, length_put e (with_all entries others), length_gathered entries others)
+length_gathered (e ∷ entries) others = omega (arith, with_length e (with_all entries others), length_gathered entries others)
 
 -- one more among the first ones is one more of all
 pub gathered_with : (e : Entry) (entries others : List Entry) → with_all (with_entry e entries) others ≡ with_entry e (with_all entries others)

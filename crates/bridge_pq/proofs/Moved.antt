@@ -21,6 +21,7 @@ use Rattle.retro_base.specs.Limits.{most_rows}
 use Rattle.retro_base.specs.State.{entries, with_entry}
 use Rattle.retro_base.specs.Weights.{added_by}
 use Rattle.retro_base.specs.lemmas.bridges.Moves.{Leads}
+use Rattle.retro_base.specs.lemmas.CountedEntries.{with_length}
 use Rattle.bridge_pq.specs.declared.marked_entry.MarkedEntry.{MarkedEntry}
 use Rattle.bridge_pq.specs.declared.marked_row.MarkedRow.{MarkedRow}
 use Rattle.bridge_pq.specs.Gathered.{additions, after_moves, moves_from, IsEarlier, IsTaken}
@@ -28,7 +29,6 @@ use Rattle.bridge_pq.specs.MarkedEntries.{present_in}
 use Rattle.bridge_pq.specs.MarkedRows.{rows_of}
 use Rattle.bridge_pq.proofs.Costs.{some_digits}
 use Rattle.bridge_pq.proofs.CursorEntries.{count_within, drop_first}
-use Rattle.bridge_pq.proofs.GatheredEntries.{length_put}
 
 rows_part : (rows : List MarkedRow) (from count : ℕ) → map (λ (item : MarkedRow). added_by item.row) (take count (drop from rows)) ≡ map added_by (take count (drop from (rows_of rows)))
 rows_part [] zero zero = refl
@@ -92,7 +92,7 @@ leads_there (None ∷ moves) (x ∷ held) end leads = leads_there moves held end
 
 pub grown : (moves : List (Option Entry)) (held end : List Entry) → Leads moves held end → length end + length moves ≡ length held + 2 * additions moves
 grown [] held end leads = omega (arith, ap (λ (l : List Entry). length l) leads)
-grown (Some entry ∷ moves) held end leads = omega (arith, grown moves (with_entry entry held) end leads, length_put entry held)
+grown (Some entry ∷ moves) held end leads = omega (arith, grown moves (with_entry entry held) end leads, with_length entry held)
 grown (None ∷ moves) [] end leads = absurd leads
 grown (None ∷ moves) (x ∷ held) end leads = omega (arith, grown moves held end leads)
 

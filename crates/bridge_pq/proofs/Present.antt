@@ -1,7 +1,7 @@
 -- What a queue by bridges answers of the present, and its empty start.
 use Rattle.std.proofs.Common.{◌≡◌, ℕ, zero, suc, ◌+◌, ◌<◌, ◌≤◌, pos, true, false, Bool, cond, List, [], ◌∷◌, ◌++◌, length, map, drop, refl, sym, ap, ◌∙◌, arith, Some, length-append}
 use Rattle.std.specs.Prelude.{Contains, not}
-use Rattle.std.specs.List.{remove, slice_get, AllByRecursion}
+use Rattle.std.specs.List.{remove, slice_get}
 use Rattle.std.specs.Option.{option_map}
 use Rattle.std.specs.Result.{result_err}
 use Rattle.std.specs.Prelude.{Result, Ok, Err}
@@ -24,6 +24,7 @@ use Rattle.retro_base.specs.lemmas.Folds.{err_within}
 use Rattle.retro_base.specs.lemmas.Replayable.{empty_replayable}
 use Rattle.retro_base.specs.lemmas.bridges.Entries.{contains_in, in_contains}
 use Rattle.retro_base.specs.lemmas.bridges.Tests.{in_is_among, is_among_in}
+use Rattle.retro_base.specs.OrderLaws.{all_at}
 use Rattle.bridge_pq.specs.declared.marked_row.MarkedRow.{MarkedRow}
 use Rattle.bridge_pq.specs.declared.marked_entry.MarkedEntry.{MarkedEntry}
 use Rattle.bridge_pq.specs.Bridged.{IsBridged}
@@ -48,11 +49,6 @@ err_of (Err j) i fails = let same : j ≡ i = cc in ap (λ k. Err k) same
 pub fails-without : (rows : List Row) (place i : ℕ) → place < length rows → failure Pq (remove rows place) ≡ Some i → i + 1 < length rows
 fails-without rows place i within fails =
     omega (arith, length-remove rows place within, err_within step (remove rows place) (empty Pq) i (err_of (run (remove rows place) (empty Pq)) i fails))
-
-all_at : {X : Type 0} (P : X → Type 0) (xs : List X) (index : ℕ) (x : X) → AllByRecursion P xs → slice_get xs index ≡ Some x → P x
-all_at P [] index x all there = absurd (cc)
-all_at P (y ∷ ys) zero x all there = let same : y ≡ x = cc in rw same at all.0
-all_at P (y ∷ ys) (suc index) x all there = all_at P ys index x all.1 there
 
 module _ (items : List MarkedRow) (kept : List MarkedEntry) (bridged : IsBridged items kept) where
   -- the present is reported by the marks

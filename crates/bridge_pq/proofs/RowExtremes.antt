@@ -16,10 +16,12 @@ use Rattle.retro_base.specs.BridgeTable.{added, IsDeadFrom, IsSurvivorBefore, Is
 use Rattle.retro_base.specs.Weights.{added_by}
 use Rattle.retro_base.specs.lemmas.bridges.Entries.{In, contains_in, in_contains}
 use Rattle.retro_base.specs.lemmas.bridges.Tests.{in_is_among, is_among_in}
+use Rattle.retro_base.specs.lemmas.bridges.Histories.{some_same}
 use Rattle.bridge_pq.specs.declared.marked_row.MarkedRow.{MarkedRow}
 use Rattle.bridge_pq.specs.Bridged.{AddsAt}
 use Rattle.bridge_pq.specs.MarkedRows.{rows_of, is_one_of, AreMarked, dead_in, alive_in}
 use Rattle.bridge_pq.proofs.RowMeasures.{dead_of, alive_of, map-take, map-drop}
+use Rattle.bridge_pq.proofs.CursorEntries.{get_drop}
 
 -- marks of parts
 pub marked-drop : (alive : List Entry) (items : List MarkedRow) (n : ℕ) → AreMarked alive items → AreMarked alive (drop n items)
@@ -32,9 +34,6 @@ marked-take alive items zero marked = tt
 marked-take alive [] (suc n) marked = tt
 marked-take alive (item ∷ items) (suc n) marked = (marked.0, marked-take alive items n marked.1)
 
-some_both : {X : Type 0} {x y : X} (o : Option X) → o ≡ Some x → o ≡ Some y → x ≡ y
-some_both o e f = cc
-
 some_some : {X : Type 0} {x : X} {m : Option X} (o : Option (Option X)) → o ≡ Some (Some x) → o ≡ Some m → Some x ≡ m
 some_some o e f = cc
 
@@ -43,12 +42,12 @@ module _ (alive : List Entry) where
   dead_is : (survives : Bool) (m : Option Entry) (x : Entry) → survives ≡ is_one_of alive m → dead_in survives m ≡ Some x → (m ≡ Some x) × (is_among alive x ≡ false)
   dead_is true m x mark is = absurd (cc)
   dead_is false None x mark is = absurd (cc)
-  dead_is false (Some y) x mark is = let same : y ≡ x = some_both _ refl is in (is, sym (mark ∙ ap (is_among alive) same))
+  dead_is false (Some y) x mark is = let same : y ≡ x = some_same _ refl is in (is, sym (mark ∙ ap (is_among alive) same))
 
   alive_is : (survives : Bool) (m : Option Entry) (x : Entry) → survives ≡ is_one_of alive m → alive_in survives m ≡ Some x → (m ≡ Some x) × (is_among alive x ≡ true)
   alive_is false m x mark is = absurd (cc)
   alive_is true None x mark is = absurd (cc)
-  alive_is true (Some y) x mark is = let same : y ≡ x = some_both _ refl is in (is, sym (mark ∙ ap (is_among alive) same))
+  alive_is true (Some y) x mark is = let same : y ≡ x = some_same _ refl is in (is, sym (mark ∙ ap (is_among alive) same))
 
   is_dead : (survives : Bool) (x : Entry) → survives ≡ is_among alive x → is_among alive x ≡ false → dead_in survives (Some x) ≡ Some x
   is_dead true x mark outside = let wrong : true ≡ false = mark ∙ outside in absurd (cc)
@@ -117,7 +116,7 @@ module _ (alive : List Entry) where
 -- an entry that a row adds is among the added ones
 adds_here : (rows : List Row) (row first : Row) (x : Entry) → added_by row ≡ Some x → Some first ≡ Some row → In x (added (first ∷ rows))
 adds_here rows row first x adds same =
-    let is : added_by first ≡ Some x = ap added_by (some_both (Some first) refl same) ∙ adds in
+    let is : added_by first ≡ Some x = ap added_by (some_same (Some first) refl same) ∙ adds in
     subst (λ m. In x (cons_option m (added rows))) (sym is) (inl refl)
 
 adds_later : (rows : List Row) (first : Row) (x : Entry) → In x (added rows) → In x (added (first ∷ rows))
@@ -127,11 +126,6 @@ pub adds-in : (rows : List Row) (place : ℕ) (row : Row) (x : Entry) → slice_
 adds-in [] place row x at adds = absurd (cc)
 adds-in (first ∷ rows) zero row x at adds = adds_here rows row first x adds at
 adds-in (first ∷ rows) (suc place) row x at adds = adds_later rows first x (adds-in rows place row x at adds)
-
-get_drop : {A : Type 0} (xs : List A) (n k : ℕ) → slice_get (drop n xs) k ≡ slice_get xs (n + k)
-get_drop xs zero k = ap (slice_get xs) (let same : k ≡ 0 + k = omega arith in same)
-get_drop [] (suc n) k = refl
-get_drop (x ∷ xs) (suc n) k = get_drop xs n k ∙ ap (slice_get (x ∷ xs)) (let same : suc (n + k) ≡ suc n + k = omega arith in same)
 
 get_take : {A : Type 0} (xs : List A) (n k : ℕ) (x : A) → slice_get (take n xs) k ≡ Some x → slice_get xs k ≡ Some x
 get_take xs zero k x at = absurd (cc)

@@ -1,16 +1,14 @@
 -- The first rows of a timeline: how they grow by its next row, and what they are after an edit of it.
-use Rattle.std.proofs.Common.{◌≡◌, ◌≢◌, ℕ, zero, suc, ◌+◌, ◌-◌, ◌<◌, ◌≤◌, List, [], ◌∷◌, length, take, slice_get, refl, sym, subst, ap, ◌∙◌, arith, Some}
+use Rattle.std.proofs.Common.{◌≡◌, ℕ, zero, suc, ◌+◌, ◌-◌, ◌<◌, ◌≤◌, List, [], ◌∷◌, length, take, slice_get, refl, sym, subst, ap, ◌∙◌, arith, Some}
 use Rattle.std.specs.List.{insert, remove}
 use Rattle.std.proofs.lemmas.List.{length-take, length-take-le}
-use Rattle.std.proofs.lemmas.List.Edits.{insert_end}
 use Rattle.retro_base.specs.declared.kind.Kind.{Kind}
 use Rattle.retro_base.specs.declared.row.Row.{Row}
 use Rattle.retro_base.specs.Edits.{add}
-use Rattle.retro_base.specs.Kind.{kind_of}
-use Rattle.retro_base.specs.PrefixLaws.{valid_take, take_more, taken_below}
+use Rattle.retro_base.specs.PrefixLaws.{valid_take}
 use Rattle.retro_base.specs.Replay.{IsValid}
-use Rattle.retro_base.specs.Timeline.{HaveOwnNumbers, IsReplayable, Structure}
-use Rattle.retro_base.specs.lemmas.Replayable.{all_before}
+use Rattle.retro_base.specs.Timeline.{IsReplayable, Structure}
+use Rattle.retro_base.specs.lemmas.FirstRows.{insert_next, replayable_first}
 use Rattle.checkpoint_full.specs.Checkpoints.{after, first_of, place_of, CanTake, HoldsFirstRows}
 
 pub same_structure : (kind other : Kind) (rows others : List Row) → kind ≡ other → rows ≡ others
@@ -39,25 +37,6 @@ without_last xs some = remove_last xs (length xs - 1) (omega arith)
 -- the last row can be taken off
 pub last_can_go : (kind : Kind) (rows : List Row) → 0 < length rows → IsReplayable kind rows → IsValid kind (remove rows (length rows - 1))
 last_can_go kind rows some replayable = rw (without_last rows some) (valid_take kind rows (length rows - 1) replayable.valid)
-
--- the first rows replay as all do
-own_numbers_first : (rows : List Row) (count : ℕ) → HaveOwnNumbers rows → HaveOwnNumbers (take count rows)
-own_numbers_first rows zero own = tt
-own_numbers_first [] (suc count) own = tt
-own_numbers_first (row ∷ rows) (suc count) own = (all_before (λ r. r.number ≢ row.number) rows count own.0, own_numbers_first rows count own.1)
-
-pub replayable_first : (kind : Kind) (rows : List Row) (count : ℕ) → IsReplayable kind rows → IsReplayable kind (take count rows)
-replayable_first kind rows count replayable = record {
-  few = omega (arith, length-take count rows, replayable.few);
-  of_kind = all_before (λ r. kind_of r.op ≡ kind) rows count replayable.of_kind;
-  own_numbers = own_numbers_first rows count replayable.own_numbers;
-  valid = valid_take kind rows count replayable.valid;
-}
-
-insert_next : (rows : List Row) (index : ℕ) (row : Row) → slice_get rows index ≡ Some row → insert (take index rows) index row ≡ take (index + 1) rows
-insert_next rows index row there =
-    subst (λ (i : ℕ). insert (take index rows) i row ≡ take (index + 1) rows) (taken_below rows index row there).0
-    (insert_end (take index rows) row ∙ sym (take_more rows index row there))
 
 -- the next row of a timeline can be appended to those before it
 pub next_can_come : (now : Structure) (index : ℕ) (row : Row) → IsReplayable now.kind now.rows → slice_get now.rows index ≡ Some row → CanTake (first_of index now) index row
@@ -126,12 +105,6 @@ remove_after_first xs zero place less = refl
 remove_after_first xs (suc count) zero less = absurd (omega arith)
 remove_after_first [] (suc count) (suc place) less = refl
 remove_after_first (y ∷ ys) (suc count) (suc place) less = ap (λ zs. y ∷ zs) (remove_after_first ys count place (omega arith))
-
--- an element that was put in is taken out
-pub taken_back : {X : Type 0} (xs : List X) (place : ℕ) (x : X) → place ≤ length xs → remove (insert xs place x) place ≡ xs
-taken_back xs zero x within = refl
-taken_back [] (suc place) x within = absurd (omega arith)
-taken_back (y ∷ ys) (suc place) x within = ap (λ zs. y ∷ zs) (taken_back ys place x (omega arith))
 
 -- the rows of a checkpoint are the first ones, and no more than all
 pub rows_of_first : (now checkpoint : Structure) → HoldsFirstRows now checkpoint → checkpoint.rows ≡ take (place_of checkpoint) now.rows

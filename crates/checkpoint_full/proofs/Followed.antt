@@ -9,8 +9,10 @@ use Rattle.retro_base.specs.Edits.{add, cut}
 use Rattle.retro_base.specs.PrefixLaws.{valid_take}
 use Rattle.retro_base.specs.Replay.{IsValid}
 use Rattle.retro_base.specs.Timeline.{Structure}
+use Rattle.retro_base.specs.EditedLists.{remove-insert}
+use Rattle.retro_base.specs.lemmas.FirstRows.{replayable_first}
 use Rattle.checkpoint_full.specs.Checkpoints.{after, place_of, CanTake, CanFollow, CanLose, HoldsFirstRows, with_row, without_row}
-use Rattle.checkpoint_full.proofs.FirstRows.{same_structure, insert_in_first, insert_after_first, remove_in_first, remove_after_first, taken_back, replayable_first, rows_of_first, kind_of_first, not_after_now}
+use Rattle.checkpoint_full.proofs.FirstRows.{same_structure, insert_in_first, insert_after_first, remove_in_first, remove_after_first, rows_of_first, kind_of_first, not_after_now}
 
 -- a checkpoint that stands after the place, and one that does not
 pub row_comes : (place : ℕ) (row : Row) (checkpoint : Structure) → place < place_of checkpoint → with_row place row checkpoint ≡ after checkpoint (add place row)
@@ -72,7 +74,7 @@ pub back_again : (place : ℕ) (row : Row) (checkpoint : Structure) → without_
 back_again place row checkpoint = elim (cases_lt place (place_of checkpoint)) [
   | inl less ↦ rw (row_comes place row checkpoint less)
       (row_goes place (after checkpoint (add place row)) (omega (arith, length-insert checkpoint.rows place row (omega arith)))
-      ∙ same_structure checkpoint.kind checkpoint.kind _ _ refl (taken_back checkpoint.rows place row (omega arith)))
+      ∙ same_structure checkpoint.kind checkpoint.kind _ _ refl (remove-insert checkpoint.rows place row (omega arith)))
   | inr less ↦ rw (row_stays_out place row checkpoint less) (row_was_out place checkpoint less)
 ]
 
@@ -89,7 +91,7 @@ all_as_before place row count old front back rest changed others gone =
 
 can_go_back : (place : ℕ) (row : Row) (checkpoint : Structure) → CanFollow place row checkpoint → CanLose place (with_row place row checkpoint)
 can_go_back place row checkpoint can = elim (cases_lt place (place_of checkpoint)) [
-  | inl less ↦ rw (row_comes place row checkpoint less) (λ _. rw (taken_back checkpoint.rows place row (omega arith)) (can less).1)
+  | inl less ↦ rw (row_comes place row checkpoint less) (λ _. rw (remove-insert checkpoint.rows place row (omega arith)) (can less).1)
   | inr less ↦ rw (row_stays_out place row checkpoint less) (λ more. absurd (omega arith))
 ]
 
@@ -104,12 +106,12 @@ each_can_go_back place row (suc count) (checkpoint ∷ checkpoints) all =
 pub now_back_again : (now later back : Structure) (place : ℕ) (row taken : Row) → place ≤ place_of now → later ≡ after now (add place row) → back ≡ after later (cut place taken)
     → back ≡ now
 now_back_again now later back place row taken within put gone =
-    gone ∙ ap (λ (s : Structure). after s (cut place taken)) put ∙ same_structure now.kind now.kind _ _ refl (taken_back now.rows place row within)
+    gone ∙ ap (λ (s : Structure). after s (cut place taken)) put ∙ same_structure now.kind now.kind _ _ refl (remove-insert now.rows place row within)
 
 pub now_can_go_back : (now later : Structure) (place : ℕ) (row : Row) → place ≤ place_of now → later ≡ after now (add place row) → IsValid now.kind now.rows
     → IsValid later.kind (remove later.rows place)
 now_can_go_back now later place row within put valid =
-    subst (λ (s : Structure). IsValid s.kind (remove s.rows place)) (sym put) (rw (taken_back now.rows place row within) valid)
+    subst (λ (s : Structure). IsValid s.kind (remove s.rows place)) (sym put) (rw (remove-insert now.rows place row within) valid)
 
 -- each holds the first rows of the edited timeline
 first_with : (now checkpoint : Structure) (place : ℕ) (row : Row) → HoldsFirstRows now checkpoint → HoldsFirstRows (after now (add place row)) (with_row place row checkpoint)

@@ -10,9 +10,10 @@ use Rattle.retro_base.specs.Edits.{edited, IsAccepted}
 use Rattle.retro_base.specs.Bridges.{same_entry, stated_bridge}
 use Rattle.retro_base.specs.Changes.{change_of}
 use Rattle.retro_base.specs.Replay.{failure}
+use Rattle.retro_base.specs.lemmas.bridges.EntryOrder.{same_entry-same}
 use Rattle.evidence.specs.declared.evidence.Evidence.{Evidence}
 use Rattle.evidence_check.specs.Truth.{bridge_of, cause_of, has_wrong_number, has_wrong_op, is_full, is_outside, same_bridge, same_change, reported_edit}
-use Rattle.evidence_check.proofs.EntryOrder.{both_true, same_is}
+use Rattle.evidence_check.proofs.EntryOrder.{both_true}
 
 passes : {X : Type 0} (test : Bool) (x : X) (o : Option X) → cond test (Some x) o ≡ None → (test ≡ false) × (o ≡ None)
 passes true x o none = absurd (cc)
@@ -42,10 +43,10 @@ same_change_is (Lose b e) Plain same = absurd (cc)
 same_change_is (Lose b e) (Gain c f) same = absurd (cc)
 same_change_is (Gain b e) (Gain c f) same =
     let parts = both_true (b == c) (same_entry e f) same in
-    rw ((Decides-eqb b c).0 parts.0, same_is e f parts.1) refl
+    rw ((Decides-eqb b c).0 parts.0, same_entry-same e f parts.1) refl
 same_change_is (Lose b e) (Lose c f) same =
     let parts = both_true (same_bridge b c) (same_entry e f) same in
-    rw (same_bridge_is b c parts.0, same_is e f parts.1) refl
+    rw (same_bridge_is b c parts.0, same_entry-same e f parts.1) refl
 
 -- the tests that failed, and the change
 pub record Accepted (rows : List Row) (e : Evidence) : Type 0 where

@@ -14,9 +14,9 @@ use Rattle.retro_base.specs.Weights.{added_as}
 use Rattle.evidence_check.specs.declared.marked_row.MarkedRow.{MarkedRow}
 use Rattle.evidence_check.specs.Marks.{adds, rows_of, with_mark}
 use Rattle.evidence_check.specs.Parts.{marked_at}
-use Rattle.evidence_check.proofs.EntryOrder.{same_is}
-use Rattle.evidence_check.proofs.Weighing.{all_at}
 use Rattle.retro_base.specs.Timeline.{HaveOwnNumbers, IsFresh}
+use Rattle.retro_base.specs.OrderLaws.{all_at}
+use Rattle.retro_base.specs.lemmas.bridges.EntryOrder.{same_entry-same}
 use Rattle.evidence_check.specs.Truth.{has_number}
 
 -- the numbers of rows with one more
@@ -63,7 +63,7 @@ hit_number : (entry : Entry) (row : MarkedRow) → adds entry row ≡ true → r
 hit_number entry row hit = added_by_op row.op hit
   where
     added_by_op : (op : Op) → option_map_or (same_entry entry) (added_as op row.number) false ≡ true → row.number ≡ entry.number
-    added_by_op (Ins key) is = ap (λ e. e.number) (sym (same_is entry (record { key = key; number = row.number }) is))
+    added_by_op (Ins key) is = ap (λ e. e.number) (sym (same_entry-same entry (record { key = key; number = row.number }) is))
     added_by_op DelMin is = absurd (cc)
     added_by_op (Enq v) is = absurd (cc)
     added_by_op Deq is = absurd (cc)

@@ -18,12 +18,12 @@ use Rattle.retro_base.specs.Kind.{kind_of}
 use Rattle.retro_base.specs.Limits.{most_rows}
 use Rattle.retro_base.specs.Replay.{failure}
 use Rattle.retro_base.specs.Timeline.{IsFresh}
+use Rattle.retro_base.specs.OrderLaws.{all_at}
 use Rattle.evidence.specs.declared.evidence.Evidence.{Evidence}
 use Rattle.evidence_check.specs.Laws.{HasRoom, IsReported, evidence_for, timeless, without_time}
 use Rattle.evidence_check.specs.Truth.{bridge_of, cause_of, change_cause, has_number, has_wrong_number, has_wrong_op, is_full, is_outside, same_op, reported_edit}
 use Rattle.evidence_check.proofs.Timeless.{change_timeless, edited_timeless, failure_timeless, get_timeless, length_timeless, stated_timeless, timeless_edit}
 use Rattle.evidence_check.proofs.TrueEvidence.{bridge_itself, change_itself, states}
-use Rattle.evidence_check.proofs.Weighing.{all_at}
 
 -- no row has a fresh number
 none_has : (number : ℕ) (rows : List Row) → IsFresh number rows → has_number number (timeless rows) ≡ false

@@ -1,12 +1,11 @@
 -- Entries are in one order, and the test whether two are one says so.
 use Rattle.std.proofs.Common.{◌≡◌, ℕ, ℤ, Bool, true, false, ◌&&◌, ◌||◌, refl, arith}
-use Rattle.std.specs.Prelude.{◌==◌, int_lt, nat_lt}
+use Rattle.std.specs.Prelude.{int_lt, nat_lt}
 use Rattle.std.specs.Ordering.{int_eq}
-use Rattle.std.proofs.lemmas.Bool.Decides.{Decides-int_eq, Decides-eqb, nat_tests}
+use Rattle.std.proofs.lemmas.Bool.Decides.{nat_tests}
 use Rattle.std.proofs.lemmas.Int.{ints}
 use Rattle.retro_base.specs.declared.row.Entry.{Entry}
 use Rattle.retro_base.specs.State.{comes_before}
-use Rattle.retro_base.specs.Bridges.{same_entry}
 
 -- the order of pairs of a key and a number
 abbrev pair_before : ℤ → ℕ → ℤ → ℕ → Bool
@@ -21,15 +20,8 @@ pair_passed_on k m l n j o first second = grind (arith, ints, nat_tests)
 pair_one_way : (k : ℤ) (m : ℕ) (l : ℤ) (n : ℕ) → pair_before k m l n ≡ true → pair_before l n k m ≡ false
 pair_one_way k m l n first = grind (arith, ints, nat_tests)
 
--- no entry is less than itself; that none is less than the next one is passed on
-pub not_itself : (a : Entry) → comes_before a a ≡ false
-not_itself a = pair_not_itself a.key a.number
-
 pub passed_on : (a b c : Entry) → comes_before a b ≡ false → comes_before b c ≡ false → comes_before a c ≡ false
 passed_on a b c first second = pair_passed_on a.key a.number b.key b.number c.key c.number first second
-
-pub one_way : (a b : Entry) → comes_before a b ≡ true → comes_before b a ≡ false
-one_way a b first = pair_one_way a.key a.number b.key b.number first
 
 pub both_true : (a b : Bool) → (a && b) ≡ true → (a ≡ true) × (b ≡ true)
 both_true true b h = (refl, h)
@@ -37,11 +29,3 @@ both_true false b h = absurd (cc)
 
 pub entry_of_parts : (k l : ℤ) (m n : ℕ) → k ≡ l → m ≡ n → ◌≡◌ {A = Entry} (record { key = k; number = m }) (record { key = l; number = n })
 entry_of_parts k l m n key number = rw (key, number) refl
-
-pub same_is : (a b : Entry) → same_entry a b ≡ true → a ≡ b
-same_is a b same =
-    let parts = both_true (int_eq a.key b.key) (a.number == b.number) same in
-    entry_of_parts a.key b.key a.number b.number ((Decides-int_eq a.key b.key).0 parts.0) ((Decides-eqb a.number b.number).0 parts.1)
-
-pub is_itself : (a : Entry) → same_entry a a ≡ true
-is_itself a = rw ((Decides-int_eq a.key a.key).1 refl, (Decides-eqb a.number a.number).1 refl) refl

@@ -21,13 +21,13 @@ use Rattle.retro_base.specs.Replay.{fold_rows}
 use Rattle.retro_base.specs.ReplayableLaws.{replayable_with, replayable_without}
 use Rattle.retro_base.specs.State.{with_entry}
 use Rattle.retro_base.specs.Timeline.{AreOfKind, IsFresh, IsReplayable}
+use Rattle.retro_base.specs.lemmas.bridges.EntryOrder.{same_entry-same, same_entry-refl}
 use Rattle.evidence.specs.declared.evidence.Evidence.{Evidence}
 use Rattle.evidence.specs.Evidence.{IsEvidence, IsPqOp}
 use Rattle.evidence_check.specs.declared.marked_row.MarkedRow.{MarkedRow}
 use Rattle.evidence_check.specs.Marks.{MarksSurvivors, IsMarked, adds, changed_marks, edited_rows, entry_of, marked_row, row_of, rows_of, with_mark}
 use Rattle.evidence_check.specs.Truth.{cause_of, edit_with, is_full, is_outside, has_wrong_number, rows_after, reported_edit}
 use Rattle.evidence_check.proofs.Accepted.{accepted_from}
-use Rattle.evidence_check.proofs.EntryOrder.{is_itself, same_is}
 use Rattle.evidence_check.proofs.Survivors.{fresh_entry}
 use Rattle.evidence_check.proofs.Marking.{insert_rows, length_rows, remove_rows}
 use Rattle.evidence_check.proofs.Members.{absent_among, among_with}
@@ -47,7 +47,7 @@ all_map P Q f (x ∷ xs) each all = (each x all.0, all_map P Q f xs each all.1)
 
 pub other_way : (a b : Entry) → same_entry a b ≡ false → same_entry b a ≡ false
 other_way a b other = elim (same_entry b a) as (λ t. same_entry b a ≡ t → t ≡ false) [
-  | true ↦ λ same. let wrong : true ≡ false = sym (is_itself a) ∙ ap (same_entry a) (sym (same_is b a same)) ∙ other in absurd (cc)
+  | true ↦ λ same. let wrong : true ≡ false = sym (same_entry-refl a) ∙ ap (same_entry a) (sym (same_entry-same b a same)) ∙ other in absurd (cc)
   | false ↦ λ differs. refl
 ] refl
 
@@ -58,11 +58,11 @@ module _ (entry : Entry) (fewer : List Entry) where
 
   hit_more : (o : Option Entry) → option_map_or (same_entry entry) o false ≡ true → true ≡ option_map_or (is_among (with_entry entry fewer)) o false
   hit_more None hit = absurd (cc)
-  hit_more (Some x) hit = sym (among_with x entry fewer ∙ rw (same_is entry x hit, is_itself x) refl)
+  hit_more (Some x) hit = sym (among_with x entry fewer ∙ rw (same_entry-same entry x hit, same_entry-refl x) refl)
 
   hit_fewer : is_among fewer entry ≡ false → (o : Option Entry) → option_map_or (same_entry entry) o false ≡ true → false ≡ option_map_or (is_among fewer) o false
   hit_fewer absent None hit = absurd (cc)
-  hit_fewer absent (Some x) hit = sym (ap (is_among fewer) (sym (same_is entry x hit)) ∙ absent)
+  hit_fewer absent (Some x) hit = sym (ap (is_among fewer) (sym (same_entry-same entry x hit)) ∙ absent)
 
   missed : (o : Option Entry) → option_map_or (same_entry entry) o false ≡ false → option_map_or (is_among fewer) o false ≡ option_map_or (is_among (with_entry entry fewer)) o false
   missed None miss = refl

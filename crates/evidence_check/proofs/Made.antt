@@ -17,6 +17,7 @@ use Rattle.retro_base.specs.OrderLaws.{own_numbers_with}
 use Rattle.retro_base.specs.Replay.{fold_rows}
 use Rattle.retro_base.specs.Timeline.{HaveOwnNumbers}
 use Rattle.retro_base.specs.Weights.{added_as, added_by}
+use Rattle.retro_base.specs.lemmas.bridges.EntryOrder.{same_entry-refl}
 use Rattle.evidence.specs.declared.evidence.Evidence.{Evidence}
 use Rattle.evidence_check.specs.declared.marked_row.MarkedRow.{MarkedRow}
 use Rattle.evidence_check.specs.Changed.{IsChanged, changed_entry, is_gain, marked_where, moved_place}
@@ -25,7 +26,6 @@ use Rattle.evidence_check.specs.Marks.{adds, alive_entry, changed_marks, dead_en
 use Rattle.evidence_check.specs.Parts.{marked_at, shows_at}
 use Rattle.evidence_check.specs.Truth.{has_number, has_wrong_number}
 use Rattle.evidence_check.proofs.Beside.{number_with, number_without, set_marked}
-use Rattle.evidence_check.proofs.EntryOrder.{is_itself}
 use Rattle.evidence_check.proofs.Kept.{nothing_kept}
 use Rattle.evidence_check.proofs.Marking.{insert_rows}
 use Rattle.evidence_check.proofs.Possible.{holds_at, is_fresh}
@@ -83,7 +83,7 @@ shows_row rows place entry is = in_row (slice_get rows place) is
   where
     in_row : (o : Option MarkedRow) → option_and_then entry_of o ≡ Some entry → (row : MarkedRow) × (o ≡ Some row) × (adds entry row ≡ true)
     in_row None none = absurd (cc)
-    in_row (Some row) some = (row, refl, rw some (is_itself entry))
+    in_row (Some row) some = (row, refl, rw some (same_entry-refl entry))
 
 pub mark_marked : (entry : Entry) (alive : Bool) (rows : List MarkedRow) (place : ℕ) → HaveOwnNumbers (rows_of rows) → shows_at entry_of rows place ≡ Some entry
     → marked_at place alive rows ≡ map (with_mark entry alive) rows

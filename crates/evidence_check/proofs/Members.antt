@@ -4,7 +4,7 @@ use Rattle.std.specs.Prelude.{◌⊎◌, Contains}
 use Rattle.retro_base.specs.declared.row.Entry.{Entry}
 use Rattle.retro_base.specs.State.{comes_before, with_entry}
 use Rattle.retro_base.specs.Bridges.{is_among, same_entry}
-use Rattle.evidence_check.proofs.EntryOrder.{same_is, is_itself}
+use Rattle.retro_base.specs.lemmas.bridges.EntryOrder.{same_entry-same, same_entry-refl}
 
 abbrev pub In : Entry → List Entry → Type 0
 In x [] = ⊥
@@ -32,14 +32,14 @@ either_true false b h = h
 pub in_is_among : (x : Entry) (xs : List Entry) → In x xs → is_among xs x ≡ true
 in_is_among x [] inside = absurd inside
 in_is_among x (y ∷ ys) inside = elim inside [
-  | inl same ↦ rw (← same, is_itself x) refl
+  | inl same ↦ rw (← same, same_entry-refl x) refl
   | inr further ↦ either_true (same_entry x y) (is_among ys x) (in_is_among x ys further)
 ]
 
 pub is_among_in : (x : Entry) (xs : List Entry) → is_among xs x ≡ true → In x xs
 is_among_in x [] among = let wrong : false ≡ true = among in absurd (cc)
 is_among_in x (y ∷ ys) among = elim (same_entry x y) as (λ b. same_entry x y ≡ b → (b || is_among ys x) ≡ true → In x (y ∷ ys)) [
-  | true ↦ λ same h. inl (same_is x y same)
+  | true ↦ λ same h. inl (same_entry-same x y same)
   | false ↦ λ other h. inr (is_among_in x ys h)
 ] refl among
 

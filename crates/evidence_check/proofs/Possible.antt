@@ -12,11 +12,12 @@ use Rattle.retro_base.specs.declared.row.Row.{Row}
 use Rattle.retro_base.specs.Carried.{IsPqEdit, IsPqHistory}
 use Rattle.retro_base.specs.Kind.{kind_of}
 use Rattle.retro_base.specs.Timeline.{IsFresh}
+use Rattle.retro_base.specs.OrderLaws.{all_at}
 use Rattle.evidence.specs.Evidence.{IsPqOp}
 use Rattle.evidence_check.specs.declared.marked_row.MarkedRow.{MarkedRow}
 use Rattle.evidence_check.specs.Marks.{MarksSurvivors, rows_of}
 use Rattle.evidence_check.specs.Truth.{edit_with, fails_at, has_number, has_wrong_number, has_wrong_op, is_outside, same_op}
-use Rattle.evidence_check.proofs.Weighing.{all_at, history}
+use Rattle.evidence_check.proofs.Weighing.{history}
 
 pub of_pq : (op : Op) → IsPqOp op → kind_of op ≡ Pq
 of_pq (Ins key) is = refl

@@ -13,6 +13,7 @@ use Rattle.retro_base.specs.Replay.{fold_rows, one_later, run}
 use Rattle.retro_base.specs.State.{entries, perform, comes_before, with_entry}
 use Rattle.retro_base.specs.Timeline.{AreOfKind, IsFresh}
 use Rattle.retro_base.specs.Weights.{added_as, added_by}
+use Rattle.retro_base.specs.lemmas.bridges.Histories.{added_number}
 use Rattle.evidence_check.proofs.Members.{In, is_among_in}
 
 same_state : {S : Type 0} (r : Result S ℕ) (s : S) → result_unwrap_or (one_later r) s ≡ result_unwrap_or r s
@@ -72,21 +73,6 @@ module _ (P : Entry → Type 0) where
 
   pub all_survivors : (rows : List Row) → AreOfKind Pq rows → AllByRecursion Adds rows → AllByRecursion P (survivors rows)
   all_survivors rows kind adds = all_left rows [] kind adds tt
-
--- the number of an entry is that of its row
-added_number : (op : Op) (own : ℕ) (e : Entry) → added_as op own ≡ Some e → e.number ≡ own
-added_number (Enq v) own e is = absurd (cc)
-added_number Deq own e is = absurd (cc)
-added_number (Push v) own e is = absurd (cc)
-added_number Pop own e is = absurd (cc)
-added_number (PushL v) own e is = absurd (cc)
-added_number (PushR v) own e is = absurd (cc)
-added_number PopL own e is = absurd (cc)
-added_number PopR own e is = absurd (cc)
-added_number (Put k v) own e is = absurd (cc)
-added_number (Del k) own e is = absurd (cc)
-added_number (Ins key) own e is = let same : ◌≡◌ {A = Entry} (record { key = key; number = own }) e = cc in ap (λ x. x.number) (sym same)
-added_number DelMin own e is = absurd (cc)
 
 other_numbers : (number : ℕ) (rows : List Row) → IsFresh number rows → AllByRecursion (Adds (λ e. e.number ≢ number)) rows
 other_numbers number [] fresh = tt

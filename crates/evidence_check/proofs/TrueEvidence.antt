@@ -14,12 +14,12 @@ use Rattle.retro_base.specs.Changes.{IsPqChange, change_of}
 use Rattle.retro_base.specs.Edits.{Edit, IsAccepted, edited}
 use Rattle.retro_base.specs.Kind.{kind_of}
 use Rattle.retro_base.specs.OrderLaws.{all_with, all_without, own_numbers_with, own_numbers_without}
+use Rattle.retro_base.specs.lemmas.bridges.EntryOrder.{same_entry-refl}
 use Rattle.evidence.specs.declared.evidence.Evidence.{Evidence}
 use Rattle.evidence.specs.Evidence.{IsEvidence, IsPqOp}
 use Rattle.evidence_check.specs.Laws.{AreReported, IsTrueOf}
 use Rattle.evidence_check.specs.Truth.{bridge_of, cause_of, edit_with, has_wrong_number, rows_after, same_bridge, same_change, reported_edit}
 use Rattle.evidence_check.proofs.Accepted.{accepted_from}
-use Rattle.evidence_check.proofs.EntryOrder.{is_itself}
 use Rattle.evidence_check.proofs.Possible.{is_fresh, of_pq, possible_in}
 
 pub bridge_itself : (bridge : Option ℕ) → same_bridge bridge bridge ≡ true
@@ -28,8 +28,8 @@ bridge_itself (Some bridge) = (Decides-eqb bridge bridge).1 refl
 
 pub change_itself : (change : Change) → same_change change change ≡ true
 change_itself Plain = refl
-change_itself (Gain bridge entry) = rw ((Decides-eqb bridge bridge).1 refl, is_itself entry) refl
-change_itself (Lose bridge entry) = rw (bridge_itself bridge, is_itself entry) refl
+change_itself (Gain bridge entry) = rw ((Decides-eqb bridge bridge).1 refl, same_entry-refl entry) refl
+change_itself (Lose bridge entry) = rw (bridge_itself bridge, same_entry-refl entry) refl
 
 -- a change states the bridge of its edit
 pub states : (rows : List Row) (edit : Edit) (change : Change) → IsPqChange rows edit change → IsStatedBridge rows edit (bridge_of change)

@@ -9,13 +9,13 @@ use Rattle.std.proofs.lemmas.Int.{ints}
 use Rattle.std.proofs.lemmas.Option.{slice_get_read}
 use Rattle.retro_base.specs.declared.row.Entry.{Entry}
 use Rattle.retro_base.specs.Limits.{most_rows}
+use Rattle.retro_base.specs.lemmas.bridges.EntryOrder.{same_entry-same, same_entry-refl}
 use Rattle.evidence_check.specs.declared.marked_row.MarkedRow.{MarkedRow}
 use Rattle.evidence_check.specs.declared.sums.Sums.{Sums}
 use Rattle.evidence_check.specs.Marks.{better_of, greatest_dead, is_greater, is_less, least_alive}
 use Rattle.evidence_check.specs.Parts.{is_entry, shows_at}
 use Rattle.evidence_check.specs.Sums.{HasRoom, joined, sum_of, sums_of}
 use Rattle.evidence_check.specs.Zeros.{HasNoZero, IsFirstZero, IsLastZero, IsZero}
-use Rattle.evidence_check.proofs.EntryOrder.{is_itself, same_is}
 use Rattle.evidence_check.proofs.Flat.{drop-join, flat_around, flat_next, get_first, get_second, take-join}
 use Rattle.evidence_check.proofs.SumsJoined.{alive-join, dead-join, sum-down, sum-join, sum-up, sums-join}
 use Rattle.evidence_check.proofs.Stored.{within_fits}
@@ -24,10 +24,10 @@ use Rattle.evidence_check.proofs.Zeros.{NoneAfter, NoneBefore, first_zero, none_
 -- which entry is found
 pub found_is : (found : Option Entry) (entry : Entry) → is_entry found entry ≡ true → found ≡ Some entry
 found_is None entry is = absurd (let wrong : false ≡ true = is in cc)
-found_is (Some other) entry is = ap Some (same_is other entry is)
+found_is (Some other) entry is = ap Some (same_entry-same other entry is)
 
 pub entry_found : (found : Option Entry) (entry : Entry) → found ≡ Some entry → is_entry found entry ≡ true
-entry_found found entry is = rw is (is_itself entry)
+entry_found found entry is = rw is (same_entry-refl entry)
 
 neither : (beaten : Entry → Entry → Bool) (a b : Option Entry) (entry : Entry) → is_entry a entry ≡ false → is_entry b entry ≡ false → is_entry (better_of beaten a b) entry ≡ false
 neither beaten a None entry first second = first

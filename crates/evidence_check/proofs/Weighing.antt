@@ -1,7 +1,7 @@
 -- How many dead entries are held, row by row: the marks are the weights.
 use Rattle.std.proofs.Common.{◌≡◌, ℕ, zero, suc, ◌+◌, ◌-◌, ◌<◌, ◌≤◌, pos, Bool, true, false, not, ◌&&◌, cond, List, [], ◌∷◌}
 use Rattle.std.proofs.Common.{length, take, refl, sym, ap, ◌∙◌, zero-add, arith, Option, Some, None, inl, inr}
-use Rattle.std.specs.Prelude.{◌==◌, ℤ, ◌+ℤ◌, slice_get, count_by}
+use Rattle.std.specs.Prelude.{◌==◌, ℤ, ◌+ℤ◌, count_by}
 use Rattle.std.specs.Option.{option_map_or}
 use Rattle.std.specs.List.{AllByRecursion, fold, list_all}
 use Rattle.std.proofs.lemmas.Bool.{cases_lt, ne_eqb}
@@ -24,12 +24,6 @@ use Rattle.evidence_check.proofs.Members.{In, in_is_among}
 use Rattle.evidence_check.specs.Marks.{MarksSurvivors, IsMarked, entry_of, rows_of}
 use Rattle.evidence_check.specs.Sums.{sum_of, weight_by, weight_of}
 use Rattle.evidence_check.specs.Zeros.{IsFirstZero, IsLastZero, IsZero}
-
--- what holds of all elements holds of each
-pub all_at : {X : Type 0} (P : X → Type 0) (xs : List X) (i : ℕ) (x : X) → AllByRecursion P xs → slice_get xs i ≡ Some x → P x
-all_at P [] i x all there = absurd (cc)
-all_at P (y ∷ ys) zero x all there = let same : y ≡ x = cc in rw same at all.0
-all_at P (y ∷ ys) (suc i) x all there = all_at P ys i x all.1 there
 
 pub history : (marked : List MarkedRow) → MarksSurvivors marked → IsPqHistory (rows_of marked)
 history marked kept = record {

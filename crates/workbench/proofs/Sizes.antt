@@ -13,11 +13,11 @@ use Rattle.retro_base.specs.declared.op.Op.TheVariants.{Enq, Deq, Push, Pop, Pus
 use Rattle.retro_base.specs.declared.question.Answer.{Answer}
 use Rattle.retro_base.specs.declared.question.Answer.TheVariants.{Number}
 use Rattle.retro_base.specs.declared.question.Question.TheVariants.{Size}
-use Rattle.retro_base.specs.declared.row.Entry.{Entry}
 use Rattle.retro_base.specs.declared.row.Row.{Row}
 use Rattle.retro_base.specs.Answers.{answer_of}
 use Rattle.retro_base.specs.Replay.{fold_rows, one_later, present, run}
-use Rattle.retro_base.specs.State.{State, items, pairs, entries, comes_before, empty, perform, step, with_entry, with_key, without_first, without_key, without_last}
+use Rattle.retro_base.specs.State.{State, items, pairs, entries, empty, perform, step, with_key, without_first, without_key, without_last}
+use Rattle.retro_base.specs.lemmas.CountedEntries.{with_length}
 use Rattle.workbench.specs.Bench.{size_of}
 
 -- the answer to the question of size
@@ -72,15 +72,6 @@ key_out key ps =
     let fewer = without (int_eq key) ps in
     if_found (is_some (lookup (int_eq key) ps)) (remove_entry (int_eq key) ps) (suc (length ps)) (omega (arith, fewer))
 
-entry_in : (entry : Entry) (es : List Entry) → length (with_entry entry es) ≡ suc (length es)
-entry_in entry [] = refl
-entry_in entry (first ∷ es) =
-    let rest = entry_in entry es in
-    elim (comes_before entry first) as (λ before. length (if before then entry ∷ first ∷ es else first ∷ with_entry entry es) ≡ suc (suc (length es))) [
-      | true ↦ refl
-      | false ↦ omega (arith, rest)
-    ]
-
 -- an operation adds at most one
 perform_grows : (op : Op) (number : ℕ) (state : State) → AtMost (suc (size_of state)) (perform op number state)
 unfolding perform
@@ -116,7 +107,7 @@ perform_grows (Del key) number (pairs ps) = key_out key ps
 perform_grows (Del key) number (entries es) = tt
 perform_grows (Ins key) number (items xs) = tt
 perform_grows (Ins key) number (pairs ps) = tt
-perform_grows (Ins key) number (entries es) = omega (arith, entry_in (record { key = key; number = number }) es)
+perform_grows (Ins key) number (entries es) = omega (arith, with_length (record { key = key; number = number }) es)
 perform_grows DelMin number (items xs) = tt
 perform_grows DelMin number (pairs ps) = tt
 perform_grows DelMin number (entries es) = first_out entries (λ _. refl) es

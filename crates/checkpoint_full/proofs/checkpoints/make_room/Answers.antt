@@ -1,7 +1,7 @@
 use Rattle.std.proofs.Common.{◌∙◌, ap, position, refl, sym, arith}
 use Rattle.std.specs.List.{remove}
+use Rattle.retro_base.specs.EditedLists.{remove-insert}
 use Rattle.checkpoint_full.proofs.Between.{below_of, between_kept, later_holds, nearest_below, no_room_left, one_is_there, room_left, stands_between}
-use Rattle.checkpoint_full.proofs.FirstRows.{taken_back}
 use Rattle.checkpoint_full.proofs.Places.{is_up_to, none_were_made}
 use Rattle.checkpoint_full.proofs.Rule.{room_is_made, room_was_there}
 use Rattle.checkpoint_full.proofs.checkpoints.make_room.Goals as goal
@@ -41,7 +41,7 @@ returns-clause-room g c = (between_kept c.args.width c.args.present.now c.args.c
 
 pub returns-clause-back : goal.returns-clause-back
 returns-clause-back g c =
-    ap (λ cs. remove cs c.in-Some.index) c.in_ok-insert.ensures.items ∙ taken_back c.args.checkpoints.now.items c.in-Some.index c.in_ok-between.between
+    ap (λ cs. remove cs c.in-Some.index) c.in_ok-insert.ensures.items ∙ remove-insert c.args.checkpoints.now.items c.in-Some.index c.in_ok-between.between
     (omega (arith, nearest_below c.args.checkpoints.now.items _ _ c.args.place c.in-Some.index c.index.result.now c.nearest.ensures c.as_slice.ensures.value c.in-Some.is))
 
 pub returns-in_default-clause-places : goal.returns-in_default-clause-places

@@ -1,6 +1,6 @@
 use Rattle.std.proofs.Common.{◌≡◌, ℕ, ◌+◌, ◌-◌, ◌≤◌, ◌∙◌, ap, arith}
+use Rattle.retro_base.specs.VisitsLaws.{visits-again}
 use Rattle.checkpoint_full.specs.Checkpoints.{first_of, place_of}
-use Rattle.checkpoint_full.proofs.Costs.{visits_again}
 use Rattle.checkpoint_full.proofs.FirstRows.{one_taken_off, place_of-first_of}
 use Rattle.checkpoint_full.proofs.snapshot.Snapshot.roll_back.Goals as goal
 
@@ -14,5 +14,5 @@ loop-preserved g c =
       rows = one_taken_off now c.loop.self _ left c.loop.invariant.rows within c.take_last_off.ensures.rows
           ∙ ap (λ (count : ℕ). first_of count now) (omega arith);
       end = c.loop.invariant.end;
-      visits = visits_again 144 _ _ _ _ _ _ _ (omega (arith, c.loop.auto.counter)) (omega (arith, here)) c.loop.invariant.visits c.take_last_off.ensures.visits;
+      visits = visits-again 144 _ _ _ _ _ _ _ (omega (arith, c.loop.auto.counter)) (omega (arith, here)) c.loop.invariant.visits c.take_last_off.ensures.visits;
     }
