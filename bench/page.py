@@ -2,6 +2,7 @@
 
 import collections
 import os
+import textwrap
 
 import plot
 from phases import KINDS, PHASES, Case
@@ -92,6 +93,18 @@ def lesser(plain, fused):
     return "both" if max(plain, fused) < 1.1 * min(plain, fused) else "`pq`" if plain < fused else "`pqf`"
 
 
+def wrapped(*sentences, indent=""):
+    """A paragraph, or the item of a list whose further lines are indented: at most 120 columns wide."""
+    text = " ".join(sentences)
+    return textwrap.wrap(text, 120, subsequent_indent=indent, break_long_words=False, break_on_hyphens=False)
+
+
+def prose(*sentences):
+    """A paragraph and the empty line behind it."""
+    yield from wrapped(*sentences)
+    yield ""
+
+
 def table(head, rows):
     yield "| " + " | ".join(head) + " |"
     yield "|" + "---|" * len(head)
@@ -114,21 +127,22 @@ class Page:
         made = self.made
         yield "# Measured"
         yield ""
-        yield "Every number on this page, and every plot, was made by `make bench` in one run: on %s, %s, %s, in %.0f minutes." % (
-            made.date, made.machine, made.system, made.minutes)
-        yield "Another machine moves them all; the ratios move less. Left out were:" if made.skipped else "Another machine moves them all; the ratios move less."
-        yield ""
+        yield from prose(
+            "Every number on this page, and every plot, was made by `make bench` in one run: on %s, %s, %s, in %.0f minutes." % (
+                made.date, made.machine, made.system, made.minutes),
+            "Another machine moves them all; the ratios move less.", *["Left out were:"] if made.skipped else [])
         for line in made.skipped:
-            yield "- " + line
+            yield from wrapped("- " + line, indent="  ")
         if made.skipped:
             yield ""
 
     def programs(self):
         yield "## What is measured"
         yield ""
-        yield "A number is processor time of the process in microseconds for one line of a script, reading, answering and system calls included, the least of"
-        yield "up to three runs: one microsecond a line is a million lines a second. All programs get the same lines over a pipe; %s of their answers were compared first, and are the same." % "{:,}".format(self.made.compared)
-        yield ""
+        yield from prose(
+            "A number is processor time of the process in microseconds for one line of a script, reading, answering and system calls",
+            "included, the least of up to three runs: one microsecond a line is a million lines a second. All programs get the same",
+            "lines over a pipe; {:,} of their answers were compared first, and are the same.".format(self.made.compared))
         yield from table(["Program", "What it is"], [row for row in [
             ("retro", "the program as it is built and proved"),
             ("replay by hand", "what one writes in an hour: a vector of rows, performed again from the first one on (`bench/peers/replay.rs`)"),
@@ -139,12 +153,14 @@ class Page:
             ("SQLite", "a table of rows with an index on time in SQLite %s, and queries that replay (`bench/sqlite_peer.py`); the script is read by Python" % self.made.sqlite),
         ] if row[0] in [NAMES[peer] for peer in self.peers]])
         yield from table(["Line", "What a user does"], [(name[0].upper() + name[1:] if name[0] != "`" else name, meaning) for name, meaning in MEANT.values()])
-        yield "A timeline is filled at its end first. Three rows in eight take something out, but for the first sixteenth. A dictionary has 1,000 keys. The sizes"
-        yield "are 1,024, 8,192, 65,536 and 131,072 rows, which is a full timeline; the phases leave room for the rows that they put in. What a phase has put in is"
-        yield "taken out again. Of a priority queue edits are measured before its past was asked, and once more behind that: what follows in the tables from `the first"
-        yield "past question` on goes with checkpoints. A phase that took over four times as long as with more rows was measured again. A phase ends after some tenths of a second of processor time. Left out, since they take over twenty seconds: SQLite at 131,072 rows,"
-        yield "and a block of a full dictionary beside another full one."
-        yield ""
+        yield from prose(
+            "A timeline is filled at its end first. Three rows in eight take something out, but for the first sixteenth. A dictionary",
+            "has 1,000 keys. The sizes are 1,024, 8,192, 65,536 and 131,072 rows, which is a full timeline; the phases leave room for",
+            "the rows that they put in. What a phase has put in is taken out again. Of a priority queue edits are measured before its",
+            "past was asked, and once more behind that: what follows in the tables from `the first past question` on goes with",
+            "checkpoints. A phase that took over four times as long as with more rows was measured again. A phase ends after some",
+            "tenths of a second of processor time. Left out, since they take over twenty seconds: SQLite at 131,072 rows, and a block",
+            "of a full dictionary beside another full one.")
 
     def marks(self):
         """The ratios at one size, kind by kind."""
@@ -168,17 +184,16 @@ class Page:
                 rows.append(row + [ratio(own, theirs.get("same")), ratio(own, theirs.get("best")), note])
             yield from table(["µs a line"] + [NAMES[peer] for peer in ["retro"] + others] + ["to the same design", "to the best", "why"], rows)
         if numbered:
-            yield "Where the program takes over 1.1 times as long as the same design, or over 3 times as long as the best program, the last column names the reason:"
-            yield ""
+            yield from prose("Where the program takes over 1.1 times as long as the same design, or over 3 times as long as the best program,",
+                             "the last column names the reason:")
             for name, index in sorted(numbered.items(), key=lambda pair: pair[1]):
-                yield "%d. %s" % (index, REASONS[name])
+                yield from wrapped("%d. %s" % (index, REASONS[name]), indent="   ")
             yield ""
 
     def growth(self):
         yield "## Over the number of rows"
         yield ""
-        yield "Microseconds a line of retro; in parentheses the multiples of the same design and of the best program."
-        yield ""
+        yield from prose("Microseconds a line of retro; in parentheses the multiples of the same design and of the best program.")
         for kind in self.kinds:
             rows = []
             for phase in list(dict(PHASES)) + ["check"]:
@@ -198,9 +213,10 @@ class Page:
     def memory(self):
         yield "## Memory"
         yield ""
-        yield "Bytes by which the resident memory of the process grew for each row that was put in at the end, and, in megabytes, the most that retro had until the"
-        yield "end of the past questions: with the checkpoints of a priority queue, therefore. A machine that runs eight full timelines needs eight times the last column."
-        yield ""
+        yield from prose(
+            "Bytes by which the resident memory of the process grew for each row that was put in at the end, and, in megabytes, the",
+            "most that retro had until the end of the past questions: with the checkpoints of a priority queue, therefore. A machine",
+            "that runs eight full timelines needs eight times the last column.")
         peers = [peer for peer in self.peers if peer != "sqlite"]
         rows = []
         for kind in self.kinds:
@@ -216,11 +232,12 @@ class Page:
             return
         yield "## `pq` or `pqf`"
         yield ""
-        yield "Both answer alike. `pq` makes up to 31 checkpoints at the first question about its past, and from then on every edit goes to each of them; `pqf` keeps"
-        yield "pieces of the whole history from the first row on. Each cell has `pq` first, then `pqf`; the last column names the one that takes less at {:,} rows,".format(self.main)
-        yield "or both where they differ by less than a tenth. Look for the lines that your script has most of: before its past was asked the first two, and the others from"
-        yield "the first such question on."
-        yield ""
+        yield from prose(
+            "Both answer alike. `pq` makes up to 31 checkpoints at the first question about its past, and from then on every edit goes",
+            "to each of them; `pqf` keeps pieces of the whole history from the first row on. Each cell has `pq` first, then `pqf`; the",
+            "last column names the one that takes less at {:,} rows, or both where they differ by less than a tenth.".format(self.main),
+            "Look for the lines that your script has most of: before its past was asked the first two, and the others from the first",
+            "such question on.")
         sizes = [size for size in self.made.sizes if size > 1_024]
         phases = [phase for phase in ("end", "edit", "first", "later", "mixed", "past", "forward", "burst") if self.cost("pqf", self.main, phase, "retro")]
         rows = [["%s, µs" % MEANT[phase][0]] + [self.both(size, phase) for size in sizes] + [lesser(*self.costs(self.main, phase))] for phase in phases]
@@ -240,9 +257,9 @@ class Page:
         times, used = self.made.times, self.made.used
         yield "## Judging evidence"
         yield ""
-        yield "`check` over the evidence of rows that came in each after all others, and of rows that came in at random times, by the number of rows that were drawn."
-        yield "In parentheses the bytes of memory that a line has cost, with what is read ahead."
-        yield ""
+        yield from prose(
+            "`check` over the evidence of rows that came in each after all others, and of rows that came in at random times, by the",
+            "number of rows that were drawn. In parentheses the bytes of memory that a line has cost, with what is read ahead.")
         names = {"end": "rows at the end, µs a line", "anywhere": "rows at random times, µs a line"}
         rows = [[name] + ["%s (%.0f)" % (number(times[size, place, "judged"]), used[size, place, "judged"]) for size in self.made.sizes] for place, name in names.items()]
         yield from table([""] + ["{:,} rows".format(size) for size in self.made.sizes], rows)
@@ -251,13 +268,12 @@ class Page:
         times, used = self.made.times, self.made.used
         yield "## Texts and streams"
         yield ""
-        yield "A saved timeline has this many bytes a row; its blocks are read and written at the costs above."
-        yield ""
+        yield from prose("A saved timeline has this many bytes a row; its blocks are read and written at the costs above.")
         yield from table(["Kind"] + ["{:,} rows".format(size) for size in self.made.sizes],
                          [[kind] + ["%.1f" % used.get((kind, size, "saved", "retro"), 0) for size in self.made.sizes] for kind in self.kinds])
         if ("asked", "retro") in times:
-            yield "A question about a queue of two rows, from a file to a file, is reading and answering alone: the least that a line costs."
-            yield ""
+            yield from prose("A question about a queue of two rows, from a file to a file, is reading and answering alone: the least that a",
+                             "line costs.")
             names = {"retro": "retro", "replay": "replay by hand", "wc": "`wc -l`, which only counts lines"}
             yield from table(["Program", "µs a line"], [[name, "%.3f" % times["asked", peer]] for peer, name in names.items() if ("asked", peer) in times])
 
