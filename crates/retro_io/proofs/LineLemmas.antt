@@ -1,13 +1,13 @@
 -- Lemmas on lines and line feeds.
-use Rattle.std.proofs.Common.{◌≡◌, ◌≢◌, ℕ, zero, suc, ◌+◌, ◌-◌, ◌≤◌, ◌<◌, Bool, true, false, cond, Option, None, Some, MatchOption}
+use Rattle.std.proofs.Common.{◌≡◌, ◌≢◌, ℕ, zero, suc, ◌+◌, ◌-◌, ◌≤◌, ◌<◌, Bool, true, false, cond, Option, None, Some}
 use Rattle.std.proofs.Common.{is_some, List, [], ◌∷◌, ◌++◌, length, take, drop, get_or, sym, ap, ◌∙◌, refl, arith}
 use Rattle.std.specs.Prelude.{◌==◌}
 use Rattle.std.specs.List.{slice_range}
 use Rattle.std.proofs.lemmas.List.{take-append-drop, drop_more, length-take-le, get_or-take, get_or-drop, length-drop, take-take, drop-take}
-use Rattle.std.proofs.lemmas.Bool.{eq-eqb, ne_eqb}
+use Rattle.std.proofs.lemmas.Bool.{eq-eqb, false≢true, ne_eqb}
 use Rattle.std.proofs.lemmas.List.Edits.{between_more}
 use Rattle.retro_io.specs.LineLaws.{both_false, unbroken-append}
-use Rattle.retro_io.specs.Lines.{line_feed, carriage_return, without_return, has_line_feed}
+use Rattle.retro_io.specs.Lines.{MarksLineFeed, line_feed, carriage_return, without_return, has_line_feed}
 
 pub unbroken-prefix : (xs ys : List ℕ) → has_line_feed (xs ++ ys) ≡ false → has_line_feed xs ≡ false
 unbroken-prefix [] ys p = refl
@@ -138,10 +138,22 @@ pub has_feed-between : (xs ys : List ℕ) → has_line_feed (xs ++ line_feed ∷
 has_feed-between [] ys = refl
 has_feed-between (x ∷ xs) ys = either_true (x == line_feed) (has_line_feed (xs ++ line_feed ∷ ys)) (has_feed-between xs ys)
 
--- a search finds a line feed exactly where there is one
-pub found_feed : (found : Option ℕ) (bytes : List ℕ)
-    → MatchOption found (has_line_feed bytes ≡ false)
-    (λ at. (0 ≤ at) × (at < length bytes) × (has_line_feed (take at bytes) ≡ false) × (bytes ≡ take at bytes ++ line_feed ∷ drop (at + 1) bytes))
-    → is_some found ≡ has_line_feed bytes
-found_feed None bytes none = sym none
-found_feed (Some at) bytes cut = sym (ap has_line_feed cut.3 ∙ has_feed-between (take at bytes) (drop (at + 1) bytes))
+-- a line feed is marked exactly where there is one
+pub MarksLineFeed-has : (mark : Option ℕ) (bytes : List ℕ) → MarksLineFeed mark bytes → is_some mark ≡ has_line_feed bytes
+MarksLineFeed-has None bytes none = sym none
+MarksLineFeed-has (Some at) bytes cut = sym (ap has_line_feed cut.2 ∙ has_feed-between (take at bytes) (drop (at + 1) bytes))
+
+-- so the mark of bytes that have none stays for the first of them
+pub MarksLineFeed-take : (mark : Option ℕ) (bytes : List ℕ) (count : ℕ) → MarksLineFeed mark bytes → has_line_feed bytes ≡ false
+    → MarksLineFeed mark (take count bytes)
+MarksLineFeed-take None bytes count none unbroken = unbroken-take count bytes unbroken
+MarksLineFeed-take (Some at) bytes count cut unbroken =
+    absurd (false≢true (sym unbroken ∙ sym (MarksLineFeed-has (Some at) bytes cut)))
+
+-- bytes that have none end before one that stands among them
+pub feed_after : (front back : List ℕ) (from : ℕ) → has_line_feed (take from (front ++ line_feed ∷ back)) ≡ false → from ≤ length front
+feed_after front back zero clear = omega arith
+feed_after [] back (suc from) clear = absurd (cc)
+feed_after (b ∷ front) back (suc from) clear =
+    let parts = both_false (b == line_feed) (has_line_feed (take from (front ++ line_feed ∷ back))) clear in
+    omega (arith, feed_after front back from parts.1)

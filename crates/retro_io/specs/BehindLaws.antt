@@ -1,13 +1,12 @@
 -- Laws of the sink behind one at which nothing waits: what is said of the calls of the outer one, whose sends do nothing, is true of the inner
 -- one, with no sends. The proofs of the layer above may cite them.
-use Rattle.std.proofs.Common.{◌≡◌, Bool, List, Ok, Err, refl, sym, ◌∙◌, subst, ap, inl, inr}
+use Rattle.std.proofs.Common.{◌≡◌, Bool, refl, sym, ◌∙◌, subst, ap, inl, inr}
 use Rattle.std.proofs.lemmas.Bool.{false≢true}
-use Rattle.std.specs.Borrow.{GName}
 use Rattle.std.specs.Prelude.{IsOk}
 use Rattle.retro_io.specs.declared.direct_sink.DirectSink.{DirectSink}
 use Rattle.retro_io.specs.declared.sink.Sink.{Ghosts}
 use Rattle.retro_io.specs.DirectSink.{reference_behind, sink_behind}
-use Rattle.retro_io.specs.Flushes.{Sends, no_sends, IsSent, IsWritten, AppendsUnflushed, StaysUnflushed, EndsWithFlush, EndsWithFailedSend, EndsWithFailedWrite}
+use Rattle.retro_io.specs.Flushes.{Sends, no_sends, IsSent, IsWritten, StaysUnflushed, EndsWithFlush, EndsWithFailedSend, EndsWithFailedWrite}
 
 -- the meanings of the outer one
 abbrev pub direct : {K : Type 0} → Ghosts K → Ghosts (DirectSink K)

@@ -1,5 +1,5 @@
 -- The lines of a list of bytes.
-use Rattle.std.specs.Prelude.{◌≡◌, ℕ, Bool, true, false, ◌==◌, ◌⊎◌, List, [], ◌∷◌, ◌++◌, map, if◌then◌else◌}
+use Rattle.std.specs.Prelude.{◌≡◌, ℕ, ◌+◌, ◌<◌, Bool, true, false, ◌==◌, ◌⊎◌, List, [], ◌∷◌, ◌++◌, length, take, drop, map, if◌then◌else◌, Option, None, Some}
 pub use Rattle.retro_base.specs.Limits.{longest_line}
 
 -- the byte that ends a line
@@ -34,6 +34,12 @@ lines bytes = map without_return (pieces bytes)
 abbrev pub has_line_feed : List ℕ → Bool
 has_line_feed [] = false
 has_line_feed (b ∷ bs) = if b == line_feed then true else has_line_feed bs
+
+-- this is the place of the first byte that ends a line, or none of the bytes does
+abbrev pub MarksLineFeed : Option ℕ → List ℕ → Type 0
+MarksLineFeed None bytes = has_line_feed bytes ≡ false
+MarksLineFeed (Some at) bytes =
+    (at < length bytes) × (has_line_feed (take at bytes) ≡ false) × (bytes ≡ take at bytes ++ line_feed ∷ drop (at + 1) bytes)
 
 -- the bytes begin with this line, its line feed, and these further bytes
 abbrev pub StartsWithLine : List ℕ → List ℕ → List ℕ → Type 0

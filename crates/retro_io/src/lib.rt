@@ -8,8 +8,7 @@
 //! sink's own count of faults rose.
 //!
 //! The reader holds its bytes in one buffer of a fixed size, which is reserved when the reader is made. Each byte is
-//! searched once for a line feed, and once more where the reader is asked whether it holds a line; of a line that is too long no
-//! more is kept than is shown, so that reading takes no memory.
+//! searched once for a line feed; of a line that is too long no more is kept than is shown, so that reading takes no memory.
 //!
 //! An [`Outbox`] is a sink before another one: what was written to it is what that one got and what waits. Whoever writes
 //! to it sends it where an answer is waited for: it is a [`SendingSink`], and so is any sink behind a [`DirectSink`], where

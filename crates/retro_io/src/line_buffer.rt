@@ -2,7 +2,7 @@ ghost use Rattle.std.specs.Prelude.{◌≡◌, ◌+◌, ◌-◌, ◌≢◌, ◌�
 ghost use Rattle.std.specs.List.{slice_range};
 ghost use Rattle.retro_io.specs.DueReads.{ReadOnce};
 ghost use Rattle.retro_io.specs.Faults.{CountsFaults};
-ghost use Rattle.retro_io.specs.Lines.{has_line_feed, longest_line, line_feed, without_return};
+ghost use Rattle.retro_io.specs.Lines.{MarksLineFeed, has_line_feed, longest_line, line_feed, without_return};
 ghost use Rattle.retro_io.specs.Marks.{Shows};
 ghost use Rattle.retro_io.specs.Source.{Gives, bytes_given, bytes_left, taken_after};
 
@@ -18,7 +18,7 @@ pub(crate) const LONGEST: usize = 4096;
 const CAPACITY: usize = 65536;
 
 /// The bytes that were read and not given yet, in a range of a buffer of a fixed size, and the line
-/// that was given last, in front of them.
+/// that was given last, in front of them. Where the first line feed of the bytes held stands is looked up once.
 #[derive(Drop)]
 pub struct LineBuffer {
     bytes: Vec<u8>,
@@ -26,12 +26,14 @@ pub struct LineBuffer {
     end: usize,
     line_start: usize,
     line_end: usize,
+    line_feed: Option<usize>,
 }
 
 impl Model for LineBuffer {
     ghost use Rattle.std.specs.Prelude.{◌≡◌, ◌≤◌, vec_len};
     ghost use Rattle.std.specs.List.{slice_range};
     ghost use Rattle.retro_io.specs.LineBuffer.{Buffered, buffer_size};
+    ghost use Rattle.retro_io.specs.Lines.{MarksLineFeed};
 
     ghost Value = { Buffered };
 
@@ -41,7 +43,8 @@ impl Model for LineBuffer {
     } };
 
     ghost invariant = { λ b. (b.start ≤ b.end) × (b.end ≤ buffer_size) × (vec_len b.bytes ≡ buffer_size)
-        × (b.line_start ≤ b.line_end) × (b.line_end ≤ buffer_size) };
+        × (b.line_start ≤ b.line_end) × (b.line_end ≤ buffer_size)
+        × MarksLineFeed b.line_feed (slice_range b.bytes.items b.start b.end) };
 }
 
 impl LineBuffer {
@@ -56,6 +59,7 @@ impl LineBuffer {
             end: 0,
             line_start: 0,
             line_end: 0,
+            line_feed: None,
         })
     }
 
@@ -73,19 +77,11 @@ impl LineBuffer {
         &self.bytes[self.line_start..self.line_end]
     }
 
-    /// Where the first line feed stands among the bytes held. The first `from` of them have none.
-    pub(crate) fn line_feed_from(&self, from: usize) -> Option<usize>
-        requires within { from ≤ length self.now.held }
-        requires clear { has_line_feed (take from self.now.held) ≡ false }
-        ensures { MatchOption result
-            (has_line_feed self.now.held ≡ false)
-            (λ at. (from ≤ at) × (at < length self.now.held) × (has_line_feed (take at self.now.held) ≡ false)
-            × (self.now.held ≡ take at self.now.held ++ line_feed ∷ drop (at + 1) self.now.held)) }
+    /// Where the first line feed stands among the bytes held.
+    pub(crate) fn line_feed(&self) -> Option<usize>
+        ensures { MarksLineFeed result self.now.held }
     {
-        match first_line_feed(&self.bytes[self.start + from..self.end]) {
-            Some(at) => Some(from + at),
-            None => None,
-        }
+        self.line_feed
     }
 
     /// Gives the line of the first `piece` bytes held, and drops the first `given`.
@@ -99,6 +95,7 @@ impl LineBuffer {
         let line = line_end(&self.bytes, self.start, end);
         self.line_start = self.start;
         self.start += given;
+        self.line_feed = line_feed_from(&self.bytes[self.start..self.end], 0);
         if line - self.line_start > LONGEST {
             self.line_end = self.line_start + LONGEST;
             return Mark::Long;
@@ -117,18 +114,20 @@ impl LineBuffer {
         self.line_start = self.start;
         self.line_end = self.start + LONGEST;
         self.start += given;
+        self.line_feed = line_feed_from(&self.bytes[self.start..self.end], 0);
     }
 
     /// Keeps what is shown of a long line, and drops the other bytes held.
     pub(crate) fn keep_prefix(&mut self)
-        requires { longest_line ≤ length self.old.held }
+        requires long { longest_line ≤ length self.old.held }
+        requires unbroken { has_line_feed self.old.held ≡ false }
         ensures held { self.new.held ≡ take longest_line self.old.held }
         ensures length { length self.new.held ≡ longest_line }
     {
         self.end = self.start + LONGEST;
     }
 
-    /// Reads at most `most` bytes after those held.
+    /// Reads at most `most` bytes after those held, and looks for a line feed among them.
     pub(crate) fn fill_from<S: Source>(
         &mut self,
         source: &mut S,
@@ -136,6 +135,7 @@ impl LineBuffer {
     ) -> Result<usize, Failed>
         requires some { 0 < most }
         requires room { length self.old.held ≤ longest_line + 1 }
+        requires unbroken { has_line_feed self.old.held ≡ false }
         ensures kept { take (length self.old.held) self.new.held ≡ self.old.held }
         ensures count { MatchResult result
             (λ count. length self.new.held ≡ length self.old.held + count)
@@ -157,8 +157,21 @@ impl LineBuffer {
         let room = (CAPACITY - self.end) as u64;
         let upto = self.end + room.min(most) as usize;
         let count = read_into(source, &mut self.bytes, self.end, upto)?;
+        self.line_feed = line_feed_from(&self.bytes[..self.end + count], self.end);
         self.end += count;
         Ok(count)
+    }
+}
+
+/// Where the first line feed stands. The first `from` bytes have none.
+fn line_feed_from(bytes: &[u8], from: usize) -> Option<usize>
+    requires within { from ≤ length bytes.now }
+    requires clear { has_line_feed (take from bytes.now) ≡ false }
+    ensures { MarksLineFeed result bytes.now }
+{
+    match first_line_feed(&bytes[from..]) {
+        Some(at) => Some(from + at),
+        None => None,
     }
 }
 

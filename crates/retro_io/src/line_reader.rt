@@ -88,12 +88,11 @@ impl<'a, S: Source> LineReader<'a, S> {
         self.buffer.line()
     }
 
-    /// Whether a whole line is held, so that the next one is given without a read. It searches the bytes held up to their first
-    /// line feed.
+    /// Whether a whole line is held, so that the next one is given without a read. It looks at no byte.
     pub fn holds_line(&self) -> bool
         ensures { result ≡ has_line_feed (held self.now) }
     {
-        self.buffer.line_feed_from(0).is_some()
+        self.buffer.line_feed().is_some()
     }
 
     /// Moves to the next line. It takes no memory, and reads from the source only where no whole line is held and no
@@ -115,7 +114,7 @@ impl<'a, S: Source> LineReader<'a, S> {
         if self.ended {
             return Ok(Mark::End);
         }
-        match self.buffer.line_feed_from(0) {
+        match self.buffer.line_feed() {
             Some(at) => Ok(self.buffer.give(at, at + 1)),
             None => self.read_line(),
         }
@@ -134,11 +133,10 @@ impl<'a, S: Source> LineReader<'a, S> {
             × WereDue S.reads (limit_of self.old - taken self.old) (held self.old) false (source_of self.old) got (source_of self.new)) }
     {
         while self.buffer.len() <= LONGEST + 1 {
-            let held = self.buffer.len();
             if self.fill()? == 0 {
                 return Ok(self.give_last());
             }
-            if let Some(at) = self.buffer.line_feed_from(held) {
+            if let Some(at) = self.buffer.line_feed() {
                 return Ok(self.buffer.give(at, at + 1));
             }
         }
@@ -165,7 +163,7 @@ impl<'a, S: Source> LineReader<'a, S> {
                 self.ended = true;
                 return Ok(Mark::Long);
             }
-            if let Some(at) = self.buffer.line_feed_from(LONGEST) {
+            if let Some(at) = self.buffer.line_feed() {
                 self.buffer.give_long(at + 1);
                 return Ok(Mark::Long);
             }
@@ -201,6 +199,7 @@ impl<'a, S: Source> LineReader<'a, S> {
         requires failed { has_failed self.old ≡ false }
         requires ended { has_ended self.old ≡ false }
         requires room { length (held self.old) ≤ longest_line + 1 }
+        requires unbroken { has_line_feed (held self.old) ≡ false }
         ensures moves { MovesOn self.old self.new }
         ensures failed { has_failed self.new ≡ is_err result }
         ensures ended { has_ended self.new ≡ false }

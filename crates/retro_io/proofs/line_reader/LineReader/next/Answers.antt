@@ -36,11 +36,11 @@ returns-in-Some-clause-gives g c =
     let found = c.in-Some.ensures in
     record {
       lines = GivesNextOf-from c.give.result c.give.new.self.shown c.args.self.now.ended held c.give.new.self.held [] left left (Gives-nil left)
-          (first_held c.give.result c.give.new.self.shown held c.give.new.self.held c.args.self.now.ended c.in-Some.at found.2 found.3
+          (first_held c.give.result c.give.new.self.shown held c.give.new.self.held c.args.self.now.ended c.in-Some.at found.1 found.2
           c.give.ensures.shown c.give.ensures.held)
           c.args.self.now.none_left;
       shown = measures_shown _ _ _ c.give.ensures.shown;
-      progress = λ _. omega (arith, ap length c.give.ensures.held, length-drop (c.in-Some.at + 1) held, found.1, c.args.self.now.counted);
+      progress = λ _. omega (arith, ap length c.give.ensures.held, length-drop (c.in-Some.at + 1) held, found.0, c.args.self.now.counted);
       at_end = shows_no_end _ _ _ c.give.ensures.shown;
     }
 
@@ -77,7 +77,7 @@ pub returns-in-Some-clause-took : goal.returns-in-Some-clause-took
 returns-in-Some-clause-took g c =
     took_none g.S.Source c.args.self.now (Ok c.give.result) c.give.new.self.shown c.args.self.now.ended c.give.new.self.held _ (omega arith)
     (first_held c.give.result c.give.new.self.shown (held c.args.self.now) c.give.new.self.held c.args.self.now.ended c.in-Some.at
-    c.in-Some.ensures.2 c.in-Some.ensures.3 c.give.ensures.shown c.give.ensures.held)
+    c.in-Some.ensures.1 c.in-Some.ensures.2 c.give.ensures.shown c.give.ensures.held)
 
 pub returns-in-None-clause-took : goal.returns-in-None-clause-took
 returns-in-None-clause-took g c =

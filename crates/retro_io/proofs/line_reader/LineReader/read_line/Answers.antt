@@ -92,9 +92,9 @@ returns-in-Some-clause-took g c =
     let found = c.in-Some.ensures in
     let piece : GivesPiece mark shown ended now after = record {
       piece = take c.in-Some.at now;
-      unbroken = found.2;
+      unbroken = found.1;
       shows = c.give.ensures.shown;
-      cut = inl (found.3 ∙ ap (λ l. take c.in-Some.at now ++ line_feed ∷ l) (sym c.give.ensures.held));
+      cut = inl (found.2 ∙ ap (λ l. take c.in-Some.at now ++ line_feed ∷ l) (sym c.give.ensures.held));
     } in
     Took-due g.S.Source.reads _ _ _ _ held _ _ _ _ _ _ (λ xs. before ≡ held ++ xs)
     (MakesOf (Ok mark) shown ended held after) came

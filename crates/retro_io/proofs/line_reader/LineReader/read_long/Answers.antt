@@ -1,5 +1,5 @@
 -- The bytes of the long line are those held first and all that came since.
-use Rattle.std.proofs.Common.{◌≡◌, ◌+◌, ◌-◌, ℕ, List, [], ◌∷◌, ◌++◌, true, false, Result, Ok, Err, length, take, drop, sym, ap, ◌∙◌, refl, inl, inr, arith}
+use Rattle.std.proofs.Common.{◌≡◌, ◌≤◌, ◌<◌, ◌+◌, ◌-◌, ℕ, List, [], ◌∷◌, ◌++◌, true, false, Result, Ok, Err, length, take, drop, sym, ap, ◌∙◌, refl, subst, inl, inr, arith}
 use Rattle.std.proofs.lemmas.List.{take-append-le, drop-append-le, drop_all, length-take-le, length-append, nil_from_length}
 use Rattle.std.proofs.lemmas.Result.{err_from_is_err_and}
 use Rattle.retro_io.specs.declared.mark.Mark.TheVariants.{Long}
@@ -10,7 +10,7 @@ use Rattle.retro_io.specs.LineReader.{MovesOn}
 use Rattle.retro_io.specs.ReaderLaws.{MovesOn-none, MovesOn-then}
 use Rattle.retro_io.specs.Reads.{MakesOf}
 use Rattle.retro_io.specs.LineLaws.{unbroken-append}
-use Rattle.retro_io.proofs.LineLemmas.{unbroken-take, unbroken-drop}
+use Rattle.retro_io.proofs.LineLemmas.{feed_after, unbroken-take, unbroken-drop}
 use Rattle.retro_io.proofs.DueLemmas.{Took-due, Took-due-on}
 use Rattle.retro_io.proofs.ReadLemmas.{Took-none, MakesOf-error, Shows-long, cut_after, length-after}
 use Rattle.retro_io.proofs.line_reader.LineReader.read_long.Goals as goal
@@ -50,6 +50,10 @@ moved g c =
       left = m.left;
     }
 
+pub fill-requires-clause-unbroken : goal.fill-requires-clause-unbroken
+fill-requires-clause-unbroken g c =
+    ap has_line_feed c.keep_prefix.ensures.held ∙ unbroken-take longest_line c.loop-self.self.buffer.held c.loop-self.invariant.unbroken
+
 pub returns-in_err-fill-clause-moves : goal.returns-in_err-fill-clause-moves
 returns-in_err-fill-clause-moves g c = moved g (goal.at.returns-in_err-fill-clause-moves g c).After-fill
 
@@ -82,6 +86,7 @@ loop-self-init g c = record {
   moves = MovesOn-none c.args.self.now c.args.self.now.within;
   failed = c.requires.failed;
   ended = c.requires.ended;
+  unbroken = c.requires.unbroken;
   long = omega (arith, c.requires.long);
   prefix = refl;
   in_limit = c.args.self.now.in_limit c.requires.failed;
@@ -143,10 +148,23 @@ returns-then-branch-eq0-clause-took g c =
       );
     })
 
-pub line_feed_from-requires-clause-clear : goal.line_feed_from-requires-clause-clear
-line_feed_from-requires-clause-clear g c =
-    ap has_line_feed (prefix g (goal.at.line_feed_from-requires-clause-clear g c).After-fill)
-    ∙ unbroken-take longest_line c.args.self.now.buffer.held c.requires.unbroken
+-- a line feed that is found stands after the first bytes of the line
+beyond : (g : Over) (c : After-fill g) (at : ℕ) → at < length c.fill.new.self.buffer.held
+    → c.fill.new.self.buffer.held ≡ take at c.fill.new.self.buffer.held ++ line_feed ∷ drop (at + 1) c.fill.new.self.buffer.held → longest_line ≤ at
+beyond g c at within cut =
+    let clear : has_line_feed (take longest_line c.fill.new.self.buffer.held) ≡ false =
+    ap has_line_feed (prefix g c) ∙ unbroken-take longest_line c.args.self.now.buffer.held c.requires.unbroken in
+    omega (
+      arith,
+      feed_after (take at c.fill.new.self.buffer.held) (drop (at + 1) c.fill.new.self.buffer.held) longest_line
+          (subst (λ bytes. has_line_feed (take longest_line bytes) ≡ false) cut clear),
+      length-take-le at c.fill.new.self.buffer.held (omega arith),
+    )
+
+pub give_long-requires-in-Some-clause-long : goal.give_long-requires-in-Some-clause-long
+give_long-requires-in-Some-clause-long g c =
+    let found = c.in-Some.ensures in
+    omega (arith, beyond g (goal.at.give_long-requires-in-Some-clause-long g c).After-fill c.in-Some.at found.0 found.2)
 
 pub returns-in-Some-clause-took : goal.returns-in-Some-clause-took
 returns-in-Some-clause-took g c =
@@ -159,10 +177,11 @@ returns-in-Some-clause-took g c =
     let at = c.in-Some.at in
     let line = drop kept (take at now) in
     let after = drop (at + 1) now in
-    let short : length (take at now) ≡ at = length-take-le at now (omega (arith, found.1)) in
+    let short : length (take at now) ≡ at = length-take-le at now (omega (arith, found.0)) in
+    let low : longest_line ≤ at = beyond g (goal.at.returns-in-Some-clause-took g c).After-fill at found.0 found.2 in
     let splits : came ≡ line ++ line_feed ∷ after =
-    ap (drop kept) found.3 ∙ drop-append-le kept (take at now) (line_feed ∷ after) (omega (arith, short, found.0, c.keep_prefix.ensures.length)) in
-    let unbroken : has_line_feed line ≡ false = unbroken-drop kept (take at now) found.2 in
+    ap (drop kept) found.2 ∙ drop-append-le kept (take at now) (line_feed ∷ after) (omega (arith, short, low, c.keep_prefix.ensures.length)) in
+    let unbroken : has_line_feed line ≡ false = unbroken-drop kept (take at now) found.1 in
     Took-due g.S.Source.reads _ _ _ _ held _ _ _ _ _ _ (λ xs. has_line_feed xs ≡ false)
     (MakesOf (Ok Long) c.give_long-in-Some.new.self.shown c.fill.new.self.ended held c.give_long-in-Some.new.self.held) came
     c.loop-self.invariant.took c.fill.ensures.gives (omega (arith, count, c.fill.ensures.moves.more, c.loop-self.invariant.moves.more))
@@ -189,6 +208,7 @@ loop-self-preserved g c =
       moves = moved g at_fill;
       failed = c.in_ok-fill.ensures.failed;
       ended = c.fill.ensures.ended;
+      unbroken = c.in_default.ensures;
       long = omega (arith, c.fill.ensures.length, c.keep_prefix.ensures.length);
       prefix = prefix g at_fill;
       in_limit = c.fill.new.self.in_limit c.in_ok-fill.ensures.failed;

@@ -11,6 +11,7 @@ invariant-loop-self g l = record {
   moves : MovesOn l.initial.self l.self;
   failed : l.self.failed ≡ false;
   ended : l.self.ended ≡ false;
+  unbroken : has_line_feed l.self.buffer.held ≡ false;
   long : longest_line ≤ length l.self.buffer.held;
   prefix : take longest_line l.self.buffer.held ≡ take longest_line l.initial.self.buffer.held;
   in_limit : l.self.taken ≤ l.self.limit;
