@@ -36,13 +36,22 @@ at_taken [] (suc count) place within = refl
 at_taken (x ∷ xs) (suc count) zero within = refl
 at_taken (x ∷ xs) (suc count) (suc place) within = at_taken xs count place (omega arith)
 
-at_dropped : {A : Type 0} (xs : List A) (from place : ℕ) → slice_get (drop from xs) place ≡ slice_get xs (from + place)
+pub at_dropped : {A : Type 0} (xs : List A) (from place : ℕ) → slice_get (drop from xs) place ≡ slice_get xs (from + place)
 at_dropped xs zero place = ap (slice_get xs) (let here : place ≡ 0 + place = omega arith in here)
 at_dropped [] (suc from) place = refl
 at_dropped (x ∷ xs) (suc from) place = at_dropped xs from place ∙ ap (slice_get (x ∷ xs)) (let there : suc (from + place) ≡ suc from + place = omega arith in there)
 
 in_range : {A : Type 0} (xs : List A) (from to place : ℕ) → place < to - from → slice_get (slice_range xs from to) place ≡ slice_get xs (from + place)
 in_range xs from to place within = at_taken (drop from xs) (to - from) place within ∙ at_dropped xs from place
+
+-- the range of one place
+taken_one : {A : Type 0} (xs : List A) (place : ℕ) (x : A) → slice_get xs place ≡ Some x → take 1 (drop place xs) ≡ x ∷ []
+taken_one [] place x there = absurd (cc)
+taken_one (y ∷ ys) zero x there = let same : y ≡ x = cc in ap (λ z. z ∷ []) same
+taken_one (y ∷ ys) (suc place) x there = taken_one ys place x there
+
+pub range_of_one : {A : Type 0} (xs : List A) (place : ℕ) (x : A) → slice_get xs place ≡ Some x → slice_range xs place (suc place) ≡ x ∷ []
+range_of_one xs place x there = ap (λ n. take n (drop place xs)) (let one : suc place - place ≡ 1 = omega arith in one) ∙ taken_one xs place x there
 
 -- what is found, by its parts
 abbrev pub found : ℕ → ℤ → Option (ℤ × ℤ) → Option (ℤ × ℤ) → Found

@@ -1,9 +1,11 @@
-ghost use Rattle.std.specs.Prelude.{◌≡◌, ◌<◌, ◌≤◌, length, take, drop, not};
-ghost use Rattle.std.specs.List.{filter, slice_range};
+ghost use Rattle.std.specs.Prelude.{◌≡◌, ◌-◌, ◌<◌, ◌≤◌, ◌∷◌, [], suc, true, length, slice_get, Some, IfSome, IfNone};
+ghost use Rattle.std.specs.List.{slice_range};
+ghost use Rattle.retro_base.specs.Answers.{pairs_between};
 ghost use Rattle.retro_base.specs.Visits.{OpensCounter};
 ghost use Rattle.lifetime_segments.specs.Lawful.{IsLawful};
 ghost use Rattle.retro_dictionary.specs.PairSearch.{pair_before, found_in, found_of, none_found, found_together, lesser, greater};
-ghost use Rattle.retro_dictionary.specs.Bounds.{reaches};
+ghost use Rattle.retro_dictionary.specs.declared.search.Bound.TheVariants.{Below, UpTo};
+ghost use Rattle.retro_dictionary.specs.Bounds.{reaches, StandUpTo, FailsAt, HasNumber, IsFirstWithin, IsLastWithin};
 
 use crate::pairs::{Found, KeyPair, KeyRange};
 use lifetime_segments::{AnswersOfOne, Decomposable};
@@ -70,12 +72,7 @@ impl AnswersOfOne for PairSearch {
         if item.key < query.low || query.high < item.key {
             return PairSearch::empty();
         }
-        Found {
-            count: 1,
-            sum: i128::from(item.value),
-            least: Some(*item),
-            greatest: Some(*item),
-        }
+        found_of_one(*item)
     }
 }
 
@@ -101,38 +98,152 @@ fn greater(first: Option<KeyPair>, second: Option<KeyPair>) -> Option<KeyPair>
     }
 }
 
+/// A pair of a tree, and its place.
+#[derive(Clone, Copy)]
+struct Placed {
+    place: u32,
+    pair: KeyPair,
+}
+
 /// What is found of the pairs whose keys lie in a range.
+///
+/// A question asks some dozen trees, of which most have no pair in its range: one search and one look tell that.
 fn found_in<L: Ledger>(items: &Tree<KeyPair>, range: KeyRange, blank: Blank) -> Found
     requires counter { OpensCounter blank.name L.name blank.parts L.parts }
     requires lawful { IsLawful pair_before items.now }
     ensures { result ≡ found_in items.now range }
 {
     let mut steps = Steps::<L>::new(blank);
-    let from = count_up_to(items, Bound::Below { key: range.low }, &mut steps);
-    let to = count_up_to(items, Bound::UpTo { key: range.high }, &mut steps);
-    if to <= from {
+    let Some(first) = first_within(items, range, &mut steps) else {
         return PairSearch::empty();
-    }
-    found_between(items, from, to, &mut steps)
+    };
+    let last = last_within(items, &first, range, &mut steps);
+    found_between(items, &first, &last, &mut steps)
 }
 
-/// What is found of the pairs from one place to before another.
+/// The first pair whose key lies in a range, if there is one.
+fn first_within<L: Ledger>(
+    items: &Tree<KeyPair>,
+    range: KeyRange,
+    steps: &mut Steps<L>,
+) -> Option<Placed>
+    requires lawful { IsLawful pair_before items.now }
+    ensures some { IfSome result (IsFirstWithin range items.now) }
+    ensures none { IfNone result (pairs_between range.low range.high items.now ≡ []) }
+{
+    let place = count_below(items, range.low, steps);
+    let pair = pair_up_to(items, place, range.high, steps)?;
+    Some(Placed { place, pair })
+}
+
+/// The last pair whose key lies in a range, by the first one. A range of one key mostly has no other.
+fn last_within<L: Ledger>(
+    items: &Tree<KeyPair>,
+    first: &Placed,
+    range: KeyRange,
+    steps: &mut Steps<L>,
+) -> Placed
+    requires lawful { IsLawful pair_before items.now }
+    requires first { IsFirstWithin range items.now first.now }
+    ensures order { first.now.place ≤ result.place }
+    ensures last { IsLastWithin range items.now result }
+{
+    if range.low == range.high && pair_up_to(items, first.place + 1, range.high, steps).is_none() {
+        return *first;
+    }
+    let place = count_to_end(items, first, range, steps) - 1;
+    if place == first.place {
+        return *first;
+    }
+    let pair = items.get(place, steps);
+    Placed { place, pair }
+}
+
+/// What is found of the pairs from one to another.
 fn found_between<L: Ledger>(
     items: &Tree<KeyPair>,
-    from: u32,
-    to: u32,
+    first: &Placed,
+    last: &Placed,
     steps: &mut Steps<L>,
 ) -> Found
-    requires some { from < to }
-    requires within { to ≤ length items.now }
-    ensures { result ≡ found_of (slice_range items.now from to) }
+    requires lawful { IsLawful pair_before items.now }
+    requires order { first.now.place ≤ last.now.place }
+    requires first { slice_get items.now first.now.place ≡ Some first.now.pair }
+    requires last { slice_get items.now last.now.place ≡ Some last.now.pair }
+    ensures { result ≡ found_of (slice_range items.now first.now.place (suc last.now.place)) }
+{
+    if first.place == last.place {
+        return found_of_one(first.pair);
+    }
+    let to = last.place + 1;
+    Found {
+        count: to - first.place,
+        sum: items.measure(first.place, to, steps).sum(),
+        least: Some(first.pair),
+        greatest: Some(last.pair),
+    }
+}
+
+/// What is found of one pair.
+fn found_of_one(pair: KeyPair) -> Found
+    ensures { result ≡ found_of (pair ∷ []) }
 {
     Found {
-        count: to - from,
-        sum: items.measure(from, to, steps).sum(),
-        least: Some(items.get(from, steps)),
-        greatest: Some(items.get(to - 1, steps)),
+        count: 1,
+        sum: i128::from(pair.value),
+        least: Some(pair),
+        greatest: Some(pair),
     }
+}
+
+/// The pair at a place, if there is one and its key is not above another.
+fn pair_up_to<L: Ledger>(
+    items: &Tree<KeyPair>,
+    place: u32,
+    high: i64,
+    steps: &mut Steps<L>,
+) -> Option<KeyPair>
+    requires within { place ≤ length items.now }
+    ensures some { IfSome result (λ pair. (slice_get items.now place ≡ Some pair) × (reaches (UpTo high) pair ≡ true)) }
+    ensures none { IfNone result (FailsAt (reaches (UpTo high)) items.now place) }
+    ensures number { HasNumber items.now place }
+{
+    if place == items.len() {
+        return None;
+    }
+    let pair = items.get(place, steps);
+    if pair.key <= high { Some(pair) } else { None }
+}
+
+/// How many pairs have keys below one, where no key is below the least number.
+fn count_below<L: Ledger>(items: &Tree<KeyPair>, low: i64, steps: &mut Steps<L>) -> u32
+    requires lawful { IsLawful pair_before items.now }
+    ensures below { HasNumber items.now result → StandUpTo (Below low) items.now result }
+    ensures within { result ≤ length items.now }
+{
+    if low == i64::MIN {
+        return 0;
+    }
+    count_up_to(items, Bound::Below { key: low }, steps)
+}
+
+/// How many pairs have keys up to the end of a range that has this first one, where no key is above the greatest number.
+fn count_to_end<L: Ledger>(
+    items: &Tree<KeyPair>,
+    first: &Placed,
+    range: KeyRange,
+    steps: &mut Steps<L>,
+) -> u32
+    requires lawful { IsLawful pair_before items.now }
+    requires first { IsFirstWithin range items.now first.now }
+    ensures past { first.now.place < result }
+    ensures up_to { HasNumber items.now (result - 1) → StandUpTo (UpTo range.high) items.now result }
+    ensures within { result ≤ length items.now }
+{
+    if range.high == i64::MAX {
+        return items.len();
+    }
+    count_up_to(items, Bound::UpTo { key: range.high }, steps)
 }
 
 /// Up to where pairs are looked for.
@@ -157,8 +268,7 @@ fn reaches(bound: Bound, pair: KeyPair) -> bool
 /// How many pairs stand up to the bound.
 fn count_up_to<L: Ledger>(items: &Tree<KeyPair>, bound: Bound, steps: &mut Steps<L>) -> u32
     requires { IsLawful pair_before items.now }
-    ensures front { take result items.now ≡ filter (reaches bound) items.now }
-    ensures back { drop result items.now ≡ filter (λ pair. not (reaches bound pair)) items.now }
+    ensures up_to { StandUpTo bound items.now result }
     ensures within { result ≤ length items.now }
 {
     items.partition_point(|pair: &KeyPair| reaches(bound, *pair), steps)
