@@ -17,7 +17,7 @@ use Rattle.pq_fusion.proofs.Order.{IsLeast, not_earlier, same_by_order, length_w
 use Rattle.pq_fusion.proofs.Split.{order_front, order_back}
 use Rattle.pq_fusion.proofs.Swapped.{has_least}
 
-least_at : (y x : Entry) (xs zs : List Entry) → IsLeast y (xs ++ x ∷ zs) → comes_before x y ≡ false
+pub least_at : (y x : Entry) (xs zs : List Entry) → IsLeast y (xs ++ x ∷ zs) → comes_before x y ≡ false
 least_at y x [] zs least = least.0
 least_at y x (z ∷ xs) zs least = least_at y x xs zs least.1
 
@@ -178,14 +178,14 @@ get_alone [] n = refl
 get_alone (x ∷ xs) zero = refl
 get_alone (x ∷ xs) (suc n) = get_alone xs n
 
-same_start : (xs : List ℕ) (n d e : ℕ) → n < length xs → get_or xs n d ≡ get_or xs n e
+pub same_start : (xs : List ℕ) (n d e : ℕ) → n < length xs → get_or xs n d ≡ get_or xs n e
 same_start [] n d e within = absurd (omega arith)
 same_start (x ∷ xs) zero d e within = refl
 same_start (x ∷ xs) (suc n) d e within = same_start xs n d e (omega arith)
 
 -- all entries, with those of one chunk in the middle
 module _ {A : Type 0} where
-  around : (chunks : List (Vec Entry A)) (place : ℕ) (chunk : Vec Entry A) → slice_get chunks place ≡ Some chunk
+  pub around : (chunks : List (Vec Entry A)) (place : ℕ) (chunk : Vec Entry A) → slice_get chunks place ≡ Some chunk
       → entries_of chunks ≡ entries_of (take place chunks) ++ (chunk.items ++ entries_of (drop (suc place) chunks))
   around [] place chunk there = absurd (cc)
   around (first ∷ others) zero chunk there = let same : first ≡ chunk = cc in ap (λ (c : Vec Entry A). c.items ++ entries_of others) same
@@ -217,7 +217,7 @@ module _ {A : Type 0} where
       ap (λ l. first.items ++ l) (around_none others place chunk new there)
       ∙ sym (append_assoc first.items (entries_of (take place others)) (entries_of (drop (suc place) others)))
 
-  behind_place : (chunks : List (Vec Entry A)) (place : ℕ) (chunk : Vec Entry A) → slice_get chunks place ≡ Some chunk
+  pub behind_place : (chunks : List (Vec Entry A)) (place : ℕ) (chunk : Vec Entry A) → slice_get chunks place ≡ Some chunk
       → entries_of (drop place chunks) ≡ chunk.items ++ entries_of (drop (suc place) chunks)
   behind_place [] place chunk there = absurd (cc)
   behind_place (first ∷ others) zero chunk there = let same : first ≡ chunk = cc in ap (λ (c : Vec Entry A). c.items ++ entries_of others) same

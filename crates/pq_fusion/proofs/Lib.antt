@@ -28,4 +28,5 @@ pub mod Edged
 pub mod Edited
 pub mod Parts
 pub mod Searched
+pub mod Begun
 pub mod RowByRow

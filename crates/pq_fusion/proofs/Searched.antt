@@ -45,7 +45,7 @@ same_get [] n d e within = absurd (omega arith)
 same_get (x ∷ xs) zero d e within = refl
 same_get (x ∷ xs) (suc n) d e within = same_get xs n d e (omega arith)
 
-half_left : (width start steps k : ℕ) → 0 < width → IsLeft width start steps k → (next : ℕ) → next + next ≤ width → IsLeft next start (steps + 1) k
+pub half_left : (width start steps k : ℕ) → 0 < width → IsLeft width start steps k → (next : ℕ) → next + next ≤ width → IsLeft next start (steps + 1) k
 half_left width start steps k some left next half = by left.turns left.narrow left.few
   where
     by : (turns : ℕ) → width < 2 ^ turns → steps + turns ≤ start + k → IsLeft next start (steps + 1) k

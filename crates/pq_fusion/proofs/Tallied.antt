@@ -51,7 +51,7 @@ reaching_together bound [] ys = omega arith
 reaching_together bound (x ∷ xs) ys = omega (arith, reaching_with bound x (together xs ys), reaching_together bound xs ys)
 
 -- where the first of a rising list reaches, all do
-reaching_all : (bound x : Entry) (xs : List Entry) → IsLeast x xs → comes_before x bound ≡ false → reaching bound xs ≡ length xs
+pub reaching_all : (bound x : Entry) (xs : List Entry) → IsLeast x xs → comes_before x bound ≡ false → reaching bound xs ≡ length xs
 reaching_all bound x [] least after = refl
 reaching_all bound x (y ∷ ys) least after = rw (not_earlier bound x y after least.0) (omega (arith, reaching_all bound x ys least.1 after))
 

@@ -1,5 +1,5 @@
 -- A list of entries in chunks that stand one behind the other.
-use Rattle.std.specs.Prelude.{◌≡◌, ℕ, ◌+◌, ◌<◌, ◌≤◌, true, false, List, [], ◌∷◌, Vec, length, drop, get_or}
+use Rattle.std.specs.Prelude.{◌≡◌, ℕ, ◌+◌, ◌-◌, ◌<◌, ◌≤◌, true, false, List, [], ◌∷◌, Vec, length, drop, get_or}
 use Rattle.std.specs.List.{AllByRecursion, flat_map}
 use Rattle.retro_base.specs.declared.row.Entry.{Entry}
 use Rattle.retro_base.specs.EntriesInOrder.{AreInOrder}
@@ -40,6 +40,12 @@ pub record IsHome {A : Type 0} (entry : Entry) (chunks : List (Vec Entry A)) (pl
   pub within : place < length chunks
   pub from : 0 < place → AtHead (λ first. comes_before entry first ≡ false) (entries_of (drop place chunks))
   pub to : AtHead (λ first. comes_before entry first ≡ true) (entries_of (drop (place + 1) chunks))
+
+-- so many chunks begin before an entry, and no others
+pub record BeginBefore {A : Type 0} (bound : Entry) (chunks : List (Vec Entry A)) (count : ℕ) : Type 0 where
+  pub within : count ≤ length chunks
+  pub from : 0 < count → AtHead (λ first. comes_before first bound ≡ true) (entries_of (drop (count - 1) chunks))
+  pub to : AtHead (λ first. comes_before first bound ≡ false) (entries_of (drop count chunks))
 
 -- the chunk in which a rank lies, by how many entries stand before each
 pub record HoldsRank (starts : List ℕ) (rank place : ℕ) : Type 0 where

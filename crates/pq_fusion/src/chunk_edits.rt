@@ -1,4 +1,4 @@
-//! Edits of a list in chunks: one entry comes into a chunk or goes from one, and no other chunk changes.
+//! Edits of a list in chunks: one entry comes into its chunk and another goes from its own, and no other chunk changes.
 
 ghost use Rattle.std.specs.Prelude.{◌≡◌, ◌+◌, ◌<◌, ◌≤◌, ◌++◌, [], List, length, MatchOption, vec_capacity, vec_len};
 ghost use Rattle.retro_base.specs.declared.row.Entry.{Entry};

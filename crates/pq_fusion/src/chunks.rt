@@ -1,11 +1,10 @@
-//! A list of entries in chunks, so that an edit moves the entries of one chunk at most.
+//! A list of entries in chunks, so that an edit, which puts one in and takes another out, moves the entries of two chunks at most.
 
 ghost use Rattle.std.specs.Prelude.{◌≡◌, ◌+◌, ◌-◌, ◌<◌, ◌≤◌, ◌++◌, [], List, length, get_or, slice_get, IfOk, OnOk, MatchResult, vec_capacity};
 ghost use Rattle.retro_base.specs.declared.row.Entry.{Entry};
 ghost use Rattle.retro_base.specs.EntriesInOrder.{AreInOrder};
 ghost use Rattle.retro_base.specs.Limits.{most_rows};
-ghost use Rattle.pq_fusion.specs.Chunks.{AreChunks, HoldsRank, entries_of, starts_of};
-ghost use Rattle.retro_base.specs.State.{comes_before};
+ghost use Rattle.pq_fusion.specs.Chunks.{AreChunks, BeginBefore, HoldsRank, entries_of, starts_of};
 ghost use Rattle.pq_fusion.specs.Exchanges.{IsExchange};
 ghost use Rattle.pq_fusion.specs.Searches.{SearchesWithin};
 ghost use Rattle.pq_fusion.specs.Tallies.{reaching};
@@ -13,6 +12,7 @@ ghost use Rattle.pq_fusion.specs.Tallies.{reaching};
 use crate::Bound;
 use crate::chunk_edits::{FULL, exchange_among};
 use crate::exchange::make_room;
+use crate::tally::reaching;
 use retro_base::{Entry, NoMemory, Steps};
 use std::alloc::Global;
 use std::marker::Model;
@@ -121,18 +121,28 @@ pub(crate) fn entry_at(chunk: &Vec<Entry>, rank: u32) -> Option<Entry>
     chunk.as_slice().get(rank as usize).copied()
 }
 
-/// Whether the entry at a rank comes before this one.
-fn is_before(list: &Chunks, rank: u32, bound: Entry) -> bool
-    requires { rank < length list.now }
-    ensures { result ≡ comes_before (get_or list.now rank bound) bound }
+/// How many of these chunks begin before this entry, by halves.
+fn begun_before<L: Ledger>(bound: Entry, chunks: &[Vec<Entry>], steps: &mut Steps<L>) -> usize
+    requires order { AreInOrder (entries_of chunks.now) }
+    requires chunks { AreChunks chunks.now }
+    ensures begun { BeginBefore bound chunks.now result }
+    ensures visits { SearchesWithin 1 (length chunks.now) steps.old steps.new }
 {
-    match list.get(rank) {
-        Some(entry) => entry.comes_before(bound),
-        None => false,
+    let (mut low, mut high) = (0, chunks.len());
+    'halve: while low < high {
+        steps.tick();
+        let middle = low + (high - low) / 2;
+        if chunks[middle][0].comes_before(bound) {
+            low = middle + 1;
+        } else {
+            high = middle;
+        }
     }
+    low
 }
 
-/// How many of these entries do not come before this one, by halves.
+/// How many of these entries do not come before this one: all behind the last chunk that begins before it, and some of this chunk. Both
+/// are sought by halves.
 pub(crate) fn reaching_in_chunks<L: Ledger>(
     bound: Entry,
     list: &Chunks,
@@ -140,19 +150,15 @@ pub(crate) fn reaching_in_chunks<L: Ledger>(
 ) -> u32
     ensures count { result ≡ reaching bound list.now }
     ensures few { result ≤ length list.now }
-    ensures visits { SearchesWithin 1 (length list.now) steps.old steps.new }
+    ensures visits { SearchesWithin 2 (length list.now) steps.old steps.new }
 {
-    let (mut low, mut high) = (0, list.len());
-    'halve: while low < high {
-        steps.tick();
-        let middle = low + (high - low) / 2;
-        if is_before(list, middle, bound) {
-            low = middle + 1;
-        } else {
-            high = middle;
-        }
+    let begun = begun_before(bound, &list.chunks, steps);
+    if begun == 0 {
+        return list.count;
     }
-    list.len() - low
+    let chunk = list.chunks[begun - 1].as_slice();
+    let behind = list.count - list.starts[begun - 1] - chunk.len() as u32;
+    behind + reaching(bound, chunk, steps)
 }
 
 impl Chunks {

@@ -15,12 +15,13 @@
 //! each list by halves, and from row to row in one run, and the key at an index is the greatest one that enough entries reach.
 //!
 //! Verdicts, changes and the present are those of a `BridgeQueue` beside the tree. An edit goes down one path of the tree to a run, which
-//! is made anew with its piece, and what passes there is found by comparing; on the way up each pair learns what passes in one of its sides, finds by
-//! one boundary what passes in its own piece, and puts this one entry into a list or takes it out. So it takes a search of two lists a
-//! level by halves, and moves some entries of one chunk in each:
-//! a list of more than 256 entries is in chunks of at most so many, and counts anew how many stand before each.
+//! is made anew with its piece, and what passes there is found by comparing; on the way up each pair learns what passes in one of its
+//! sides, finds by one boundary what passes in its own piece, and puts this one entry into a list or takes it out, or puts it in the
+//! place of another. So it takes a search of two lists a level by halves, and moves some entries of up to two chunks in each: a list of
+//! more than 256 entries is in chunks of at most so many, and counts anew how many stand before each.
 //! A run that is full is made two, a pair that comes to few rows is made a run, and where a side would have 3 times as many rows as the
-//! other the whole pair is made anew, halved until its runs have no more than 48 rows; a share of its rows have come or gone before that is so again.
+//! other the whole pair is made anew, halved until its runs have no more than 48 rows; a share of its rows have come or gone before
+//! that is so again.
 //!
 //! | Call | Cost, with m rows | Memory |
 //! |---|---|---|
@@ -30,7 +31,7 @@
 //! | `ask_now`, `failure_after_insert`, `failure_after_remove` | those of `BridgeQueue`, log m | none |
 //! | `ask_past`, `answer_at`, `ask` | one walk of the path, log² m, for each binary digit of the difference of the keys on it | none |
 //! | `all`, `piece` | in proportion to the rows asked about | as many entries |
-//! | `insert`, `remove` | log² m comparisons, a run made anew, and in each list a move within a chunk and a count for each chunk; m log m where a part is made anew | a run, and room in each list |
+//! | `insert`, `remove` | log² m comparisons; moves in two chunks a list, a count of all; m log m for a part anew | a run, room in lists |
 //! | `stored` | each run and pair once | none |
 //!
 //! An edit takes all memory of a pair before anything of it changes, and the edit of its side is done or leaves all as before; so after
@@ -43,16 +44,16 @@
 //! it, with the edited row's own entry in its place. Which entry it is goes from part to part, by one comparison or two with the entry at
 //! the boundary of what a later part takes of an earlier one. This is a law (`edits_pass_one`) of all rows, places and edits.
 //!
-//! `ask_past` counts its visits, a run or a pair that is opened, each row of a run that is gone through and each turn of a search in a list: at
-//! most 25 for each of the 64 digits of a key and each pair of digits of m + 1.
+//! `ask_past` counts its visits, a run or a pair that is opened, each row of a run that is gone through and each turn of a search in a
+//! list, be it among its chunks or within one: at most 25 for each of the 64 digits of a key and each pair of digits of m + 1.
 //!
 //! What the layer above may rely on: the clauses of `Piece` and `FusedQueue`, the definitions of specs/Pieces.antt, and the laws of
 //! specs/PieceLaws.antt and specs/Edits.antt, which are the contracts of `laws`.
 //!
-//! - `piece`, `merge`, `of_rows`: a piece, two rising lists together, and the piece of rows one after another. `bound`: an entry, or what is
-//!   less or greater than each.
-//! - `subtree`, `root`: the tree of rows, and what stands at its root. `read`: its products. `remaining`: what a product leaves. `edit`: a row
-//!   more or less.
+//! - `piece`, `merge`, `of_rows`: a piece, two rising lists together, and the piece of rows one after another. `bound`: an entry, or what
+//!   is less or greater than each.
+//! - `subtree`, `root`: the tree of rows, and what stands at its root. `read`: its products. `remaining`: what a product leaves. `edit`: a
+//!   row more or less.
 //! - `entry_list`, `chunks`, `chunk_edits`: entries in rising order with room for an edit, a long list of them in chunks, and an entry that
 //!   comes into one of these or goes. `node_piece`: a piece in two such lists. `exchange`: one entry of a list in the
 //!   place of another. `boundary`: the entry at a rank of two lists together. `difference`: what passed, by comparing.

@@ -1,26 +1,56 @@
-use Rattle.std.proofs.Common.{◌+◌, ◌-◌, ◌/◌, ◌∙◌, ap, arith, sym, refl, subst}
-use Rattle.pq_fusion.proofs.Searched.{IsNarrowed, narrowed_starts, narrowed_upper, narrowed_lower, narrowed_ends, narrowed_visits}
+use Rattle.std.proofs.Common.{arith}
+use Rattle.pq_fusion.proofs.Begun.{all_counted, last_counted, one_search, start_inside, two_searches}
 use Rattle.pq_fusion.proofs.chunks.reaching_in_chunks.Goals as goal
 
-pub halve-init : goal.halve-init
-halve-init g c = subst (λ n. IsNarrowed c.args.bound c.args.list.now 0 n c.args.steps.now c.args.steps.now) (sym c.len-high.ensures.count) (narrowed_starts c.args.bound c.args.list.now c.args.steps.now)
+pub returns-then-begun-eq0-clause-count : goal.returns-then-begun-eq0-clause-count
+returns-then-begun-eq0-clause-count g c = all_counted c.args.bound c.list.inside.chunks.items c.deref.result.now c.list.inside.starts.items c.list.inside.count c.begun_before-begun.result c.args.list.now c.list.invariant c.list.view_is c.deref.ensures.value c.begun_before-begun.ensures.begun c.if-begun-eq0.true
 
-pub halve-preserved-then-is_before : goal.halve-preserved-then-is_before
-halve-preserved-then-is_before g c =
-    subst (IsNarrowed c.args.bound c.args.list.now (c.halve.low + (c.halve.high - c.halve.low) / 2 + 1) c.halve.high c.args.steps.now) (sym c.tick.ensures)
-    (narrowed_upper c.args.bound c.args.list.now c.halve.low c.halve.high c.args.steps.now c.halve.steps (c.halve.low + (c.halve.high - c.halve.low) / 2) c.args.bound
-    c.len-high.ensures.order c.halve.invariant c.halve-test.true refl (sym c.is_before.ensures ∙ c.if-is_before.true))
+pub returns-then-begun-eq0-clause-visits : goal.returns-then-begun-eq0-clause-visits
+returns-then-begun-eq0-clause-visits g c = one_search c.args.bound c.list.inside.chunks.items c.deref.result.now c.list.inside.starts.items c.list.inside.count c.begun_before-begun.result c.args.list.now c.list.invariant c.list.view_is c.deref.ensures.value c.begun_before-begun.ensures.begun c.args.steps.now c.begun_before-begun.new.steps c.begun_before-begun.ensures.visits
 
-pub halve-preserved : goal.halve-preserved
-halve-preserved g c =
-    subst (IsNarrowed c.args.bound c.args.list.now c.halve.low (c.halve.low + (c.halve.high - c.halve.low) / 2) c.args.steps.now) (sym c.tick.ensures)
-    (narrowed_lower c.args.bound c.args.list.now c.halve.low c.halve.high c.args.steps.now c.halve.steps (c.halve.low + (c.halve.high - c.halve.low) / 2) c.args.bound
-    c.len-high.ensures.order c.halve.invariant c.halve-test.true refl (sym c.is_before.ensures ∙ c.if-is_before.false))
+pub index-requires-2 : goal.index-requires-2
+index-requires-2 g c = omega (arith, c.list.inside.starts.ok, start_inside c.args.bound c.list.inside.chunks.items c.deref.result.now c.list.inside.starts.items c.list.inside.count c.begun_before-begun.result c.args.list.now c.list.invariant c.list.view_is c.deref.ensures.value c.begun_before-begun.ensures.begun (omega (arith, c.if-begun-eq0.false)))
+
+pub overflow_sub-behind : goal.overflow_sub-behind
+overflow_sub-behind g c =
+    (last_counted c.args.bound c.list.inside.chunks.items c.deref.result.now c.list.inside.starts.items c.list.inside.count c.begun_before-begun.result c.args.list.now c.list.invariant c.list.view_is
+    c.deref.ensures.value c.begun_before-begun.ensures.begun c.index.result.now c.as_slice-chunk.result.now c.index-2.result.now (omega (arith, c.if-begun-eq0.false)) c.index.ensures c.index-2.ensures
+    c.as_slice-chunk.ensures.value).start_within
+
+pub overflow_sub-behind-2 : goal.overflow_sub-behind-2
+overflow_sub-behind-2 g c =
+    (last_counted c.args.bound c.list.inside.chunks.items c.deref.result.now c.list.inside.starts.items c.list.inside.count c.begun_before-begun.result c.args.list.now c.list.invariant c.list.view_is
+    c.deref.ensures.value c.begun_before-begun.ensures.begun c.index.result.now c.as_slice-chunk.result.now c.index-2.result.now (omega (arith, c.if-begun-eq0.false)) c.index.ensures c.index-2.ensures
+    c.as_slice-chunk.ensures.value).own_within
+
+pub reaching-requires-clause-order : goal.reaching-requires-clause-order
+reaching-requires-clause-order g c =
+    (last_counted c.args.bound c.list.inside.chunks.items c.deref.result.now c.list.inside.starts.items c.list.inside.count c.begun_before-begun.result c.args.list.now c.list.invariant c.list.view_is
+    c.deref.ensures.value c.begun_before-begun.ensures.begun c.index.result.now c.as_slice-chunk.result.now c.index-2.result.now (omega (arith, c.if-begun-eq0.false)) c.index.ensures c.index-2.ensures
+    c.as_slice-chunk.ensures.value).order
 
 pub returns-clause-count : goal.returns-clause-count
 returns-clause-count g c =
-    ap (λ n. n - c.halve.low) c.len.ensures.count
-    ∙ narrowed_ends c.args.bound c.args.list.now c.halve.low c.halve.high c.args.steps.now c.halve.steps c.halve.invariant (omega (arith, c.halve-test.false))
+    omega (
+      arith,
+      c.reaching.ensures.count,
+      (last_counted c.args.bound c.list.inside.chunks.items c.deref.result.now c.list.inside.starts.items c.list.inside.count c.begun_before-begun.result c.args.list.now c.list.invariant c.list.view_is
+          c.deref.ensures.value c.begun_before-begun.ensures.begun c.index.result.now c.as_slice-chunk.result.now c.index-2.result.now (omega (arith, c.if-begun-eq0.false)) c.index.ensures c.index-2.ensures
+          c.as_slice-chunk.ensures.value).counted,
+    )
+
+pub returns-clause-few : goal.returns-clause-few
+returns-clause-few g c =
+    omega (
+      arith,
+      c.reaching.ensures.count,
+      (last_counted c.args.bound c.list.inside.chunks.items c.deref.result.now c.list.inside.starts.items c.list.inside.count c.begun_before-begun.result c.args.list.now c.list.invariant c.list.view_is
+          c.deref.ensures.value c.begun_before-begun.ensures.begun c.index.result.now c.as_slice-chunk.result.now c.index-2.result.now (omega (arith, c.if-begun-eq0.false)) c.index.ensures c.index-2.ensures
+          c.as_slice-chunk.ensures.value).within,
+    )
 
 pub returns-clause-visits : goal.returns-clause-visits
-returns-clause-visits g c = narrowed_visits c.args.bound c.args.list.now c.halve.low c.halve.high c.args.steps.now c.halve.steps c.halve.invariant
+returns-clause-visits g c = two_searches c.args.bound c.list.inside.chunks.items c.deref.result.now c.list.inside.starts.items c.list.inside.count c.begun_before-begun.result c.args.list.now c.list.invariant c.list.view_is c.deref.ensures.value c.begun_before-begun.ensures.begun c.as_slice-chunk.result.now c.args.steps.now c.begun_before-begun.new.steps c.reaching.new.steps (last_counted c.args.bound c.list.inside.chunks.items c.deref.result.now c.list.inside.starts.items c.list.inside.count c.begun_before-begun.result c.args.list.now c.list.invariant c.list.view_is
+    c.deref.ensures.value c.begun_before-begun.ensures.begun c.index.result.now c.as_slice-chunk.result.now c.index-2.result.now (omega (arith, c.if-begun-eq0.false)) c.index.ensures c.index-2.ensures
+    c.as_slice-chunk.ensures.value).part
+    c.begun_before-begun.ensures.visits c.reaching.ensures.visits

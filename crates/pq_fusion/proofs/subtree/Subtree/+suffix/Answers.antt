@@ -1,4 +1,4 @@
-use Rattle.std.proofs.Common.{◌≡◌, ◌-◌, drop, arith, subst, sym, IfOk}
+use Rattle.std.proofs.Common.{◌≡◌, drop, arith, subst, sym, IfOk}
 use Rattle.pq_fusion.specs.Pieces.{tolerant}
 use Rattle.pq_fusion.proofs.Pairs.{sizes, few, drop_earlier, drop_later}
 use Rattle.pq_fusion.proofs.Prefixes.{sides_few, sides_are}
