@@ -1,5 +1,6 @@
 -- What one row more does to a piece.
-use Rattle.std.proofs.Common.{◌≡◌, ℕ, zero, suc, ◌+◌, ◌<◌, ◌≤◌, List, [], ◌∷◌, length, take, drop, get_or, refl, ap, sym, ◌∙◌, subst, arith, add-one, Some, None, inl, inr}
+use Rattle.std.proofs.Common.{◌≡◌, ℕ, zero, suc, ◌+◌, ◌<◌, ◌≤◌, List, [], ◌∷◌, ◌++◌, length, take, drop, get_or, refl, ap, sym, ◌∙◌, subst, arith, add-one, Some, None, inl, inr}
+use Rattle.std.specs.List.{insert}
 use Rattle.std.proofs.Math.Seq.{take-suc}
 use Rattle.std.proofs.lemmas.List.{length-take}
 use Rattle.retro_base.specs.declared.kind.Kind.TheVariants.{Pq}
@@ -75,13 +76,19 @@ module _ (p seen : PieceParts) (is : p ≡ seen) (piece : IsPiece p) (few : size
           let same : least ≡ x = least_is in
           same_parts xs left (with_entry x ys) removed unmet unmet (sym left_is) (ap (λ e. with_entry e ys) (sym same) ∙ sym removed_is) refl
 
+-- one row more behind all
+pub behind_all : (rows : List Row) (row : Row) → insert rows (length rows) row ≡ rows ++ row ∷ []
+behind_all [] row = refl
+behind_all (x ∷ rows) row = ap (λ l. x ∷ l) (behind_all rows row)
+
+pub last_more : (rows : List Row) (row : Row) → tolerant (rows ++ row ∷ []) ≡ after_row row.op row.number (tolerant rows)
+last_more rows row = in_parts rows (row ∷ []) no_parts ∙ one_more row [] (tolerant rows) ∙ no_more (after_row row.op row.number (tolerant rows))
+
 -- row by row
 pub row_more : (rows : List Row) (n : ℕ) (d : Row) → n < length rows
     → tolerant (take (n + 1) rows) ≡ after_row (get_or rows n d).op (get_or rows n d).number (tolerant (take n rows))
 row_more rows n d within =
-    ap (λ k. tolerant (take k rows)) (add-one n) ∙ ap tolerant (take-suc rows n d within)
-    ∙ in_parts (take n rows) (get_or rows n d ∷ []) no_parts ∙ one_more (get_or rows n d) [] (tolerant (take n rows))
-    ∙ no_more (after_row (get_or rows n d).op (get_or rows n d).number (tolerant (take n rows)))
+    ap (λ k. tolerant (take k rows)) (add-one n) ∙ ap tolerant (take-suc rows n d within) ∙ last_more (take n rows) (get_or rows n d)
 
 pub few_so_far : (rows : List Row) (n : ℕ) (piece : PieceParts) → piece ≡ tolerant (take n rows) → n < length rows → length rows ≤ most_rows → size_of piece + 1 ≤ most_rows
 few_so_far rows n piece is within few = omega (arith, ap size_of is, rows_size (take n rows), length-take n rows)

@@ -108,6 +108,44 @@ impl Subtree {
         Ok(rows)
     }
 
+    /// The run of the rows here and this one behind them, which are `rows`. Its piece is the one here with a row more.
+    fn with_last(&self, alloc: Global, rows: Vec<Row>, row: Row) -> Result<Subtree, NoMemory>
+        requires rows { rows.items ≡ insert self.now (length self.now) row }
+        requires row { kind_of row.op ≡ Pq }
+        requires of_kind { AreOfKind Pq rows.items }
+        requires few { length rows.items ≤ longest_run }
+        ensures { IfOk result (λ subtree. subtree ≡ rows.items) }
+    {
+        let piece = self.whole(alloc)?.with_row(row)?.copy()?;
+        let run = Run {
+            rows,
+            piece: NodePiece::of_piece(piece)?,
+        };
+        Ok(Subtree::of_run(Box::new(alloc, run)?))
+    }
+
+    /// The subtree of the rows here and one more at a place, in runs of no more than `longest`.
+    fn with_row(
+        &self,
+        alloc: Global,
+        place: u32,
+        row: Row,
+        longest: usize,
+    ) -> Result<Subtree, NoMemory>
+        requires within { place ≤ length self.now }
+        requires room { length self.now < most_rows }
+        requires of_kind { kind_of row.op ≡ Pq }
+        requires some { 1 ≤ longest }
+        requires short { longest ≤ longest_run }
+        ensures { IfOk result (λ new. new ≡ insert self.now place row) }
+    {
+        let rows = self.rows_with(alloc, place, row)?;
+        if place == self.len() && rows.as_slice().len() <= longest {
+            return self.with_last(alloc, rows, row);
+        }
+        Subtree::of_rows(alloc, rows.as_slice(), longest)
+    }
+
     /// Puts a row in at a place, with all rows made anew, in runs of no more than `longest`. What passes is found by comparing.
     fn insert_anew(
         &mut self,
@@ -125,8 +163,7 @@ impl Subtree {
         ensures err { OnErr result (self.new ≡ self.old) }
         ensures passed { IfOk result (λ passed. DiffersBy (added_by row) passed (tolerant self.old) (tolerant (insert self.old place row))) }
     {
-        let rows = self.rows_with(alloc, place, row)?;
-        let new = Subtree::of_rows(alloc, rows.as_slice(), longest)?;
+        let new = self.with_row(alloc, place, row, longest)?;
         let gains = row.added_entry().is_some();
         let passed = difference(gains, &self.whole(alloc)?, &new.whole(alloc)?);
         *self = new;

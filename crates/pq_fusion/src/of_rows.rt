@@ -40,7 +40,7 @@ impl Piece {
     }
 
     /// The piece with one row more behind its rows.
-    fn with_row(self, row: Row) -> Result<Piece, NoMemory>
+    pub(crate) fn with_row(self, row: Row) -> Result<Piece, NoMemory>
         requires of_kind { kind_of row.op ≡ Pq }
         requires few { size_of self + 1 ≤ most_rows }
         ensures { IfOk result (λ piece. piece ≡ after_row row.op row.number self) }

@@ -8,4 +8,4 @@ pub returns-clause-passed : goal.returns-clause-passed
 returns-clause-passed c =
     found_in c.args.self.now c.args.place c.args.row _ _ _ _ c.in_ok-whole.ensures c.difference-passed.ensures c.requires.of_kind
     (c.is_some-gains.ensures ∙ ap is_some c.added_entry.ensures)
-    (c.in_ok-whole-2.ensures ∙ ap tolerant (c.in_ok-new.ensures ∙ c.as_slice.ensures.value ∙ c.in_ok-rows.ensures.rows))
+    (c.in_ok-whole-2.ensures ∙ ap tolerant c.in_ok-new.ensures)
