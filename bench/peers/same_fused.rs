@@ -68,8 +68,10 @@ impl Subtree {
     fn edit(&mut self, place: usize, row: Option<Row>, edit: Edit) -> Bound {
         match &mut self.part {
             Part::Run(rows) if row.is_none() || rows.len() < FULL => {
+                let last = row.filter(|_| place == rows.len());
                 change(rows, place, row);
-                let piece = Piece::of_rows(rows);
+                let piece =
+                    last.map_or_else(|| Piece::of_rows(rows), |row| self.piece.with_row(row));
                 let passed = difference(&self.piece.left, &piece.left, edit.gains);
                 self.piece = piece;
                 passed

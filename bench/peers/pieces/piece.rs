@@ -55,7 +55,22 @@ impl Piece {
 
     /// Performs rows one after another.
     pub fn of_rows(rows: &[Row]) -> Piece {
-        let (mut left, mut removed, mut unmet) = (Vec::new(), Vec::new(), 0);
+        Piece::performed(Vec::new(), Vec::new(), 0, rows)
+    }
+
+    /// The piece with a row more behind its rows.
+    pub fn with_row(&self, row: Row) -> Piece {
+        let (left, removed) = (self.left.iter().collect(), self.removed.iter().collect());
+        Piece::performed(left, removed, self.unmet, &[row])
+    }
+
+    /// Performs rows one after another behind those of a piece.
+    fn performed(
+        mut left: Vec<Entry>,
+        mut removed: Vec<Entry>,
+        mut unmet: usize,
+        rows: &[Row],
+    ) -> Piece {
         for row in rows {
             match row.op {
                 Op::Ins { key } => put(&mut left, (key, row.number)),
