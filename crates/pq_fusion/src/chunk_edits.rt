@@ -211,9 +211,6 @@ pub(crate) fn exchange_among(
     ensures chunks { AreChunks chunks.new.items }
     ensures few { vec_len chunks.new ≤ vec_len chunks.old + 1 }
 {
-    if !put.is_below(take) && !take.is_below(put) {
-        return;
-    }
     put_bound_among(chunks, spare, put);
     take_bound_among(chunks, take);
 }

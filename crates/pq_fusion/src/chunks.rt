@@ -259,11 +259,14 @@ impl RoomyChunks {
         }
     }
 
-    /// Puts one entry in and takes another out.
+    /// Puts one entry in and takes another out. Where these are the same, all stays, and nothing is counted anew.
     pub(crate) fn exchange(self, put: Bound, take: Bound) -> Chunks
         requires there { (new : List Entry) × (IsExchange put take self new × (length new ≤ most_rows)) }
         ensures { IsExchange put take self result }
     {
+        if !put.is_below(take) && !take.is_below(put) {
+            return self.into_list();
+        }
         let RoomyChunks {
             alloc,
             mut chunks,
