@@ -134,9 +134,17 @@ impl Pair {
         one < 3 * other && other < 3 * one && (adds || one + other > FEW)
     }
 
+    /// What stands between what the later side takes and what it leaves. An entry that comes in behind all passes itself in any case.
+    fn boundary(&self, place: usize, adds: bool, gains: bool) -> Bound {
+        if adds && gains && place == self.size {
+            return Bound::Low;
+        }
+        boundary(&self.earlier.piece, &self.later.piece, gains)
+    }
+
     /// Edits one side, and gives the entry that passes in both together.
     fn edit(&mut self, place: usize, row: Option<Row>, edit: Edit) -> Bound {
-        let bound = boundary(&self.earlier.piece, &self.later.piece, edit.gains);
+        let bound = self.boundary(place, row.is_some(), edit.gains);
         let passed = if self.is_earlier(place, row.is_some()) {
             bound.max(self.earlier.edit(place, row, edit))
         } else {

@@ -1,5 +1,5 @@
 -- What passes in a pair by an edit of one of its sides.
-use Rattle.std.proofs.Common.{◌≡◌, ℕ, suc, ◌-◌, ◌<◌, ◌≤◌, List, ◌++◌, Bool, true, false, length, take, drop, refl, ap, sym, ◌∙◌, subst, Option, Some, None}
+use Rattle.std.proofs.Common.{◌≡◌, ℕ, suc, ◌-◌, ◌<◌, ◌≤◌, List, ◌++◌, Bool, true, false, length, take, drop, refl, ap, sym, ◌∙◌, subst, arith, length-append, Option, Some, None}
 use Rattle.std.specs.Prelude.{is_some, not, slice_get}
 use Rattle.std.specs.List.{insert, remove}
 use Rattle.std.proofs.lemmas.List.{take-append-drop}
@@ -8,15 +8,27 @@ use Rattle.retro_base.specs.declared.kind.Kind.TheVariants.{Pq}
 use Rattle.retro_base.specs.declared.row.Entry.{Entry}
 use Rattle.retro_base.specs.declared.row.Row.{Row}
 use Rattle.retro_base.specs.Kind.{kind_of}
+use Rattle.retro_base.specs.State.{with_entry}
 use Rattle.retro_base.specs.Timeline.{AreOfKind}
 use Rattle.retro_base.specs.Weights.{added_by}
 use Rattle.pq_fusion.specs.declared.bound.Bound.{Bound}
-use Rattle.pq_fusion.specs.Bounds.{higher, lower}
+use Rattle.pq_fusion.specs.declared.bound.Bound.TheVariants.{At}
+use Rattle.pq_fusion.specs.Bounds.{higher, is_below, lower}
 use Rattle.pq_fusion.specs.Edits.{Apart, DiffersBy, Passes, own_of, boundary_of}
 use Rattle.pq_fusion.specs.Pieces.{PieceParts, IsRising, tolerant, fuse}
+use Rattle.pq_fusion.proofs.Bounded.{higher_first, lower_first, lower_second, not_itself, one_way}
+use Rattle.pq_fusion.proofs.Compared.{besides_is}
 use Rattle.pq_fusion.proofs.FromRows.{tolerant_rise, rows_fuse}
 use Rattle.pq_fusion.proofs.Parts.{parted_at, kind_at}
 use Rattle.pq_fusion.proofs.Passed.{earlier_passes, earlier_after, later_passes, passes_one}
+use Rattle.pq_fusion.proofs.RowByRow.{adding_last}
+
+-- the greater of a bound and of what is no greater
+own_highest : (own c : Bound) → higher own (lower own c) ≡ own
+own_highest own c = elim (is_below c own) as (λ t. is_below c own ≡ t → higher own (lower own c) ≡ own) [
+  | true ↦ λ less. let no = one_way c own less in ap (higher own) (lower_second own c no) ∙ higher_first own c no
+  | false ↦ λ no. ap (higher own) (lower_first own c no) ∙ higher_first own own (not_itself own)
+] refl
 
 -- an edit that gains is none that loses
 pub turned : (gains some : Bool) → not gains ≡ some → gains ≡ not some
@@ -100,6 +112,24 @@ module _ (row : Row) (earlier later : List Row) (place : ℕ) (x c : Bound) wher
       (passes_later (is_some o) (own_of o) x earlier later (insert later (place - length earlier) row) (earlier ++ later) (insert (earlier ++ later) place row) c
       (higher (own_of o) (lower x c)) c_is refl refl (sym (insert-append_right earlier later (length earlier) place row refl beyond))
       (put_as o (is_some o) (own_of o) x (tolerant later) (tolerant (insert later (place - length earlier) row)) refl refl differs))
+
+  -- behind all others an entry that is added passes itself
+  pub put_behind : kind_of row.op ≡ Pq → is_some (added_by row) ≡ true → place ≡ length (earlier ++ later)
+      → DiffersBy (added_by row) x (tolerant later) (tolerant (insert later (place - length earlier) row))
+      → DiffersBy (added_by row) (higher (own_of (added_by row)) (lower x c)) (tolerant (earlier ++ later)) (tolerant (insert (earlier ++ later) place row))
+  put_behind kind adds place_is = by (added_by row) refl adds
+    where
+      by : (entry : Option Entry) → added_by row ≡ entry → is_some entry ≡ true → DiffersBy entry x (tolerant later) (tolerant (insert later (place - length earlier) row))
+          → DiffersBy entry (higher (own_of entry) (lower x c)) (tolerant (earlier ++ later)) (tolerant (insert (earlier ++ later) place row))
+      by None is some differs = absurd (cc)
+      by (Some e) is some differs =
+          let there = adding_last later (place - length earlier) row e (omega (arith, place_is, length-append earlier later)) kind is in
+          let left : (tolerant (insert later (place - length earlier) row)).left ≡ with_entry e (tolerant later).left = ap (λ (p : PieceParts). p.left) there in
+          let x_is : x ≡ At e = sym (besides_is x (tolerant later).left _ differs.some differs.left) ∙ besides_is (At e) (tolerant later).left _ refl left in
+          let passed_is : higher (At e) (lower x c) ≡ At e = ap (λ b. higher (At e) (lower b c)) x_is ∙ own_highest (At e) c in
+          subst (λ y. Apart (At e) y (tolerant (earlier ++ later)) (tolerant (insert (earlier ++ later) place row))) (sym passed_is)
+          (subst (Apart (At e) (At e) (tolerant (earlier ++ later))) (sym (adding_last (earlier ++ later) place row e place_is kind is))
+          (record { left = refl; removed = refl; unmet = omega arith; order = not_itself (At e); some = refl; no_top = refl }))
 
   pub cut_earlier : c ≡ boundary_of (not (is_some (added_by row))) (tolerant earlier) (tolerant later) → place < length earlier
       → DiffersBy (added_by row) x (tolerant (remove earlier place)) (tolerant earlier)

@@ -84,6 +84,11 @@ behind_all (x ∷ rows) row = ap (λ l. x ∷ l) (behind_all rows row)
 pub last_more : (rows : List Row) (row : Row) → tolerant (rows ++ row ∷ []) ≡ after_row row.op row.number (tolerant rows)
 last_more rows row = in_parts rows (row ∷ []) no_parts ∙ one_more row [] (tolerant rows) ∙ no_more (after_row row.op row.number (tolerant rows))
 
+pub adding_last : (rows : List Row) (n : ℕ) (row : Row) (entry : Entry) → n ≡ length rows → kind_of row.op ≡ Pq → added_by row ≡ Some entry
+    → tolerant (insert rows n row) ≡ parts (with_entry entry (tolerant rows).left) (tolerant rows).removed (tolerant rows).unmet
+adding_last rows n row entry n_is kind adds =
+    ap (λ k. tolerant (insert rows k row)) n_is ∙ ap tolerant (behind_all rows row) ∙ last_more rows row ∙ sym (with_adding row entry (tolerant rows) kind adds)
+
 -- row by row
 pub row_more : (rows : List Row) (n : ℕ) (d : Row) → n < length rows
     → tolerant (take (n + 1) rows) ≡ after_row (get_or rows n d).op (get_or rows n d).number (tolerant (take n rows))

@@ -1,11 +1,11 @@
 -- A pair that is edited below.
-use Rattle.std.specs.Prelude.{◌≡◌, ℕ, Bool, false, ◌+◌, ◌-◌, ◌*◌, ◌<◌, ◌≤◌, ◌⊎◌, List, length, nat_lt, nat_le, if◌then◌else◌}
+use Rattle.std.specs.Prelude.{◌≡◌, ℕ, Bool, true, false, ◌+◌, ◌-◌, ◌*◌, ◌<◌, ◌≤◌, ◌⊎◌, List, length, nat_lt, nat_le, if◌then◌else◌}
 use Rattle.std.specs.List.{insert, remove}
 use Rattle.retro_base.specs.declared.row.Row.{Row}
 use Rattle.retro_base.specs.Weights.{added_by}
 use Rattle.pq_fusion.specs.declared.bound.Bound.{Bound}
 use Rattle.pq_fusion.specs.declared.subtree.Pair.{Pair}
-use Rattle.pq_fusion.specs.Edits.{DiffersBy}
+use Rattle.pq_fusion.specs.Edits.{DiffersBy, boundary_of}
 use Rattle.pq_fusion.specs.Nodes.{IsPair, pair_rows}
 use Rattle.pq_fusion.specs.Pieces.{PieceParts, tolerant}
 
@@ -43,6 +43,11 @@ Puts pair place row edited = ((place ≤ length pair.earlier) × (edited ≡ wit
 abbrev pub Cuts : Pair → ℕ → Pair → Type 0
 Cuts pair place edited = ((place < length pair.earlier) × (edited ≡ with_earlier pair (remove pair.earlier place)))
     ⊎ ((length pair.earlier ≤ place) × (edited ≡ with_later pair (remove pair.later (place - length pair.earlier))))
+
+-- the boundary of a pair where a row is put in; behind all others one that adds an entry passes its own, whatever stands there
+abbrev pub IsBoundaryFor : Bool → ℕ → Pair → Bound → Type 0
+IsBoundaryFor gains place pair boundary = ((gains ≡ true) × (place ≡ length (pair_rows pair)))
+    ⊎ (boundary ≡ boundary_of gains (tolerant pair.earlier) (tolerant pair.later))
 
 -- a pair of the edited rows, and what passes between what they leave and what they do not
 pub record IsPut (pair : Pair) (place : ℕ) (row : Row) (edited : Pair) (passed : Bound) : Type 0 where

@@ -8,7 +8,7 @@ ghost use Rattle.retro_base.specs.Weights.{added_by};
 ghost use Rattle.pq_fusion.specs.Bounds.{higher, lower};
 ghost use Rattle.pq_fusion.specs.Edits.{DiffersBy, boundary_of};
 ghost use Rattle.pq_fusion.specs.Nodes.{IsBalanced, IsPair, longest_run, pair_rows};
-ghost use Rattle.pq_fusion.specs.Passages.{Cuts, IsCut, IsPut, Puts, bears, spares, with_piece};
+ghost use Rattle.pq_fusion.specs.Passages.{Cuts, IsBoundaryFor, IsCut, IsPut, Puts, bears, spares, with_piece};
 ghost use Rattle.pq_fusion.specs.Pieces.{tolerant};
 
 use crate::boundary::boundary;
@@ -302,6 +302,17 @@ impl Pair {
         boundary(first.left(), second.removed(), second.takings(), gains)
     }
 
+    /// The boundary where a row is put in at a place. Behind all others a row that adds an entry passes its own, and needs none.
+    fn boundary_for(&self, place: u32, gains: bool) -> Bound
+        requires { IsPair self.now }
+        ensures { IsBoundaryFor gains place self.now result }
+    {
+        if gains && place == self.size {
+            return Bound::Low;
+        }
+        self.boundary(gains)
+    }
+
     /// Puts a row in on its side, and says what passes in the pair, whose boundary this is.
     #[cycle(put)]
     fn insert_below(
@@ -315,7 +326,7 @@ impl Pair {
         requires room { length (pair_rows self.old) < most_rows }
         requires of_kind { kind_of row.op ≡ Pq }
         requires some { 0 < length self.old.later }
-        requires boundary { boundary ≡ boundary_of (is_some (added_by row)) (tolerant self.old.earlier) (tolerant self.old.later) }
+        requires boundary { IsBoundaryFor (is_some (added_by row)) place self.old boundary }
         ensures ok { OnOk result (Puts self.old place row self.new) }
         ensures err { OnErr result (self.new ≡ self.old) }
         ensures passed { IfOk result (λ passed. DiffersBy (added_by row) passed (tolerant (pair_rows self.old)) (tolerant (insert (pair_rows self.old) place row))) }
@@ -372,7 +383,7 @@ fn put_row(alloc: Global, pair: Box<Pair>, place: u32, row: Row) -> Result<Edite
     ensures { MatchResult result (λ edited. IsPut pair.value place row edited.pair.value edited.passed) (λ same. same.value ≡ pair.value) }
 {
     let gains = row.added_entry().is_some();
-    let boundary = pair.boundary(gains);
+    let boundary = pair.boundary_for(place, gains);
     let Opened { mut pair, piece } = take_apart(alloc, pair)?;
     match pair.insert_below(alloc, place, row, boundary) {
         Ok(passed) => {

@@ -1,4 +1,4 @@
-use Rattle.std.proofs.Common.{◌≡◌, ◌+◌, ◌-◌, ap, arith, subst, sym, ◌∙◌}
+use Rattle.std.proofs.Common.{◌≡◌, ◌+◌, ◌-◌, ap, arith, inl, inr, length-append, subst, sym, ◌∙◌}
 use Rattle.std.specs.Prelude.{is_some}
 use Rattle.std.specs.List.{insert}
 use Rattle.retro_base.specs.Weights.{added_by}
@@ -8,7 +8,7 @@ use Rattle.pq_fusion.specs.Edits.{DiffersBy}
 use Rattle.pq_fusion.specs.Nodes.{pair_rows}
 use Rattle.pq_fusion.specs.Passages.{with_piece}
 use Rattle.pq_fusion.specs.Pieces.{tolerant}
-use Rattle.pq_fusion.proofs.Edged.{put_earlier, put_later}
+use Rattle.pq_fusion.proofs.Edged.{put_behind, put_earlier, put_later}
 use Rattle.pq_fusion.proofs.Edited.{put_after, put_pair}
 use Rattle.pq_fusion.proofs.+put.Goals as goal
 
@@ -36,8 +36,11 @@ subtree::Pair::insert_below-returns-then-place-before-clause-passed t c =
     let pair = c.args.self.now in
     let row = c.args.row in
     subst (λ y. DiffersBy (added_by row) y (tolerant (pair_rows pair)) (tolerant (insert (pair_rows pair) c.args.place row))) (sym c.higher.ensures)
-    (put_earlier row pair.earlier pair.later c.args.place c.in_ok-passed.passed c.args.boundary c.requires.boundary
-    (omega (arith, c.if-place-before.true, c.len-before.ensures.count)) c.in_ok-passed.ensures.passed)
+    (elim c.requires.boundary [
+      | inl last ↦ absurd (omega (arith, last.1, c.requires.some, c.if-place-before.true, c.len-before.ensures.count, length-append pair.earlier pair.later))
+      | inr is ↦ put_earlier row pair.earlier pair.later c.args.place c.in_ok-passed.passed c.args.boundary is
+          (omega (arith, c.if-place-before.true, c.len-before.ensures.count)) c.in_ok-passed.ensures.passed
+    ])
 
 pub subtree::Pair::insert_below-returns-clause-passed : goal.subtree::Pair::insert_below-returns-clause-passed
 subtree::Pair::insert_below-returns-clause-passed t c =
@@ -46,6 +49,8 @@ subtree::Pair::insert_below-returns-clause-passed t c =
     let x = c.in_ok-passed-2.passed in
     subst (λ y. DiffersBy (added_by row) y (tolerant (pair_rows pair)) (tolerant (insert (pair_rows pair) c.args.place row)))
     (sym (c.from_later.ensures ∙ ap (λ o. higher o (lower x c.args.boundary)) c.of_row.ensures))
-    (put_later row pair.earlier pair.later c.args.place x c.args.boundary c.requires.boundary
-    (omega (arith, c.if-place-before.false, c.len-before.ensures.count))
-    (subst (λ k. DiffersBy (added_by row) x (tolerant pair.later) (tolerant (insert pair.later (c.args.place - k) row))) c.len-before.ensures.count c.in_ok-passed-2.ensures.passed))
+    (let below = subst (λ k. DiffersBy (added_by row) x (tolerant pair.later) (tolerant (insert pair.later (c.args.place - k) row))) c.len-before.ensures.count c.in_ok-passed-2.ensures.passed in
+    elim c.requires.boundary [
+      | inl last ↦ put_behind row pair.earlier pair.later c.args.place x c.args.boundary c.requires.of_kind last.0 last.1 below
+      | inr is ↦ put_later row pair.earlier pair.later c.args.place x c.args.boundary is (omega (arith, c.if-place-before.false, c.len-before.ensures.count)) below
+    ])
