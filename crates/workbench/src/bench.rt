@@ -178,13 +178,34 @@ impl Bench {
 
     /// Does what a line outside a block asks for.
     fn obey_outside(&mut self, line: Result<Command, LineError>) -> Result<Outcome, NoMemory>
-        requires { IfOk line IsProper }
+        requires proper { IfOk line IsProper }
+        requires no_block { self.old.bench.block ≡ None }
         ensures ok { IfOk result (λ outcome. outside self.old.bench.timelines line
             ≡ record { bench = self.new.bench; outcome = outcome }) }
         ensures memory { OnErr result (is_refusal (outside self.old.bench.timelines line).outcome ≡ false) }
     {
-        self.block = opened(self.alloc, &line);
+        self.begin_block(&line);
         self.timelines.obey(line)
+    }
+
+    /// Begins the block that a line opens, if it is a header.
+    fn begin_block(&mut self, line: &Result<Command, LineError>)
+        requires proper { IfOk line.now IsProper }
+        requires no_block { self.old.bench.block ≡ None }
+        ensures timelines { self.new.bench.timelines ≡ self.old.bench.timelines }
+        ensures block { self.new.bench.block ≡ opened line.now }
+    {
+        if let Ok(
+            Command::Header {
+                name,
+                kind,
+                next,
+                rows,
+            },
+        ) = line
+        {
+            self.block = Some(OpenBlock::new(self.alloc, *name, *kind, *next, *rows));
+        }
     }
 
     /// Closes the block that is being read, if there is one: `ended` says that its `end` line came.
@@ -211,24 +232,6 @@ impl Bench {
             Some(unclosed) => unclosed.take(line, long),
             None => Ok(()),
         }
-    }
-}
-
-/// The block that a line opens, if it is a header.
-fn opened(alloc: Global, line: &Result<Command, LineError>) -> Option<OpenBlock>
-    requires { IfOk line.now IsProper }
-    ensures { result ≡ opened line.now }
-{
-    match line {
-        Ok(
-            Command::Header {
-                name,
-                kind,
-                next,
-                rows,
-            },
-        ) => Some(OpenBlock::new(alloc, *name, *kind, *next, *rows)),
-        _ => None,
     }
 }
 
