@@ -1,5 +1,5 @@
 -- The timelines as the bench keeps them: what is seen of one that was changed, and that none is of a spent session.
-use Rattle.std.proofs.Common.{◌≡◌, ℕ, zero, suc, ◌+◌, ◌<◌, Bool, true, false, List, [], ◌∷◌, ◌++◌, length, get_or, set, map, position, refl, sym, ◌∙◌, ap, subst, arith, Some, Result, Ok, Err, IfOk, OnErr, OnOk}
+use Rattle.std.proofs.Common.{◌≡◌, ℕ, zero, suc, ◌+◌, ◌<◌, true, false, List, [], ◌∷◌, ◌++◌, length, get_or, set, position, refl, sym, ◌∙◌, ap, subst, arith, Some, Result, Ok, Err, IfOk, OnErr, OnOk}
 use Rattle.std.specs.List.{list_any, position_from, remove, AllByRecursion}
 use Rattle.std.specs.Prelude.{slice_get, IfSome, ◌||◌}
 use Rattle.std.proofs.lemmas.List.{get_or-map, map-set, length-map}

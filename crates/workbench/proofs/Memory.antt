@@ -1,11 +1,10 @@
 -- Out of memory comes only at lines that are not refused.
-use Rattle.std.proofs.Common.{◌≡◌, ℕ, ◌+◌, ◌<◌, true, false, List, [], ◌∷◌, length, slice_get, refl, sym, ap, ◌∙◌, subst, arith, Option, Some, None, Result, Ok, Err, OnErr, IfOk}
+use Rattle.std.proofs.Common.{◌≡◌, ℕ, ◌+◌, ◌<◌, false, List, [], ◌∷◌, length, slice_get, refl, sym, subst, arith, Option, Some, None, Result, Ok, Err, OnErr}
 use Rattle.std.specs.Prelude.{option_map, IfSome}
 use Rattle.std.proofs.lemmas.Bool.{lt-leb}
 use Rattle.retro_base.specs.declared.memory.NoMemory.{NoMemory}
-use Rattle.retro_base.specs.declared.op.Op.{Op}
 use Rattle.retro_base.specs.declared.row.Row.{Row}
-use Rattle.retro_base.specs.Edits.{Step, add, cut, edited, edited_by, inverse_step}
+use Rattle.retro_base.specs.Edits.{Step, cut, edited_by, inverse_step}
 use Rattle.retro_base.specs.Limits.{most_rows, next_limit}
 use Rattle.retro_base.specs.Places.{place_of_row}
 use Rattle.retro_base.specs.Replay.{failure}
@@ -19,13 +18,12 @@ use Rattle.timeline_undo.specs.declared.error.UndoError.TheVariants as undos
 use Rattle.timeline_undo.specs.declared.shift.Target.{Target}
 use Rattle.workbench.specs.declared.outcome.Outcome.{Outcome}
 use Rattle.workbench.specs.declared.outcome.Outcome.TheVariants.{Accepted, Inserted}
-use Rattle.workbench.specs.declared.position.Position.{Position}
 use Rattle.workbench.specs.Bench.{NamedTimeline, named}
 use Rattle.workbench.specs.EditErrors.{IsRefusedBy}
 use Rattle.workbench.specs.Outcome.{is_refusal}
-use Rattle.workbench.specs.TimelineEffects.{TimelineEffect, deletes, edits, inserts_there, makes, new_row, redoes, redoes_step, shifts, shifts_there, tells, undoes, undoes_step}
+use Rattle.workbench.specs.TimelineEffects.{TimelineEffect, deletes, makes, redoes, shifts, shifts_there, undoes}
 use Rattle.workbench.proofs.Refusals.{reported_is_no_refusal}
-use Rattle.workbench.proofs.TimelineEffects.{at_step, deletes_there, edits_accepted, inserts_edits, makes_accepted, redoes_newest, same_step, shifts_makes, shifts_at_place, shifts_step, slice_get_none, step_there, undoes_newest}
+use Rattle.workbench.proofs.TimelineEffects.{at_step, deletes_there, makes_accepted, redoes_newest, same_step, shifts_makes, shifts_step, slice_get_none, step_there, undoes_newest}
 
 -- the line is not refused
 abbrev pub Stands : TimelineEffect → Type 0

@@ -9,7 +9,7 @@ use Rattle.workbench.specs.declared.outcome.Outcome.TheVariants.{Refused}
 use Rattle.workbench.specs.declared.outcome.Refusal.TheVariants as refusals
 use Rattle.std.proofs.lemmas.Slice.Eq.{bytes_eq-Decides}
 use Rattle.timeline_undo.specs.Session.{SessionState}
-use Rattle.workbench.specs.Bench.{KeptTimeline, NamedTimeline, is_named, has_timeline, named, shown, timeline_of}
+use Rattle.workbench.specs.Bench.{NamedTimeline, is_named, has_timeline, named, timeline_of}
 use Rattle.workbench.specs.Reaction.{Effect, leaves, if_startable, with_first, on_named}
 use Rattle.workbench.specs.TimelineEffects.{TimelineEffect, unchanged}
 
