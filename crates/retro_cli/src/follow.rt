@@ -17,11 +17,22 @@ use retro_base::{NoMemory, Text};
 use retro_io::{SendingSink, Sink};
 use std::alloc::Global;
 
-/// Hands the events among the lines of an answer to the followers that are left, one after another.
+/// Hands the events among the lines of an answer to the followers that are left, one after another. Where nobody follows, the
+/// answer is not read.
 pub(crate) fn hand_on(
     answer: &[u8],
     followers: &mut [Option<Box<dyn Follower>>],
 ) -> Result<(), NoMemory>
+    ensures { OnOk result (map (option_map (λ f. report_after f)) followers.new ≡ hears (events_among answer.now) (map (option_map (λ f. report_after f)) followers.old)) }
+{
+    if followers.is_empty() {
+        return Ok(());
+    }
+    hand_on_lines(answer, followers)
+}
+
+/// Hands the events among the lines of an answer on, line by line.
+fn hand_on_lines(answer: &[u8], followers: &mut [Option<Box<dyn Follower>>]) -> Result<(), NoMemory>
     ensures { OnOk result (map (option_map (λ f. report_after f)) followers.new ≡ hears (events_among answer.now) (map (option_map (λ f. report_after f)) followers.old)) }
 {
     let mut rest = answer;

@@ -1,7 +1,7 @@
 use Rattle.std.proofs.Common.{map, length}
 use Rattle.std.specs.Prelude.{option_map}
 use Rattle.retro_cli.proofs.Handed.{HandsOn}
-use Rattle.retro_cli.proofs.follow.hand_on.Given as goal
+use Rattle.retro_cli.proofs.follow.hand_on_lines.Given as goal
 
 abbrev pub invariant-loop-rest : goal.invariant-loop-rest
 invariant-loop-rest g l =
