@@ -1,3 +1,5 @@
+//! A plain list with the same rows beside it.
+
 ghost use Rattle.std.specs.Prelude.{◌≡◌, ◌==◌, not, [], IsTrue};
 ghost use Rattle.std.specs.List.{list_all};
 ghost use Rattle.retro_base.specs.Timeline.{IsFresh};

@@ -1,3 +1,5 @@
+//! Outboxes before a sink in memory.
+
 ghost use Rattle.std.specs.Prelude.{◌≤◌, None};
 ghost use Rattle.retro_io.specs.Faults.{last_count};
 

@@ -1,3 +1,5 @@
+//! Histories of each kind on the plain list.
+
 use super::history::History;
 use retro_base::{Answer, Item, Kind, Listing, Op, Question, Row};
 use std::alloc::Global;

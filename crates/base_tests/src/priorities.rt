@@ -1,3 +1,5 @@
+//! Edits of a priority queue, with what they change.
+
 use super::history::History;
 use retro_base::{Answer, Change, Entry, Item, Kind, Op, Question, Row};
 use std::alloc::Global;

@@ -1,3 +1,5 @@
+//! Sources and sinks over streams of std, each kind of error among them.
+
 use retro_io::{Failed, Sink, Source, StdSink, StdSource};
 use std::io::{self, ErrorKind, Read, Write};
 use std::process::Abort;

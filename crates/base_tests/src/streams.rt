@@ -1,3 +1,5 @@
+//! Readers of lines over sources in memory.
+
 ghost use Rattle.std.specs.Prelude.{◌<◌, ◌^◌};
 
 use retro_base::Text;

@@ -1,3 +1,5 @@
+//! Texts, and numbers in them.
+
 use retro_base::Text;
 use std::process::Abort;
 

@@ -1,3 +1,5 @@
+//! The type and its calls.
+
 ghost use Rattle.std.specs.Prelude.{◌≡◌, [], IfOk};
 ghost use Rattle.std.specs.Option.{option_map};
 ghost use Rattle.retro_base.specs.declared.kind.Kind.TheVariants.{Pq};

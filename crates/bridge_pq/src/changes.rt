@@ -1,3 +1,5 @@
+//! The change that an edit makes in the present, and its places.
+
 ghost use Rattle.std.specs.Prelude.{◌≡◌, ◌≢◌, ◌+◌, ◌-◌, ◌^◌, ◌<◌, ◌≤◌, length, Contains, Some, None, nat_lt, if◌then◌else◌};
 ghost use Rattle.retro_base.specs.declared.kind.Kind.TheVariants.{Pq};
 ghost use Rattle.retro_base.specs.Bridges.{survivors};

@@ -1,3 +1,5 @@
+//! What a range of entries measures.
+
 ghost use Rattle.std.specs.Prelude.{◌≡◌, pos, if◌then◌else◌};
 ghost use Rattle.monoid_laws.specs.Summed.{one_sum};
 

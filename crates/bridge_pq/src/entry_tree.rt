@@ -1,3 +1,5 @@
+//! The tree of entries with their marks.
+
 ghost use Rattle.std.specs.Prelude.{◌≡◌, pos, ◌^◌, ◌<◌, ◌≤◌, length, slice_get, Contains, true, false, None, MatchOption, OnOk, OnErr};
 ghost use Rattle.std.specs.List.{AllWithin};
 ghost use Rattle.retro_base.specs.State.{comes_before};

@@ -1,3 +1,5 @@
+//! The entry that an edit flips, and the place of its row.
+
 use retro_base::{Change, Entry};
 
 /// What an edit changes: the entry whose mark is flipped, and the place of its row after the edit.

@@ -1,3 +1,5 @@
+//! An entry with its mark.
+
 use crate::entry_measure::EntryMeasure;
 use monoid_laws::Measured;
 use retro_base::Entry;

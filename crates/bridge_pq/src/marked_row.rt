@@ -1,3 +1,5 @@
+//! A row with the mark of its entry.
+
 use crate::row_measure::RowMeasure;
 use monoid_laws::Measured;
 use retro_base::Row;

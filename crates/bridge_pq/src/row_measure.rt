@@ -1,3 +1,5 @@
+//! What a range of rows measures.
+
 ghost use Rattle.std.specs.Prelude.{◌≡◌, ◌+◌, ◌-◌, ◌^◌, ◌<◌, pos, negsuc, List, Option, Some, None};
 ghost use Rattle.std.specs.Ordering.{flip_args};
 ghost use Rattle.monoid_laws.specs.Extreme.{extreme_of, one_element, IsGreatestOffset};

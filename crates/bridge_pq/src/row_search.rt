@@ -1,3 +1,5 @@
+//! Bridges and entries, found in the tree of rows.
+
 ghost use Rattle.std.specs.Prelude.{◌≡◌, ◌<◌, ◌≤◌, length, slice_get, slice_set, MatchOption, Some};
 ghost use Rattle.retro_base.specs.declared.row.Entry.{Entry};
 ghost use Rattle.retro_base.specs.BridgeTable.{IsDeadFrom, IsSurvivorBefore, IsGreatest, IsLeast};

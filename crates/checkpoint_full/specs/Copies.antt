@@ -23,6 +23,6 @@ pub record Reading : Type 0 where
 abbrev pub stands_within : ℕ → ℕ → Structure → Bool
 stands_within from to structure = if nat_le from (place_of structure) then nat_le (place_of structure) to else false
 
--- the first question about so many rows copies once for each checkpoint, the start among them, and less where memory runs out
+-- the first question about so many rows copies at most once for each checkpoint, the start among them
 abbrev pub CopiesEach : ℕ → ℕ → ℕ → Type 0
 CopiesEach rows before after = after ≤ before + 1 + multiples_below (least_width rows) rows

@@ -27,6 +27,9 @@
 //! of `retro_base`; after `NoMemory` each call leaves all that is seen, and the rows of every checkpoint, as they were.
 //!
 //! - `Full`. The counter of what is copied: `Copies`. The least width: `NARROWEST`. The most checkpoints: `MOST_CHECKPOINTS`.
+//! - `full`: the type and its calls. `snapshot`: a structure that steps a counter where it is copied. `kept`, `checkpoints`, `spares`: what is
+//!   kept of the past. `settle`, `width`: where checkpoints stand. `past`, `follow`, `reader`: how a question about the past is answered.
+//!   `copies`: the counter of copies.
 #![tactic(auto)]
 
 mod checkpoints;

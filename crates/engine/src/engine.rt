@@ -1,3 +1,5 @@
+//! The structure of any kind.
+
 ghost use Rattle.std.specs.Prelude.{◌≡◌, ◌+◌, ◌-◌, ◌*◌, ◌<◌, ◌≤◌, [], length, slice_get, true, false, Some, IsOk, IfOk, OnOk, OnErr};
 ghost use Rattle.std.specs.List.{insert, remove};
 ghost use Rattle.retro_base.specs.declared.kind.Kind.TheVariants.{Pq};

@@ -10,6 +10,7 @@
 //!
 //! - `Engine`, with `ask_past` for a caller who counts what a question about the past visits, and `ask_counted` and `insert_counted`
 //!   for one who counts what is copied too.
+//! - `engine`: the type and its calls.
 #![tactic(auto)]
 
 mod engine;

@@ -1,3 +1,5 @@
+//! What a line of evidence says.
+
 use retro_base::{Change, Name, Op};
 
 /// What was edited in a timeline of a priority queue, and what that changed in its present.

@@ -11,6 +11,7 @@
 //! - `Evidence` is what a line says.
 //! - `read_evidence` and `print_evidence` are each other's inverse.
 //! - `laws`: what is printed reads back, and two different lines are two different values.
+//! - `evidence`: the type. `read`, `print`: the two calls, over `words` and `numbers`.
 #![tactic(auto)]
 
 mod evidence;

@@ -1,3 +1,5 @@
+//! Words that spell numbers.
+
 ghost use Rattle.std.specs.Prelude.{◌≡◌};
 ghost use Rattle.evidence.specs.Reading.{if_row_number, key_of, number_of, row_number_of};
 

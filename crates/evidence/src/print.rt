@@ -1,3 +1,5 @@
+//! How evidence is spelled.
+
 ghost use Rattle.std.specs.Prelude.{◌≡◌, ◌++◌, OnOk, OnErr};
 ghost use Rattle.retro_base.specs.Text.{AppendsPrefix};
 ghost use Rattle.evidence.specs.Spelling.{bridge_text, change_text, changed_entry_text, changed_text, edit_text, entry_text, row_text, spaced, spelling};

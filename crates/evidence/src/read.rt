@@ -1,3 +1,5 @@
+//! The evidence that a line spells.
+
 ghost use Rattle.std.specs.Prelude.{◌≡◌, IfSome, IfNone};
 ghost use Rattle.evidence.specs.declared.evidence.Evidence.{Evidence};
 ghost use Rattle.evidence.specs.Evidence.{Spells};

@@ -1,3 +1,5 @@
+//! A line, cut into words at single spaces.
+
 ghost use Rattle.std.specs.Prelude.{◌≡◌, ◌==◌, ◌≤◌, ◌∷◌, [], length, MatchOption};
 ghost use Rattle.std.specs.List.{position_or_len};
 ghost use Rattle.evidence.specs.Reading.{words};

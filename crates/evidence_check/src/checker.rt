@@ -1,3 +1,5 @@
+//! The judge, who takes lines.
+
 ghost use Rattle.std.specs.Prelude.{◌≡◌, ◌≤◌, ◌<◌, ◌^◌, length, position, None, Ok, IsOk, IsTrue, OnOk, OnErr, false};
 ghost use Rattle.evidence.specs.Evidence.{IsEvidence};
 ghost use Rattle.retro_base.specs.Limits.{longest_line};

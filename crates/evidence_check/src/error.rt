@@ -1,3 +1,5 @@
+//! Why a line is refused.
+
 ghost use Rattle.std.specs.Prelude.{◌≡◌};
 ghost use Rattle.evidence_check.specs.declared.error.CheckError.TheVariants as causes;
 

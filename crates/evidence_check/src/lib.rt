@@ -14,7 +14,7 @@
 //! entry and the least one that survives. A line reads the sums of the parts and opens only those in question, so it
 //! costs the same wherever it stands, and no replay. Contracts see a part as the list of its rows.
 //!
-//! - `Checker` takes the lines, `CheckError` says why one is refused. `laws`: evidence is accepted exactly where it is true.
+//! - `checker`: `Checker` takes the lines. `error`: `CheckError` says why one is refused. `laws`: evidence is accepted exactly where it is true.
 //! - `reported`: what was reported of one timeline. `causes`, `changes`: why a line is refused, by the rows before it.
 //! - `edits`: an accepted line, made in the rows and in their `numbers`.
 //! - `rows`: the rows of a timeline, and the bridges among them. `marked_row`: one of them.

@@ -1,3 +1,5 @@
+//! A row with the mark of its entry.
+
 ghost use Rattle.std.specs.Prelude.{◌≡◌};
 ghost use Rattle.retro_base.specs.Bridges.{same_entry};
 ghost use Rattle.retro_base.specs.Weights.{added_as};

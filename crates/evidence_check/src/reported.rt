@@ -1,3 +1,5 @@
+//! What was reported of one timeline.
+
 ghost use Rattle.std.specs.Prelude.{◌≡◌, [], None, OnOk, OnErr};
 ghost use Rattle.evidence.specs.Evidence.{IsEvidence};
 ghost use Rattle.evidence_check.specs.Truth.{cause_of, rows_after};

@@ -1,3 +1,5 @@
+//! What became of what a row put in.
+
 ghost use Rattle.std.specs.Prelude.{◌≡◌, ◌<◌, true, length, slice_get, Some};
 ghost use Rattle.fates.specs.Fates.{IsFate};
 ghost use Rattle.retro_base.specs.Kind.{adds, kind_of};

@@ -9,7 +9,7 @@
 //! rows of one kind that replay whole.
 //!
 //! - `laws`: how the number of entries that are at most a given one rises and falls along a replay.
-//! - `Fate`, `fate_of`. Inside: `standing` (where something stands among what is there).
+//! - `fate`: `Fate` and `fate_of`. Inside: `standing` (where something stands among what is there).
 #![tactic(auto)]
 
 mod fate;

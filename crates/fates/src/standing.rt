@@ -1,3 +1,5 @@
+//! Where something stands among what is there, which decides when it is taken.
+
 ghost use Rattle.std.specs.Prelude.{◌≡◌, ◌+◌, ◌-◌, ◌^◌, ◌<◌, ◌≤◌, length};
 ghost use Rattle.std.specs.List.{fold};
 ghost use Rattle.fates.specs.Standings.{IsUpTo, after_row, count_after, counts, entry_after, line_after, pair_after, standing_of};

@@ -1,3 +1,5 @@
+//! An event is handed to each follower.
+
 ghost use Rattle.std.specs.Prelude.{map, OnOk, OnErr};
 ghost use Rattle.followers.specs.Followers.{FirstHaveTaken, HasTaken, HaveTaken, StaysAlike};
 

@@ -1,3 +1,5 @@
+//! The trait of what takes events.
+
 ghost use Rattle.std.specs.Prelude.{◌≡◌, ℕ, List, [], ◌++◌, OnOk, OnErr};
 ghost use Rattle.retro_base.specs.Text.{AppendsPrefix};
 ghost use Rattle.evidence.specs.declared.evidence.Evidence.{Evidence};

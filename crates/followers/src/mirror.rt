@@ -1,3 +1,5 @@
+//! The follower that keeps the present of one timeline.
+
 ghost use Rattle.std.specs.Prelude.{◌≡◌, ◌<◌, ◌≤◌, ◌++◌, [], length, flat_map, position, IfSome, OnOk, OnErr};
 ghost use Rattle.std.specs.List.{position_or_len};
 ghost use Rattle.retro_base.specs.Bridges.{same_entry};

@@ -1,3 +1,5 @@
+//! The follower that counts what was gained and lost.
+
 ghost use Rattle.std.specs.Prelude.{◌≡◌};
 ghost use Rattle.followers.specs.Totals.{counted, no_changes, totals_after, totals_text};
 

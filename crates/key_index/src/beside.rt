@@ -1,3 +1,5 @@
+//! The rows on a key next to a label, and what they say of an edit.
+
 ghost use Rattle.std.specs.Prelude.{◌≡◌};
 ghost use Rattle.key_index.specs.Beside.{is_there, taken_at};
 

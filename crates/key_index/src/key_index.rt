@@ -1,3 +1,5 @@
+//! The type and its calls.
+
 ghost use Rattle.std.specs.Prelude.{◌≡◌, [], length, Some, None, IfNone, IsSome, IfOk, OnOk, OnErr};
 ghost use Rattle.retro_base.specs.declared.kind.Kind.TheVariants.{Dict};
 ghost use Rattle.retro_base.specs.Kind.{kind_of};

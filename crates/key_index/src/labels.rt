@@ -1,3 +1,5 @@
+//! A list of labels, as they are before or after a relabelling.
+
 ghost use Rattle.std.specs.Prelude.{◌≡◌, ◌<◌, ◌^◌, [], ◌∷◌, ◌++◌, length, OnOk, OnErr, true};
 ghost use Rattle.key_index.specs.Relabelled.{Rise, counterpart, is_in};
 

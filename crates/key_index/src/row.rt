@@ -1,3 +1,5 @@
+//! A row as it stands in the tree.
+
 ghost use Rattle.std.specs.Prelude.{◌≡◌};
 ghost use Rattle.key_index.specs.KeyRows.{key_of};
 

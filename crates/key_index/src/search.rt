@@ -1,3 +1,5 @@
+//! How many rows stand up to a label on a key.
+
 ghost use Rattle.std.specs.Prelude.{◌≡◌, ◌≤◌, length, take, drop, not};
 ghost use Rattle.std.specs.List.{filter};
 ghost use Rattle.key_index.specs.Ordered.{AreByKey, reaches};

@@ -1,3 +1,5 @@
+//! What the calls do to the tree of rows.
+
 ghost use Rattle.std.specs.Prelude.{◌≡◌, ◌≤◌, length, slice_get, take, None, Some, OnOk, OnErr, IfOk};
 ghost use Rattle.std.specs.List.{filter};
 ghost use Rattle.std.specs.Option.{option_and_then};

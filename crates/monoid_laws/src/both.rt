@@ -1,3 +1,5 @@
+//! Two measures of the same items, side by side.
+
 ghost use Rattle.std.specs.Prelude.{◌≡◌, ⊤, List};
 ghost use Rattle.monoid_laws.specs.Both.{joined_both, both_of};
 ghost use Rattle.monoid_laws.specs.BothLaws.{both_laws};

@@ -1,3 +1,5 @@
+//! The number of items, as a measure.
+
 ghost use Rattle.std.specs.Prelude.{◌≡◌, ◌+◌};
 ghost use Rattle.monoid_laws.specs.CountLaws.{count_laws};
 

@@ -1,3 +1,5 @@
+//! A value of which ranges are counted alone.
+
 ghost use Rattle.std.specs.Prelude.{◌≡◌};
 
 use crate::{Count, Measured};

@@ -22,6 +22,8 @@
 //! Contracts say what a value means by the list that it was made of: `measure_of` of
 //! specs/Measure.antt joins the values of a list's items, and each reader says what it answers of it.
 //! specs/MeasureLaws.antt has what the laws give of it, for the proofs of the layer above.
+//!
+//! - `monoid`: the traits. `count`, `sum`, `prefix`, `extreme`, `both`: the measures. `counted`: an item that is counted alone.
 #![tactic(auto)]
 
 mod both;

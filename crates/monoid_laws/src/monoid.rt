@@ -1,3 +1,5 @@
+//! The traits of a measure and of what is measured.
+
 ghost use Rattle.std.specs.Prelude.{◌≡◌, ℕ, ◌+◌, ◌^◌, ◌<◌};
 ghost use Rattle.monoid_laws.specs.Laws.{MonoidLaws};
 

@@ -1,3 +1,5 @@
+//! The sum of signs and its least prefix, as a measure.
+
 ghost use Rattle.std.specs.Prelude.{◌≡◌, ◌+◌, ℤ, neg_ℤ, List};
 ghost use Rattle.monoid_laws.specs.Summed.{sum_of};
 ghost use Rattle.monoid_laws.specs.Walk.{no_walk, one_step, joined_walk, end_of, lowest_of, walk_of, opposite_step, opposite_walk_of, IsSign, IsLeastPrefix, IsGreatestPrefix};

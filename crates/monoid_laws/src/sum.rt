@@ -1,3 +1,5 @@
+//! The exact sum, as a measure.
+
 ghost use Rattle.std.specs.Prelude.{◌≡◌, ◌+◌, ℤ, List};
 ghost use Rattle.monoid_laws.specs.Summed.{Summed, no_sum, one_sum, joined_sum, sum_of};
 ghost use Rattle.monoid_laws.specs.SummedLaws.{sum_laws};

@@ -1,3 +1,5 @@
+//! The labels beside a place.
+
 ghost use Rattle.std.specs.Prelude.{◌≤◌, length};
 ghost use Rattle.order_labels.specs.Beside.{IsBeside};
 

@@ -1,3 +1,5 @@
+//! The list of labels, and the label of a row that comes in.
+
 ghost use Rattle.std.specs.Prelude.{◌≡◌, ◌+◌, false, true, ◌<◌, ◌≤◌, ◌==◌, [], length, slice_get, position, Some, IfSome, IfOk, OnOk, OnErr, not};
 ghost use Rattle.std.specs.List.{insert, remove};
 ghost use Rattle.order_labels.specs.Beside.{IsBeside};

@@ -1,3 +1,5 @@
+//! A label as it stands in the tree, and how all labels are spread anew.
+
 ghost use Rattle.std.specs.Prelude.{◌≡◌, ◌+◌, ◌*◌, ◌^◌, ◌<◌, ◌≤◌, length};
 ghost use Rattle.order_labels.specs.Labels.{exponent, gap_of, least_gap, spread, label_limit};
 ghost use Rattle.retro_base.specs.Limits.{most_rows};

@@ -1,3 +1,5 @@
+//! A full run in halves, before a row comes in.
+
 ghost use Rattle.std.specs.Prelude.{◌≡◌, ◌<◌, ◌≤◌, slice_get, Some, IfOk};
 ghost use Rattle.order_timeline.specs.Kept.{KeepsRows};
 ghost use Rattle.order_timeline.specs.Runs.{divided};

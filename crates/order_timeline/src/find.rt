@@ -1,3 +1,5 @@
+//! Rows, times and numbers are found.
+
 ghost use Rattle.std.specs.Prelude.{◌≡◌, ◌-◌, ◌<◌, ◌≤◌, ◌==◌, ◌++◌, min, take, drop, length, slice_get, position, Some};
 ghost use Rattle.retro_base.specs.Limits.{most_rows};
 ghost use Rattle.order_timeline.specs.Kept.{KeepsRows};

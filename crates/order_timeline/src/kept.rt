@@ -1,3 +1,5 @@
+//! What a timeline keeps of its rows.
+
 ghost use Rattle.std.specs.Prelude.{◌≡◌, []};
 ghost use Rattle.order_timeline.specs.Kept.{KeepsRows};
 

@@ -1,3 +1,5 @@
+//! The names of the runs, found by labels.
+
 ghost use Rattle.std.specs.Prelude.{◌≡◌, ◌<◌, ◌≤◌, ◌==◌, [], length, slice_get, position, Some, IfSome, IfOk, OnErr};
 ghost use Rattle.std.specs.List.{insert, remove, AllByRecursion};
 ghost use Rattle.order_timeline.specs.Names.{AreDistinct, AreFiled};

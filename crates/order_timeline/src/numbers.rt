@@ -1,3 +1,5 @@
+//! The name of the run of each number, in pages.
+
 ghost use Rattle.std.specs.Prelude.{◌≡◌, ◌+◌, ◌<◌, ◌≤◌, ◌/◌, [], None, OnOk, OnErr, IsSome, length};
 ghost use Rattle.order_timeline.specs.Numbers.{Changes, Writes, IsSame, HasSomeNames, HasPlace, WritesRun, name_in, span};
 ghost use Rattle.retro_base.specs.Limits.{most_rows};

@@ -1,3 +1,5 @@
+//! A run of neighbouring rows.
+
 ghost use Rattle.std.specs.Prelude.{◌≡◌};
 
 use crate::total::Total;

@@ -1,3 +1,5 @@
+//! Which run has a place, and where a run begins.
+
 ghost use Rattle.std.specs.Prelude.{◌≡◌, ◌^◌, ◌<◌, ◌≤◌, length};
 ghost use Rattle.order_timeline.specs.Runs.{rows_in, start_of, IsInRun, TakesRow};
 

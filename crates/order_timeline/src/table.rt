@@ -1,3 +1,5 @@
+//! The label of each name.
+
 ghost use Rattle.std.specs.Prelude.{◌≡◌, ◌<◌, [], ◌∷◌, ◌++◌, length, slice_get, slice_set, IfOk, OnOk, OnErr};
 
 use retro_base::NoMemory;

@@ -1,3 +1,5 @@
+//! The type and its calls.
+
 ghost use Rattle.std.specs.Prelude.{◌≡◌, ◌-◌, ◌<◌, ◌≤◌, [], ◌++◌, min, take, drop, length, slice_get, Some, IfSome, OnOk, OnErr};
 ghost use Rattle.std.specs.List.{insert, remove};
 ghost use Rattle.retro_base.specs.Limits.{most_rows};

@@ -1,3 +1,5 @@
+//! How many rows some runs have, as a measure.
+
 ghost use Rattle.std.specs.Prelude.{◌≡◌};
 ghost use Rattle.order_timeline.specs.Totals.{one_total};
 

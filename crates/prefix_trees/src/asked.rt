@@ -1,3 +1,5 @@
+//! What a question asks for of a line of items.
+
 ghost use Rattle.std.specs.Prelude.{◌-◌};
 ghost use Rattle.prefix_trees.specs.Asked.{AsksOf, IsItemAt};
 

@@ -32,6 +32,9 @@
 //! specs/SignPrefixes.antt for the searches; specs/MarkLaws.antt on marks; specs/Growth.antt and the laws beside it on the rows of a line.
 //!
 //! - Rows: `LineRows`, `End`. Lines: `Sequence`, `RetroLine`. Signs: `SignTree`.
+//! - `line_rows`, `line_row`: the rows of a line of items, and one of them as it is measured. `growth`: ends, and how operations let a
+//!   line grow. `sequence`, `asked`, `line`: a kind, what is asked of it, and its structure.
+//! - `sign_tree`, `signed`: signs with marks, and one of them as it is measured.
 #![tactic(auto)]
 
 mod asked;

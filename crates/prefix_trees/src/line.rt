@@ -1,3 +1,5 @@
+//! A queue, a stack or a deque whose past can be edited.
+
 ghost use Rattle.std.specs.Prelude.{◌≡◌, ◌<◌, ◌≤◌, [], length, slice_get, true, Some, IsOk, IfOk, OnOk, OnErr};
 ghost use Rattle.std.specs.List.{remove};
 ghost use Rattle.retro_base.specs.Answers.{answer_of};

@@ -1,3 +1,5 @@
+//! A row as it is measured: by how much it lets the line grow at either end.
+
 ghost use Rattle.std.specs.Prelude.{◌≡◌};
 ghost use Rattle.monoid_laws.specs.Walk.{end_of, lowest_of, height_of};
 ghost use Rattle.prefix_trees.specs.Walks.{walk_at};

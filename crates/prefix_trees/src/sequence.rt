@@ -1,3 +1,5 @@
+//! The trait of a kind whose state is a line of items.
+
 ghost use Rattle.std.specs.Prelude.{◌≡◌, ◌≤◌, ℤ, pos, ◌<ℤ◌, List, length, slice_get, Some, IfOk};
 ghost use Rattle.retro_base.specs.declared.kind.Kind.{Kind};
 ghost use Rattle.retro_base.specs.Replay.{state_at};

@@ -1,3 +1,5 @@
+//! A list of signs with marks, and the searches of its prefix sums.
+
 ghost use Rattle.std.specs.Prelude.{◌≡◌, pos, ◌+◌, ◌^◌, ◌<◌, ◌≤◌, [], length, slice_get, Some, OnOk, OnErr, IfOk};
 ghost use Rattle.std.specs.List.{insert, remove};
 ghost use Rattle.monoid_laws.specs.Walk.{IsSign, end_of, lowest_of, height_of};

@@ -1,3 +1,5 @@
+//! A sign with a mark, as it is measured.
+
 ghost use Rattle.std.specs.Prelude.{◌≡◌};
 ghost use Rattle.monoid_laws.specs.Walk.{IsSign};
 

@@ -1,3 +1,5 @@
+//! Bridges among rows, found by their weights, and the entries that an edit changes.
+
 ghost use Rattle.std.specs.Prelude.{◌≡◌, ◌≤◌, length, pos, negsuc, ◌≤ℤ◌, Some, None, MatchOption};
 ghost use Rattle.retro_base.specs.declared.kind.Kind.TheVariants.{Pq};
 ghost use Rattle.retro_base.specs.declared.row.Change.TheVariants.{Gain, Lose};

@@ -1,3 +1,5 @@
+//! What a structure of any kind holds after some rows, performed one after another.
+
 ghost use Rattle.std.specs.Prelude.{◌≡◌, ◌^◌, ◌<◌, length, Some, None, Ok, IsSome, IfOk, OnOk, OnErr};
 ghost use Rattle.std.specs.Result.{result_err};
 ghost use Rattle.retro_base.specs.Content.{state_of};

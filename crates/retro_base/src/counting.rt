@@ -1,3 +1,5 @@
+//! What is counted along the rows to find the first one that cannot be performed.
+
 ghost use Rattle.std.specs.Prelude.{◌≡◌, ◌+◌, ◌^◌, ◌<◌, ◌≤◌, length, slice_get, Some, IfSome};
 ghost use Rattle.std.specs.List.{insert, remove};
 ghost use Rattle.std.specs.Result.{result_err};

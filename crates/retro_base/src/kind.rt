@@ -1,3 +1,5 @@
+//! The five kinds of structures.
+
 /// The five structures whose histories are kept.
 #[derive(Clone, Copy, Debug, PartialEq, Eq)]
 pub enum Kind {

@@ -1,3 +1,5 @@
+//! The limits of a timeline.
+
 ghost use Rattle.std.specs.Prelude.{◌≡◌};
 ghost use Rattle.retro_base.specs.Limits.{most_rows, next_limit};
 

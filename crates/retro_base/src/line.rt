@@ -1,3 +1,5 @@
+//! A row performed on a line of items, and what is asked of it.
+
 ghost use Rattle.std.specs.Prelude.{◌≡◌, ◌^◌, ◌<◌, length, slice_get, map, Some, IsSome, IfOk, OnOk, OnErr};
 ghost use Rattle.retro_base.specs.declared.question.Item.TheVariants.{Single};
 ghost use Rattle.retro_base.specs.State.{items, step};

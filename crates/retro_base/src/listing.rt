@@ -1,3 +1,5 @@
+//! The whole content of a structure, as it is listed.
+
 ghost use Rattle.std.specs.Prelude.{◌≡◌, ◌-◌, ◌^◌, ◌<◌, [], ◌∷◌, ◌++◌, length, slice_get, Some, OnOk, OnErr};
 
 use crate::{Item, NoMemory};

@@ -1,3 +1,5 @@
+//! The error of memory that could not be had.
+
 use std::alloc::{AllocError, AllocFailed};
 
 /// The memory for an answer could not be had.

@@ -1,3 +1,5 @@
+//! The operations that rows perform.
+
 ghost use Rattle.std.specs.Prelude.{◌≡◌};
 ghost use Rattle.retro_base.specs.Kind.{adds, kind_of};
 

@@ -1,3 +1,5 @@
+//! How a script spells an operation.
+
 ghost use Rattle.std.specs.Prelude.{◌≡◌, ◌++◌, OnOk, OnErr};
 ghost use Rattle.retro_base.specs.OpText.{op_text, value_text, with_value};
 ghost use Rattle.retro_base.specs.Text.{AppendsPrefix};

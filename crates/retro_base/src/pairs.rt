@@ -1,3 +1,5 @@
+//! A row performed on the pairs of a dictionary, and what is asked of them.
+
 ghost use Rattle.std.specs.Prelude.{◌≡◌, ◌^◌, ◌<◌, length, reverse, map, ◌&&◌, int_le, Some, IsSome, IfOk, OnOk, OnErr};
 ghost use Rattle.std.specs.List.{find};
 ghost use Rattle.std.specs.Option.{option_copied};

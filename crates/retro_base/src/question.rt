@@ -1,3 +1,5 @@
+//! Questions about the content of a structure, and their answers.
+
 ghost use Rattle.std.specs.Prelude.{◌≡◌};
 ghost use Rattle.retro_base.specs.Questions.{suits};
 

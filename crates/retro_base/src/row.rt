@@ -1,3 +1,5 @@
+//! Rows of a timeline, entries of a priority queue, and what an edit changes.
+
 ghost use Rattle.std.specs.Prelude.{◌≡◌};
 ghost use Rattle.retro_base.specs.State.{comes_before};
 ghost use Rattle.retro_base.specs.Weights.{added_by};

@@ -1,3 +1,5 @@
+//! A list of rows.
+
 ghost use Rattle.std.specs.Prelude.{◌≡◌, ◌^◌, ◌<◌, [], ◌∷◌, ◌++◌, length, slice_get, Some, IfOk, OnOk, OnErr, MatchOption};
 
 use crate::{NoMemory, Row};

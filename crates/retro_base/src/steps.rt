@@ -1,3 +1,5 @@
+//! The counter of steps, which contracts alone see.
+
 ghost use Rattle.std.specs.Prelude.{◌≡◌, ◌+◌, ◌<◌, ℕ};
 ghost use Rattle.retro_base.specs.Visits.{OpensCounter};
 

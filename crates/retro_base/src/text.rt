@@ -1,3 +1,5 @@
+//! A text that is written piece by piece.
+
 ghost use Rattle.std.specs.Prelude.{◌≡◌, [], ◌++◌, OnOk, OnErr};
 
 use crate::NoMemory;

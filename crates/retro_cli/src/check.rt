@@ -1,3 +1,5 @@
+//! Evidence is judged, up to the end of the input.
+
 ghost use Rattle.std.specs.Prelude.{◌≡◌, ◌≤◌, ◌<◌, ◌-◌, ◌+◌, ◌↔◌, [], false, true, IfOk, IfSome, IsErrOf, OnOk, option_map};
 ghost use Rattle.retro_base.specs.Limits.{most_bytes};
 ghost use Rattle.retro_io.specs.Faults.{CountsFaults, last_count};

@@ -1,3 +1,5 @@
+//! How a text is written, what waits is sent, and all arrives.
+
 ghost use Rattle.std.specs.Prelude.{◌≡◌, [], Some, IfErr, OnErr, OnOk};
 ghost use Rattle.retro_io.specs.Faults.{CountsFaults};
 ghost use Rattle.retro_io.specs.Flushes.{EndsWithFailedSend, EndsWithFailedWrite, StaysUnflushed};

@@ -1,3 +1,5 @@
+//! The program over a sink at which nothing waits.
+
 ghost use Rattle.std.specs.Prelude.{◌≡◌, ◌-◌, ◌<◌, ◌≤◌, ◌↔◌, length, map, IsSome, None};
 ghost use Rattle.retro_base.specs.Limits.{most_bytes};
 ghost use Rattle.retro_io.specs.DirectSink.{reference_behind, sink_behind};

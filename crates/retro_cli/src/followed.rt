@@ -1,3 +1,5 @@
+//! A followed script.
+
 ghost use Rattle.std.specs.Prelude.{◌≡◌, [], ◌-◌, ◌<◌, ◌↔◌, false, true, map, option_map, IfErr, IfOk, IsErrOf, OnOk};
 ghost use Rattle.retro_base.specs.Limits.{most_bytes};
 ghost use Rattle.retro_io.specs.Faults.{CountsFaults, last_count};

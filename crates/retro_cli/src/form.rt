@@ -1,3 +1,5 @@
+//! What the words of a command line ask for.
+
 ghost use Rattle.std.specs.Prelude.{◌≡◌, IfSome};
 ghost use Rattle.retro_cli.specs.Forms.{IsWithin, form_of, form_of_word, form_of_words, generation, is_follow};
 

@@ -1,3 +1,5 @@
+//! A generated script is answered and summed up.
+
 ghost use Rattle.std.specs.Prelude.{◌≡◌, ◌≤◌, ◌<◌, ◌+◌, ◌-◌, ◌^◌, ◌++◌, [], false, length, Some, IfOk, IsErrOf, OnOk};
 ghost use Rattle.retro_io.specs.Faults.{CountsFaults};
 ghost use Rattle.workbench.specs.Answers.{bench_after};

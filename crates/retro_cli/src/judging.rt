@@ -1,3 +1,5 @@
+//! Evidence is judged up to the first line that is refused.
+
 ghost use Rattle.std.specs.Prelude.{◌≡◌, ◌<◌, ◌≤◌, ◌^◌, ◌++◌, [], length, IsTrue, OnOk, OnErr, false};
 ghost use Rattle.evidence_check.specs.Judgement.{cause_text, nothing_reported};
 ghost use Rattle.retro_base.specs.Limits.{longest_line};

@@ -1,3 +1,5 @@
+//! The line that lets a follower go.
+
 ghost use Rattle.std.specs.Prelude.{◌≡◌, ◌≤◌, [], None, Some, false, length, map, option_map, IfOk, IfSome, IsErrOf, IsSome, IsTrue, OnErr, OnOk};
 ghost use Rattle.retro_base.specs.Limits.{longest_line};
 ghost use Rattle.retro_io.specs.Faults.{CountsFaults};

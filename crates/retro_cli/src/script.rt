@@ -1,3 +1,5 @@
+//! A script is answered, line by line.
+
 ghost use Rattle.std.specs.Prelude.{◌≡◌, [], ◌+◌, ◌-◌, ◌<◌, ◌↔◌, ◌≤◌, false, true, IsTrue, IfOk, IfErr, OnErr, OnOk, IsErrOf, length, map, option_map};
 ghost use Rattle.retro_base.specs.Limits.{longest_line, most_bytes};
 ghost use Rattle.retro_io.specs.Faults.{CountsFaults, last_count};

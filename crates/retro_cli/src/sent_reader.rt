@@ -1,3 +1,5 @@
+//! A reader that reads only where no answer waits.
+
 ghost use Rattle.std.specs.Prelude.{◌≡◌, [], false, IfErr, IfOk};
 ghost use Rattle.retro_io.specs.Faults.{CountsFaults};
 ghost use Rattle.retro_io.specs.LineReader.{GivesLine, KeepsSource, MovesOn, ShowsErrors, StopsAt, TookForLine, has_failed, held, line_of, reference_of, source_of};

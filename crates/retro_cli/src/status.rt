@@ -1,3 +1,5 @@
+//! How a run ended.
+
 ghost use Rattle.std.specs.Prelude.{◌≡◌};
 ghost use Rattle.retro_cli.specs.Status.{code_of};
 

@@ -1,3 +1,5 @@
+//! Why a run ends before its input does.
+
 ghost use Rattle.std.specs.Prelude.{◌≡◌};
 ghost use Rattle.retro_io.specs.declared.mark.ReadError.{ReadError};
 ghost use Rattle.retro_cli.specs.Stop.{StopsAt};

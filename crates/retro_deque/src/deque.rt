@@ -1,3 +1,5 @@
+//! The deque.
+
 use crate::later::later;
 use prefix_trees::{End, LineRows, RetroLine, Sequence};
 use retro_base::{Kind, Steps};

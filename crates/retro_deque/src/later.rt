@@ -1,3 +1,5 @@
+//! The later of two places.
+
 ghost use Rattle.std.specs.Prelude.{◌≡◌};
 ghost use Rattle.retro_deque.specs.Later.{later};
 

@@ -12,6 +12,7 @@
 //! each binary digit of one more than the number of rows, and only `insert`, `copy` and the listings take memory.
 //!
 //! - `RetroDeque`.
+//! - `deque`: the kind, and the type. `later`: the later of two places.
 #![tactic(auto)]
 
 mod deque;

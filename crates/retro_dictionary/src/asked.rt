@@ -1,3 +1,5 @@
+//! Questions, by what is found of a range of keys.
+
 ghost use Rattle.std.specs.Prelude.{◌≡◌, ◌≤◌, length};
 ghost use Rattle.order_labels.specs.Labels.{AreLabels};
 ghost use Rattle.retro_base.specs.Answers.{pair_of};

@@ -1,3 +1,5 @@
+//! The label of a new row, between those beside it.
+
 ghost use Rattle.std.specs.Prelude.{◌≡◌, ◌+◌, ◌-◌, ◌<◌, ◌≤◌, max, false, length, IfSome, IfNone, if◌then◌else◌};
 ghost use Rattle.order_labels.specs.Labels.{AreLabels, label_before, label_limit, has_room};
 ghost use Rattle.retro_dictionary.specs.Edited.{IsBetween};

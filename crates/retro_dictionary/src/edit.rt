@@ -1,3 +1,5 @@
+//! A row with a label comes in or goes, with the lifetimes that it begins and ends.
+
 ghost use Rattle.std.specs.Prelude.{◌≡◌, slice_get, Some, None, OnOk, OnErr, IfOk};
 ghost use Rattle.std.specs.List.{insert, remove};
 ghost use Rattle.key_index.specs.KeyRows.{op_at, with_row, without};

@@ -1,3 +1,5 @@
+//! The place of the row that fails first.
+
 ghost use Rattle.std.specs.Prelude.{◌≡◌, ◌≤◌, ◌<◌, length};
 ghost use Rattle.retro_base.specs.Limits.{most_rows};
 ghost use Rattle.retro_dictionary.specs.Failures.{place_of_bad, place_of_bad_label};

@@ -1,3 +1,5 @@
+//! What a dictionary keeps of its rows.
+
 ghost use Rattle.std.specs.Prelude.{◌≡◌, ◌<◌, [], Some, length, slice_get};
 ghost use Rattle.std.specs.Option.{option_map};
 ghost use Rattle.retro_base.specs.Visits.{OpensCounter};

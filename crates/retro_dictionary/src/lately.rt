@@ -1,3 +1,5 @@
+//! Which of the rows beside a place came in lately, by their numbers.
+
 ghost use Rattle.std.specs.Prelude.{◌≡◌, ◌≤◌, length, if◌then◌else◌};
 ghost use Rattle.retro_base.specs.Visits.{OpensCounter};
 ghost use Rattle.retro_dictionary.specs.declared.lately.Lately.TheVariants.{Before, After, Neither};

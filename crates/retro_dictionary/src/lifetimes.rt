@@ -1,3 +1,5 @@
+//! What becomes of the lifetimes beside an edit.
+
 ghost use Rattle.std.specs.Prelude.{◌≡◌, OnOk, OnErr};
 ghost use Rattle.std.specs.Option.{option_and_then};
 ghost use Rattle.key_index.specs.KeyRows.{key_of};

@@ -1,3 +1,5 @@
+//! The whole content at a place.
+
 ghost use Rattle.std.specs.Prelude.{◌≡◌, ◌<◌, ◌≤◌, ◌^◌, length, IfOk};
 ghost use Rattle.lifetime_segments.specs.Lawful.{most_items};
 ghost use Rattle.lifetime_segments.specs.Lifetimes.{label_end, items_at};

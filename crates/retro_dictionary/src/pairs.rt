@@ -1,3 +1,5 @@
+//! Keys with values, ranges of keys, and what is found of one.
+
 use monoid_laws::{Measured, Sum};
 use std::marker::Model;
 

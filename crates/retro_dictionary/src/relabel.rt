@@ -1,3 +1,5 @@
+//! All rows get labels anew, where none is left between two.
+
 ghost use Rattle.std.specs.Prelude.{◌≡◌, ◌+◌, ◌*◌, ◌^◌, ◌<◌, ◌≤◌, ◌++◌, length, drop, false, OnOk, OnErr, IfOk};
 ghost use Rattle.std.specs.List.{insert};
 ghost use Rattle.order_labels.specs.Labels.{has_room, label_limit, multiples, spread};

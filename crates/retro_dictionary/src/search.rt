@@ -1,3 +1,5 @@
+//! What is found of a range of keys, among the pairs of a span and in one pair.
+
 ghost use Rattle.std.specs.Prelude.{◌≡◌, ◌-◌, ◌<◌, ◌≤◌, ◌∷◌, [], suc, true, length, slice_get, Some, IfSome, IfNone};
 ghost use Rattle.std.specs.List.{slice_range};
 ghost use Rattle.retro_base.specs.Answers.{pairs_between};

@@ -1,3 +1,5 @@
+//! A sink as one at which nothing waits.
+
 ghost use Rattle.std.specs.Prelude.{◌≡◌, [], IsOk, refl};
 
 use crate::{Failed, SendingSink, Sink};

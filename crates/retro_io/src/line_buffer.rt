@@ -1,3 +1,5 @@
+//! The bytes that were read and not given yet, and the line that is cut from them.
+
 ghost use Rattle.std.specs.Prelude.{◌≡◌, ◌+◌, ◌-◌, ◌≢◌, ◌≤◌, ◌<◌, ℕ, [], ◌∷◌, ◌++◌, true, false, length, take, drop, slice_index, Result, is_err, IfOk, MatchResult, MatchOption};
 ghost use Rattle.std.specs.List.{slice_range};
 ghost use Rattle.retro_io.specs.DueReads.{ReadOnce};

@@ -1,3 +1,5 @@
+//! The lines of a source, up to a limit.
+
 ghost use Rattle.std.specs.Prelude.{◌≡◌, ◌+◌, ◌-◌, ◌^◌, ◌≤◌, ◌<◌, ◌↔◌, [], true, false, length, take, drop, Result, Ok, IfOk, IfErr, IsErrOf, is_err};
 ghost use Rattle.retro_io.specs.DueReads.{ReadOnce, WereDue};
 ghost use Rattle.retro_io.specs.Faults.{CountsFaults};

@@ -1,3 +1,5 @@
+//! What a reader of lines came to, and why it stops.
+
 use thiserror::Error;
 
 /// What the reader came to.

@@ -1,3 +1,5 @@
+//! A sink in memory, of which chosen writes fail.
+
 ghost use Rattle.std.specs.Prelude.{◌≡◌, ◌≤◌, ◌<◌, ◌==◌, ◌-◌, ◌||◌, [], true, false, length, take, min, Some, is_ok, is_err, IfOk, MatchResult};
 ghost use Rattle.retro_io.specs.Faults.{CountsFaults, last_count};
 ghost use Rattle.retro_io.specs.Memory.{FlushesRoomed, WritesRoomed};

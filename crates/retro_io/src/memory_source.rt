@@ -1,3 +1,5 @@
+//! A source in memory, of which chosen reads fail.
+
 ghost use Rattle.std.specs.Prelude.{◌≡◌, ◌≤◌, ◌<◌, [], false, length, take, Some, is_err, IfOk, MatchResult};
 ghost use Rattle.retro_io.specs.Faults.{CountsFaults, last_count};
 ghost use Rattle.retro_io.specs.Memory.{ReadsPieced};

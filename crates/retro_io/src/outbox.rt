@@ -1,3 +1,5 @@
+//! A sink that gathers what is written before it goes on to another one.
+
 ghost use Rattle.std.specs.Prelude.{◌≡◌, ◌≤◌, ◌<◌, ◌++◌, [], true, false, length, vec_len, vec_capacity, IfOk};
 ghost use Rattle.retro_io.specs.Faults.{CountsFaults, count_after, last_count};
 

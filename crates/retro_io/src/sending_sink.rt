@@ -1,3 +1,5 @@
+//! The trait of a sink at which bytes may wait until they are sent.
+
 ghost use Rattle.std.specs.Prelude.{◌≡◌, ℕ, List, [], ◌≤◌, Result, Ok, is_err, OnErr, OnOk};
 ghost use Rattle.retro_io.specs.Faults.{CountsFaults, last_count};
 ghost use Rattle.retro_io.specs.declared.source.Failed.{Failed};

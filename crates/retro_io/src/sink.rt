@@ -1,3 +1,5 @@
+//! The trait of what bytes go to.
+
 ghost use Rattle.std.specs.Prelude.{◌≡◌, ℕ, Bool, false, List, Option, ◌≤◌, ◌<◌, length, take, Result, is_ok, is_err, IfOk, IfErr, MatchResult};
 ghost use Rattle.retro_io.specs.Faults.{CountsFaults, last_count};
 ghost use Rattle.retro_io.specs.Sink.{Appends, AppendsProperPrefix, HandsAll, HandsAllUntilFault};

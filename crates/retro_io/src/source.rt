@@ -1,3 +1,5 @@
+//! The trait of what bytes come from.
+
 ghost use Rattle.std.specs.Prelude.{◌≡◌, ℕ, Bool, List, Option, [], ◌≤◌, ◌<◌, length, take, Result, is_err, IfOk, MatchResult};
 ghost use Rattle.retro_io.specs.Faults.{CountsFaults, last_count};
 ghost use Rattle.retro_io.specs.Source.{Gives, bytes_given, bytes_left, ended_after, taken_after};

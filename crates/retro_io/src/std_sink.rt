@@ -1,3 +1,5 @@
+//! A sink over a writer of std.
+
 ghost use Rattle.std.specs.Prelude.{◌≡◌, ◌≤◌, true, false, None};
 ghost use Rattle.std.specs.Io.KnownBytes.{Keeps, WriteAppends};
 ghost use Rattle.retro_io.specs.Faults.{CountsFaults, count_after, faults_after, last_count};

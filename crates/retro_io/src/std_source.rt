@@ -1,3 +1,5 @@
+//! A source over a reader of std.
+
 ghost use Rattle.std.specs.Prelude.{◌≡◌, ◌≤◌, false, None};
 ghost use Rattle.retro_io.specs.Faults.{faults_after, last_count};
 

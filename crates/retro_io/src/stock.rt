@@ -1,3 +1,5 @@
+//! Bytes in memory that are given piece by piece.
+
 ghost use Rattle.std.specs.Prelude.{◌≡◌, ◌≤◌, ◌==◌, false, length, take, drop, min, ◌<◌, ◌++◌, IfOk};
 ghost use Rattle.std.specs.List.{list_any};
 ghost use Rattle.retro_io.specs.Faults.{count_after};

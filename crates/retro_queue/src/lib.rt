@@ -11,6 +11,7 @@
 //! each binary digit of one more than the number of rows, and only `insert`, `copy` and the listings take memory.
 //!
 //! - `RetroQueue`.
+//! - `queue`: the kind, and the type.
 #![tactic(auto)]
 
 mod queue;

@@ -1,3 +1,5 @@
+//! The queue.
+
 use prefix_trees::{End, LineRows, RetroLine, Sequence};
 use retro_base::{Kind, Steps};
 use std::sync::ledger::Ledger;

@@ -10,6 +10,7 @@
 //! each binary digit of one more than the number of rows, and only `insert`, `copy` and the listings take memory.
 //!
 //! - `RetroStack`.
+//! - `stack`: the kind, and the type.
 #![tactic(auto)]
 
 mod stack;

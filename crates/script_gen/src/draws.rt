@@ -1,3 +1,5 @@
+//! Numbers that are drawn.
+
 ghost use Rattle.std.specs.Prelude.{◌≡◌};
 ghost use Rattle.script_gen.specs.Draws.{first_draw, next_state};
 

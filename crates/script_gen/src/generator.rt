@@ -1,3 +1,5 @@
+//! The lines of a generated script, one after another.
+
 ghost use Rattle.std.specs.Prelude.{◌≡◌, ◌≤◌, length, IfOk, OnErr, OnOk};
 ghost use Rattle.retro_base.specs.Limits.{longest_line};
 ghost use Rattle.script_gen.specs.Coming.{GivesNext, IsPartOfNext};

@@ -6,6 +6,8 @@
 //! of lines and a start give the same script on every machine.
 //!
 //! The layers above may rely on this equation, and on nothing of the shares.
+//!
+//! - `generator`: the type and its calls. `draws`: drawn numbers. `line`, `print`: a drawn line, and how it is spelled. `tests`.
 #![tactic(auto)]
 
 mod draws;

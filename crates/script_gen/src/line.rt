@@ -1,3 +1,5 @@
+//! What a drawn line asks for.
+
 ghost use Rattle.std.specs.Prelude.{◌≡◌, ◌≤◌, ◌%◌, pos};
 ghost use Rattle.script_gen.specs.Draws.{first_draw, next_state, state_after};
 ghost use Rattle.script_gen.specs.Script.{adding_draws, adding_op, line_of, state_later, taking_draws, taking_op};

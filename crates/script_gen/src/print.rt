@@ -1,3 +1,5 @@
+//! How a drawn line is spelled.
+
 ghost use Rattle.std.specs.Prelude.{◌≡◌, ◌++◌, OnOk, OnErr};
 ghost use Rattle.retro_base.specs.Text.{AppendsPrefix};
 ghost use Rattle.script_gen.specs.Script.{first_line, kind_word, line_text, main_question};

@@ -1,3 +1,5 @@
+//! What is drawn and generated, at fixed starts.
+
 use crate::ScriptGen;
 use crate::draws::Draws;
 use retro_base::{Kind, Text};

@@ -1,3 +1,5 @@
+//! How an answer is spelled.
+
 ghost use Rattle.std.specs.Prelude.{◌≡◌, ◌++◌, OnOk, OnErr};
 ghost use Rattle.retro_base.specs.Text.{AppendsPrefix};
 ghost use Rattle.script_grammar.specs.AnswerText.{answer_text, pair_text};

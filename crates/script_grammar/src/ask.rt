@@ -1,3 +1,5 @@
+//! Lines that ask a timeline for something.
+
 ghost use Rattle.std.specs.Prelude.{◌≡◌};
 ghost use Rattle.script_grammar.specs.Command.{ask_at, ask_of, ask_then};
 

@@ -1,3 +1,5 @@
+//! Lines within a block: its end, what is passed over, and rows.
+
 ghost use Rattle.std.specs.Prelude.{◌≡◌, ◌<◌, ◌≤◌, IfSome};
 ghost use Rattle.retro_base.specs.Limits.{next_limit};
 ghost use Rattle.script_grammar.specs.BlockLines.{are_end, are_passed_over, is_end, is_passed_over, row_of, row_spelled, row_with};

@@ -1,3 +1,5 @@
+//! What a line asks for, and why one asks for nothing.
+
 use retro_base::{Kind, Name, Op, Question};
 use thiserror::Error;
 

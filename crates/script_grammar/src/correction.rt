@@ -1,3 +1,5 @@
+//! Lines that put a row at another time, or another operation into it.
+
 ghost use Rattle.std.specs.Prelude.{◌≡◌};
 ghost use Rattle.script_grammar.specs.Command.{change_of, move_at, move_of, move_time};
 

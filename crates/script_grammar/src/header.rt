@@ -1,3 +1,5 @@
+//! Lines that open a block.
+
 ghost use Rattle.std.specs.Prelude.{◌≡◌};
 ghost use Rattle.script_grammar.specs.Command.{header_count, header_end, header_kind, header_next, header_of, header_rows};
 

@@ -9,6 +9,9 @@
 //! - `read_row`, `is_end` and `is_passed_over` read the lines within a block.
 //! - `kind_of_word` and `read_natural_up_to` read single words.
 //! - `print_answer` and `print_listing` append the text of an answer.
+//! - `line`: the command of a line, by its form: `header`, `ask` with `query`, `correction`; `spot`, `operation` with `operands`, and
+//!   `numbers` within these. `words`: a line, cut into words. `command`: what comes of it. `block_lines`: the lines within a block.
+//! - `answer`, `listing`: how these are spelled.
 #![tactic(auto)]
 
 mod answer;

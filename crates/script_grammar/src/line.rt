@@ -1,3 +1,5 @@
+//! The command of a line.
+
 ghost use Rattle.std.specs.Prelude.{◌≡◌, ◌≤◌, ◌∷◌, length, true, false, IsTrue, IfOk, Err, if◌then◌else◌};
 ghost use Rattle.retro_base.specs.Limits.{longest_line};
 ghost use Rattle.script_grammar.specs.Operands.{alone};

@@ -1,3 +1,5 @@
+//! How a listing is spelled.
+
 ghost use Rattle.std.specs.Prelude.{◌≡◌, ◌++◌, OnOk, OnErr};
 ghost use Rattle.std.specs.List.{flat_map};
 ghost use Rattle.retro_base.specs.Text.{AppendsPrefix};

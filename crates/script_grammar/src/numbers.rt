@@ -1,3 +1,5 @@
+//! Words that spell moments, indexes and other numbers.
+
 ghost use Rattle.std.specs.Prelude.{◌≡◌, ◌+◌, ◌-◌, ◌*◌, ◌^◌, ◌<◌, ◌≤◌, IfSome, option_and_then};
 ghost use Rattle.retro_base.specs.Limits.{most_rows, next_limit};
 ghost use Rattle.script_grammar.specs.Numbers.{between, count_of, follower_of, index_of, natural_of, natural_up_to, next_of, row_number_of, time_of, up_to, value_of};

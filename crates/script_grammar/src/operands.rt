@@ -1,3 +1,5 @@
+//! The values after the word of an operation or a question.
+
 ghost use Rattle.std.specs.Prelude.{◌≡◌};
 ghost use Rattle.script_grammar.specs.Operands.{operands_after, operands_of};
 

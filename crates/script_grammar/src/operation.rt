@@ -1,3 +1,5 @@
+//! Words that spell an operation.
+
 ghost use Rattle.std.specs.Prelude.{◌≡◌};
 ghost use Rattle.script_grammar.specs.Operations.{bare_op, binary_op, op_of, op_with, unary_op};
 

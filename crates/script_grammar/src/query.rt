@@ -1,3 +1,5 @@
+//! Words that spell a question.
+
 ghost use Rattle.std.specs.Prelude.{◌≡◌};
 ghost use Rattle.script_grammar.specs.Queries.{bare_question, binary_question, nth_of, query_of, question_of, question_with, unary_question};
 

@@ -1,3 +1,5 @@
+//! Words that spell a place among the rows of one time.
+
 ghost use Rattle.std.specs.Prelude.{◌≡◌};
 ghost use Rattle.script_grammar.specs.Command.{begins_spot, spot_of};
 

@@ -1,3 +1,5 @@
+//! A line, cut into words.
+
 ghost use Rattle.std.specs.Prelude.{◌≡◌, ◌≤◌, ◌∷◌, [], length, MatchOption};
 ghost use Rattle.std.specs.List.{list_all, position_or_len, prefix_len};
 ghost use Rattle.script_grammar.specs.Words.{is_nil, is_space, words};

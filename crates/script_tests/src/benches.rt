@@ -1,3 +1,5 @@
+//! Lines that a bench answers.
+
 use engine::Engine;
 use retro_base::{Name, Text};
 use std::alloc::Global;

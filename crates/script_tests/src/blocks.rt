@@ -1,3 +1,5 @@
+//! Blocks that are read, and timelines that are saved.
+
 use retro_base::{Kind, Name, Op, Row, Rows, Text};
 use timeline_file::{BlockError, BlockReader, RowCause, print_block};
 

@@ -1,3 +1,5 @@
+//! Lines that are evidence, and lines that are none.
+
 use evidence::{Evidence, print_evidence, read_evidence};
 use retro_base::{Change, Entry, Name, Op, Text};
 use std::test::Fail;

@@ -1,3 +1,5 @@
+//! Followers, and what they report.
+
 use evidence::read_evidence;
 use followers::{Follower, Mirror, Tally, feed};
 use retro_base::{Name, Text};

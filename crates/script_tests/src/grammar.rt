@@ -1,3 +1,5 @@
+//! Lines and their commands.
+
 use retro_base::{Answer, Item, Kind, Listing, Name, Op, Question, Text};
 use script_grammar::{
     Command, LineError, Moment, Query, Spot, print_answer, print_listing, read_line,

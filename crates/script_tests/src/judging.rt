@@ -1,3 +1,5 @@
+//! The judge of evidence.
+
 use evidence_check::{CheckError, Checker};
 use std::process::Abort;
 

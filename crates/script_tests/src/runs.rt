@@ -1,3 +1,5 @@
+//! The whole program over streams in memory, of which chosen calls fail.
+
 ghost use Rattle.std.specs.Prelude.{◌≤◌, None};
 ghost use Rattle.retro_io.specs.Faults.{last_count};
 

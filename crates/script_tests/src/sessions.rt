@@ -1,3 +1,5 @@
+//! Edits that are undone and redone.
+
 use retro_base::{
     Answer, Change, Item, Kind, MAX_NEXT, MAX_ROWS, Op, PlainList, Question, Retro, Row,
 };

@@ -1,3 +1,5 @@
+//! The priority queue by bridges.
+
 ghost use Rattle.std.specs.Prelude.{◌<◌};
 ghost use Rattle.retro_base.specs.Visits.{OpensCounter};
 

@@ -1,3 +1,5 @@
+//! The past by checkpoints.
+
 ghost use Rattle.std.specs.Prelude.{◌≡◌, []};
 
 use super::history::History;

@@ -1,3 +1,5 @@
+//! The dictionary.
+
 use super::history::History;
 use lifetime_segments::Segments;
 use retro_base::{Answer, Item, Op, Question};

@@ -1,3 +1,5 @@
+//! The structure of any kind.
+
 use super::history::History;
 use engine::Engine;
 use retro_base::{Answer, Item, Kind, Op, Question, Retro};

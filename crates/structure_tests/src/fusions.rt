@@ -1,3 +1,5 @@
+//! The fused priority queue and its pieces.
+
 ghost use Rattle.std.specs.Prelude.{◌≡◌, []};
 
 use super::history::History;

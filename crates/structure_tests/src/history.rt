@@ -1,3 +1,5 @@
+//! A structure with the number of its next row.
+
 ghost use Rattle.std.specs.Prelude.{◌≡◌, ◌≤◌, []};
 ghost use Rattle.retro_base.specs.Limits.{most_rows};
 

@@ -1,3 +1,5 @@
+//! What queue, stack and deque have in common.
+
 use super::history::History;
 use super::listings::expect_values;
 use retro_base::{Partial, Retro, Row};

@@ -1,3 +1,5 @@
+//! Listings of single items.
+
 use retro_base::{Item, Listing};
 use std::process::Abort;
 

@@ -1,3 +1,5 @@
+//! The queue.
+
 use super::history::History;
 use super::lines::{Last, expect_copy};
 use super::listings::expect_values;

@@ -1,3 +1,5 @@
+//! A block of rows is read, line by line.
+
 ghost use Rattle.std.specs.Prelude.{◌≡◌, ◌<◌, ◌≤◌, length, true, None, Some, Ok, IsTrue, IfSome, IfOk, OnOk, OnErr};
 ghost use Rattle.retro_base.specs.Limits.{longest_line, most_rows, next_limit};
 ghost use Rattle.retro_base.specs.Timeline.{IsTimeline};

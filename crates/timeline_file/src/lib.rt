@@ -7,6 +7,7 @@
 //! - `BlockReader` is the definition of `specs/Block.antt`. What a block comes to: `BlockError`, `RowCause`.
 //! - `print_block` appends the one saved spelling of a timeline, `specs/Saved.antt`.
 //! - `laws`: what is saved reads back.
+//! - `block`: a block is read. `print`: a timeline is saved.
 #![tactic(auto)]
 
 mod block;

@@ -1,3 +1,5 @@
+//! How a timeline is saved.
+
 ghost use Rattle.std.specs.Prelude.{◌≡◌, ◌++◌, decimal, OnOk, OnErr};
 ghost use Rattle.retro_base.specs.OpText.{op_text};
 ghost use Rattle.retro_base.specs.Text.{AppendsPrefix};

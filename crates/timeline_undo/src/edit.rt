@@ -1,3 +1,5 @@
+//! The edits of a step, made in the timeline and in the structure.
+
 ghost use Rattle.std.specs.Prelude.{◌≡◌, ◌≤◌, [], ◌∷◌, length, slice_get, Some, IfOk, IfErr, OnErr};
 ghost use Rattle.std.specs.List.{insert, remove};
 ghost use Rattle.retro_base.specs.Changes.{IsChange};

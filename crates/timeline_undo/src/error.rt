@@ -1,3 +1,5 @@
+//! Why an edit does not stand, and why nothing is undone.
+
 ghost use Rattle.std.specs.Prelude.{◌≡◌};
 ghost use Rattle.timeline_undo.specs.declared.error.EditError.TheVariants as edits;
 ghost use Rattle.timeline_undo.specs.declared.error.UndoError.TheVariants as undos;

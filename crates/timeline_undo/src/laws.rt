@@ -1,3 +1,5 @@
+//! An undo leads back.
+
 ghost use Rattle.std.specs.Prelude.{ℕ};
 ghost use Rattle.retro_base.specs.Edits.{Step};
 ghost use Rattle.timeline_undo.specs.Back.{CanBeMade, LeadsBack, ShiftsCanBeMade};

@@ -1,3 +1,5 @@
+//! Edits and steps, as the history keeps them.
+
 ghost use Rattle.std.specs.Prelude.{◌≡◌, ◌<◌, [], ◌∷◌, ◌++◌, ◌-◌, length, take, slice_get};
 ghost use Rattle.circular_buffer.specs.Buffer.{buffer, keep_last};
 ghost use Rattle.retro_base.specs.Edits.{inverse, inverse_step};

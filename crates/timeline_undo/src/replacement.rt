@@ -1,3 +1,5 @@
+//! A row that is to be replaced.
+
 ghost use Rattle.std.specs.Prelude.{◌≡◌, ◌+◌, ◌^◌, ◌∷◌, [], ◌<◌};
 ghost use Rattle.timeline_undo.specs.Kept.{edit_of};
 ghost use Rattle.timeline_undo.specs.Replaced.{replacement_of, step_of_replacement};

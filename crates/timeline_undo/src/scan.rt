@@ -1,3 +1,5 @@
+//! The walk over the rows that judges a replacement.
+
 ghost use Rattle.std.specs.Prelude.{◌≡◌, ◌+◌, ◌<◌, ◌≤◌, [], ◌∷◌, ◌++◌, length, slice_range, IsTrue};
 ghost use Rattle.std.specs.Result.{result_err};
 ghost use Rattle.retro_base.specs.Edits.{failing_row};

@@ -1,3 +1,5 @@
+//! What a row is replaced by, and what that tells.
+
 use crate::Turn;
 use retro_base::Op;
 

@@ -1,3 +1,5 @@
+//! What an accepted edit tells.
+
 use retro_base::{Change, Row};
 
 /// What an accepted insert tells.

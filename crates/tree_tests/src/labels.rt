@@ -1,3 +1,5 @@
+//! Labels of rows.
+
 ghost use Rattle.std.specs.Prelude.{◌≡◌, ◌+◌, ◌<◌, ◌≤◌, length};
 ghost use Rattle.std.specs.List.{insert};
 ghost use Rattle.order_labels.specs.Labels.{label_after, label_before, label_limit};

@@ -1,3 +1,5 @@
+//! The measures.
+
 use monoid_laws::{Both, Count, Greatest, GreatestPrefix, Least, LeastPrefix, Monoid, Sum};
 
 #[test]

@@ -1,3 +1,5 @@
+//! Rows of a line of items, and their walks.
+
 ghost use Rattle.std.specs.Prelude.{◌<◌};
 ghost use Rattle.monoid_laws.specs.Walk.{IsSign};
 ghost use Rattle.retro_base.specs.Visits.{OpensCounter};

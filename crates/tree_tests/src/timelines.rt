@@ -1,3 +1,5 @@
+//! Rows in order of time.
+
 use order_timeline::Timeline;
 use retro_base::{Op, Row};
 use std::alloc::Global;

@@ -1,3 +1,5 @@
+//! The evidence of some edits.
+
 ghost use Rattle.std.specs.Prelude.{◌≡◌, [], ◌∷◌, ◌++◌, OnOk, OnErr};
 ghost use Rattle.workbench.specs.Outcome.{evidence_line, evidence_lines};
 

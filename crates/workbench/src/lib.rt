@@ -5,6 +5,9 @@
 //! judges each edit before anything is changed.
 //!
 //! - `Bench::line` does what a line asks for and gives the lines that answer it, by `specs/Reaction.antt`.
+//! - `bench`: the type and its calls. `timelines`, `named_timeline`: all timelines, and one of them. `open_block`: the block that is read.
+//!   `position`: where a spot is. `outcome`, `reported`, `evidence_lines`: what a line is answered. `laws`: what evidence says of the
+//!   present.
 #![tactic(auto)]
 
 mod bench;

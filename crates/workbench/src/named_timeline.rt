@@ -1,3 +1,5 @@
+//! A timeline with its name, and what can be done to it.
+
 ghost use Rattle.std.specs.Prelude.{◌≡◌, ◌≤◌, ◌<◌, true, false, length, List, Some, [], ◌∷◌, IfOk, OnErr, OnOk};
 ghost use Rattle.retro_base.specs.Kind.{kind_of, same_kind};
 ghost use Rattle.retro_base.specs.Answers.{content};

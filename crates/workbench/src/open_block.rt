@@ -1,3 +1,5 @@
+//! A block that is being read.
+
 ghost use Rattle.std.specs.Prelude.{◌≡◌, ◌≤◌, length, true, is_ok, IsTrue, IfOk, OnOk, OnErr, Ok, Err};
 ghost use Rattle.retro_base.specs.Limits.{longest_line, next_limit};
 ghost use Rattle.timeline_file.specs.Block.{begun, finished};

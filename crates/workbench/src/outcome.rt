@@ -1,3 +1,5 @@
+//! What a line is answered, and why one is refused.
+
 ghost use Rattle.std.specs.Prelude.{◌≡◌, ◌++◌, OnOk};
 ghost use Rattle.workbench.specs.Outcome.{block_refusal, cause_text, is_refusal, refusal_text, reply_text};
 ghost use Rattle.workbench.specs.declared.outcome.Outcome.TheVariants as outcomes;

@@ -1,3 +1,5 @@
+//! Where a row stands, by a spot.
+
 ghost use Rattle.std.specs.Prelude.{◌≡◌, ◌≤◌, ◌<◌, length, IfSome};
 ghost use Rattle.retro_base.specs.Limits.{most_rows};
 ghost use Rattle.workbench.specs.TimelineEffects.{row_named, position_before, position_of};

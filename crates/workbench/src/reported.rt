@@ -1,3 +1,5 @@
+//! The outcome of accepted edits: their evidence, for a priority queue.
+
 ghost use Rattle.std.specs.Prelude.{◌≡◌, List, [], ◌∷◌, ◌++◌, IfOk, OnOk};
 ghost use Rattle.retro_base.specs.declared.row.Row.{Row};
 ghost use Rattle.retro_base.specs.MadeEdits.{IsMade};

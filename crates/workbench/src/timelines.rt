@@ -1,3 +1,5 @@
+//! The timelines of a bench, by their names.
+
 ghost use Rattle.std.specs.Prelude.{◌≡◌, ◌<◌, [], length, true, false, nat_le, position, slice_get, Ok, Some, None, IfOk, IfSome, OnErr, MatchOption};
 ghost use Rattle.std.specs.List.{list_any, remove, AllByRecursion};
 ghost use Rattle.retro_base.specs.Limits.{most_timelines};
