@@ -10,6 +10,7 @@ use Rattle.bridge_pq.specs.declared.marked_entry.MarkedEntry.{MarkedEntry}
 use Rattle.bridge_pq.specs.Gathered.{count_to, EndsAt, IsTaken, IsWindow}
 use Rattle.bridge_pq.specs.MarkedEntries.{present_in}
 use Rattle.bridge_pq.proofs.EntryPlaces.{kth_is}
+use Rattle.retro_base.specs.Facts.{drop_at, get_take, get_drop}
 
 -- what a mark counts
 abbrev marked : Bool → ℕ
@@ -31,11 +32,6 @@ count_step (x ∷ items) zero item at =
     let one : length (if x.present then x.entry ∷ [] else []) ≡ marked item.present = count_first x.present x.entry ∙ ap (λ (y : MarkedEntry). marked y.present) same in
     omega (arith, one)
 count_step (x ∷ items) (suc n) item at = count_later x.present item.present x.entry (present_in (take n items)) (present_in (take (suc n) items)) (count_step items n item at)
-
-pub drop_first : {X : Type 0} (xs : List X) (k : ℕ) (x : X) → slice_get xs k ≡ Some x → drop k xs ≡ x ∷ drop (k + 1) xs
-drop_first [] k x at = absurd (cc)
-drop_first (y ∷ ys) zero x at = ap (λ z. z ∷ ys) (let same : y ≡ x = cc in same)
-drop_first (y ∷ ys) (suc k) x at = drop_first ys k x at ∙ ap (λ n. x ∷ drop n (y ∷ ys)) (let same : suc (k + 1) ≡ suc k + 1 = omega arith in same)
 
 pub none_left : {X : Type 0} (xs : List X) (k : ℕ) → slice_get xs k ≡ None → drop k xs ≡ []
 none_left [] zero at = refl
@@ -75,7 +71,7 @@ pub present_is_next : (items : List MarkedEntry) (place passed : ℕ) (item : Ma
     → drop passed (present_in items) ≡ item.entry ∷ drop (passed + 1) (present_in items)
 present_is_next items place passed item at alive is =
     let more : count_to items (suc place) ≡ passed + 1 = ap (count_to items) (let one : suc place ≡ place + 1 = omega arith in one) ∙ passed_present items place passed item at alive is in
-    drop_first (present_in items) passed item.entry (kth_is items place passed item at (omega (arith, is)) (omega (arith, more)))
+    drop_at (present_in items) passed item.entry (kth_is items place passed item at (omega (arith, is)) (omega (arith, more)))
 
 count_least : (b : Bool) (x : Entry) (xs : List Entry) (n : ℕ) → length xs ≤ n → length (if b then x ∷ xs else xs) ≤ suc n
 count_least true x xs n few = omega arith
@@ -92,17 +88,6 @@ get_append : {X : Type 0} (xs ys : List X) (i : ℕ) → i < length xs → slice
 get_append [] ys i within = absurd (omega arith)
 get_append (x ∷ xs) ys zero within = refl
 get_append (x ∷ xs) ys (suc i) within = get_append xs ys i (omega arith)
-
-get_take : {X : Type 0} (xs : List X) (n i : ℕ) → i < n → slice_get (take n xs) i ≡ slice_get xs i
-get_take xs zero i within = absurd (omega arith)
-get_take [] (suc n) i within = refl
-get_take (x ∷ xs) (suc n) zero within = refl
-get_take (x ∷ xs) (suc n) (suc i) within = get_take xs n i (omega arith)
-
-pub get_drop : {X : Type 0} (xs : List X) (n i : ℕ) → slice_get (drop n xs) i ≡ slice_get xs (n + i)
-get_drop xs zero i = ap (slice_get xs) (let same : i ≡ 0 + i = omega arith in same)
-get_drop [] (suc n) i = refl
-get_drop (x ∷ xs) (suc n) i = get_drop xs n i ∙ ap (slice_get (x ∷ xs)) (let same : suc (n + i) ≡ suc n + i = omega arith in same)
 
 -- the window after a search: it has the entries from the found one on
 module _ (items former new : List MarkedEntry) (passed end count : ℕ) (ends : EndsAt items passed end) (few : count ≤ length items - (end - 1)) (room : count ≤ 32)
@@ -134,7 +119,7 @@ module _ (items former new : List MarkedEntry) (passed end count : ℕ) (ends : 
   found_first d now is some inside =
       let there : slice_get items (end - 1) ≡ Some (slice_index_or new 0 d) =
       ap (slice_get items) (let same : end - 1 ≡ (end - 1) + 0 = omega arith in same) ∙ sym (read_there 0 some) ∙ get_index new 0 d inside in
-      let next = is ∙ drop_first (present_in items) passed (slice_index_or new 0 d).entry (ends.there (slice_index_or new 0 d) there) in
+      let next = is ∙ drop_at (present_in items) passed (slice_index_or new 0 d).entry (ends.there (slice_index_or new 0 d) there) in
       record { first = rw next refl; others = rw next refl }
 
 pub none_found : (items : List MarkedEntry) (passed : ℕ) (now : List Entry) (answer : Option Entry) → now ≡ drop passed (present_in items) → slice_get (present_in items) passed ≡ None

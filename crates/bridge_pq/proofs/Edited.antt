@@ -1,5 +1,5 @@
 -- An edit of what a queue by bridges keeps: the row comes in or goes, and then the marks of the changed entry are flipped.
-use Rattle.std.proofs.Common.{◌≡◌, ℕ, ◌<◌, ◌≤◌, Bool, false, List, length, sym, ap, ◌∙◌, arith, subst, refl, Option, Some, None}
+use Rattle.std.proofs.Common.{◌≡◌, ℕ, ◌<◌, ◌≤◌, Bool, false, List, length, sym, ap, ◌∙◌, arith, subst, refl, Some, None}
 use Rattle.std.specs.Prelude.{Contains, slice_set, Result, Ok, Err, OnOk, OnErr}
 use Rattle.std.specs.List.{insert, remove, slice_get}
 use Rattle.std.proofs.lemmas.List.{length-map}
@@ -32,6 +32,7 @@ use Rattle.bridge_pq.proofs.RowExtremes.{adds-in, adds-within}
 use Rattle.bridge_pq.proofs.EntryEdits.{put-then-marked}
 use Rattle.bridge_pq.proofs.FlippedRows.{flip-loss, others-marked, set-marked, rows-set, insert-marked, remove-marked, fresh-removed}
 use Rattle.bridge_pq.proofs.HeldEntries.{added-le, fresh-not-added, holds-put, holds-with-take, holds-taken, holds-without-take, holds-marked, holds-others, survivor-added}
+use Rattle.retro_base.specs.Facts.{one_value}
 
 pub rows-length : (items : List MarkedRow) → length (rows_of items) ≡ length items
 rows-length items = simp length-map
@@ -96,21 +97,16 @@ module _ (rows : List Row) (before : List Entry) (items : List MarkedRow) (entri
         rows_same,
       )
 
--- the row that comes in stands at its place
-there_is : {A : Type 0} (m : Option A) (x y : A) → m ≡ Some x → m ≡ Some y → x ≡ y
-there_is (Some z) x y first second = cc
-there_is None x y first second = absurd (cc)
-
 own_entry : (rows : List Row) (place : ℕ) (row : Row) (new e : Entry) → place ≤ length rows → added_by row ≡ Some new → AddsAt (insert rows place row) place e → new ≡ e
 own_entry rows place row new e within adds at =
-    let same : row ≡ at.0 = there_is (slice_get (insert rows place row) place) row at.0 (insert-at rows place row within) at.1 in
-    there_is (added_by row) new e adds (ap added_by same ∙ at.2)
+    let same : row ≡ at.0 = one_value (slice_get (insert rows place row) place) row at.0 (insert-at rows place row within) at.1 in
+    one_value (added_by row) new e adds (ap added_by same ∙ at.2)
 
 put_then_set : (items : List MarkedRow) (place : ℕ) (row : Row) (a b : Bool) (item : MarkedRow) → place ≤ length items
     → slice_get (insert items place (record { row = row; survives = a })) place ≡ Some item
     → slice_set (insert items place (record { row = row; survives = a })) place (record { row = item.row; survives = b }) ≡ insert items place (record { row = row; survives = b })
 put_then_set items place row a b item within there =
-    let same : record { row = row; survives = a } ≡ item = there_is (slice_get (insert items place (record { row = row; survives = a })) place) _ item (insert-at items place _ within) there in
+    let same : record { row = row; survives = a } ≡ item = one_value (slice_get (insert items place (record { row = row; survives = a })) place) _ item (insert-at items place _ within) there in
     subst (λ (i : MarkedRow). slice_set (insert items place (record { row = row; survives = a })) place (record { row = i.row; survives = b }) ≡ insert items place (record { row = row; survives = b })) same
     (set-inserted items place _ _ within)
 

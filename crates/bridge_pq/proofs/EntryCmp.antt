@@ -7,6 +7,7 @@ use Rattle.std.proofs.lemmas.Bool.Decides.{nat_tests}
 use Rattle.retro_base.specs.declared.row.Entry.{Entry}
 use Rattle.retro_base.specs.State.{comes_before}
 use Rattle.bridge_pq.specs.EntryOrder.{entry_order}
+use Rattle.retro_base.specs.lemmas.bridges.EntryOrder.{key_irreflexive}
 
 -- the order of pairs of a key and a number
 abbrev pair_before : ℤ → ℕ → ℤ → ℕ → Bool
@@ -21,11 +22,8 @@ number_agrees m n upto = grind (arith, nat_tests)
 not_less : (k l : ℤ) → int_lt k l ≡ true → int_lt l k ≡ false
 not_less k l less = grind (arith, ints, nat_tests)
 
-not_itself : (k : ℤ) → int_lt k k ≡ false
-not_itself k = grind (arith, ints, nat_tests)
-
 agrees_at : (k : ℤ) (m n : ℕ) → is_gt (ordering_then (int_cmp k k) (nat_cmp m n)) ≡ false → pair_before k n k m ≡ false
-agrees_at k m n upto = rw (not_itself k) (number_agrees m n (rw (not_itself k) at upto))
+agrees_at k m n upto = rw (key_irreflexive k) (number_agrees m n (rw (key_irreflexive k) at upto))
 
 pair_agrees : (k : ℤ) (m : ℕ) (l : ℤ) (n : ℕ) → is_gt (ordering_then (int_cmp k l) (nat_cmp m n)) ≡ false → pair_before l n k m ≡ false
 pair_agrees k m l n upto = elim (by_keys k l) [
@@ -43,7 +41,7 @@ less_number : (m n : ℕ) → is_lt (nat_cmp m n) ≡ false → nat_lt m n ≡ f
 less_number m n from = grind (arith, nat_tests)
 
 less_at : (k : ℤ) (m n : ℕ) → is_lt (ordering_then (int_cmp k k) (nat_cmp m n)) ≡ false → pair_before k m k n ≡ false
-less_at k m n from = rw (not_itself k) (less_number m n (rw (not_itself k) at from))
+less_at k m n from = rw (key_irreflexive k) (less_number m n (rw (key_irreflexive k) at from))
 
 pair_less : (k : ℤ) (m : ℕ) (l : ℤ) (n : ℕ) → is_lt (ordering_then (int_cmp k l) (nat_cmp m n)) ≡ false → pair_before k m l n ≡ false
 pair_less k m l n from = elim (by_keys k l) [

@@ -23,9 +23,7 @@ use Rattle.bridge_pq.specs.Flips.{Flips}
 use Rattle.bridge_pq.proofs.LowestPlaces.{lt_true, lt_false}
 use Rattle.bridge_pq.proofs.Places.{insert-at, insert-before, insert-after, remove-before, remove-after}
 use Rattle.bridge_pq.proofs.FlippedRows.{flip-gain, flip-loss}
-
-one_row : (rows : List Row) (place : ℕ) (a b : Row) → slice_get rows place ≡ Some a → slice_get rows place ≡ Some b → a ≡ b
-one_row rows place a b e f = cc
+use Rattle.retro_base.specs.Facts.{one_at}
 
 -- the place of a row after another one came in or went
 pub adds-with : (rows : List Row) (place p : ℕ) (row : Row) (e : Entry) → place ≤ length rows → AddsAt rows p e → AddsAt (insert rows place row) (cond (nat_lt p place) p (p + 1)) e
@@ -47,7 +45,7 @@ adds-without rows place p e other at = elim (cases_lt p place) [
 
 pub same-entry : (rows : List Row) (p : ℕ) (a b : Entry) → AddsAt rows p a → AddsAt rows p b → a ≡ b
 same-entry rows p a b first second =
-    some_same (added_by first.0) first.2 (ap added_by (one_row rows p first.0 second.0 first.1 second.1) ∙ second.2)
+    some_same (added_by first.0) first.2 (ap added_by (one_at rows p first.0 second.0 first.1 second.1) ∙ second.2)
 
 -- a row put in that adds
 module _ (rows : List Row) (place : ℕ) (row : Row) (new : Entry) (bridge : ℕ) (possible : IsPqEdit rows (add place row)) (adds : added_by row ≡ Some new) (last : IsLastBridge rows place bridge) where
@@ -103,7 +101,7 @@ some-with rows place row bridge possible accepted takes first none =
 -- a row taken out
 takes_not : (rows : List Row) (place p : ℕ) (row : Row) (e : Entry) → slice_get rows place ≡ Some row → added_by row ≡ None → AddsAt rows p e → p ≢ place
 takes_not rows place p row e there takes at same =
-    let here : at.0 ≡ row = one_row rows place at.0 row (subst (λ n. slice_get rows n ≡ Some at.0) same at.1) there in
+    let here : at.0 ≡ row = one_at rows place at.0 row (subst (λ n. slice_get rows n ≡ Some at.0) same at.1) there in
     none_some (added_by at.0) (ap added_by here ∙ takes) at.2
 
 pub gain-without-place : (rows : List Row) (place : ℕ) (row : Row) (p : ℕ) (e : Entry) → IsPqEdit rows (cut place row) → added_by row ≡ None → AddsAt rows p e → p ≢ place

@@ -8,7 +8,7 @@ use Rattle.retro_base.specs.declared.row.Entry.{Entry}
 use Rattle.retro_base.specs.EntriesInOrder.{AreInOrder}
 use Rattle.retro_base.specs.OrderLaws.{all_weaker}
 use Rattle.retro_base.specs.State.{comes_before, with_entry}
-use Rattle.retro_base.specs.lemmas.EntrySteps.{in_order_with}
+use Rattle.retro_base.specs.lemmas.EntrySteps.{in_order_with, after_lesser}
 use Rattle.retro_base.specs.lemmas.bridges.EntryOrder.{before_irreflexive, before_transitive, before_or_after, same_or_other}
 use Rattle.retro_base.specs.lemmas.bridges.Entries.{with_first, with_later, with_swapped}
 use Rattle.retro_base.specs.lemmas.CountedEntries.{with_length}
@@ -67,13 +67,6 @@ gathered_with e (x ∷ entries) others = elim (comes_before e x) as (λ b. with_
   | false ↦ ap (with_entry x) (gathered_with e entries others) ∙ swapped x e (with_all entries others)
 ]
 
--- what does not come before an entry does not come before a lesser one
-not_before_lesser : (y x e : Entry) → comes_before y x ≡ false → comes_before e x ≡ true → comes_before y e ≡ false
-not_before_lesser y x e after lesser = elim (comes_before y e) as (λ b. comes_before y e ≡ b → b ≡ false) [
-  | true ↦ λ before. sym (before_transitive y e x before lesser) ∙ after
-  | false ↦ λ no. refl
-] refl
-
 -- the order is one of all
 not_before_later : (y x e : Entry) → comes_before y x ≡ false → comes_before x e ≡ false → comes_before y e ≡ false
 not_before_later y x e after before = elim (comes_before y e) as (λ b. comes_before y e ≡ b → b ≡ false) [
@@ -85,7 +78,7 @@ not_before_later y x e after before = elim (comes_before y e) as (λ b. comes_be
 ] refl
 
 none_of_later : (f x : Entry) (xs : List Entry) → comes_before f x ≡ true → NoneBefore x xs → NoneBefore f xs
-none_of_later f x xs lesser none = all_weaker (λ y. comes_before y x ≡ false) (λ y. comes_before y f ≡ false) xs (λ y after. not_before_lesser y x f after lesser) none
+none_of_later f x xs lesser none = all_weaker (λ y. comes_before y x ≡ false) (λ y. comes_before y f ≡ false) xs (λ y after. after_lesser y x f after lesser) none
 
 none_of_earlier : (f x : Entry) (xs : List Entry) → comes_before f x ≡ false → NoneBefore f xs → NoneBefore x xs
 none_of_earlier f x xs after none = all_weaker (λ y. comes_before y f ≡ false) (λ y. comes_before y x ≡ false) xs (λ y later. not_before_later y f x later after) none
@@ -114,7 +107,7 @@ taken_fresh (f ∷ fresh) after None entry left order order_left none test taken
     record { first = taken.first ∙ rw is refl; others = ap (λ l. with_all l left) taken.others ∙ rw is refl }
 taken_fresh (f ∷ fresh) after (Some x) entry left order order_left none test taken =
     let is : with_all (f ∷ fresh) (x ∷ left) ≡ f ∷ with_all fresh (x ∷ left) =
-    new_first f fresh (x ∷ left) order.0 (not_before_lesser x x f (before_irreflexive x) test, none_of_later f x left test order_left.0) in
+    new_first f fresh (x ∷ left) order.0 (after_lesser x x f (before_irreflexive x) test, none_of_later f x left test order_left.0) in
     record { first = taken.first ∙ rw is refl; others = ap (λ l. with_all l (x ∷ left)) taken.others ∙ rw is refl }
 
 -- what the fresh entries leave in front of the others

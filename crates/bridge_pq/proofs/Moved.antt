@@ -28,7 +28,8 @@ use Rattle.bridge_pq.specs.Gathered.{additions, after_moves, moves_from, IsEarli
 use Rattle.bridge_pq.specs.MarkedEntries.{present_in}
 use Rattle.bridge_pq.specs.MarkedRows.{rows_of}
 use Rattle.bridge_pq.proofs.Costs.{some_digits}
-use Rattle.bridge_pq.proofs.CursorEntries.{count_within, drop_first}
+use Rattle.bridge_pq.proofs.CursorEntries.{count_within}
+use Rattle.retro_base.specs.Facts.{drop_at}
 
 rows_part : (rows : List MarkedRow) (from count : ℕ) → map (λ (item : MarkedRow). added_by item.row) (take count (drop from rows)) ≡ map added_by (take count (drop from (rows_of rows)))
 rows_part [] zero zero = refl
@@ -59,17 +60,17 @@ visits_of_moves count moves length before after few visits = record {
 -- the move at an index comes next
 pub added_next : (moves : List (Option Entry)) (index : ℕ) (entry : Entry) (held : List Entry) → slice_get moves index ≡ Some (Some entry)
     → after_moves (drop index moves) held ≡ after_moves (drop (index + 1) moves) (with_entry entry held)
-added_next moves index entry held at = rw (drop_first moves index (Some entry) at) refl
+added_next moves index entry held at = rw (drop_at moves index (Some entry) at) refl
 
 pub taken_next : (moves : List (Option Entry)) (index : ℕ) (held : List Entry) → slice_get moves index ≡ Some None
     → after_moves (drop index moves) held ≡ after_moves (drop (index + 1) moves) (drop 1 held)
-taken_next moves index held at = rw (drop_first moves index None at) refl
+taken_next moves index held at = rw (drop_at moves index None at) refl
 
 pub added_counts : (moves : List (Option Entry)) (index : ℕ) (entry : Entry) → slice_get moves index ≡ Some (Some entry) → additions (drop index moves) ≡ suc (additions (drop (index + 1) moves))
-added_counts moves index entry at = rw (drop_first moves index (Some entry) at) refl
+added_counts moves index entry at = rw (drop_at moves index (Some entry) at) refl
 
 pub taken_counts : (moves : List (Option Entry)) (index : ℕ) → slice_get moves index ≡ Some None → additions (drop index moves) ≡ additions (drop (index + 1) moves)
-taken_counts moves index at = rw (drop_first moves index None at) refl
+taken_counts moves index at = rw (drop_at moves index None at) refl
 
 pub none_after : (moves : List (Option Entry)) (index : ℕ) (held : List Entry) → length moves ≤ index → after_moves (drop index moves) held ≡ held
 none_after [] zero held beyond = refl

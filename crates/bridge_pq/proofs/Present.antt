@@ -3,8 +3,6 @@ use Rattle.std.proofs.Common.{◌≡◌, ℕ, zero, suc, ◌+◌, ◌<◌, ◌�
 use Rattle.std.specs.Prelude.{Contains, not}
 use Rattle.std.specs.List.{remove, slice_get}
 use Rattle.std.specs.Option.{option_map}
-use Rattle.std.specs.Result.{result_err}
-use Rattle.std.specs.Prelude.{Result, Ok, Err}
 use Rattle.std.proofs.lemmas.List.{append_assoc, append-nil, drop_all}
 use Rattle.std.proofs.lemmas.List.Edits.{length-remove}
 use Rattle.retro_base.specs.declared.kind.Kind.TheVariants.{Pq}
@@ -32,6 +30,7 @@ use Rattle.bridge_pq.specs.MarkedEntries.{present_in}
 use Rattle.bridge_pq.specs.MarkedRows.{rows_of, is_one_of}
 use Rattle.bridge_pq.proofs.Edited.{history-of, few-entries, rows-length}
 use Rattle.bridge_pq.proofs.HeldEntries.{present-is, present-state}
+use Rattle.retro_base.specs.Outcomes.{err_of}
 
 -- nothing is kept of no rows
 pub empty-bridged : IsBridged [] []
@@ -40,11 +39,6 @@ empty-bridged = record {
   marked = tt;
   holds = record { rise = tt; as_many = refl; same = λ entry. ((λ has. has), (λ has. has)); tell = tt };
 }
-
--- a failure is that of a row
-err_of : {S : Type 0} (r : Result S ℕ) (i : ℕ) → result_err r ≡ Some i → r ≡ Err i
-err_of (Ok state) i fails = absurd (cc)
-err_of (Err j) i fails = let same : j ≡ i = cc in ap (λ k. Err k) same
 
 pub fails-without : (rows : List Row) (place i : ℕ) → place < length rows → failure Pq (remove rows place) ≡ Some i → i + 1 < length rows
 fails-without rows place i within fails =
@@ -90,10 +84,6 @@ module _ (items : List MarkedRow) (kept : List MarkedEntry) (bridged : IsBridged
 pub unmarked : (mark : Bool) → not mark ≡ true → mark ≡ false
 unmarked true clear = sym clear
 unmarked false clear = refl
-
-pub marked-set : (mark : Bool) → not mark ≡ false → mark ≡ true
-marked-set true set = refl
-marked-set false set = sym set
 
 -- the keys of the present, entry by entry
 abbrev pub keys_in : List MarkedEntry → List Item

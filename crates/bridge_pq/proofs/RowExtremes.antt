@@ -21,7 +21,7 @@ use Rattle.bridge_pq.specs.declared.marked_row.MarkedRow.{MarkedRow}
 use Rattle.bridge_pq.specs.Bridged.{AddsAt}
 use Rattle.bridge_pq.specs.MarkedRows.{rows_of, is_one_of, AreMarked, dead_in, alive_in}
 use Rattle.bridge_pq.proofs.RowMeasures.{dead_of, alive_of, map-take, map-drop}
-use Rattle.bridge_pq.proofs.CursorEntries.{get_drop}
+use Rattle.retro_base.specs.Facts.{get_drop}
 
 -- marks of parts
 pub marked-drop : (alive : List Entry) (items : List MarkedRow) (n : ℕ) → AreMarked alive items → AreMarked alive (drop n items)

@@ -10,9 +10,7 @@ use Rattle.checkpoint_full.specs.Checkpoints.{nearest_to, place_of, with_row, wi
 use Rattle.checkpoint_full.specs.Widths.{AreClose}
 use Rattle.checkpoint_full.proofs.Mapped.{all_of}
 use Rattle.checkpoint_full.proofs.Followed.{longer, shorter, row_stays_out, row_was_out}
-
-some_is_not_none : {X : Type 0} {x : X} → Some x ≡ None → ⊥
-some_is_not_none e = cc
+use Rattle.retro_base.specs.Facts.{some_is_not_none}
 
 -- whether a checkpoint is not after the place
 abbrev pub is_up_to : ℕ → Structure → Bool

@@ -19,7 +19,7 @@ use Rattle.evidence.specs.declared.evidence.Evidence.{Evidence}
 use Rattle.evidence.specs.Evidence.{IsEvidence, IsValue, IsPqOp, IsPqEntry, IsPlaceOrNone, IsStatedChange}
 use Rattle.evidence.specs.Reading.{words}
 use Rattle.evidence.specs.Spelling.{spelling, number_text, edit_word, bridge_text, change_text, entry_text}
-use Rattle.evidence.proofs.Both.{both_true}
+use Rattle.retro_base.specs.Facts.{both_true}
 
 -- the words of the parts of a line
 abbrev pub entry_words : Entry → List (List ℕ)

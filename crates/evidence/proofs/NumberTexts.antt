@@ -13,7 +13,7 @@ use Rattle.evidence.specs.Evidence.{IsValue}
 use Rattle.evidence.specs.Reading.{number_of, key_of, is_value, value_after_sign}
 use Rattle.std.specs.Int.{IsInRange}
 use Rattle.std.proofs.lemmas.Str.Parse.{digit_from_value}
-use Rattle.evidence.proofs.Both.{both_true}
+use Rattle.retro_base.specs.Facts.{both_true}
 
 -- a choice by a test
 chosen : {X : Type 0} (test : Bool) (x y : X) → cond test (Some x) None ≡ Some y → (test ≡ true) × (x ≡ y)

@@ -7,7 +7,6 @@ use Rattle.std.specs.Str.{bytes_eq}
 use Rattle.std.specs.Str.Parse.{IsNumeral}
 use Rattle.std.proofs.lemmas.Bool.{ne_eqb, le-leb, lt-ltb, leb-true, ltb-true, eqb-true}
 use Rattle.std.proofs.lemmas.Fmt.{decimal_is_IsNumeral}
-use Rattle.std.proofs.lemmas.Slice.Eq.{bytes_eq-Decides}
 use Rattle.std.proofs.lemmas.Str.Parse.{digit_from_value}
 use Rattle.retro_base.specs.declared.op.Op.{Op}
 use Rattle.retro_base.specs.declared.op.Op.TheVariants.{Enq, Deq, Push, Pop, PushL, PushR, PopL, PopR, Put, Del, Ins, DelMin}
@@ -22,7 +21,7 @@ use Rattle.evidence.specs.Reading.{number_of, key_of, row_number_of, if_row_numb
 use Rattle.evidence.specs.Spelling.{number_text, edit_word, bridge_text}
 use Rattle.evidence.proofs.LineWords.{entry_words, changed_words, change_words, op_words, line_words}
 use Rattle.evidence.proofs.NumberTexts.{number_read, number_found, key_read, key_found}
-use Rattle.evidence.proofs.Both.{both_true}
+use Rattle.retro_base.specs.Facts.{both_true, same_bytes}
 
 -- Evidence reads back.
 
@@ -100,9 +99,6 @@ module _ {X : Type 0} (P : X → Type 0) where
     mapped_from : (Q : A → Type 0) (f : A → X) (o : Option A) → IfSome o Q → ((a : A) → Q a → P (f a)) → IfSome (option_map f o) P
     mapped_from Q f None holds each = tt
     mapped_from Q f (Some a) holds each = each a holds
-
-same_bytes : (word text : List ℕ) → bytes_eq word text ≡ true → word ≡ text
-same_bytes word text is = (bytes_eq-Decides word text).0 is
 
 -- a word, or some words, are those of a value that is in its range
 abbrev IsNumber : List ℕ → ℕ → Type 0

@@ -14,7 +14,7 @@ use Rattle.retro_base.specs.OpText.{op_text}
 use Rattle.evidence.specs.declared.evidence.Evidence.{Evidence}
 use Rattle.evidence.specs.Evidence.{IsEvidence, IsValue, IsPqOp, IsPqEntry, IsPlaceOrNone, IsStatedChange}
 use Rattle.evidence.specs.Spelling.{spelling, edit_word, bridge_text, change_text, changed_text}
-use Rattle.evidence.proofs.Both.{both_true}
+use Rattle.retro_base.specs.Facts.{both_true}
 
 name_short : (name : List ℕ) → is_name name ≡ true → length name ≤ 32
 unfolding is_name

@@ -13,7 +13,7 @@ use Rattle.retro_base.specs.Replay.{failure}
 use Rattle.retro_base.specs.lemmas.bridges.EntryOrder.{same_entry-same}
 use Rattle.evidence.specs.declared.evidence.Evidence.{Evidence}
 use Rattle.evidence_check.specs.Truth.{bridge_of, cause_of, has_wrong_number, has_wrong_op, is_full, is_outside, same_bridge, same_change, reported_edit}
-use Rattle.evidence_check.proofs.EntryOrder.{both_true}
+use Rattle.retro_base.specs.Facts.{both_true, not_false}
 
 passes : {X : Type 0} (test : Bool) (x : X) (o : Option X) → cond test (Some x) o ≡ None → (test ≡ false) × (o ≡ None)
 passes true x o none = absurd (cc)
@@ -22,10 +22,6 @@ passes false x o none = (refl, none)
 not_none : {X : Type 0} (o : Option X) → is_some o ≡ false → o ≡ None
 not_none None h = refl
 not_none (Some x) h = absurd (cc)
-
-not_not : (b : Bool) → not b ≡ false → b ≡ true
-not_not true h = refl
-not_not false h = absurd (cc)
 
 same_bridge_is : (bridge other : Option ℕ) → same_bridge bridge other ≡ true → bridge ≡ other
 same_bridge_is None None same = refl
@@ -73,5 +69,5 @@ accepted_from rows e none =
       number = number.0;
       op = op.0;
       replays = not_none _ replay.0;
-      change = same_change_is e.change (change_of Pq rows (reported_edit e)) (not_not _ entry.0);
+      change = same_change_is e.change (change_of Pq rows (reported_edit e)) (not_false _ entry.0);
     }

@@ -1,5 +1,5 @@
 -- Entries are in one order, and the test whether two are one says so.
-use Rattle.std.proofs.Common.{◌≡◌, ℕ, ℤ, Bool, true, false, ◌&&◌, ◌||◌, refl, arith}
+use Rattle.std.proofs.Common.{◌≡◌, ℕ, ℤ, Bool, true, false, ◌&&◌, ◌||◌, arith}
 use Rattle.std.specs.Prelude.{int_lt, nat_lt}
 use Rattle.std.specs.Ordering.{int_eq}
 use Rattle.std.proofs.lemmas.Bool.Decides.{nat_tests}
@@ -22,10 +22,3 @@ pair_one_way k m l n first = grind (arith, ints, nat_tests)
 
 pub passed_on : (a b c : Entry) → comes_before a b ≡ false → comes_before b c ≡ false → comes_before a c ≡ false
 passed_on a b c first second = pair_passed_on a.key a.number b.key b.number c.key c.number first second
-
-pub both_true : (a b : Bool) → (a && b) ≡ true → (a ≡ true) × (b ≡ true)
-both_true true b h = (refl, h)
-both_true false b h = absurd (cc)
-
-pub entry_of_parts : (k l : ℤ) (m n : ℕ) → k ≡ l → m ≡ n → ◌≡◌ {A = Entry} (record { key = k; number = m }) (record { key = l; number = n })
-entry_of_parts k l m n key number = rw (key, number) refl

@@ -5,6 +5,7 @@ use Rattle.retro_base.specs.declared.row.Entry.{Entry}
 use Rattle.retro_base.specs.State.{comes_before, with_entry}
 use Rattle.retro_base.specs.Bridges.{is_among, same_entry}
 use Rattle.retro_base.specs.lemmas.bridges.EntryOrder.{same_entry-same, same_entry-refl}
+use Rattle.retro_base.specs.Facts.{either_true}
 
 abbrev pub In : Entry → List Entry → Type 0
 In x [] = ⊥
@@ -24,10 +25,6 @@ in_contains (y ∷ ys) x inside = elim inside [
   | inl same ↦ (0, omega arith, sym same)
   | inr further ↦ let rest = in_contains ys x further in (suc rest.0, omega (arith, rest.1), rest.2)
 ]
-
-either_true : (a b : Bool) → b ≡ true → (a || b) ≡ true
-either_true true b h = refl
-either_true false b h = h
 
 pub in_is_among : (x : Entry) (xs : List Entry) → In x xs → is_among xs x ≡ true
 in_is_among x [] inside = absurd inside

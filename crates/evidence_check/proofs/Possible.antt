@@ -1,5 +1,5 @@
 -- Evidence against which no test holds tells of an edit that can be made.
-use Rattle.std.proofs.Common.{◌≡◌, ℕ, Bool, true, false, not, ◌||◌, List, [], ◌∷◌, length, refl, sym, ap, ◌∙◌, Option, Some, None}
+use Rattle.std.proofs.Common.{◌≡◌, ℕ, Bool, true, false, not, List, [], ◌∷◌, length, refl, sym, ap, ◌∙◌, Option, Some, None}
 use Rattle.std.specs.Prelude.{◌==◌, slice_get}
 use Rattle.std.specs.Option.{option_map_or}
 use Rattle.std.specs.List.{AllByRecursion}
@@ -18,15 +18,12 @@ use Rattle.evidence_check.specs.declared.marked_row.MarkedRow.{MarkedRow}
 use Rattle.evidence_check.specs.Marks.{MarksSurvivors, rows_of}
 use Rattle.evidence_check.specs.Truth.{edit_with, fails_at, has_number, has_wrong_number, has_wrong_op, is_outside, same_op}
 use Rattle.evidence_check.proofs.Weighing.{history}
+use Rattle.retro_base.specs.Facts.{either_false}
 
 pub of_pq : (op : Op) → IsPqOp op → kind_of op ≡ Pq
 of_pq (Ins key) is = refl
 of_pq DelMin is = refl
 of_pq op is = absurd is
-
-either_false : (a b : Bool) → (a || b) ≡ false → (a ≡ false) × (b ≡ false)
-either_false true b h = absurd (cc)
-either_false false b h = (refl, h)
 
 pub is_fresh : (number : ℕ) (rows : List Row) → has_number number rows ≡ false → IsFresh number rows
 is_fresh number [] none = tt

@@ -1,5 +1,5 @@
 -- What holds of each entry that rows add holds of each survivor.
-use Rattle.std.proofs.Common.{◌≡◌, ◌≢◌, ℕ, true, false, List, [], ◌∷◌, refl, sym, ap, ◌∙◌, inl, inr, Result, Ok, Err, Some}
+use Rattle.std.proofs.Common.{◌≡◌, ◌≢◌, ℕ, true, false, List, [], ◌∷◌, refl, sym, ap, ◌∙◌, inl, inr, Some}
 use Rattle.std.specs.List.{AllByRecursion}
 use Rattle.std.specs.Result.{result_unwrap_or}
 use Rattle.retro_base.specs.declared.kind.Kind.TheVariants.{Pq}
@@ -9,16 +9,13 @@ use Rattle.retro_base.specs.declared.row.Entry.{Entry}
 use Rattle.retro_base.specs.declared.row.Row.{Row}
 use Rattle.retro_base.specs.Bridges.{entries_of, is_among, survivors}
 use Rattle.retro_base.specs.Kind.{kind_of}
-use Rattle.retro_base.specs.Replay.{fold_rows, one_later, run}
+use Rattle.retro_base.specs.Replay.{fold_rows, run}
 use Rattle.retro_base.specs.State.{entries, perform, comes_before, with_entry}
 use Rattle.retro_base.specs.Timeline.{AreOfKind, IsFresh}
 use Rattle.retro_base.specs.Weights.{added_as, added_by}
 use Rattle.retro_base.specs.lemmas.bridges.Histories.{added_number}
 use Rattle.evidence_check.proofs.Members.{In, is_among_in}
-
-same_state : {S : Type 0} (r : Result S ℕ) (s : S) → result_unwrap_or (one_later r) s ≡ result_unwrap_or r s
-same_state (Ok t) s = refl
-same_state (Err i) s = refl
+use Rattle.retro_base.specs.Outcomes.{same_state}
 
 module _ (P : Entry → Type 0) where
   all_with_entry : (new : Entry) (held : List Entry) → P new → AllByRecursion P held → AllByRecursion P (with_entry new held)

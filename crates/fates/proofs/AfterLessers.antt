@@ -9,21 +9,19 @@ use Rattle.fates.specs.declared.standing.Standing.TheVariants.{AfterLesser}
 use Rattle.fates.specs.Holding.{NoneHas, AllBefore, StandsAfterLesser}
 use Rattle.fates.specs.Fates.{holds, numbered_op}
 use Rattle.fates.specs.Standings.{entry_after, without_least}
-use Rattle.fates.proofs.Held.{or_false, or_true, or_true_first, first_false, second_false}
+use Rattle.fates.proofs.Held.{or_false, or_true_first, first_false, second_false}
 use Rattle.retro_base.specs.declared.op.Op.{Op}
 use Rattle.retro_base.specs.declared.op.Op.TheVariants.{Enq, Deq, Push, Pop, PushL, PushR, PopL, PopR, Put, Del, Ins, DelMin}
 use Rattle.retro_base.specs.declared.row.Entry.{Entry}
 use Rattle.retro_base.specs.State.{State, entries, perform, comes_before, with_entry, without_first}
 use Rattle.retro_base.specs.lemmas.bridges.EntryOrder.{before_transitive}
+use Rattle.retro_base.specs.Facts.{either_true, some_is}
 
 -- where it stands after a step, or that it is gone
 abbrev pub EntryGoes : ℕ → State → Option Standing → Type 0
 EntryGoes number state None = holds number state ≡ false
 EntryGoes number state (Some (AfterLesser entry lesser)) = (entry.number ≡ number) × StandsAfterLesser entry lesser state
 EntryGoes number state (Some standing) = ⊥
-
-state_is : (state next : State) → ◌≡◌ {A = Option State} (Some next) (Some state) → state ≡ next
-state_is state next e = cc
 
 other : (n number : ℕ) → n ≢ number → (n == number) ≡ false
 other n number apart = ne_eqb n number apart
@@ -102,7 +100,7 @@ module _ (entry : Entry) (front back : List Entry) (state : State) (all : AllBef
               record {
                 front = put.grown;
                 back = back;
-                is = state_is state (entries (with_entry new (front ++ entry ∷ back))) e ∙ ap entries put.is;
+                is = some_is state (entries (with_entry new (front ++ entry ∷ back))) e ∙ ap entries put.is;
                 lesser_is = put.more;
                 before = put.before;
                 none_front = put.none;
@@ -114,7 +112,7 @@ module _ (entry : Entry) (front back : List Entry) (state : State) (all : AllBef
           record {
             front = front;
             back = with_entry new back;
-            is = state_is state (entries (with_entry new (front ++ entry ∷ back))) e ∙ ap entries (put_after entry new front back greater all);
+            is = some_is state (entries (with_entry new (front ++ entry ∷ back))) e ∙ ap entries (put_after entry new front back greater all);
             lesser_is = refl;
             before = all;
             none_front = none_front;
@@ -125,13 +123,13 @@ module _ (entry : Entry) (front back : List Entry) (state : State) (all : AllBef
 
 least_taken : (entry : Entry) (front back : List Entry) (state : State) → AllBefore entry front → NoneHas entry.number front → NoneHas entry.number back
     → option_map entries (without_first (front ++ entry ∷ back)) ≡ Some state → EntryGoes entry.number state (without_least entry (length front))
-least_taken entry [] back state all none_front none_back e = rw (state_is state (entries back) e) none_back
+least_taken entry [] back state all none_front none_back e = rw (some_is state (entries back) e) none_back
 least_taken entry (f ∷ front) back state all none_front none_back e = (
   refl,
   record {
     front = front;
     back = back;
-    is = state_is state (entries (front ++ entry ∷ back)) e;
+    is = some_is state (entries (front ++ entry ∷ back)) e;
     lesser_is = refl;
     before = all.1;
     none_front = second_false _ _ none_front;
@@ -165,4 +163,4 @@ entry_goes op n entry lesser before state apart stands e =
 -- it is there
 pub entry_is_held : (entry : Entry) (front back : List Entry) → list_any (λ e. e.number == entry.number) (front ++ entry ∷ back) ≡ true
 entry_is_held entry [] back = or_true_first _ _ (eq-eqb entry.number entry.number refl)
-entry_is_held entry (e ∷ front) back = or_true _ _ (entry_is_held entry front back)
+entry_is_held entry (e ∷ front) back = either_true _ _ (entry_is_held entry front back)

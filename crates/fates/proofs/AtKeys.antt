@@ -13,20 +13,18 @@ use Rattle.fates.specs.declared.standing.Standing.TheVariants.{AtKey}
 use Rattle.fates.specs.Holding.{NoneIs, IsOnlyAt, StandsAtKey}
 use Rattle.fates.specs.Fates.{holds, numbered_op}
 use Rattle.fates.specs.Standings.{pair_after}
-use Rattle.fates.proofs.Held.{other_number, or_false, or_true, or_true_first}
+use Rattle.fates.proofs.Held.{other_number, or_false, or_true_first}
 use Rattle.retro_base.specs.declared.op.Op.{Op}
 use Rattle.retro_base.specs.declared.op.Op.TheVariants.{Enq, Deq, Push, Pop, PushL, PushR, PopL, PopR, Put, Del, Ins, DelMin}
 use Rattle.retro_base.specs.State.{State, pairs, perform, with_key}
 use Rattle.retro_base.specs.lemmas.SortedPairs.{AreSorted, same_key, same_as_itself, sorted_with, sorted_without}
+use Rattle.retro_base.specs.Facts.{either_true, some_is}
 
 -- where it stands after a step, or that it is gone
 abbrev pub PairGoes : ℕ → State → Option Standing → Type 0
 PairGoes number state None = holds number state ≡ false
 PairGoes number state (Some (AtKey key)) = StandsAtKey number key state
 PairGoes number state (Some standing) = ⊥
-
-state_is : (state next : State) → ◌≡◌ {A = Option State} (Some next) (Some state) → state ≡ next
-state_is state next e = cc
 
 -- a value at another key is not the number
 value_apart : (number : ℕ) (key : ℤ) (pair : ℤ × ℤ) → IsOnlyAt number key pair → (pair.0 ≡ key → ⊥) → int_eq pair.1 (pos number) ≡ false
@@ -131,10 +129,10 @@ module _ (number n : ℕ) (key : ℤ) (held : List (ℤ × ℤ)) (state : State)
   put_goes : (another : ℤ) (b : Bool) → int_eq key another ≡ b → Some (pairs (with_key another (pos n) held)) ≡ Some state
       → PairGoes number state (cond b None (Some (AtKey key)))
   put_goes another true same e =
-      rw (state_is state (pairs (with_key another (pos n) held)) e, ← same_key key another same) (none_put number key n held apart sorted alone)
+      rw (some_is state (pairs (with_key another (pos n) held)) e, ← same_key key another same) (none_put number key n held apart sorted alone)
   put_goes another false other e = record {
     held = with_key another (pos n) held;
-    is = state_is state (pairs (with_key another (pos n) held)) e;
+    is = some_is state (pairs (with_key another (pos n) held)) e;
     sorted = sorted_with another (pos n) held sorted;
     here = found_put number key another other (pos n) held ∙ here;
     alone = alone_put number n key another held apart alone;
@@ -145,10 +143,10 @@ module _ (number n : ℕ) (key : ℤ) (held : List (ℤ × ℤ)) (state : State)
       → PairGoes number state (cond b None (Some (AtKey key)))
   del_goes another b false is e = absurd (cc)
   del_goes another true true same e =
-      rw (state_is state (pairs (remove_entry (int_eq another) held)) e, ← same_key key another same) (none_left number key held sorted alone)
+      rw (some_is state (pairs (remove_entry (int_eq another) held)) e, ← same_key key another same) (none_left number key held sorted alone)
   del_goes another false true other e = record {
     held = remove_entry (int_eq another) held;
-    is = state_is state (pairs (remove_entry (int_eq another) held)) e;
+    is = some_is state (pairs (remove_entry (int_eq another) held)) e;
     sorted = sorted_without another held sorted;
     here = found_left number key another other held ∙ here;
     alone = alone_left number key another held alone;
@@ -184,5 +182,5 @@ pair_is_held number key (p ∷ ps) here =
       | true ↦ λ found. let one : p.1 ≡ pos number = cc in
           let same : int_eq p.1 (pos number) ≡ true = rw one (same_as_itself (pos number)) in
           or_true_first _ _ same
-      | false ↦ λ found. or_true _ _ (pair_is_held number key ps found)
+      | false ↦ λ found. either_true _ _ (pair_is_held number key ps found)
     ] here

@@ -1,6 +1,6 @@
 -- What is there before a row's own: so many items in a line, or so many lesser entries, and nothing with its number.
 use Rattle.std.proofs.Common.{◌≡◌, ◌≢◌, ℕ, ℤ, pos, ◌+◌, ◌-◌, Bool, true, false, cond, List, [], ◌∷◌, ◌++◌, length, take, refl, sym, ap}
-use Rattle.std.proofs.Common.{subst, ◌∙◌, arith, length-append, length-take, Option, Some, None, inl, inr, Less, Equal, Greater}
+use Rattle.std.proofs.Common.{subst, ◌∙◌, arith, length-append, length-take, Some, None, inl, inr, Less, Equal, Greater}
 use Rattle.std.specs.Prelude.{◌==◌, if◌then◌else◌}
 use Rattle.std.specs.List.{list_any, AllByRecursion}
 use Rattle.std.specs.Map.{lookup, remove_entry}
@@ -20,9 +20,7 @@ use Rattle.retro_base.specs.Kind.{adds}
 use Rattle.retro_base.specs.State.{State, items, pairs, entries, perform, comes_before, with_entry, with_key, without_first, without_last}
 use Rattle.retro_base.specs.lemmas.SortedPairs.{AreSorted, same_as_itself, sorted_with, sorted_without}
 use Rattle.retro_base.specs.lemmas.bridges.EntryOrder.{before_transitive, before_or_after, before_one_way, same_or_other}
-
-state_is : (state next : State) → ◌≡◌ {A = Option State} (Some next) (Some state) → state ≡ next
-state_is state next e = cc
+use Rattle.retro_base.specs.Facts.{some_is}
 
 -- so many items in a line, none of which is the number
 pub record HasItems (number count : ℕ) (state : State) : Type 0 where
@@ -33,13 +31,13 @@ pub record HasItems (number count : ℕ) (state : State) : Type 0 where
 
 first_gone : (number : ℕ) (line : List ℤ) (state : State) → Lacks number line → option_map items (without_first line) ≡ Some state → HasItems number (length line - 1) state
 first_gone number [] state none e = absurd (cc)
-first_gone number (x ∷ line) state none e = record { line = line; is = state_is state (items line) e; count_is = omega arith; none = lacks_tail number x line none }
+first_gone number (x ∷ line) state none e = record { line = line; is = some_is state (items line) e; count_is = omega arith; none = lacks_tail number x line none }
 
 last_gone : (number : ℕ) (line : List ℤ) (state : State) → Lacks number line → option_map items (without_last line) ≡ Some state → HasItems number (length line - 1) state
 last_gone number [] state none e = absurd (cc)
 last_gone number (x ∷ line) state none e = record {
   line = take (length line) (x ∷ line);
-  is = state_is state (items (take (length line) (x ∷ line))) e;
+  is = some_is state (items (take (length line) (x ∷ line))) e;
   count_is = omega (arith, length-take (length line) (x ∷ line));
   none = lacks_take number (x ∷ line) (length line) none;
 }
@@ -48,7 +46,7 @@ module _ (number n : ℕ) (apart : n ≢ number) (line : List ℤ) (state : Stat
   put_first : Some (items (pos n ∷ line)) ≡ Some state → HasItems number (length line + 1) state
   put_first e = record {
     line = pos n ∷ line;
-    is = state_is state (items (pos n ∷ line)) e;
+    is = some_is state (items (pos n ∷ line)) e;
     count_is = omega arith;
     none = lacks_cons number (pos n) line (other_number n number apart) none;
   }
@@ -56,7 +54,7 @@ module _ (number n : ℕ) (apart : n ≢ number) (line : List ℤ) (state : Stat
   put_last : Some (items (line ++ pos n ∷ [])) ≡ Some state → HasItems number (length line + 1) state
   put_last e = record {
     line = line ++ pos n ∷ [];
-    is = state_is state (items (line ++ pos n ∷ [])) e;
+    is = some_is state (items (line ++ pos n ∷ [])) e;
     count_is = omega (arith, length-append line (pos n ∷ []));
     none = lacks_append number line (pos n ∷ []) none (lacks_cons number (pos n) [] (other_number n number apart) refl);
   }
@@ -113,7 +111,7 @@ del_on : (number : ℕ) (key : ℤ) (held : List (ℤ × ℤ)) (state : State) (
 del_on number key held state false sorted none e = absurd (cc)
 del_on number key held state true sorted none e = record {
   held = remove_entry (int_eq key) held;
-  is = state_is state (pairs (remove_entry (int_eq key) held)) e;
+  is = some_is state (pairs (remove_entry (int_eq key) held)) e;
   sorted = sorted_without key held sorted;
   none = none_left number key held none;
 }
@@ -131,7 +129,7 @@ pairs_go PopL number n held state apart sorted none e = absurd (cc)
 pairs_go PopR number n held state apart sorted none e = absurd (cc)
 pairs_go (Put k v) number n held state apart sorted none e = record {
   held = with_key k (pos n) held;
-  is = state_is state (pairs (with_key k (pos n) held)) e;
+  is = some_is state (pairs (with_key k (pos n) held)) e;
   sorted = sorted_with k (pos n) held sorted;
   none = none_put number n k held apart none;
 }
@@ -235,7 +233,7 @@ inserted entry front back state key n apart all after none_front none_back true 
     record {
       front = put.grown;
       back = back;
-      is = state_is state (entries (with_entry new (front ++ back))) e ∙ ap entries put.is;
+      is = some_is state (entries (with_entry new (front ++ back))) e ∙ ap entries put.is;
       count_is = put.more;
       before = put.before;
       after = after;
@@ -247,7 +245,7 @@ inserted entry front back state key n apart all after none_front none_back false
     record {
       front = front;
       back = with_entry new back;
-      is = state_is state (entries (with_entry new (front ++ back))) e ∙ ap entries (put_back entry new front back greater all);
+      is = some_is state (entries (with_entry new (front ++ back))) e ∙ ap entries (put_back entry new front back greater all);
       count_is = refl;
       before = all;
       after = after_with entry new back greater after;
@@ -261,7 +259,7 @@ least_gone entry [] [] state all after none_front none_back e = absurd (cc)
 least_gone entry [] (b ∷ back) state all after none_front none_back e = record {
   front = [];
   back = back;
-  is = state_is state (entries back) e;
+  is = some_is state (entries back) e;
   count_is = refl;
   before = tt;
   after = after.1;
@@ -271,7 +269,7 @@ least_gone entry [] (b ∷ back) state all after none_front none_back e = record
 least_gone entry (f ∷ front) back state all after none_front none_back e = record {
   front = front;
   back = back;
-  is = state_is state (entries (front ++ back)) e;
+  is = some_is state (entries (front ++ back)) e;
   count_is = omega arith;
   before = all.1;
   after = after;
@@ -329,7 +327,7 @@ entry_put key number count before state has e =
     record {
       front = has.front;
       back = has.back;
-      is = state_is state (entries (with_entry entry (has.front ++ has.back))) put ∙ ap entries (own_place entry has.front has.back has.before has.after has.none_back);
+      is = some_is state (entries (with_entry entry (has.front ++ has.back))) put ∙ ap entries (own_place entry has.front has.back has.before has.after has.none_back);
       lesser_is = has.count_is;
       before = has.before;
       none_front = has.none_front;
@@ -394,7 +392,7 @@ pair_put key value number before state has e =
     let put : Some (pairs (with_key key (pos number) has.held)) ≡ Some state = subst (λ s. perform (Put key (pos number)) number s ≡ Some state) has.is e in
     record {
       held = with_key key (pos number) has.held;
-      is = state_is state (pairs (with_key key (pos number) has.held)) put;
+      is = some_is state (pairs (with_key key (pos number) has.held)) put;
       sorted = sorted_with key (pos number) has.held has.sorted;
       here = own_found key (pos number) has.held;
       alone = own_alone number key has.held (none_alone number key has.held has.none);

@@ -1,5 +1,5 @@
 -- The number of entries that are at most a given one, along a replay.
-use Rattle.std.proofs.Common.{◌≡◌, ℕ, zero, suc, ◌+◌, ◌-◌, Bool, true, false, not, cond, List, [], ◌∷◌, take, length, slice_get, refl, ap, ◌∙◌, arith, Option, Some, None, Result, Ok, Err, inl, inr}
+use Rattle.std.proofs.Common.{◌≡◌, ℕ, zero, suc, ◌+◌, ◌-◌, Bool, true, false, not, cond, List, [], ◌∷◌, take, length, slice_get, refl, ap, ◌∙◌, arith, Option, Some, None, Ok, inl, inr}
 use Rattle.std.specs.Prelude.{filter}
 use Rattle.std.specs.List.{AllByRecursion}
 use Rattle.std.specs.Result.{result_err, result_unwrap_or}
@@ -10,10 +10,12 @@ use Rattle.retro_base.specs.declared.row.Entry.{Entry}
 use Rattle.retro_base.specs.declared.row.Row.{Row}
 use Rattle.retro_base.specs.Bridges.{entries_at, entries_of}
 use Rattle.retro_base.specs.EntriesInOrder.{AreInOrder}
-use Rattle.retro_base.specs.Replay.{fold_rows, one_later, run}
+use Rattle.retro_base.specs.Replay.{fold_rows, run}
 use Rattle.retro_base.specs.State.{State, comes_before, entries, perform, step, with_entry}
 use Rattle.retro_base.specs.lemmas.EntrySteps.{in_order_with}
 use Rattle.retro_base.specs.lemmas.bridges.EntryOrder.{before_or_after, before_transitive, same_or_other}
+use Rattle.retro_base.specs.Facts.{some_is}
+use Rattle.retro_base.specs.Outcomes.{earlier_none}
 
 -- how many of the entries are at most this one
 abbrev count : Entry → List Entry → ℕ
@@ -65,18 +67,15 @@ record StepsOn (most : Entry) (op : Op) (number : ℕ) (es : List Entry) (state 
   order : AreInOrder after
   counts : count most after ≡ counted_on most (count most es) number op
 
-state_is : (state next : State) → ◌≡◌ {A = Option State} (Some next) (Some state) → state ≡ next
-state_is state next e = cc
-
 steps_on : (most : Entry) (op : Op) (number : ℕ) (es : List Entry) (state : State) → AreInOrder es → perform op number (entries es) ≡ Some state
     → StepsOn most op number es state
 unfolding perform
 steps_on most (Ins k) number es state order e =
     let new : Entry = record { key = k; number = number } in
-    record { after = with_entry new es; is = state_is state _ e; order = in_order_with new es order; counts = count_with most new es }
+    record { after = with_entry new es; is = some_is state _ e; order = in_order_with new es order; counts = count_with most new es }
 steps_on most DelMin number [] state order e = absurd (cc)
 steps_on most DelMin number (x ∷ xs) state order e =
-    record { after = xs; is = state_is state _ e; order = order.1; counts = least_gone most x xs order }
+    record { after = xs; is = some_is state _ e; order = order.1; counts = least_gone most x xs order }
 steps_on most (Enq v) number es state order e = absurd (cc)
 steps_on most Deq number es state order e = absurd (cc)
 steps_on most (Push v) number es state order e = absurd (cc)
@@ -97,29 +96,22 @@ record ComesOn (rows : List Row) (es : List Entry) (place : ℕ) (row : Row) : T
   now : run (take place rows) (entries es) ≡ Ok (entries held)
   then : run (take (suc place) rows) (entries es) ≡ Ok next
 
-earlier_goes : {S : Type 0} (r : Result S ℕ) → result_err (one_later r) ≡ None → result_err r ≡ None
-earlier_goes (Ok s) goes = refl
-earlier_goes (Err i) goes = absurd (cc)
-
 later_goes : (first : Row) (es after : List Entry) (rows : List Row) → step first (entries es) ≡ Some (entries after)
     → result_err (run (first ∷ rows) (entries es)) ≡ None → result_err (run rows (entries after)) ≡ None
 unfolding fold_rows
-later_goes first es after rows goes valid = earlier_goes (run rows (entries after)) (rw goes at valid)
+later_goes first es after rows goes valid = earlier_none (run rows (entries after)) (rw goes at valid)
 
 later_run : (first : Row) (es after : List Entry) (rows : List Row) (state : State) → step first (entries es) ≡ Some (entries after)
     → run rows (entries after) ≡ Ok state → run (first ∷ rows) (entries es) ≡ Ok state
 unfolding fold_rows
 later_run first es after rows state goes is = rw (goes, is) refl
 
-some_is : {X : Type 0} (x y : X) → ◌≡◌ {A = Option X} (Some x) (Some y) → x ≡ y
-some_is x y e = cc
-
 comes_on : (most : Entry) (rows : List Row) (es : List Entry) (place : ℕ) (row : Row) → AreInOrder es → result_err (run rows (entries es)) ≡ None
     → slice_get rows place ≡ Some row → ComesOn rows es place row
 unfolding fold_rows
 comes_on most [] es place row order valid there = absurd (cc)
 comes_on most (first ∷ rows) es zero row order valid there =
-    let same : first ≡ row = some_is first row there in
+    let same : first ≡ row = sym (some_is row first there) in
     elim (step first (entries es)) as (λ o. step first (entries es) ≡ o → ComesOn (first ∷ rows) es zero row) [
       | None ↦ λ stops. let wrong : ◌≡◌ {A = Option ℕ} (Some 0) None = rw stops at valid in absurd (cc)
       | Some next ↦ λ goes. record { held = es; next = next; order = order; goes = rw same at goes; now = refl; then = rw goes refl }

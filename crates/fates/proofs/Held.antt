@@ -6,6 +6,7 @@ use Rattle.std.specs.Ordering.{int_eq}
 use Rattle.std.proofs.lemmas.List.Folds.{list_any-append}
 use Rattle.fates.specs.Holding.{Lacks}
 use Rattle.retro_base.specs.lemmas.SortedPairs.{same_key, same_as_itself}
+use Rattle.retro_base.specs.Facts.{either_true}
 
 pub other_number : (n number : ℕ) → n ≢ number → int_eq (pos n) (pos number) ≡ false
 other_number n number apart = elim (int_eq (pos n) (pos number)) as (λ b. int_eq (pos n) (pos number) ≡ b → b ≡ false) [
@@ -15,10 +16,6 @@ other_number n number apart = elim (int_eq (pos n) (pos number)) as (λ b. int_e
 
 pub or_false : (a b : Bool) → a ≡ false → b ≡ false → (a || b) ≡ false
 or_false a b e f = rw (e, f) refl
-
-pub or_true : (a b : Bool) → b ≡ true → (a || b) ≡ true
-or_true true b e = refl
-or_true false b e = e
 
 pub or_true_first : (a b : Bool) → a ≡ true → (a || b) ≡ true
 or_true_first true b e = refl
@@ -48,4 +45,4 @@ lacks_take number (x ∷ xs) (suc count) lacks = or_false _ _ (first_false _ _ l
 
 pub is_held : (number : ℕ) (xs ys : List ℤ) → list_any (λ x. int_eq x (pos number)) (xs ++ pos number ∷ ys) ≡ true
 is_held number [] ys = rw (same_as_itself (pos number)) refl
-is_held number (x ∷ xs) ys = or_true _ _ (is_held number xs ys)
+is_held number (x ∷ xs) ys = either_true _ _ (is_held number xs ys)

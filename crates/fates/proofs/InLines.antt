@@ -10,15 +10,13 @@ use Rattle.fates.proofs.Held.{other_number, lacks_cons, lacks_tail, lacks_append
 use Rattle.retro_base.specs.declared.op.Op.{Op}
 use Rattle.retro_base.specs.declared.op.Op.TheVariants.{Enq, Deq, Push, Pop, PushL, PushR, PopL, PopR, Put, Del, Ins, DelMin}
 use Rattle.retro_base.specs.State.{State, items, perform, without_first, without_last}
+use Rattle.retro_base.specs.Facts.{some_is}
 
 -- where it stands after a step, or that it is gone
 abbrev pub LineGoes : ℕ → State → Option Standing → Type 0
 LineGoes number state None = holds number state ≡ false
 LineGoes number state (Some (InLine left right)) = StandsInLine number left right state
 LineGoes number state (Some standing) = ⊥
-
-state_of : (state next : State) → ◌≡◌ {A = Option State} (Some next) (Some state) → state ≡ next
-state_of state next e = cc
 
 module _ (number n : ℕ) (apart : n ≢ number) (state : State) where
   pushed_left : (front back : List ℤ) → Lacks number front → Lacks number back → state ≡ items (pos n ∷ (front ++ pos number ∷ back))
@@ -47,11 +45,11 @@ module _ (number n : ℕ) (apart : n ≢ number) (state : State) where
 
   left_taken : (front back : List ℤ) → Lacks number front → Lacks number back → option_map items (without_first (front ++ pos number ∷ back)) ≡ Some state
       → LineGoes number state (without_left (length front) (length back))
-  left_taken [] back none_left none_right e = rw (state_of state (items back) e) none_right
+  left_taken [] back none_left none_right e = rw (some_is state (items back) e) none_right
   left_taken (x ∷ front) back none_left none_right e = record {
     front = front;
     back = back;
-    is = state_of state (items (front ++ pos number ∷ back)) e;
+    is = some_is state (items (front ++ pos number ∷ back)) e;
     left_is = refl;
     right_is = refl;
     none_left = lacks_tail number x front none_left;
@@ -84,7 +82,7 @@ right_taken : (number : ℕ) (state : State) (front back : List ℤ) → Lacks n
 right_taken number state front [] none_left none_right e =
     let k = length front + 0 in
     let last : without_last (front ++ pos number ∷ []) ≡ Some front = last_of front (pos number) [] k refl ∙ ap (λ ys. Some ys) (taken_front front (pos number) k refl) in
-    rw (state_of state (items front) (ap (λ o. option_map items o) (sym last) ∙ e)) none_left
+    rw (some_is state (items front) (ap (λ o. option_map items o) (sym last) ∙ e)) none_left
 right_taken number state front (y ∷ back) none_left none_right e =
     let k = length front + suc (length back) in
     let last : without_last (front ++ pos number ∷ y ∷ back) ≡ Some (front ++ pos number ∷ take (length back) (y ∷ back)) =
@@ -92,7 +90,7 @@ right_taken number state front (y ∷ back) none_left none_right e =
     record {
       front = front;
       back = take (length back) (y ∷ back);
-      is = state_of state (items (front ++ pos number ∷ take (length back) (y ∷ back))) (ap (λ o. option_map items o) (sym last) ∙ e);
+      is = some_is state (items (front ++ pos number ∷ take (length back) (y ∷ back))) (ap (λ o. option_map items o) (sym last) ∙ e);
       left_is = refl;
       right_is = length_taken y back;
       none_left = none_left;
@@ -102,12 +100,12 @@ right_taken number state front (y ∷ back) none_left none_right e =
 goes : (op : Op) (number n : ℕ) (front back : List ℤ) (state : State) → n ≢ number → Lacks number front → Lacks number back
     → perform (numbered_op n op) n (items (front ++ pos number ∷ back)) ≡ Some state → LineGoes number state (line_after (length front) (length back) op)
 unfolding perform
-goes (Enq v) number n front back state apart none_left none_right e = pushed_right number n apart state front back none_left none_right (state_of state _ e)
+goes (Enq v) number n front back state apart none_left none_right e = pushed_right number n apart state front back none_left none_right (some_is state _ e)
 goes Deq number n front back state apart none_left none_right e = left_taken number n apart state front back none_left none_right e
-goes (Push v) number n front back state apart none_left none_right e = pushed_left number n apart state front back none_left none_right (state_of state _ e)
+goes (Push v) number n front back state apart none_left none_right e = pushed_left number n apart state front back none_left none_right (some_is state _ e)
 goes Pop number n front back state apart none_left none_right e = left_taken number n apart state front back none_left none_right e
-goes (PushL v) number n front back state apart none_left none_right e = pushed_left number n apart state front back none_left none_right (state_of state _ e)
-goes (PushR v) number n front back state apart none_left none_right e = pushed_right number n apart state front back none_left none_right (state_of state _ e)
+goes (PushL v) number n front back state apart none_left none_right e = pushed_left number n apart state front back none_left none_right (some_is state _ e)
+goes (PushR v) number n front back state apart none_left none_right e = pushed_right number n apart state front back none_left none_right (some_is state _ e)
 goes PopL number n front back state apart none_left none_right e = left_taken number n apart state front back none_left none_right e
 goes PopR number n front back state apart none_left none_right e = right_taken number state front back none_left none_right e
 goes (Put k v) number n front back state apart none_left none_right e = absurd (cc)

@@ -1,5 +1,5 @@
 -- What is there after one more row.
-use Rattle.std.proofs.Common.{◌≡◌, ℕ, pos, zero, suc, true, List, [], ◌∷◌, ◌++◌, map, take, refl, sym, ap, ◌∙◌, Option, Some, None, Result, Ok, Err}
+use Rattle.std.proofs.Common.{◌≡◌, ℕ, pos, zero, suc, true, List, [], ◌∷◌, ◌++◌, map, take, refl, sym, ap, ◌∙◌, Option, Some, None}
 use Rattle.std.specs.List.{slice_get}
 use Rattle.std.specs.Option.{is_some}
 use Rattle.std.specs.Result.{result_err, result_unwrap_or}
@@ -12,10 +12,7 @@ use Rattle.retro_base.specs.State.{State, empty, step}
 use Rattle.retro_base.specs.Timeline.{AreOfKind}
 use Rattle.retro_base.specs.lemmas.Folds.{fold_rows-nil, fold_rows-last, last_possible}
 use Rattle.retro_base.specs.lemmas.ValuedRows.{valued_valid}
-
-is_ok : {S : Type 0} (r : Result S ℕ) → result_err r ≡ None → (s : S) × (r ≡ Ok s)
-is_ok (Ok s) e = (s, refl)
-is_ok (Err i) e = absurd (cc)
+use Rattle.retro_base.specs.Outcomes.{is_ok}
 
 next_taken : (rows : List Row) (index : ℕ) (row : Row) → slice_get rows index ≡ Some row → take (suc index) (map numbered rows) ≡ take index (map numbered rows) ++ numbered row ∷ []
 next_taken [] index row there = absurd (cc)

@@ -23,6 +23,7 @@ use Rattle.retro_base.specs.State.{State, items, perform, step, empty, comes_bef
 use Rattle.retro_base.specs.OrderLaws.{all_at}
 use Rattle.retro_base.specs.Timeline.{HaveOwnNumbers, IsReplayable}
 use Rattle.retro_base.specs.lemmas.SortedPairs.{sorted_nil}
+use Rattle.retro_base.specs.Facts.{some_is}
 
 -- what becomes of it at a row
 abbrev pub Goes : Option Standing → ℕ → State → Type 0
@@ -93,18 +94,15 @@ pub counted_on : (own : Row) (count : ℕ) (row : Row) (before state : State) �
     → step (numbered row) before ≡ Some state → Ready own (count_after own count row) state
 counted_on own count row before state apart ready e = ready_on own.op own.number count row before state apart ready e
 
-state_is : (state next : State) → ◌≡◌ {A = Option State} (Some next) (Some state) → state ≡ next
-state_is state next e = cc
-
 last_so : (number : ℕ) (op : Op) (before state : State) → perform op number before ≡ Some state
     → ((line : List ℤ) → perform op number (items line) ≡ Some (items (line ++ pos number ∷ [])))
     → (line : List ℤ) → before ≡ items line → state ≡ items (line ++ pos number ∷ [])
-last_so number op before state e puts line is = state_is state _ (sym (puts line) ∙ ap (perform op number) (sym is) ∙ e)
+last_so number op before state e puts line is = some_is state _ (sym (puts line) ∙ ap (perform op number) (sym is) ∙ e)
 
 first_so : (number : ℕ) (op : Op) (before state : State) → perform op number before ≡ Some state
     → ((line : List ℤ) → perform op number (items line) ≡ Some (items (pos number ∷ line)))
     → (line : List ℤ) → before ≡ items line → state ≡ items (pos number ∷ line)
-first_so number op before state e puts line is = state_is state _ (sym (puts line) ∙ ap (perform op number) (sym is) ∙ e)
+first_so number op before state e puts line is = some_is state _ (sym (puts line) ∙ ap (perform op number) (sym is) ∙ e)
 
 own_on : (op : Op) (number time count : ℕ) (before state : State) → adds op ≡ true → ReadyFor op number count before
     → perform (numbered_op number op) number before ≡ Some state → Stands (standing_of (record { number = number; time = time; op = op }) count) number state
@@ -292,9 +290,6 @@ there_next rows place index own standing so_far stands q later within = elim (ca
       subst (λ k. holds own.number (holders (kind_of own.op) rows k) ≡ true) last (is_there standing own.number (holders (kind_of own.op) rows (suc index)) stands)
   | inr before ↦ so_far q later (omega arith)
 ]
-
-pub own_same : (rows : List Row) (place : ℕ) (own other : Row) → slice_get rows place ≡ Some own → slice_get rows place ≡ Some other → own ≡ other
-own_same rows place own other here there = cc
 
 -- the first place after its own row
 pub there_first : (rows : List Row) (place : ℕ) (own : Row) (standing : Standing) → Stands standing own.number (holders (kind_of own.op) rows (suc place))

@@ -1,8 +1,8 @@
 -- The rows of a window stand in the timeline from the place from which they were read, and take what a row put in on to its standing after them, or out.
-use Rattle.std.proofs.Common.{◌≡◌, ℕ, zero, suc, ◌+◌, ◌-◌, ◌<◌, ◌≤◌, true, get_or, List, [], ◌∷◌, ◌++◌, length, take, drop, refl, sym, ap, subst, ◌∙◌, arith, Option, Some, None, Result, Ok, Err}
+use Rattle.std.proofs.Common.{◌≡◌, ℕ, suc, ◌+◌, ◌-◌, ◌<◌, ◌≤◌, true, get_or, List, [], ◌∷◌, ◌++◌, length, take, drop, refl, sym, ap, subst, ◌∙◌, arith, Option, Some, None, Result, Ok, Err}
 use Rattle.std.specs.List.{fold, slice_get}
 use Rattle.std.proofs.Math.Seq.{drop-cons}
-use Rattle.std.proofs.lemmas.List.{drop_all, take-append-le, take-take, length-drop, length-take}
+use Rattle.std.proofs.lemmas.List.{drop_all, length-drop, length-take}
 use Rattle.fates.specs.declared.standing.Standing.{Standing}
 use Rattle.fates.specs.Fates.{holders, holds, IsTakenAt}
 use Rattle.fates.specs.Holding.{Stands}
@@ -14,6 +14,7 @@ use Rattle.retro_base.specs.PrefixLaws.{taken_below}
 use Rattle.retro_base.specs.Replay.{fold_rows, one_later}
 use Rattle.retro_base.specs.Timeline.{IsReplayable}
 use Rattle.retro_base.specs.lemmas.Folds.{err_within, fold_rows-nil, fold_rows-none, fold_rows-some}
+use Rattle.retro_base.specs.Facts.{get_drop, get_taken, window_reads}
 
 -- what a row makes of a standing
 abbrev pub next_of : Row → Standing → Option Standing
@@ -23,27 +24,9 @@ next_of row standing = after_row standing row
 abbrev pub AreAt : List Row → ℕ → List Row → Type 0
 AreAt rows from some = (k : ℕ) (row : Row) → slice_get some k ≡ Some row → slice_get rows (from + k) ≡ Some row
 
-get_drop : (rows : List Row) (n k : ℕ) → slice_get (drop n rows) k ≡ slice_get rows (n + k)
-get_drop rows zero k = ap (slice_get rows) (let same : k ≡ 0 + k = omega arith in same)
-get_drop [] (suc n) k = refl
-get_drop (row ∷ rows) (suc n) k = get_drop rows n k ∙ ap (slice_get (row ∷ rows)) (let same : suc (n + k) ≡ suc n + k = omega arith in same)
-
-get_take : (rows : List Row) (n k : ℕ) (row : Row) → slice_get (take n rows) k ≡ Some row → slice_get rows k ≡ Some row
-get_take rows zero k row at = absurd (cc)
-get_take [] (suc n) k row at = at
-get_take (first ∷ rows) (suc n) zero row at = at
-get_take (first ∷ rows) (suc n) (suc k) row at = get_take rows n k row at
-
--- the rows that were read
-pub window_reads : (rows old window : List Row) (from read count : ℕ) → window ≡ take read (drop from rows) ++ drop read old → count ≤ read
-    → read ≤ length rows - from → take count window ≡ take count (drop from rows)
-window_reads rows old window from read count e within there =
-    ap (take count) e ∙ take-append-le count (take read (drop from rows)) (drop read old) (omega (arith, length-take read (drop from rows), length-drop from rows))
-    ∙ take-take count read (drop from rows) within
-
 pub window_is_at : (rows window : List Row) (from count : ℕ) → take count window ≡ take count (drop from rows) → AreAt rows from (take count window)
 window_is_at rows window from count e k row at =
-    sym (get_drop rows from k) ∙ get_take (drop from rows) count k row (ap (λ rs. slice_get rs k) (sym e) ∙ at)
+    sym (get_drop rows from k) ∙ get_taken (drop from rows) count k row (ap (λ rs. slice_get rs k) (sym e) ∙ at)
 
 rest_at : (rows : List Row) (from : ℕ) (row : Row) (some : List Row) → AreAt rows from (row ∷ some) → AreAt rows (suc from) some
 rest_at rows from row some at k other here =

@@ -1,5 +1,5 @@
 -- Where no row that fails is named, none fails.
-use Rattle.std.proofs.Common.{◌≡◌, ℕ, ℤ, zero, suc, ◌<◌, Bool, true, false, not, ◌&&◌, cond, Option, Some, None, IfNone, List, [], ◌∷◌, ◌++◌, length, map, slice_get, refl, sym, ◌∙◌, arith}
+use Rattle.std.proofs.Common.{◌≡◌, ℕ, ℤ, suc, ◌<◌, Bool, true, false, not, ◌&&◌, cond, Option, Some, None, IfNone, List, [], ◌∷◌, ◌++◌, length, map, slice_get, refl, sym, ◌∙◌, arith}
 use Rattle.std.specs.Prelude.{nat_le, nat_lt, ◌==◌}
 use Rattle.std.specs.List.{AllByRecursion}
 use Rattle.std.specs.Option.{option_map, option_and_then}
@@ -12,6 +12,7 @@ use Rattle.key_index.specs.KeyRows.{KeyRow, key_of, without, up_to, behind, with
 use Rattle.key_index.specs.Beside.{takes_out}
 use Rattle.key_index.proofs.Lists.{all-append, all_filter}
 use Rattle.key_index.proofs.Replayed.{there_after, fails, nothing, failure_is}
+use Rattle.retro_base.specs.Facts.{there_is_one}
 
 abbrev AreDict : List KeyRow → Type 0
 AreDict rows = AllByRecursion (λ (row : KeyRow). kind_of row.1 ≡ Dict) rows
@@ -27,14 +28,9 @@ fails_within (row ∷ rows) there i failed =
       further_on None within e = absurd (cc)
       further_on (Some j) within e = let one : suc j ≡ i = cc in omega (arith, one, within j refl)
 
-named_there : {X : Type 0} (names : List X) (i : ℕ) → i < length names → slice_get names i ≡ None → ⊥
-named_there [] i within none = omega arith
-named_there (x ∷ names) zero within none = cc
-named_there (x ∷ names) (suc i) within none = named_there names i (omega arith) none
-
 none_named : {X : Type 0} (names : List X) (o : Option ℕ) → ((i : ℕ) → o ≡ Some i → i < length names) → None ≡ option_and_then (slice_get names) o → o ≡ None
 none_named names None within none = refl
-none_named names (Some i) within none = absurd (named_there names i (within i refl) (sym none))
+none_named names (Some i) within none = absurd (there_is_one names i (within i refl) (sym none))
 
 pub inserted_good : (label : ℕ) (op : Op) (rows : List KeyRow) → AreDict rows → kind_of op ≡ Dict → None ≡ bad_with label op rows → Replays (with_row label op rows)
 inserted_good label op rows dict one none =

@@ -19,6 +19,7 @@ use Rattle.retro_base.specs.State.{State, pairs, perform, step, with_key}
 use Rattle.retro_base.specs.Replay.{one_later, fold_rows, run}
 use Rattle.key_index.specs.KeyRows.{KeyRow, key_of, is_on, as_row, failure_of}
 use Rattle.key_index.specs.Beside.{puts, takes_out}
+use Rattle.retro_base.specs.lemmas.SortedPairs.{swapped}
 
 abbrev AreSorted : List (ℤ × ℤ) → Type 0
 AreSorted ps = IsStrictlySortedBy int_cmp (keys_of ps)
@@ -35,12 +36,6 @@ all_further low high (e ∷ es) below all = (int_cmp_total.trans low high e.0 be
 
 has-cons : (q : ℤ) (e : ℤ × ℤ) (es : List (ℤ × ℤ)) → has q (e ∷ es) ≡ cond (int_eq q e.0) true (has q es)
 has-cons q e es = elim (int_eq q e.0) as (λ b. is_some (cond b (Some e.1) (lookup (int_eq q) es)) ≡ cond b true (has q es)) [ true ↦ refl | false ↦ refl ]
-
-in_either_order : (a b h : Bool) → cond a true (cond b true h) ≡ cond b true (cond a true h)
-in_either_order true true h = refl
-in_either_order true false h = refl
-in_either_order false true h = refl
-in_either_order false false h = refl
 
 -- the keys stay in order, and which are there
 module _ (key value : ℤ) where
@@ -74,7 +69,7 @@ module _ (key value : ℤ) where
             ∙ ap (λ b. cond (int_eq q e.0) true b) (sym (has-cons q e es)) ∙ ap (λ k. cond (int_eq q k) true (has q (e ∷ es))) (sym one)
         | Greater ↦ λ above.
             has-cons q e (with_key key value es) ∙ ap (λ b. cond (int_eq q e.0) true b) (put_has q es)
-            ∙ in_either_order (int_eq q e.0) (int_eq q key) (has q es) ∙ ap (λ b. cond (int_eq q key) true b) (sym (has-cons q e es))
+            ∙ swapped (int_eq q e.0) (int_eq q key) (has q es) ∙ ap (λ b. cond (int_eq q key) true b) (sym (has-cons q e es))
       ] refl where
         twice : (a h : Bool) → cond a true h ≡ cond a true (cond a true h)
         twice true h = refl

@@ -1,5 +1,5 @@
 -- The rows by key, looked at one after another for a label, have what the rows by label have.
-use Rattle.std.proofs.Common.{◌≡◌, ℕ, zero, suc, ◌+◌, true, false, cond, Option, Some, None, List, [], ◌∷◌, drop, refl, sym, ap, ◌∙◌, arith}
+use Rattle.std.proofs.Common.{◌≡◌, ℕ, ◌+◌, true, false, cond, Option, Some, None, List, [], ◌∷◌, drop, refl, sym, ap, ◌∙◌, arith}
 use Rattle.std.specs.Prelude.{◌==◌}
 use Rattle.std.specs.List.{slice_get}
 use Rattle.std.proofs.lemmas.Bool.Decides.{Decides-eqb}
@@ -7,6 +7,7 @@ use Rattle.key_index.specs.KeyRows.{KeyRow, op_at, without}
 use Rattle.key_index.specs.Ordered.{IsIndexed}
 use Rattle.key_index.proofs.ByLabel.{none_there, first_there}
 use Rattle.key_index.proofs.TakenOut.{taken_indexed, up_to_it}
+use Rattle.retro_base.specs.Facts.{drop_at}
 
 -- a row at another label is found whether or not that one is there
 at_another : (taken label : ℕ) (rows : List KeyRow) → (taken == label) ≡ false → op_at label (without taken rows) ≡ op_at label rows
@@ -30,18 +31,10 @@ scanned label rows (row ∷ by_key) indexed =
 some_is : {A : Type 0} (x y : A) → ◌≡◌ {A = Option A} (Some x) (Some y) → x ≡ y
 some_is x y same = cc
 
--- what stands from a place on begins with the element there
-drop_here : {A : Type 0} (xs : List A) (place : ℕ) (x : A) → slice_get xs place ≡ Some x → drop place xs ≡ x ∷ drop (place + 1) xs
-drop_here [] place x there = absurd (cc)
-drop_here (y ∷ ys) zero x there = ap (λ z. z ∷ ys) (some_is y x there)
-drop_here (y ∷ ys) (suc place) x there =
-    let next : suc (place + 1) ≡ suc place + 1 = omega arith in
-    drop_here ys place x there ∙ ap (λ n. x ∷ drop n (y ∷ ys)) next
-
 -- the first of the rows from a place on has the label, or it is looked for among the others
 pub looked_at : (label : ℕ) (rows : List KeyRow) (place : ℕ) (row : KeyRow) → slice_get rows place ≡ Some row
     → op_at label (drop place rows) ≡ cond (row.0 == label) (Some row.1) (op_at label (drop (place + 1) rows))
-looked_at label rows place row there = ap (op_at label) (drop_here rows place row there)
+looked_at label rows place row there = ap (op_at label) (drop_at rows place row there)
 
 -- where no row has a label, none is taken out
 pub none_without : (label : ℕ) (rows : List KeyRow) → op_at label rows ≡ None → rows ≡ without label rows

@@ -1,18 +1,11 @@
 -- The greatest power of two that is at most a number.
-use Rattle.std.proofs.Common.{◌≡◌, ℕ, zero, suc, ◌+◌, ◌-◌, ◌*◌, ◌/◌, ◌^◌, ◌<◌, ◌≤◌, refl, sym, ap, ◌∙◌, arith, inl, inr}
-use Rattle.std.proofs.lemmas.Bool.{lt-ltb, le-ltb, cases_lt}
+use Rattle.std.proofs.Common.{◌≡◌, ℕ, zero, suc, ◌+◌, ◌-◌, ◌*◌, ◌/◌, ◌^◌, ◌<◌, ◌≤◌, sym, ap, ◌∙◌, arith, inl, inr}
+use Rattle.std.proofs.lemmas.Bool.{cases_lt}
 use Rattle.std.proofs.lemmas.Nat.{pow-add}
 use Rattle.std.proofs.Math.Nat.{pow-le-pow_right}
 use Rattle.retro_base.specs.Digits.{digits_by, digits}
-use Rattle.retro_base.specs.VisitsLaws.{below-digits}
+use Rattle.retro_base.specs.VisitsLaws.{below-digits, one_digit, one_more}
 use Rattle.order_labels.specs.Labels.{exponent}
-
-one_digit : (fuel n : ℕ) → n < 2 → digits_by fuel n ≡ 1
-one_digit zero n small = refl
-one_digit (suc fuel) n small = simp (lt-ltb n 2 small)
-
-one_more : (fuel n : ℕ) → 2 ≤ n → digits_by (suc fuel) n ≡ 1 + digits_by fuel (n / 2)
-one_more fuel n large = simp (le-ltb n 2 large)
 
 some_digit : (fuel n : ℕ) → 1 ≤ digits_by fuel n
 some_digit zero n = omega arith

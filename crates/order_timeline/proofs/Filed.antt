@@ -3,7 +3,7 @@ use Rattle.std.proofs.Common.{◌≡◌, ◌≢◌, ℕ, zero, suc, ◌+◌, ◌
 use Rattle.std.proofs.Common.{get_or, ◌==◌, refl, sym, ap, ◌∙◌, subst, arith, add-one, inl, inr, eq-eqb, eqb-true, position}
 use Rattle.std.proofs.lemmas.Bool.{cases_Bool, ne_eqb}
 use Rattle.std.proofs.lemmas.List.Quantifiers.{position-Some}
-use Rattle.std.proofs.lemmas.Option.{slice_get-get_or}
+use Rattle.std.proofs.lemmas.Option.{slice_get-get_or, slice_get_within}
 use Rattle.std.proofs.lemmas.List.{length-append, length-set}
 use Rattle.std.proofs.lemmas.List.Edits.{length-insert, length-remove}
 use Rattle.std.specs.List.{insert, remove, AllByRecursion, position_or_len}
@@ -17,11 +17,6 @@ read_longer : (table more : List ℕ) (name label : ℕ) → slice_get table nam
 read_longer [] more name label read = absurd (none_not read)
 read_longer (x ∷ table) more zero label read = read
 read_longer (x ∷ table) more (suc name) label read = read_longer table more name label read
-
-read_within : (table : List ℕ) (name label : ℕ) → slice_get table name ≡ Some label → name < length table
-read_within [] name label read = absurd (none_not read)
-read_within (x ∷ table) zero label read = omega arith
-read_within (x ∷ table) (suc name) label read = omega (arith, read_within table name label read)
 
 pub read_set : (table : List ℕ) (name label : ℕ) → name < length table → slice_get (slice_set table name label) name ≡ Some label
 read_set [] name label within = absurd (omega arith)
@@ -43,7 +38,7 @@ labels_longer (name ∷ names) (label ∷ labels) table more have = (read_longer
 pub names_known : (names labels table : List ℕ) → length labels ≡ length names → HaveLabels names labels table → AllByRecursion (λ name. name < length table) names
 names_known [] labels table each have = tt
 names_known (name ∷ names) [] table each have = absurd (omega arith)
-names_known (name ∷ names) (label ∷ labels) table each have = (read_within table name label have.0, names_known names labels table (omega arith) have.1)
+names_known (name ∷ names) (label ∷ labels) table each have = (slice_get_within table name label have.0, names_known names labels table (omega arith) have.1)
 
 pub labels_set : (names labels table : List ℕ) (name label : ℕ) → AllByRecursion (λ other. name ≢ other) names → HaveLabels names labels table → HaveLabels names labels (slice_set table name label)
 labels_set [] labels table name label fresh have = tt

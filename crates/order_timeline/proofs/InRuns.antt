@@ -1,6 +1,6 @@
 -- Rows stay in runs where a row comes or goes, and where a run is divided.
 use Rattle.std.proofs.Common.{◌≡◌, ℕ, zero, suc, ◌+◌, ◌-◌, ◌<◌, ◌≤◌, Some, None, Bool, true, false, is_err, Ok, Err, Result, OnOk, OnErr}
-use Rattle.std.proofs.Common.{List, [], ◌∷◌, length, slice_get, slice_set, slice_index, refl, sym, ap, ◌∙◌, subst, arith, add-one}
+use Rattle.std.proofs.Common.{List, [], ◌∷◌, length, slice_get, slice_set, slice_index, sym, ap, ◌∙◌, subst, arith, add-one}
 use Rattle.std.specs.List.{insert, remove}
 use Rattle.std.proofs.lemmas.List.{length-set}
 use Rattle.std.proofs.lemmas.List.Edits.{length-insert, length-remove}
@@ -11,10 +11,11 @@ use Rattle.order_timeline.specs.Runs.{rows_in, start_of, beside, divided, IsInRu
 use Rattle.retro_base.specs.Limits.{most_rows}
 use Rattle.order_timeline.proofs.FilledRuns.{filled_more, fewer_runs, first_of_divided, second_of_divided, start_before_divided}
 use Rattle.order_timeline.specs.Rows.{MayCome}
-use Rattle.retro_base.specs.EditedLists.{remove-insert}
+use Rattle.retro_base.specs.EditedLists.{remove-insert, get-insert}
 use Rattle.order_timeline.proofs.Rows.{ordered_more}
 use Rattle.order_timeline.proofs.Maps.{named_with, named_without, named_again}
 use Rattle.order_timeline.proofs.Beside.{length-beside, beside_with, beside_without, beside_gone, beside_divided}
+use Rattle.std.proofs.lemmas.Option.{slice_get_within}
 
 -- as many rows as the runs have
 pub all_rows : (rows : List Row) (runs names : List ℕ) (numbers : Pages) → IsInRuns rows runs names numbers → rows_in runs ≡ length rows
@@ -24,12 +25,6 @@ pub read_index : (xs : List ℕ) (index x : ℕ) → slice_get xs index ≡ Some
 read_index [] index x read = cc
 read_index (y ∷ xs) zero x read = cc
 read_index (y ∷ xs) (suc index) x read = read_index xs index x read
-
-read_back : {A : Type 0} (xs : List A) (place : ℕ) (x : A) → place ≤ length xs → slice_get (insert xs place x) place ≡ Some x
-read_back [] zero x within = refl
-read_back [] (suc place) x within = absurd (omega arith)
-read_back (y ∷ xs) zero x within = refl
-read_back (y ∷ xs) (suc place) x within = read_back xs place x (omega arith)
 
 -- other lists of the same names beside the rows
 pub in_runs_same : (rows : List Row) (runs names others more : List ℕ) (numbers : Pages) → IsInRuns rows runs names numbers → length more ≡ length others
@@ -47,7 +42,7 @@ in_runs_with rows runs names before after index place row count name is within f
     record {
       each = is.each ∙ sym (length-set runs index (count + 1));
       named = subst (λ xs. IsNamed (insert rows place row) xs after) (sym longer)
-          (named_with (insert rows place row) (beside runs names) before after place row name (read_back rows place row within)
+          (named_with (insert rows place row) (beside runs names) before after place row name (get-insert rows place row within)
           (subst (IsFresh row.number) (sym back) fresh) (subst (λ others. IsNamed others (beside runs names) before) (sym back) is.named) writes);
     }
 
@@ -191,12 +186,6 @@ second_takes runs more index count half place takes long within is far = record 
   );
 }
 
--- there are fewer runs than a timeline may have rows, where one of them has two
-there_within : (xs : List ℕ) (index x : ℕ) → slice_get xs index ≡ Some x → index < length xs
-there_within [] index x there = absurd (cc)
-there_within (y ∷ xs) zero x there = omega arith
-there_within (y ∷ xs) (suc index) x there = omega (arith, there_within xs index x there)
-
 pub record AreFew (runs names : List ℕ) (index : ℕ) : Type 0 where
   pub there : index < length runs
   pub runs_few : length runs < most_rows
@@ -207,7 +196,7 @@ pub few_divided : (rows : List Row) (runs names : List ℕ) (numbers : Pages) (i
 few_divided rows runs names numbers index count kept long more =
     let fewer : length runs < most_rows = omega (arith, fewer_runs runs index count kept.filled long more, all_rows rows runs names numbers kept.in_runs, kept.ordered.few) in
     record {
-      there = there_within runs index count long;
+      there = slice_get_within runs index count long;
       runs_few = fewer;
       names_few = omega (arith, fewer, kept.in_runs.each);
     }

@@ -9,6 +9,7 @@ use Rattle.retro_base.specs.declared.row.Row.{Row}
 use Rattle.retro_base.specs.Timeline.{IsFresh, HaveOwnNumbers}
 use Rattle.order_timeline.specs.Numbers.{IsNamed, Pages, name_in, written, Changes, Writes, IsSame}
 use Rattle.order_timeline.proofs.Named.{none_of, name_with, name_without, name_set, name_at}
+use Rattle.std.proofs.lemmas.Option.{slice_get_within}
 
 -- the last change of a number counts
 pub twice : (first second third : Pages) (number : ℕ) (one other : Option ℕ) → Changes first second number one → Changes second third number other → Changes first third number other
@@ -17,16 +18,11 @@ twice first second third number one other before after = λ n. after n ∙ elim 
   | inr unequal ↦ rw unequal (before n ∙ ap (λ b. cond b one (name_in first n)) unequal)
 ]
 
-read_within : {A : Type 0} (xs : List A) (place : ℕ) (x : A) → slice_get xs place ≡ Some x → place < length xs
-read_within [] place x read = cc
-read_within (y ∷ xs) zero x read = omega arith
-read_within (y ∷ xs) (suc place) x read = omega (arith, read_within xs place x read)
-
 -- a row that was put in has its name
 pub named_with : (rows : List Row) (names : List ℕ) (before after : Pages) (place : ℕ) (row : Row) (name : ℕ) → slice_get rows place ≡ Some row
     → IsFresh row.number (remove rows place) → IsNamed (remove rows place) names before → Writes before after row.number name → IsNamed rows (insert names place name) after
 named_with rows names before after place row name read fresh others writes =
-    let within = read_within rows place row read in
+    let within = slice_get_within rows place row read in
     let same : length names + 1 ≡ length rows = omega (arith, others.beside, length-remove rows place within) in
     record {
       beside = omega (arith, length-insert names place name (omega arith));
@@ -63,7 +59,7 @@ read_there (x ∷ xs) (suc place) within = read_there xs place (omega arith)
 pub number_there : (place : ℕ) (rows : List Row) (names : List ℕ) (numbers : Pages) (row : Row) → HaveOwnNumbers rows → IsNamed rows names numbers
     → slice_get rows place ≡ Some row → IsSome (name_in numbers row.number)
 number_there place rows names numbers row own named read =
-    let there = read_there names place (omega (arith, read_within rows place row read, named.beside)) in
+    let there = read_there names place (omega (arith, slice_get_within rows place row read, named.beside)) in
     subst IsSome (sym (named.filed row.number ∙ name_at rows names place row there.0 read there.1 own)) refl
 
 set_written : (names : List ℕ) (from count name : ℕ) → from + count < length names → set (written names from count name) (from + count) name ≡ written names from (count + 1) name
@@ -81,7 +77,7 @@ pub written_more : (rows : List Row) (names : List ℕ) (before after : Pages) (
     → IsNamed rows (written names from (place - from) name) before → length names ≡ length rows → Writes before after row.number name → IsNamed rows (written names from (place + 1 - from) name) after
 written_more rows names before after from place name row own order read named long writes =
     let count = place - from in
-    let within : from + count < length names = omega (arith, read_within rows place row read) in
+    let within : from + count < length names = omega (arith, slice_get_within rows place row read) in
     let partly = written names from count name in
     let same : set partly place name ≡ written names from (place + 1 - from) name =
     ap (λ n. set partly n name) (let here : place ≡ from + count = omega arith in here) ∙ set_written names from count name within

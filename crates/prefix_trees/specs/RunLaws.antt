@@ -4,6 +4,7 @@ use Rattle.std.specs.Option.{option_map_or}
 use Rattle.retro_base.specs.declared.row.Row.{Row}
 use Rattle.retro_base.specs.State.{State, step}
 use Rattle.retro_base.specs.Replay.{fold_rows, one_later, run}
+use Rattle.retro_base.specs.Outcomes.{later_ok}
 
 pub ok_same : {S E : Type 0} (s t : S) → ◌≡◌ {A = Result S E} (Ok s) (Ok t) → s ≡ t
 ok_same s t same = cc
@@ -14,10 +15,6 @@ not_both s e same = cc
 pub run-nil : (state end : State) → run [] state ≡ Ok end → state ≡ end
 unfolding fold_rows
 run-nil state end is = ok_same state end is
-
-later_ok : (r : Result State ℕ) (end : State) → one_later r ≡ Ok end → r ≡ Ok end
-later_ok (Ok state) end is = is
-later_ok (Err index) end is = absurd (not_both end (suc index) is)
 
 -- the first row is performed, and then the others
 pub run-first : (row : Row) (rows : List Row) (state end : State) → run (row ∷ rows) state ≡ Ok end

@@ -1,5 +1,5 @@
 -- Which row wrote an item of the line at a place.
-use Rattle.std.proofs.Common.{◌≡◌, ℕ, zero, suc, ◌<◌, ◌≤◌, ℤ, pos, ◌+ℤ◌, ◌-ℤ◌, List, [], ◌∷◌, take, length, Option, Some, None, sym, ap, ◌∙◌, arith, subst, length-take-le}
+use Rattle.std.proofs.Common.{◌≡◌, ℕ, ◌<◌, ◌≤◌, ℤ, pos, ◌+ℤ◌, ◌-ℤ◌, List, [], take, length, Option, Some, None, sym, ap, ◌∙◌, arith, subst, length-take-le}
 use Rattle.std.specs.Prelude.{slice_get}
 use Rattle.std.proofs.lemmas.Int.{ints}
 use Rattle.retro_base.specs.declared.kind.Kind.{Kind}
@@ -8,6 +8,8 @@ use Rattle.retro_base.specs.Timeline.{AreOfKind}
 use Rattle.prefix_trees.specs.Growth.{IsLine, left_growth, right_growth, value_of, grown}
 use Rattle.prefix_trees.specs.PositionLaws.{IsInside, written_from}
 use Rattle.prefix_trees.specs.FailureLaws.{LineAt, grown-take, all_taken}
+use Rattle.std.proofs.lemmas.Option.{slice_get_within}
+use Rattle.retro_base.specs.Facts.{get_taken}
 
 -- the row at the place wrote the item at the index
 pub record IsWrittenAt (rows : List Row) (items : List ℤ) (index place : ℕ) : Type 0 where
@@ -24,19 +26,6 @@ same_row row other same = cc
 
 no_row : (row : Row) → ◌≡◌ {A = Option Row} None (Some row) → ⊥
 no_row row same = cc
-
-get_within : (rows : List Row) (place : ℕ) (row : Row) → slice_get rows place ≡ Some row → place < length rows
-get_within [] zero row is = absurd (no_row row is)
-get_within [] (suc place) row is = absurd (no_row row is)
-get_within (r ∷ rows) zero row is = omega arith
-get_within (r ∷ rows) (suc place) row is = omega (arith, get_within rows place row is)
-
-get_taken : (rows : List Row) (place earlier : ℕ) (row : Row) → slice_get (take place rows) earlier ≡ Some row → slice_get rows earlier ≡ Some row
-get_taken rows zero zero row is = absurd (no_row row is)
-get_taken rows zero (suc earlier) row is = absurd (no_row row is)
-get_taken [] (suc place) earlier row is = is
-get_taken (r ∷ rows) (suc place) zero row is = is
-get_taken (r ∷ rows) (suc place) (suc earlier) row is = get_taken rows place earlier row is
 
 from_start : (a : ℤ) → pos 0 +ℤ a ≡ a
 from_start a = omega (arith, ints)
@@ -74,6 +63,6 @@ module _ (kind : Kind) (line : IsLine kind) (rows : List Row) (place index : ℕ
       let row = get_taken rows place written found.0 found.1 in
       record {
         there = there;
-        within = get_within rows written found.0 row;
+        within = slice_get_within rows written found.0 row;
         writes = λ other is. found.2 ∙ ap (λ (r : Row). value_of r.op) (same_row found.0 other (sym row ∙ is));
       }

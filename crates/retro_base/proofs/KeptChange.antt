@@ -18,7 +18,7 @@ use Rattle.retro_base.specs.Edits.{Edit, add, cut}
 use Rattle.retro_base.specs.Bridges.{survivors, entries_of}
 use Rattle.retro_base.specs.Carried.{IsPqHistory, IsPqEdit}
 use Rattle.retro_base.specs.Changes.{IsChange, IsPqChange}
-use Rattle.retro_base.specs.lemmas.Counted.{pq_holds_entries, entries_are_of_pq}
+use Rattle.retro_base.specs.lemmas.Counted.{pq_holds_entries, entries_are_of_pq, no_line, no_pairs}
 use Rattle.retro_base.specs.lemmas.Replayable.{plain_change}
 
 -- entries are kept of a priority queue alone
@@ -55,16 +55,9 @@ pub kept_changes : (kind : Kind) (rows : List Row) (state : State) (es : List En
     → IsPqChange rows edit change → IsChange kind rows edit change
 kept_changes kind rows state es edit change keeps same changes = subst (λ k. IsChange k rows edit change) (sym (kind_is kind rows state es keeps same)) changes
 
--- where they are not entries the kind is another
-no_items : {xs : List ℤ} {es : List Entry} (state : State) → state ≡ items xs → state ≡ entries es → ⊥
-no_items state e f = cc
-
-no_pairs : {ps : List (ℤ × ℤ)} {es : List Entry} (state : State) → state ≡ pairs ps → state ≡ entries es → ⊥
-no_pairs state e f = cc
-
 pub plain_of_items : (kind : Kind) (rows : List Row) (state : State) (xs : List ℤ) (edit : Edit) → RepresentsRows kind rows state → state ≡ items xs → IsChange kind rows edit Plain
 plain_of_items kind rows state xs edit keeps same = plain_change kind rows edit (λ is.
-    let held = pq_holds_entries kind rows state is keeps.replayable.of_kind keeps.kept in no_items state same held.1)
+    let held = pq_holds_entries kind rows state is keeps.replayable.of_kind keeps.kept in no_line state same held.1)
 
 pub plain_of_pairs : (kind : Kind) (rows : List Row) (state : State) (ps : List (ℤ × ℤ)) (edit : Edit) → RepresentsRows kind rows state → state ≡ pairs ps → IsChange kind rows edit Plain
 plain_of_pairs kind rows state ps edit keeps same = plain_change kind rows edit (λ is.

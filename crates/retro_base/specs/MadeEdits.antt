@@ -31,7 +31,7 @@ inserted_is_fresh [] (suc place) row own = tt
 inserted_is_fresh (first ∷ rows) (suc place) row own =
     (λ same. all_inserted (λ r. r.number ≢ first.number) rows place row own.0 (sym same), inserted_is_fresh rows place row own.1)
 
-adds_own_row : (rows : List Row) (edit : Edit) → IsReplayable Pq (edited rows edit) → AddsOwnRow rows edit
+pub adds_own_row : (rows : List Row) (edit : Edit) → IsReplayable Pq (edited rows edit) → AddsOwnRow rows edit
 adds_own_row rows (add place row) after =
     (all_inserted (λ r. kind_of r.op ≡ Pq) rows place row after.of_kind, inserted_is_fresh rows place row after.own_numbers)
 adds_own_row rows (cut place row) after = tt

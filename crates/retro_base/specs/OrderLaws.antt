@@ -46,7 +46,7 @@ times_without (row ∷ rows) zero never = never.1
 times_without (row ∷ rows) (suc place) never = (all_without (λ r. row.time ≤ r.time) rows place never.0, times_without rows place never.1)
 
 -- the first row counts where it is not later
-place_of_time-cons : (time : ℕ) (row : Row) (rows : List Row) → place_of_time time (row ∷ rows) ≡ cond (leb row.time time) 1 0 + place_of_time time rows
+pub place_of_time-cons : (time : ℕ) (row : Row) (rows : List Row) → place_of_time time (row ∷ rows) ≡ cond (leb row.time time) 1 0 + place_of_time time rows
 place_of_time-cons time row rows = sum_by-cons _ row rows
 
 not_later : (time : ℕ) (row : Row) (rows : List Row) → leb row.time time ≡ true → place_of_time time (row ∷ rows) ≡ suc (place_of_time time rows)
@@ -56,7 +56,7 @@ later : (time : ℕ) (row : Row) (rows : List Row) → leb row.time time ≡ fal
 later time row rows e = place_of_time-cons time row rows ∙ rw e (omega arith)
 
 -- a time before all rows has the first place
-first_place : (time : ℕ) (rows : List Row) → AllByRecursion (λ row. time < row.time) rows → place_of_time time rows ≡ 0
+pub first_place : (time : ℕ) (rows : List Row) → AllByRecursion (λ row. time < row.time) rows → place_of_time time rows ≡ 0
 first_place time [] all = refl
 first_place time (row ∷ rows) all = later time row rows (lt-leb row.time time all.0) ∙ first_place time rows all.1
 

@@ -1,5 +1,5 @@
 -- The first rows of a timeline, and the row that comes next: what is needed to append one after another.
-use Rattle.std.proofs.Common.{◌≡◌, ◌≢◌, ℕ, zero, suc, ◌+◌, ◌<◌, ◌≤◌, List, [], ◌∷◌, ◌++◌, length, take, refl, sym, ap, ◌∙◌, arith, add-one, Option, Some, None, Result, Ok, Err}
+use Rattle.std.proofs.Common.{◌≡◌, ◌≢◌, ℕ, zero, suc, ◌+◌, ◌<◌, ◌≤◌, List, [], ◌∷◌, ◌++◌, length, take, refl, sym, ap, ◌∙◌, arith, add-one, Option, Some, None, Err}
 use Rattle.std.specs.List.{insert}
 use Rattle.std.specs.Result.{result_err}
 use Rattle.std.specs.Option.{option_map_or}
@@ -14,15 +14,7 @@ use Rattle.retro_base.specs.OrderLaws.{all_at}
 use Rattle.retro_base.specs.Replay.{fold_rows, one_later, IsValid}
 use Rattle.retro_base.specs.State.{step, empty}
 use Rattle.retro_base.specs.Timeline.{IsFresh, HaveOwnNumbers, TimesNeverFall, IsTimeline}
-
--- an outcome that is no failure still is none one place earlier
-earlier_possible : {S : Type 0} (outcome : Result S ℕ) → result_err (one_later outcome) ≡ None → result_err outcome ≡ None
-earlier_possible (Ok state) possible = refl
-earlier_possible (Err index) possible = absurd (cc)
-
-later_possible : {S : Type 0} (outcome : Result S ℕ) → result_err outcome ≡ None → result_err (one_later outcome) ≡ None
-later_possible (Ok state) possible = refl
-later_possible (Err index) possible = absurd (cc)
+use Rattle.retro_base.specs.Outcomes.{earlier_none, later_none}
 
 first_possible : {S : Type 0} (next_of : Row → S → Option S) (rows : List Row) (count : ℕ) (state : S)
     → result_err (fold_rows next_of rows state) ≡ None → result_err (fold_rows next_of (take count rows) state) ≡ None
@@ -33,7 +25,7 @@ first_possible next_of (row ∷ rows) (suc count) state possible =
     elim (next_of row state) as (λ next. result_err (option_map_or (λ s. one_later (fold_rows next_of rows s)) next (Err 0)) ≡ None
     → result_err (option_map_or (λ s. one_later (fold_rows next_of (take count rows) s)) next (Err 0)) ≡ None) [
       | None ↦ λ h. absurd (cc)
-      | Some s ↦ λ h. later_possible _ (first_possible next_of rows count s (earlier_possible _ h))
+      | Some s ↦ λ h. later_none _ (first_possible next_of rows count s (earlier_none _ h))
     ] possible
 
 -- rows that replay whole do so up to any place

@@ -6,11 +6,11 @@ use Rattle.std.proofs.Math.Nat.{add-mul, mul-add, mul-le-mul_left, mul-le-mul_ri
 use Rattle.retro_base.specs.Digits.{digits_by, digits}
 use Rattle.retro_base.specs.Visits.{VisitsWithin}
 
-one_digit : (fuel n : ℕ) → n < 2 → digits_by fuel n ≡ 1
+pub one_digit : (fuel n : ℕ) → n < 2 → digits_by fuel n ≡ 1
 one_digit zero n small = refl
 one_digit (suc fuel) n small = simp (lt-ltb n 2 small)
 
-one_more : (fuel n : ℕ) → 2 ≤ n → digits_by (suc fuel) n ≡ 1 + digits_by fuel (n / 2)
+pub one_more : (fuel n : ℕ) → 2 ≤ n → digits_by (suc fuel) n ≡ 1 + digits_by fuel (n / 2)
 one_more fuel n large = simp (le-ltb n 2 large)
 
 -- a number is below the power of two of its digits

@@ -10,6 +10,7 @@ use Rattle.retro_io.specs.Lines.{lines}
 use Rattle.followers.specs.Followers.{HasTaken, Reporting}
 use Rattle.retro_cli.specs.Audience.{Audience, after_events, hears}
 use Rattle.retro_cli.specs.Events.{events_among, events_spelled}
+use Rattle.followers.specs.TakenLaws.{first_same, others_same}
 
 -- a follower that has taken an event reports as it then does
 pub taken_is : (event : Evidence) (before after : Reporting) → HasTaken event before after → after ≡ after_events (event ∷ []) before
@@ -50,12 +51,6 @@ hands_on_line answer rest after line before now next on cut taken =
 
 pub hands_on_all : (answer rest : List ℕ) (before now : Audience) → HandsOn answer rest before now → rest ≡ [] → now ≡ hears (events_among answer) before
 hands_on_all answer rest before now on none = sym (hears-none now) ∙ ap (λ r. hears (events_among r) now) (sym none) ∙ on
-
-first_same : {X : Type 0} (x y : X) (xs ys : List X) → x ∷ xs ≡ y ∷ ys → x ≡ y
-first_same x y xs ys same = cc
-
-others_same : {X : Type 0} (x y : X) (xs ys : List X) → x ∷ xs ≡ y ∷ ys → xs ≡ ys
-others_same x y xs ys same = cc
 
 -- each follower is seen as what it reports, if it is left
 module _ {F : Type 0} (seen : F → Option Reporting) (event : Evidence) where

@@ -1,5 +1,5 @@
 -- The steps of an edit, and how they are taken back.
-use Rattle.std.proofs.Common.{◌≡◌, ℕ, zero, suc, ◌≤◌, ℤ, Bool, true, false, cond, Some, None, List, [], ◌∷◌, ◌++◌, length, take, drop, refl, sym, ap, ◌∙◌, arith, subst}
+use Rattle.std.proofs.Common.{◌≡◌, ℕ, ◌≤◌, ℤ, Bool, true, false, cond, Some, None, List, [], ◌∷◌, ◌++◌, length, take, drop, refl, sym, ap, ◌∙◌, arith, subst}
 use Rattle.std.specs.List.{filter, insert, remove}
 use Rattle.std.specs.Prelude.{◌==◌, nat_le}
 use Rattle.std.proofs.lemmas.Bool.{eq-eqb}
@@ -13,6 +13,7 @@ use Rattle.retro_dictionary.specs.Edited.{IsBetween}
 use Rattle.retro_dictionary.specs.Kept.{AreKept}
 use Rattle.retro_dictionary.specs.Labelled.{labelled}
 use Rattle.retro_dictionary.proofs.LabelledRows.{front-below, in_two, with_row-parts, without-parts}
+use Rattle.retro_base.specs.EditedLists.{remove-insert}
 
 -- what is put in is taken out again
 pub undone : (rows : List Row) (labels : List ℕ) (index : List KeyRow) (lifetimes : List (Lifetime (ℤ × ℤ))) → AreKept rows labels index lifetimes
@@ -36,12 +37,6 @@ op-put label op index fresh = after (λ row. nat_le row.0 label) index fresh whe
           | false ↦ after test rows none
         ]
       ] refl fresh
-
--- what was put in at a place is taken out again
-pub remove-insert : {A : Type 0} (xs : List A) (place : ℕ) (x : A) → place ≤ length xs → remove (insert xs place x) place ≡ xs
-remove-insert xs zero x within = refl
-remove-insert [] (suc place) x within = absurd (omega arith)
-remove-insert (y ∷ ys) (suc place) x within = ap (λ rest. y ∷ rest) (remove-insert ys place x (omega arith))
 
 pub labels-back : (rows : List Row) (labels : List ℕ) (index : List KeyRow) (lifetimes : List (Lifetime (ℤ × ℤ))) → AreKept rows labels index lifetimes
     → (place label : ℕ) → place ≤ length rows → remove (insert labels place label) place ≡ labels

@@ -20,6 +20,7 @@ use Rattle.retro_dictionary.specs.Lifetimes.{end_of, put_by, begun, lifetimes_of
 use Rattle.retro_dictionary.specs.SameItems.{HaveSameItems}
 use Rattle.retro_dictionary.proofs.AsMany.{same-refl, same-sym, same-trans, same-filter, same-append, same-regroup}
 use Rattle.retro_dictionary.proofs.PairsInOrder.{AreSorted, is_off, sorted_with, sorted_without, with_key-same, without_key-is}
+use Rattle.retro_base.specs.Outcomes.{later_ok}
 
 -- a pair whose key no row up to a label has
 pub all_weaker : {X : Type 0} (P Q : X → Type 0) (xs : List X) → ((x : X) → P x → Q x) → AllByRecursion P xs → AllByRecursion Q xs
@@ -41,10 +42,6 @@ ended row rows s none = ap (λ o. option_map_or (λ next. one_later (fold_rows s
 none_left : (s : State) → run [] s ≡ Ok s
 unfolding fold_rows
 none_left s = refl
-
-not_later : (r : Result State ℕ) (t : State) → one_later r ≡ Ok t → r ≡ Ok t
-not_later (Ok s) t ok = ok
-not_later (Err i) t ok = absurd (cc)
 
 put_steps : (label : ℕ) (key value : ℤ) (ps : List (ℤ × ℤ)) → step (as_row (label, Put key value)) (pairs ps) ≡ Some (pairs (with_key key value ps))
 unfolding perform
@@ -188,7 +185,7 @@ module _ (label : ℕ) (below : label < label_end) where
   held_up from (Put key value) rows after up rest ps s ran =
       held_put (from, Put key value) (key, value) rows ps after up refl refl s
       (rest (with_key key value ps) (sorted_with key value ps s)
-      (not_later (run (map as_row (up_to label rows)) (pairs (with_key key value ps))) (pairs after)
+      (later_ok (run (map as_row (up_to label rows)) (pairs (with_key key value ps))) (pairs after)
       (sym (goes (as_row (from, Put key value)) (map as_row (up_to label rows)) (pairs ps) (pairs (with_key key value ps)) (put_steps from key value ps))
       ∙ ran_first (from, Put key value) rows ps (Ok (pairs after)) up ran)))
   held_up from (Del key) rows after up rest ps s ran =
@@ -198,7 +195,7 @@ module _ (label : ℕ) (below : label < label_end) where
             ∙ ap (λ b. option_map pairs (if b then Some (remove_entry (int_eq key) ps) else None)) there in
             held_del from key rows ps after up s
             (rest (remove_entry (int_eq key) ps) (sorted_without key ps s)
-            (not_later (run (map as_row (up_to label rows)) (pairs (remove_entry (int_eq key) ps))) (pairs after)
+            (later_ok (run (map as_row (up_to label rows)) (pairs (remove_entry (int_eq key) ps))) (pairs after)
             (sym (goes (as_row (from, Del key)) (map as_row (up_to label rows)) (pairs ps) (pairs (remove_entry (int_eq key) ps)) steps) ∙ ran_first (from, Del key) rows ps (Ok (pairs after)) up ran)))
         | false ↦ λ gone.
             let steps : step (as_row (from, Del key)) (pairs ps) ≡ None = del_steps from key ps ∙ ap (λ b. option_map pairs (if b then Some (remove_entry (int_eq key) ps) else None)) gone in

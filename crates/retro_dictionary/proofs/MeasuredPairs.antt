@@ -11,6 +11,7 @@ use Rattle.retro_base.specs.Answers.{sum_of_values}
 use Rattle.retro_dictionary.specs.PairMeasure.{one_pair}
 use Rattle.retro_dictionary.specs.declared.pairs.Found.{Found}
 use Rattle.retro_dictionary.specs.PairSearch.{found_of, in_bits}
+use Rattle.retro_base.specs.Facts.{get_take, get_drop}
 
 abbrev pub measure : List (ℤ × ℤ) → Summed
 measure ps = measure_of no_sum joined_sum one_pair ps
@@ -29,20 +30,8 @@ all_taken P rs zero all = tt
 all_taken P [] (suc m) all = tt
 all_taken P (r ∷ rs) (suc m) all = (all.0, all_taken P rs m all.1)
 
--- the pair at a place of a range is that at a place of all
-at_taken : {A : Type 0} (xs : List A) (count place : ℕ) → place < count → slice_get (take count xs) place ≡ slice_get xs place
-at_taken xs zero place within = absurd (omega arith)
-at_taken [] (suc count) place within = refl
-at_taken (x ∷ xs) (suc count) zero within = refl
-at_taken (x ∷ xs) (suc count) (suc place) within = at_taken xs count place (omega arith)
-
-pub at_dropped : {A : Type 0} (xs : List A) (from place : ℕ) → slice_get (drop from xs) place ≡ slice_get xs (from + place)
-at_dropped xs zero place = ap (slice_get xs) (let here : place ≡ 0 + place = omega arith in here)
-at_dropped [] (suc from) place = refl
-at_dropped (x ∷ xs) (suc from) place = at_dropped xs from place ∙ ap (slice_get (x ∷ xs)) (let there : suc (from + place) ≡ suc from + place = omega arith in there)
-
 in_range : {A : Type 0} (xs : List A) (from to place : ℕ) → place < to - from → slice_get (slice_range xs from to) place ≡ slice_get xs (from + place)
-in_range xs from to place within = at_taken (drop from xs) (to - from) place within ∙ at_dropped xs from place
+in_range xs from to place within = get_take (drop from xs) (to - from) place within ∙ get_drop xs from place
 
 -- the range of one place
 taken_one : {A : Type 0} (xs : List A) (place : ℕ) (x : A) → slice_get xs place ≡ Some x → take 1 (drop place xs) ≡ x ∷ []

@@ -15,6 +15,7 @@ use Rattle.key_index.specs.KeyRows.{as_row, failure_of}
 use Rattle.retro_dictionary.specs.Asked.{IsNumber, AreOfNumbers}
 use Rattle.retro_dictionary.specs.Numbers.{IsOfNumbers, HaveNumbers}
 use Rattle.retro_dictionary.specs.Labelled.{labelled}
+use Rattle.retro_base.specs.lemmas.CountedKeys.{put_length}
 
 -- the pairs after an operation
 abbrev pub pairs_after : Op → List (ℤ × ℤ) → Option (List (ℤ × ℤ))
@@ -79,14 +80,6 @@ keys-with key value (e ∷ es) is fits all =
       | Greater ↦ (all.0, keys-with key value es is fits all.1)
     ]
 
-one_more : (key value : ℤ) (ps : List (ℤ × ℤ)) → length (with_key key value ps) ≤ suc (length ps)
-one_more key value [] = omega arith
-one_more key value (e ∷ es) = elim (int_cmp key e.0) as (λ o. length (match_ordering o ((key, value) ∷ e ∷ es) ((e.0, value) ∷ es) (e ∷ with_key key value es)) ≤ suc (suc (length es))) [
-  | Less ↦ omega arith
-  | Equal ↦ omega arith
-  | Greater ↦ omega (arith, one_more key value es)
-]
-
 no_more : (key : ℤ) (ps : List (ℤ × ℤ)) → length (remove_entry (int_eq key) ps) ≤ length ps
 no_more key [] = omega arith
 no_more key (e ∷ es) = elim (int_eq key e.0) as (λ b. length (cond b es (e ∷ remove_entry (int_eq key) es)) ≤ suc (length es)) [ true ↦ omega arith | false ↦ omega (arith, no_more key es) ]
@@ -101,7 +94,7 @@ IfPairs count None = Unit {0}
 IfPairs count (Some ps) = AreOfNumbers ps × (length ps ≤ suc count)
 
 keys-after : (op : Op) (ps : List (ℤ × ℤ)) → IsOfNumbers op → AreOfNumbers ps → IfPairs (length ps) (pairs_after op ps)
-keys-after (Put key value) ps is all = (keys-with key value ps is.0 is.1 all, one_more key value ps)
+keys-after (Put key value) ps is all = (keys-with key value ps is.0 is.1 all, put_length key value ps)
 keys-after (Del key) ps is all = elim (is_some (lookup (int_eq key) ps)) as
     (λ b. IfPairs (length ps) (if b then Some (remove_entry (int_eq key) ps) else None))
     [ true ↦ (keys-without key ps all, omega (arith, no_more key ps)) | false ↦ tt ]

@@ -18,7 +18,8 @@ use Rattle.retro_dictionary.specs.declared.search.Bound.TheVariants.{Below, UpTo
 use Rattle.retro_dictionary.specs.PairSearch.{pair_before, found_in}
 use Rattle.retro_dictionary.specs.Asked.{IsNumber}
 use Rattle.retro_dictionary.specs.Bounds.{reaches, StandUpTo, FailsAt, HasNumber}
-use Rattle.retro_dictionary.proofs.MeasuredPairs.{all_taken, at_dropped}
+use Rattle.retro_dictionary.proofs.MeasuredPairs.{all_taken}
+use Rattle.retro_base.specs.Facts.{get_drop}
 
 module _ {A : Type 0} (test : A → Bool) where
   none_pass : (xs : List A) → AllByRecursion (λ x. test x ≡ false) xs → filter test xs ≡ []
@@ -91,7 +92,7 @@ module _ (bound : Bound) where
     | inl before ↦ before
     | inr past ↦
         let here : slice_get (drop count ps) (place - count) ≡ Some pair =
-        at_dropped ps count (place - count) ∙ ap (slice_get ps) (let sum : count + (place - count) ≡ place = omega arith in sum) ∙ there in
+        get_drop ps count (place - count) ∙ ap (slice_get ps) (let sum : count + (place - count) ≡ place = omega arith in sum) ∙ there in
         let failing : not (reaches bound pair) ≡ true = all_at (λ p. not (reaches bound p) ≡ true) (drop count ps) (place - count) pair
         (subst (AllByRecursion (λ p. not (reaches bound p) ≡ true)) (sym ends.back) (filter_passes (λ p. not (reaches bound p)) ps)) here in
         absurd (let never : false ≡ true = ap not (sym passing) ∙ failing in cc)

@@ -23,6 +23,7 @@ use Rattle.retro_dictionary.specs.Lifetimes.{lifetimes_of}
 use Rattle.retro_dictionary.specs.Numbers.{IsOfNumbers}
 use Rattle.retro_dictionary.specs.Relabelling.{CanRelabel, new_label, other_labels, relabelled_with}
 use Rattle.retro_dictionary.proofs.LabelledRows.{AllAbove, rises, front-below, in_two, without-parts, with_row-parts, with_row-is, fresh-is}
+use Rattle.retro_base.specs.EditedLists.{insert-remove}
 
 -- labels that lie apart rise
 above : (last first lower : ℕ) (labels : List ℕ) → lower ≤ first → AreApart 1 first last labels → AllByRecursion (λ later. lower < later) labels
@@ -59,12 +60,6 @@ relabelled-is last first (old ∷ former) (new ∷ fresh) [] apart same = refl
 relabelled-is last first (old ∷ former) (new ∷ fresh) (row ∷ rows) apart same =
     ap (λ b. (cond b new (counterpart former fresh old), row.op) ∷ relabelled (old ∷ former) (new ∷ fresh) (labelled former rows)) (eq-eqb old old refl)
     ∙ ap (λ rest. (new, row.op) ∷ rest) (skipped old new former fresh (labelled former rows) (rises last first (old ∷ former) (row ∷ rows) apart).0 ∙ relabelled-is last old former fresh rows apart.1 (omega arith))
-
--- what is taken out at a place is put in there again
-insert-remove : {A : Type 0} (xs : List A) (place : ℕ) (x : A) → slice_get xs place ≡ Some x → insert (remove xs place) place x ≡ xs
-insert-remove [] place x there = absurd (cc)
-insert-remove (y ∷ ys) zero x there = let same : y ≡ x = cc in ap (λ z. z ∷ ys) (sym same)
-insert-remove (y ∷ ys) (suc place) x there = ap (λ rest. y ∷ rest) (insert-remove ys place x there)
 
 -- a label lies between those beside its place once it is taken out
 above-removed : (last first : ℕ) (labels : List ℕ) (place label : ℕ) → AreApart 1 first last labels → slice_get labels place ≡ Some label → label_before first (remove labels place) place < label

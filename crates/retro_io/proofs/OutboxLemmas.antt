@@ -6,9 +6,7 @@ use Rattle.retro_io.specs.declared.source.Failed.{Failed}
 use Rattle.retro_io.specs.Faults.{CountsFaults, count_after}
 use Rattle.retro_io.specs.FaultLaws.{CountsFaults-then}
 use Rattle.retro_io.specs.Outbox.{FailsWithSink, FlushesOn, HandsOnOnce, SendsOn, sink_of, waiting_of}
-
-not_both : (b : Bool) → b ≡ false → b ≡ true → ⊥
-not_both b e f = cc
+use Rattle.retro_base.specs.Facts.{not_both}
 
 le_refl : (n : ℕ) → n ≤ n
 le_refl n = omega arith

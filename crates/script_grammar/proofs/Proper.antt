@@ -16,6 +16,7 @@ use Rattle.script_grammar.specs.Numbers.{between, count_of, natural_of, next_of}
 use Rattle.script_grammar.specs.Operands.{alone}
 use Rattle.retro_base.specs.Limits.{next_limit}
 use Rattle.std.proofs.lemmas.Bool.{cases_Bool, leb-true}
+use Rattle.retro_base.specs.Facts.{both_true}
 
 module _ {X : Type 0} (P : X → Type 0) where
   chosen : (b : Bool) (o other : Option X) → IfSome o P → IfSome other P → IfSome (cond b o other) P
@@ -104,10 +105,6 @@ about_proper name (word ∷ rest) =
 mute_proper : (rest : List (List ℕ)) → IfSome (mute_of rest) IsProper
 mute_proper [] = tt
 mute_proper (word ∷ rest) = search (chained, last)
-
-both_true : (test other : Bool) → (test && other) ≡ true → (test ≡ true) × (other ≡ true)
-both_true true other h = (refl, h)
-both_true false other h = absurd (cc)
 
 save_proper : (rest : List (List ℕ)) → IfSome (save_of rest) IsProper
 save_proper [] = tt

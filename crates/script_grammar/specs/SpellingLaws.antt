@@ -12,6 +12,7 @@ use Rattle.retro_base.specs.OpText.{op_text}
 use Rattle.script_grammar.specs.Words.{is_filled, is_space, words}
 use Rattle.script_grammar.specs.Numbers.{natural_after, natural_of, row_number_of, time_of, value_of}
 use Rattle.script_grammar.specs.Operations.{op_of}
+use Rattle.retro_base.specs.Facts.{both_true}
 
 -- a value of 64 bits
 abbrev pub IsValue : ℤ → Type 0
@@ -32,10 +33,6 @@ HasValues (Put key value) = IsValue key × IsValue value
 HasValues (Del key) = IsValue key
 HasValues (Ins key) = IsValue key
 HasValues DelMin = Unit {0}
-
-both_true : (test other : Bool) → (test && other) ≡ true → (test ≡ true) × (other ≡ true)
-both_true true other h = (refl, h)
-both_true false other h = absurd (cc)
 
 -- Words
 

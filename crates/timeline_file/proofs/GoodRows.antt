@@ -1,5 +1,5 @@
 -- What a reader of blocks keeps, with one good row more.
-use Rattle.std.proofs.Common.{◌≡◌, ℕ, ◌<◌, ◌≤◌, Bool, true, false, not, cond, ◌||◌, ◌&&◌, nat_eq, nat_lt, List, [], ◌∷◌, ◌++◌, refl, sym, ap, ◌∙◌, arith, Option, Some, None}
+use Rattle.std.proofs.Common.{◌≡◌, ℕ, ◌<◌, ◌≤◌, Bool, true, false, not, cond, ◌||◌, nat_eq, nat_lt, List, [], ◌∷◌, ◌++◌, refl, sym, ap, ◌∙◌, arith, Option, Some, None}
 use Rattle.std.specs.Prelude.{◌==◌, is_some}
 use Rattle.std.specs.HashSet.{Updates}
 use Rattle.std.specs.List.{AllByRecursion}
@@ -15,6 +15,7 @@ use Rattle.timeline_file.specs.declared.block.RowCause.TheVariants as causes
 use Rattle.timeline_file.specs.declared.block.BlockError.{BlockError}
 use Rattle.timeline_file.specs.Block.{Block, has_number, last_time, cause_of_row, are_below}
 use Rattle.timeline_file.specs.Read.{Numbers, IsRead}
+use Rattle.retro_base.specs.Facts.{both_true, either_false}
 
 -- of a row without a cause the tests of the number and of the time have failed
 no_cause : (kind seen earlier performs : Bool)
@@ -30,14 +31,10 @@ good_row : (kind : Kind) (rows : List Row) (row : Row) → cause_of_row kind row
 good_row kind rows row good =
     no_cause (same_kind (kind_of row.op) kind) (has_number row.number rows) (nat_lt row.time (last_time rows)) (is_some (step row (present kind rows))) good
 
-both_false : (test other : Bool) → (test || other) ≡ false → (test ≡ false) × (other ≡ false)
-both_false true other h = absurd (cc)
-both_false false other h = (refl, h)
-
 unseen : (number : ℕ) (rows : List Row) → has_number number rows ≡ false → IsFresh number rows
 unseen number [] none = tt
 unseen number (row ∷ rows) none =
-    let parts = both_false (row.number == number) (has_number number rows) none in
+    let parts = either_false (row.number == number) (has_number number rows) none in
     (eqb-false row.number number parts.0, unseen number rows parts.1)
 
 -- a good row has a number of its own
@@ -81,10 +78,6 @@ either false last old new e = e
 either_alone : (last : Bool) → (last || false) ≡ cond last true false
 either_alone true = refl
 either_alone false = refl
-
-both_true : (test other : Bool) → (test && other) ≡ true → (test ≡ true) × (other ≡ true)
-both_true true other h = (refl, h)
-both_true false other h = absurd (cc)
 
 -- a number that is looked for among rows and one more
 has_number-append : (number : ℕ) (rows : List Row) (row : Row) → has_number number (rows ++ row ∷ []) ≡ cond (row.number == number) true (has_number number rows)

@@ -1,5 +1,5 @@
 -- The header of a saved timeline reads back.
-use Rattle.std.proofs.Common.{◌≡◌, ℕ, ◌-◌, ◌<◌, ◌≤◌, ◌^◌, length, Bool, true, false, cond, not, ◌&&◌, nat_le, List, [], ◌∷◌, ◌++◌, decimal, refl, ap, ◌∙◌, arith, Option, Some, None, Ok}
+use Rattle.std.proofs.Common.{◌≡◌, ℕ, ◌-◌, ◌<◌, ◌≤◌, ◌^◌, length, true, false, cond, not, ◌&&◌, nat_le, List, [], ◌∷◌, ◌++◌, decimal, refl, ap, ◌∙◌, arith, Option, Some, None, Ok}
 use Rattle.std.specs.Prelude.{◌==◌, codes, option_and_then}
 use Rattle.std.specs.List.{list_all}
 use Rattle.std.proofs.lemmas.Bool.{eqb-true, le-leb}
@@ -13,10 +13,7 @@ use Rattle.script_grammar.specs.Numbers.{count_of, natural_of, next_of, time_of,
 use Rattle.script_grammar.specs.SpellingLaws.{is_word, words-then, words-alone, decimal_is_word, time_of-decimal}
 use Rattle.script_grammar.specs.Words.{is_filled, is_space, words}
 use Rattle.timeline_file.specs.Saved.{count_text, header_text, kind_text, next_text}
-
-both_hold : (test other : Bool) → (test && other) ≡ true → (test ≡ true) × (other ≡ true)
-both_hold true other h = (refl, h)
-both_hold false other h = absurd (cc)
+use Rattle.retro_base.specs.Facts.{both_true}
 
 -- a name is a word
 no_space : (byte : ℕ) → is_name_byte byte ≡ true → not (is_space byte) ≡ true
@@ -29,7 +26,7 @@ no_space byte named =
 no_spaces : (bytes : List ℕ) → list_all is_name_byte bytes ≡ true → list_all (λ byte. not (is_space byte)) bytes ≡ true
 no_spaces [] all = refl
 no_spaces (byte ∷ bytes) all =
-    let parts = both_hold (is_name_byte byte) (list_all is_name_byte bytes) all in
+    let parts = both_true (is_name_byte byte) (list_all is_name_byte bytes) all in
     rw (no_space byte parts.0) (no_spaces bytes parts.1)
 
 filled : (bytes : List ℕ) → starts_with_letter bytes ≡ true → is_filled bytes ≡ true
@@ -39,9 +36,9 @@ filled (byte ∷ bytes) starts = refl
 name_is_word : (name : List ℕ) → is_name name ≡ true → is_word name ≡ true
 unfolding is_name
 name_is_word name named =
-    let first = both_hold (starts_with_letter name && nat_le (length name) longest_name && list_all is_name_byte name) (not (is_reserved name)) named in
-    let second = both_hold (starts_with_letter name && nat_le (length name) longest_name) (list_all is_name_byte name) first.0 in
-    let third = both_hold (starts_with_letter name) (nat_le (length name) longest_name) second.0 in
+    let first = both_true (starts_with_letter name && nat_le (length name) longest_name && list_all is_name_byte name) (not (is_reserved name)) named in
+    let second = both_true (starts_with_letter name && nat_le (length name) longest_name) (list_all is_name_byte name) first.0 in
+    let third = both_true (starts_with_letter name) (nat_le (length name) longest_name) second.0 in
     rw (filled name third.0) (no_spaces name second.1)
 
 -- the word of a kind

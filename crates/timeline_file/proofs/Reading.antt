@@ -1,6 +1,6 @@
 -- The row lines of a timeline read back, one after another.
 use Rattle.std.proofs.Common.{◌≡◌, ◌≢◌, ℕ, ◌<◌, ◌≤◌, ◌^◌, true, false, nat_lt, List, [], ◌∷◌, ◌++◌, map, length, length-append}
-use Rattle.std.proofs.Common.{append_assoc, append-nil, decimal, refl, sym, ap, ◌∙◌, arith, Option, Some, None, Result, Ok, Err}
+use Rattle.std.proofs.Common.{append_assoc, append-nil, decimal, refl, sym, ap, ◌∙◌, arith, Option, Some, None}
 use Rattle.std.specs.Prelude.{is_some}
 use Rattle.std.specs.Result.{result_err, result_unwrap_or}
 use Rattle.std.specs.List.{AllByRecursion}
@@ -11,7 +11,7 @@ use Rattle.retro_base.specs.declared.row.Row.{Row}
 use Rattle.retro_base.specs.Kind.{kind_of, same_kind}
 use Rattle.retro_base.specs.Limits.{most_rows, next_limit}
 use Rattle.retro_base.specs.OpText.{op_text}
-use Rattle.retro_base.specs.Replay.{fold_rows, one_later, run}
+use Rattle.retro_base.specs.Replay.{fold_rows, run}
 use Rattle.retro_base.specs.State.{State, empty, step}
 use Rattle.retro_base.specs.Timeline.{HaveOwnNumbers, IsTimeline, TimesNeverFall}
 use Rattle.script_grammar.specs.BlockLines.{is_end, is_passed_over, row_of}
@@ -22,6 +22,7 @@ use Rattle.timeline_file.specs.ReadsBack.{IsInRange, ReadsBack, taken_all}
 use Rattle.retro_base.specs.Name.{is_name}
 use Rattle.timeline_file.specs.Saved.{row_text, end_text}
 use Rattle.timeline_file.proofs.Header.{header_read}
+use Rattle.retro_base.specs.Outcomes.{earlier_none, same_state}
 
 -- the words of a row line
 row_words : (row : Row) → row.number < next_limit → row.time < 2 ^ 64
@@ -72,14 +73,6 @@ not_earlier [] row after never = omega arith
 not_earlier (first ∷ []) row after never = never.0.0
 not_earlier (first ∷ next ∷ before) row after never = not_earlier (next ∷ before) row after never.1
 
-earlier_goes : {S : Type 0} (r : Result S ℕ) → result_err (one_later r) ≡ None → result_err r ≡ None
-earlier_goes (Ok s) goes = refl
-earlier_goes (Err i) goes = absurd (cc)
-
-same_state : {S : Type 0} (r : Result S ℕ) (s : S) → result_unwrap_or (one_later r) s ≡ result_unwrap_or r s
-same_state (Ok t) s = refl
-same_state (Err i) s = refl
-
 performed : (before : List Row) (row : Row) (after : List Row) (s e : State) → result_err (run (before ++ row ∷ after) s) ≡ None
     → is_some (step row (result_unwrap_or (run before s) e)) ≡ true
 unfolding fold_rows
@@ -92,7 +85,7 @@ performed (first ∷ before) row after s e valid =
     elim (step first s) as (λ o. step first s ≡ o → is_some (step row (result_unwrap_or (run (first ∷ before) s) e)) ≡ true) [
       | None ↦ λ stops. let wrong : ◌≡◌ {A = Option ℕ} (Some 0) None = rw stops at valid in absurd (cc)
       | Some t ↦ λ goes.
-          rw (goes, same_state (fold_rows step before t) e) (performed before row after t e (earlier_goes (fold_rows step (before ++ row ∷ after) t) (rw goes at valid)))
+          rw (goes, same_state (fold_rows step before t) e) (performed before row after t e (earlier_none (fold_rows step (before ++ row ∷ after) t) (rw goes at valid)))
     ] refl
 
 itself : (kind : Kind) → same_kind kind kind ≡ true

@@ -4,11 +4,10 @@ use Rattle.std.specs.Prelude.{nat_le}
 use Rattle.std.specs.List.{insert, remove, AllByRecursion}
 use Rattle.std.proofs.Math.Dec.{leb}
 use Rattle.std.proofs.lemmas.Bool.{leb-true, leb-false, le-leb, lt-leb}
-use Rattle.std.proofs.lemmas.List.Sums.{sum_by-cons}
 use Rattle.retro_base.specs.declared.row.Row.{Row}
 use Rattle.retro_base.specs.Edits.{edited_by}
 use Rattle.retro_base.specs.Kind.{adds}
-use Rattle.retro_base.specs.OrderLaws.{all_at}
+use Rattle.retro_base.specs.OrderLaws.{all_at, place_of_time-cons, first_place}
 use Rattle.retro_base.specs.Places.{place_of_time}
 use Rattle.retro_base.specs.Timeline.{TimesNeverFall}
 use Rattle.timeline_undo.specs.declared.replacement.Replacement.{Replacement}
@@ -49,11 +48,6 @@ cut_after (x ∷ xs) zero n before new old e there = let same : n ≡ before = o
 cut_after (x ∷ xs) (suc index) n zero new old e there = absurd (omega arith)
 cut_after (x ∷ xs) (suc index) n (suc before) new old e there = ap (λ rs. x ∷ rs) (cut_after xs index n before new old (omega arith) there)
 
-within_of : {X : Type 0} (xs : List X) (i : ℕ) (x : X) → slice_get xs i ≡ Some x → i < length xs
-within_of [] i x there = absurd (cc)
-within_of (y ∷ ys) zero x there = omega arith
-within_of (y ∷ ys) (suc i) x there = omega (arith, within_of ys i x there)
-
 pub put_first : (rows : List Row) (r : Replacement) → slice_get rows r.index ≡ Some r.old → r.before ≤ length rows
     → edited_by rows (put_then_cut r.before r.new r.index r.old) ≡ replaced rows r
 put_first rows r there within =
@@ -89,15 +83,6 @@ edited_is_replaced rows r there within =
       | false ↦ λ e. rw e (cut_first rows r there)
     ] refl
 
--- how many rows stand up to a time
-up_to-cons : (time : ℕ) (row : Row) (rows : List Row) → place_of_time time (row ∷ rows) ≡ cond (leb row.time time) 1 0 + place_of_time time rows
-up_to-cons time row rows = sum_by-cons _ row rows
-
--- none of later rows
-none_up_to : (time : ℕ) (rows : List Row) → AllByRecursion (λ r. time < r.time) rows → place_of_time time rows ≡ 0
-none_up_to time [] all = refl
-none_up_to time (row ∷ rows) all = up_to-cons time row rows ∙ rw (lt-leb row.time time all.0) (omega (arith, none_up_to time rows all.1))
-
 all_later : (low high : ℕ) (rows : List Row) → low < high → AllByRecursion (λ (r : Row). high ≤ r.time) rows → AllByRecursion (λ (r : Row). low < r.time) rows
 all_later low high [] below all = tt
 all_later low high (row ∷ rows) below all = (omega (arith, all.0), all_later low high rows below all.1)
@@ -108,10 +93,10 @@ counts_one : (time : ℕ) (rows : List Row) (index : ℕ) (old : Row) → slice_
 counts_one time [] index old there = absurd (cc)
 counts_one time (row ∷ rows) zero old there =
     let same : row ≡ old = cc in
-    let first : place_of_time time (row ∷ rows) ≡ cond (leb old.time time) 1 0 + place_of_time time rows = rw (← same) (up_to-cons time row rows) in
+    let first : place_of_time time (row ∷ rows) ≡ cond (leb old.time time) 1 0 + place_of_time time rows = rw (← same) (place_of_time-cons time row rows) in
     omega (arith, first)
 counts_one time (row ∷ rows) (suc index) old there =
-    omega (arith, up_to-cons time row rows, up_to-cons time row (remove rows index), counts_one time rows index old there)
+    omega (arith, place_of_time-cons time row rows, place_of_time-cons time row (remove rows index), counts_one time rows index old there)
 
 stands_up_to : (time : ℕ) (rows : List Row) (index : ℕ) (old : Row) → TimesNeverFall rows → slice_get rows index ≡ Some old → old.time ≤ time
     → index < place_of_time time rows
@@ -119,12 +104,12 @@ stands_up_to time [] index old never there early = absurd (cc)
 stands_up_to time (row ∷ rows) zero old never there early =
     let same : row ≡ old = cc in
     let here : leb row.time time ≡ true = rw same (le-leb _ _ early) in
-    let more : place_of_time time (row ∷ rows) ≡ suc (place_of_time time rows) = up_to-cons time row rows ∙ rw here (omega arith) in
+    let more : place_of_time time (row ∷ rows) ≡ suc (place_of_time time rows) = place_of_time-cons time row rows ∙ rw here (omega arith) in
     rw more (omega arith)
 stands_up_to time (row ∷ rows) (suc index) old never there early =
     let first : row.time ≤ old.time = all_at (λ r. row.time ≤ r.time) rows index old never.0 there in
     let here : leb row.time time ≡ true = le-leb _ _ (omega arith) in
-    let more : place_of_time time (row ∷ rows) ≡ suc (place_of_time time rows) = up_to-cons time row rows ∙ rw here (omega arith) in
+    let more : place_of_time time (row ∷ rows) ≡ suc (place_of_time time rows) = place_of_time-cons time row rows ∙ rw here (omega arith) in
     rw more (omega (arith, stands_up_to time rows index old never.1 there early))
 
 stands_later : (time : ℕ) (rows : List Row) (index : ℕ) (old : Row) → TimesNeverFall rows → slice_get rows index ≡ Some old → time < old.time
@@ -133,13 +118,13 @@ stands_later time [] index old never there late = absurd (cc)
 stands_later time (row ∷ rows) zero old never there late =
     let same : row ≡ old = cc in
     let here : time < row.time = rw same late in
-    let none : place_of_time time (row ∷ rows) ≡ 0 = none_up_to time (row ∷ rows) (here, all_later time row.time rows here never.0) in
+    let none : place_of_time time (row ∷ rows) ≡ 0 = first_place time (row ∷ rows) (here, all_later time row.time rows here never.0) in
     rw none (omega arith)
 stands_later time (row ∷ rows) (suc index) old never there late =
     let rest = stands_later time rows index old never.1 there late in
     elim (leb row.time time) as (λ b. leb row.time time ≡ b → place_of_time time (row ∷ rows) ≤ suc index) [
-      | true ↦ λ e. let more : place_of_time time (row ∷ rows) ≡ suc (place_of_time time rows) = up_to-cons time row rows ∙ rw e (omega arith) in rw more (omega (arith, rest))
-      | false ↦ λ e. let more : place_of_time time (row ∷ rows) ≡ place_of_time time rows = up_to-cons time row rows ∙ rw e (omega arith) in rw more (omega (arith, rest))
+      | true ↦ λ e. let more : place_of_time time (row ∷ rows) ≡ suc (place_of_time time rows) = place_of_time-cons time row rows ∙ rw e (omega arith) in rw more (omega (arith, rest))
+      | false ↦ λ e. let more : place_of_time time (row ∷ rows) ≡ place_of_time time rows = place_of_time-cons time row rows ∙ rw e (omega arith) in rw more (omega (arith, rest))
     ] refl
 
 -- without a row as many stand up to a time as before, or one fewer where it stood among them

@@ -1,8 +1,7 @@
 -- A row that is replaced: that the list between the two edits is a timeline, and what the row that fails says of the step.
-use Rattle.std.proofs.Common.{◌≡◌, ℕ, zero, suc, ◌+◌, ◌<◌, ◌≤◌, Bool, true, false, List, [], ◌∷◌, length, slice_get, Option, Some, None, IfSome, Result, Ok, Err, refl, sym, ◌∙◌, ap, subst, arith}
+use Rattle.std.proofs.Common.{◌≡◌, ℕ, zero, suc, ◌+◌, ◌<◌, ◌≤◌, Bool, true, false, List, [], ◌∷◌, length, slice_get, Option, Some, None, IfSome, refl, sym, ◌∙◌, ap, subst, arith}
 use Rattle.std.specs.List.{insert, remove, AllByRecursion}
 use Rattle.std.specs.Option.{option_and_then, option_map}
-use Rattle.std.specs.Result.{result_err}
 use Rattle.std.proofs.lemmas.List.Edits.{length-remove}
 use Rattle.circular_buffer.specs.Buffer.{Buffer}
 use Rattle.retro_base.specs.declared.kind.Kind.{Kind}
@@ -33,6 +32,9 @@ use Rattle.timeline_undo.specs.Shift.{IsTargetOf, index_after, place_for, put_th
 use Rattle.timeline_undo.proofs.InTurn.{timeline_later}
 use Rattle.timeline_undo.proofs.Replaced.{edited_is_replaced, replacement_is_shift}
 use Rattle.timeline_undo.proofs.Steps.{place_within, stands_after_put, within_of}
+use Rattle.std.proofs.lemmas.Option.{slice_get_within}
+use Rattle.retro_base.specs.Facts.{there_is_one}
+use Rattle.retro_base.specs.Outcomes.{err_of}
 
 -- a row of a timeline may be replaced
 pub record MayShift (kind : Kind) (rows : List Row) (next : ℕ) (target : Target) (index : ℕ) (old : Row) : Type 0 where
@@ -83,27 +85,12 @@ fails_by kind rows failing (Some index) e named = (index, failing, e, named, ref
 pub fails_first : (kind : Kind) (rows : List Row) (failing : Row) → failing_row kind rows ≡ Some failing → FailsFirst kind rows failing.number failing.time
 fails_first kind rows failing named = fails_by kind rows failing (failure kind rows) refl named
 
--- where none is named, all can be performed
-there_is : {X : Type 0} (xs : List X) (i : ℕ) → i < length xs → slice_get xs i ≡ None → ⊥
-there_is [] i within none = omega arith
-there_is (x ∷ xs) zero within none = cc
-there_is (x ∷ xs) (suc i) within none = there_is xs i (omega arith) none
-
-err_at : {S : Type 0} (r : Result S ℕ) (i : ℕ) → result_err r ≡ Some i → r ≡ Err i
-err_at (Ok s) i e = absurd (cc)
-err_at (Err j) i e = let same : j ≡ i = cc in ap (λ k. Err k) same
-
 none_by : (kind : Kind) (rows : List Row) (first : Option ℕ) → failure kind rows ≡ first → option_and_then (slice_get rows) first ≡ None → failure kind rows ≡ None
 none_by kind rows None e none = e
-none_by kind rows (Some index) e none = absurd (there_is rows index (err_within step rows (empty kind) index (err_at (run rows (empty kind)) index e)) none)
+none_by kind rows (Some index) e none = absurd (there_is_one rows index (err_within step rows (empty kind) index (err_of (run rows (empty kind)) index e)) none)
 
 pub none_fails : (kind : Kind) (rows : List Row) → failing_row kind rows ≡ None → failure kind rows ≡ None
 none_fails kind rows none = none_by kind rows (failure kind rows) refl none
-
-index_below : {X : Type 0} (xs : List X) (i : ℕ) (x : X) → slice_get xs i ≡ Some x → i < length xs
-index_below [] i x there = absurd (cc)
-index_below (y ∷ ys) zero x there = omega arith
-index_below (y ∷ ys) (suc i) x there = omega (arith, index_below ys i x there)
 
 -- where a time fits once the row that had it is gone
 fits_left : (rows : List Row) (index : ℕ) (old : Row) → TimesNeverFall rows → slice_get rows index ≡ Some old → Fits (remove rows index) index old.time
@@ -176,7 +163,7 @@ module _ (kind : Kind) (rows : List Row) (next : ℕ) (target : Target) (index :
       → StandInTurn kind (next + 1) rows (cut_then_put index old (place_for target index (remove rows index)) (replacing target next old))
   cut_stands taking valid =
       let middle = cut_leads taking valid in
-      let fewer : length (remove rows index) < most_rows = omega (arith, length-remove rows index (index_below rows index old may.there), may.room.0) in (
+      let fewer : length (remove rows index) < most_rows = omega (arith, length-remove rows index (slice_get_within rows index old may.there), may.room.0) in (
         record { within = may.there; timeline = timeline_later kind (remove rows index) next may.room.1 middle },
         (
           record {

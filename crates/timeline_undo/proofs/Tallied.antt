@@ -6,7 +6,7 @@ use Rattle.std.specs.Option.{option_and_then, option_map}
 use Rattle.std.specs.Ordering.{int_eq}
 use Rattle.std.specs.Result.{result_err}
 use Rattle.std.proofs.lemmas.Bool.{le-leb, lt-leb}
-use Rattle.std.proofs.lemmas.List.{drop_all, take_all, take-append-drop, take-append-le, length-append, length-drop, length-take, take-take, drop-drop}
+use Rattle.std.proofs.lemmas.List.{drop_all, take_all, take-append-drop, length-append, length-drop, length-take, drop-drop}
 use Rattle.std.proofs.Math.Seq.{drop-cons, take-add}
 use Rattle.retro_base.specs.declared.kind.Kind.{Kind}
 use Rattle.retro_base.specs.declared.kind.Kind.TheVariants.{Queue, Stack, Deque, Dict, Pq}
@@ -23,7 +23,7 @@ use Rattle.retro_base.specs.lemmas.Counted.{all_lines, around}
 use Rattle.retro_base.specs.lemmas.CountedEntries.{pq_failure}
 use Rattle.retro_base.specs.lemmas.CountedKeys.{all_keys, passed_in, passed_out}
 use Rattle.retro_base.specs.lemmas.CountedLines.{line_failure}
-use Rattle.retro_base.specs.lemmas.CountedSizes.{quantity_after-le}
+use Rattle.retro_base.specs.lemmas.CountedSizes.{size_after-le}
 use Rattle.retro_base.specs.lemmas.Folds.{no_row, BothOrNeither, folds_agree, same_failure, fold_rows-nil, fold_rows-some, fold_rows-none}
 use Rattle.retro_base.specs.lemmas.SortedPairs.{sorted_nil}
 use Rattle.timeline_undo.specs.declared.replacement.Replacement.{Replacement}
@@ -92,13 +92,6 @@ read_first rows place read to within =
     let n : to - place ≡ read + (to - (place + read)) = omega arith in
     ap (λ k. take k (drop place rows)) n ∙ slice_two rows place read (to - (place + read))
 
--- the window that was read
-pub window_reads : (rows old window : List Row) (place read count : ℕ) → window ≡ take read (drop place rows) ++ drop read old → count ≤ read
-    → read ≤ length rows - place → take count window ≡ take count (drop place rows)
-window_reads rows old window place read count e within there =
-    ap (take count) e ∙ take-append-le count (take read (drop place rows)) (drop read old) (omega (arith, length-take read (drop place rows), length-drop place rows))
-    ∙ take-take count read (drop place rows) within
-
 -- a turn of a walk
 pub walk_stops : (rows : List Row) (place count to : ℕ) (tally : Tally) (failing : Row) → place + count ≤ to
     → tallied (take count (drop place rows)) tally ≡ Err failing → tallied (slice_range rows place to) tally ≡ Err failing
@@ -137,17 +130,13 @@ new_later rows r above within =
     rw (lt-leb r.before r.index above, from_the_start rows r.index, to_the_end rows r.before within, one)
     (ap (λ rs. take r.index rows ++ rs) (sym (append_assoc (slice_range rows (suc r.index) r.before) (r.new ∷ []) (drop r.before rows))))
 
--- each row counts one more at the most
-size_by : (op : Op) (n m : ℕ) → size_after op n ≡ Some m → m ≤ suc n
-size_by op n m e = omega (arith, quantity_after-le (quantity_of Deq) op n m e)
-
 item_by : (op : Op) (n most : ℕ) (next : Tally) → n ≤ most → option_map Items (size_after op n) ≡ Some next → IsUpTo next (suc most)
 item_by op n most next within e =
     elim (size_after op n) as (λ o. size_after op n ≡ o → IsUpTo next (suc most)) [
       | None ↦ λ stops. absurd (let wrong : ◌≡◌ {A = Option Tally} None (Some next) = rw stops at e in cc)
       | Some m ↦ λ goes.
           let is : Items m ≡ next = (let here : ◌≡◌ {A = Option Tally} (Some (Items m)) (Some next) = rw goes at e in cc) in
-          rw (← is) (omega (arith, size_by op n m goes))
+          rw (← is) (omega (arith, size_after-le op n m goes))
     ] refl
 
 abbrev is_keys : Tally → Bool

@@ -13,12 +13,13 @@ use Rattle.retro_base.specs.Replay.{one_later, fold_rows, run}
 use Rattle.retro_base.specs.State.{pairs, step}
 use Rattle.retro_base.specs.Timeline.{AreOfKind}
 use Rattle.retro_base.specs.lemmas.CountedKeys.{one_key}
-use Rattle.retro_base.specs.lemmas.Folds.{not_both, ok_same, one_later-ok, err_same, fold_rows-nil, fold_rows-some, fold_rows-none, fold_rows-append_err, fold_rows-last, between_stops, front_possible}
+use Rattle.retro_base.specs.lemmas.Folds.{not_both, ok_same, one_later-ok, err_same, fold_rows-nil, fold_rows-some, fold_rows-none, fold_rows-append_err, fold_rows-last, between_stops, front_possible, one_later-err}
 use Rattle.retro_base.specs.lemmas.SortedPairs.{same_key, sorted_nil}
 use Rattle.timeline_undo.specs.declared.tally.Presence.{Presence}
 use Rattle.timeline_undo.specs.declared.tally.Tally.{Tally}
 use Rattle.timeline_undo.specs.declared.tally.Tally.TheVariants.{Keys}
 use Rattle.timeline_undo.specs.Tallies.{absent, tally_after, there_after}
+use Rattle.retro_base.specs.Outcomes.{err_of, is_ok}
 
 -- the tally after rows, or the index of the first one that finds nothing to take
 abbrev pub tally_of : List Row → Tally → Result Tally ℕ
@@ -58,10 +59,6 @@ keyed key row n = quantity_after (quantity_of (Del key)) row.op n
 
 abbrev pub counted_key : ℤ → List Row → ℕ → Result ℕ ℕ
 counted_key key rows n = counted (quantity_of (Del key)) rows n
-
-one_later-err : {S : Type 0} (r : Result S ℕ) (i : ℕ) → one_later r ≡ Err i → (j : ℕ) × (r ≡ Err j) × (i ≡ suc j)
-one_later-err (Ok s) i e = absurd (not_both _ e refl)
-one_later-err (Err j) i e = (j, refl, err_same _ e refl)
 
 -- a fold that fails does so at a row before which it has come to a state
 record StopsAt {S : Type 0} (next_of : Row → S → Option S) (rows : List Row) (s : S) (index : ℕ) : Type 0 where
@@ -145,16 +142,8 @@ follows (row ∷ rows) p q tally e =
           ] refl
     ] refl
 
-err_of : {S : Type 0} (r : Result S ℕ) (s : S) → r ≡ Ok s → result_err r ≡ None
-err_of r s e = ap result_err e
-
-is_err : {S : Type 0} (r : Result S ℕ) (i : ℕ) → result_err r ≡ Some i → r ≡ Err i
-is_err (Ok s) i e = absurd (cc)
-is_err (Err j) i e = let same : j ≡ i = cc in ap (λ k. Err k) same
-
-ok_of : {S : Type 0} (r : Result S ℕ) → result_err r ≡ None → (s : S) × (r ≡ Ok s)
-ok_of (Ok s) e = (s, refl)
-ok_of (Err i) e = absurd (cc)
+no_err : {S : Type 0} (r : Result S ℕ) (s : S) → r ≡ Ok s → result_err r ≡ None
+no_err r s e = ap result_err e
 
 apart_from : (q k key : ℤ) → int_eq q k ≡ false → int_eq k key ≡ true → int_eq q key ≡ false
 apart_from q k key apart same = rw (← same_key k key same) apart
@@ -201,11 +190,11 @@ fails_there k before after row there all counts none others =
     let first : result_err (run front (pairs [])) ≡ Some (length before) =
     one_key k front [] (front_of_kind before row after all) sorted_nil
     (λ q apart.
-    let found = ok_of (counted_key q before 0) (others q apart) in
-    err_of _ found.0 (fold_rows-last (keyed q) before row 0 found.0 found.0 found.1 (leaves_others row.op k there (row_of_kind before row after all) none q found.0 apart)))
+    let found = is_ok (counted_key q before 0) (others q apart) in
+    no_err _ found.0 (fold_rows-last (keyed q) before row 0 found.0 found.0 found.1 (leaves_others row.op k there (row_of_kind before row after all) none q found.0 apart)))
     ∙ ap result_err here in
     ap (λ rs. result_err (run rs (pairs []))) (regroup before after row)
-    ∙ ap result_err (fold_rows-append_err step front after (pairs []) (length before) (is_err _ _ first))
+    ∙ ap result_err (fold_rows-append_err step front after (pairs []) (length before) (err_of _ _ first))
 
 -- a key is one of these, or its rows find their pairs
 either_key : (q k : ℤ) (rows : List Row) → result_err (counted_key k rows 0) ≡ None → (int_eq q k ≡ false → result_err (counted_key q rows 0) ≡ None)
@@ -236,9 +225,9 @@ first_of_two : (a b : ℤ) (before after : List Row) (row : Row) (here there : B
     → ((q : ℤ) → int_eq q a ≡ false → int_eq q b ≡ false → result_err (counted_key q before 0) ≡ None)
     → result_err (run (before ++ row ∷ after) (pairs [])) ≡ Some (length before)
 first_of_two a b before after row here there all counts_a counts_b (inl none) others =
-    fails_there a before after row here all counts_a none (λ q apart. either_key q b before (err_of _ _ counts_b) (others q apart))
+    fails_there a before after row here all counts_a none (λ q apart. either_key q b before (no_err _ _ counts_b) (others q apart))
 first_of_two a b before after row here there all counts_a counts_b (inr none) others =
-    fails_there b before after row there all counts_b none (λ q apart. either_key q a before (err_of _ _ counts_a) (λ not_a. others q not_a apart))
+    fails_there b before after row there all counts_b none (λ q apart. either_key q a before (no_err _ _ counts_a) (λ not_a. others q not_a apart))
 
 -- where the rows of all other keys find their pairs, the first failure is that of the rows of two keys
 pub two_keys : (a b : ℤ) (rows : List Row) → AreOfKind Dict rows
@@ -248,8 +237,8 @@ two_keys a b rows all others =
     elim (tally_of rows (Keys (absent a) (absent b))) as (λ r. tally_of rows (Keys (absent a) (absent b)) ≡ r → result_err r ≡ result_err (run rows (pairs []))) [
       | Ok tally ↦ λ e.
           let along = follows rows (absent a) (absent b) tally e in
-          sym (one_key a rows [] all sorted_nil (λ q apart. either_key q b rows (err_of _ _ along.second_counts) (others q apart))
-          ∙ err_of _ _ along.first_counts)
+          sym (one_key a rows [] all sorted_nil (λ q apart. either_key q b rows (no_err _ _ along.second_counts) (others q apart))
+          ∙ no_err _ _ along.first_counts)
       | Err index ↦ λ e.
           let stop = stops_at (λ row t. tally_after t row.op) rows (Keys (absent a) (absent b)) index e in
           let along = follows stop.before (absent a) (absent b) stop.reached stop.goes in

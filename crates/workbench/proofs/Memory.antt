@@ -23,7 +23,8 @@ use Rattle.workbench.specs.EditErrors.{IsRefusedBy}
 use Rattle.workbench.specs.Outcome.{is_refusal}
 use Rattle.workbench.specs.TimelineEffects.{TimelineEffect, deletes, makes, redoes, shifts, shifts_there, undoes}
 use Rattle.workbench.proofs.Refusals.{reported_is_no_refusal}
-use Rattle.workbench.proofs.TimelineEffects.{at_step, deletes_there, makes_accepted, redoes_newest, same_step, shifts_makes, shifts_step, slice_get_none, step_there, undoes_newest}
+use Rattle.workbench.proofs.TimelineEffects.{at_step, deletes_there, makes_accepted, redoes_newest, shifts_makes, shifts_step, slice_get_none, step_there, undoes_newest}
+use Rattle.retro_base.specs.Facts.{one_value}
 
 -- the line is not refused
 abbrev pub Stands : TimelineEffect → Type 0
@@ -73,7 +74,7 @@ pub shifted_memory : {X E : Type 0} (result : Result X E) (t : NamedTimeline) (t
     → shift_at t.rows target t.next place ≡ Some done → failure t.kind (edited_by t.rows done) ≡ None → OnErr result (ShiftStands t target place)
 shifted_memory (Ok x) t target place done room number is valid = tt
 shifted_memory (Err e) t target place done room number is valid =
-    λ step at. rw (same_step (shift_at t.rows target t.next place) step done at is) (shift_stands t done room number valid)
+    λ step at. rw (one_value (shift_at t.rows target t.next place) step done at is) (shift_stands t done room number valid)
 
 pub shifts_memory : {X E : Type 0} (result : Result X E) (t : NamedTimeline) (number place : ℕ) (target : Target) → place_of_row number t.rows ≡ Some place → place < length t.rows
     → OnErr result (ShiftStands t target place) → OnErr result (Stands (shifts t number target))

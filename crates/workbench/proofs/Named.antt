@@ -12,9 +12,7 @@ use Rattle.timeline_undo.specs.Session.{SessionState}
 use Rattle.workbench.specs.Bench.{NamedTimeline, is_named, has_timeline, named, timeline_of}
 use Rattle.workbench.specs.Reaction.{Effect, leaves, if_startable, with_first, on_named}
 use Rattle.workbench.specs.TimelineEffects.{TimelineEffect, unchanged}
-
-some_is_not_none : {X : Type 0} {x : X} → Some x ≡ None → ⊥
-some_is_not_none e = cc
+use Rattle.retro_base.specs.Facts.{some_is_not_none}
 
 pub taken_name : (timelines : List NamedTimeline) (name : List ℕ) (effect : Effect) → has_timeline name timelines ≡ true
     → if_startable timelines name effect ≡ leaves timelines (Refused refusals.NameTaken)

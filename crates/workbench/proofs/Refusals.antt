@@ -34,13 +34,11 @@ use Rattle.timeline_undo.specs.History.{newest_step}
 use Rattle.timeline_undo.specs.declared.shift.Target.{Target}
 use Rattle.timeline_undo.specs.declared.shift.Target.TheVariants.{At, Into}
 use Rattle.workbench.specs.Reported.{reported}
+use Rattle.retro_base.specs.Facts.{not_both}
 
 -- the effect leaves the timeline as it was, where it is a refusal
 abbrev Keeps : NamedTimeline → TimelineEffect → Type 0
 Keeps timeline effect = is_refusal effect.outcome ≡ true → effect.timeline ≡ timeline
-
-not_both : (b : Bool) → b ≡ false → b ≡ true → ⊥
-not_both b is_false is_true = cc
 
 keeps_if : (b : Bool) (timeline : NamedTimeline) (x y : TimelineEffect) → Keeps timeline x → Keeps timeline y → Keeps timeline (cond b x y)
 keeps_if true timeline x y first second = first

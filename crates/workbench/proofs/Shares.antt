@@ -9,7 +9,6 @@ use Rattle.std.specs.Str.{bytes_eq}
 use Rattle.std.proofs.lemmas.Bool.{leb-false, lt-leb}
 use Rattle.std.proofs.lemmas.List.Elements.{filter-append}
 use Rattle.std.proofs.lemmas.Map.Views.{any-filter_same}
-use Rattle.std.proofs.lemmas.Slice.Eq.{bytes_eq-Decides}
 use Rattle.retro_base.specs.declared.row.Row.{Row}
 use Rattle.retro_base.specs.Limits.{most_timelines}
 use Rattle.script_grammar.specs.declared.command.Command.{Command}
@@ -27,6 +26,7 @@ use Rattle.workbench.specs.Reaction.{Effect, BenchEffect, leaves, if_startable, 
 use Rattle.workbench.specs.Reported.{loaded}
 use Rattle.workbench.specs.TimelineEffects.{TimelineEffect, unchanged, inserts, deletes, moves, changes, answers, answers_fate, undoes, redoes, saves}
 use Rattle.workbench.proofs.Names.{KeepsName, inserts_keeps_name, deletes_keeps_name, moves_keeps_name, changes_keeps_name, undoes_keeps_name, redoes_keeps_name}
+use Rattle.retro_base.specs.Facts.{same_bytes}
 
 -- the share of a name in the timelines, in the block, and in what becomes of them
 abbrev pub share : List ℕ → List NamedTimeline → List NamedTimeline
@@ -44,10 +44,6 @@ share_of_effect name effect = record { timelines = share name effect.timelines; 
 
 abbrev pub share_of_all : List ℕ → BenchEffect → BenchEffect
 share_of_all name effect = record { bench = share_of_bench name effect.bench; outcome = effect.outcome }
-
--- two names are the same where the test says so
-same_name : (a b : List ℕ) → bytes_eq a b ≡ true → a ≡ b
-same_name a b e = (bytes_eq-Decides a b).0 e
 
 module _ (name : List ℕ) where
   -- one timeline more or less in front
@@ -86,7 +82,7 @@ module _ (name : List ℕ) where
   other_named other effect keeps apart (first ∷ timelines) =
       elim (is_named other first) as (λ b. is_named other first ≡ b → share name (on_named other effect (first ∷ timelines)).timelines ≡ share name (first ∷ timelines)) [
         | true ↦ λ is.
-            let out : is_named name first ≡ false = ap (λ n. bytes_eq n name) (same_name first.name other is) ∙ apart in
+            let out : is_named name first ≡ false = ap (λ n. bytes_eq n name) (same_bytes first.name other is) ∙ apart in
             let still : is_named name (effect first).timeline ≡ false = ap (λ n. bytes_eq n name) (keeps first) ∙ out in
             rw (is, share-out (effect first).timeline timelines still, share-out first timelines out) refl
         | false ↦ λ is.
@@ -162,7 +158,7 @@ module _ (name : List ℕ) where
       → share_of_effect name (closes timelines block ended) ≡ closes (share name timelines) block ended
   own_closes timelines block ended is room =
       own_startable_as block.name timelines (loads timelines block (finished block.block ended)) (loads (share name timelines) block (finished block.block ended))
-      (same_name block.name name is) (own_loads timelines block (finished block.block ended) is) room
+      (same_bytes block.name name is) (own_loads timelines block (finished block.block ended) is) room
 
   other_loads : (timelines : List NamedTimeline) (block : OpenBlock) (made : Result (List Row) BlockError) → bytes_eq block.name name ≡ false
       → share name (loads timelines block made).timelines ≡ share name timelines
@@ -181,23 +177,23 @@ module _ (name : List ℕ) where
   own_obeys timelines (Ok Nothing) is room = absurd (cc)
   own_obeys timelines (Ok (New other kind fused)) is room =
       own_startable_as other timelines (with_timeline timelines (fresh other kind) Accepted) (with_timeline (share name timelines) (fresh other kind) Accepted)
-      (same_name other name is) (own_comes timelines (fresh other kind) Accepted is) room
+      (same_bytes other name is) (own_comes timelines (fresh other kind) Accepted is) room
   own_obeys timelines (Ok (Insert other spot op)) is room =
-      rw (same_name other name is) (own_named (λ timeline. inserts timeline spot op) (inserts_keeps_name spot op) timelines)
+      rw (same_bytes other name is) (own_named (λ timeline. inserts timeline spot op) (inserts_keeps_name spot op) timelines)
   own_obeys timelines (Ok (Delete other number)) is room =
-      rw (same_name other name is) (own_named (λ timeline. deletes timeline number) (deletes_keeps_name number) timelines)
+      rw (same_bytes other name is) (own_named (λ timeline. deletes timeline number) (deletes_keeps_name number) timelines)
   own_obeys timelines (Ok (Move other number time)) is room =
-      rw (same_name other name is) (own_named (λ timeline. moves timeline number time) (moves_keeps_name number time) timelines)
+      rw (same_bytes other name is) (own_named (λ timeline. moves timeline number time) (moves_keeps_name number time) timelines)
   own_obeys timelines (Ok (Change other number op)) is room =
-      rw (same_name other name is) (own_named (λ timeline. changes timeline number op) (changes_keeps_name number op) timelines)
+      rw (same_bytes other name is) (own_named (λ timeline. changes timeline number op) (changes_keeps_name number op) timelines)
   own_obeys timelines (Ok (Fate other number)) is room =
-      rw (same_name other name is) (own_named (λ timeline. unchanged timeline (answers_fate timeline number)) (λ timeline. refl) timelines)
+      rw (same_bytes other name is) (own_named (λ timeline. unchanged timeline (answers_fate timeline number)) (λ timeline. refl) timelines)
   own_obeys timelines (Ok (Ask other moment query)) is room =
-      rw (same_name other name is) (own_named (λ timeline. unchanged timeline (answers timeline moment query)) (λ timeline. refl) timelines)
-  own_obeys timelines (Ok (Undo other)) is room = rw (same_name other name is) (own_named undoes undoes_keeps_name timelines)
-  own_obeys timelines (Ok (Redo other)) is room = rw (same_name other name is) (own_named redoes redoes_keeps_name timelines)
+      rw (same_bytes other name is) (own_named (λ timeline. unchanged timeline (answers timeline moment query)) (λ timeline. refl) timelines)
+  own_obeys timelines (Ok (Undo other)) is room = rw (same_bytes other name is) (own_named undoes undoes_keeps_name timelines)
+  own_obeys timelines (Ok (Redo other)) is room = rw (same_bytes other name is) (own_named redoes redoes_keeps_name timelines)
   own_obeys timelines (Ok (Save other)) is room =
-      rw (same_name other name is) (own_named (λ timeline. unchanged timeline (saves timeline)) (λ timeline. refl) timelines)
+      rw (same_bytes other name is) (own_named (λ timeline. unchanged timeline (saves timeline)) (λ timeline. refl) timelines)
   own_obeys timelines (Ok (Mute number)) is room = absurd (cc)
   own_obeys timelines (Ok (Header other kind next rows)) is room = refl
 

@@ -3,7 +3,7 @@ use Rattle.std.proofs.Common.{◌≡◌, ℕ, suc, ◌+◌, ◌≤◌, ℤ, pos,
 use Rattle.std.specs.Prelude.{if◌then◌else◌, is_some}
 use Rattle.std.specs.Map.{lookup, remove_entry}
 use Rattle.std.specs.Option.{option_map, option_map_or}
-use Rattle.std.specs.Ordering.{int_cmp, int_eq, match_ordering}
+use Rattle.std.specs.Ordering.{int_eq, match_ordering}
 use Rattle.std.specs.declared.cmp.Ordering.TheVariants.{Less, Equal, Greater}
 use Rattle.std.specs.Result.{result_unwrap_or}
 use Rattle.retro_base.specs.declared.kind.Kind.{Kind}
@@ -16,9 +16,10 @@ use Rattle.retro_base.specs.declared.question.Question.TheVariants.{Size}
 use Rattle.retro_base.specs.declared.row.Row.{Row}
 use Rattle.retro_base.specs.Answers.{answer_of}
 use Rattle.retro_base.specs.Replay.{fold_rows, one_later, present, run}
-use Rattle.retro_base.specs.State.{State, items, pairs, entries, empty, perform, step, with_key, without_first, without_key, without_last}
+use Rattle.retro_base.specs.State.{State, items, pairs, entries, empty, perform, step, without_first, without_key, without_last}
 use Rattle.retro_base.specs.lemmas.CountedEntries.{with_length}
 use Rattle.workbench.specs.Bench.{size_of}
+use Rattle.retro_base.specs.lemmas.CountedKeys.{put_length}
 
 -- the answer to the question of size
 pub size_answer : (state : State) → answer_of state Size ≡ Number (pos (size_of state))
@@ -47,12 +48,6 @@ by_order : (order : Ordering) (before here after : List (ℤ × ℤ)) (most : �
 by_order Less before here after most b h l = b
 by_order Equal before here after most b h l = h
 by_order Greater before here after most b h l = l
-
-put_in : (key value : ℤ) (ps : List (ℤ × ℤ)) → length (with_key key value ps) ≤ suc (length ps)
-put_in key value [] = omega arith
-put_in key value (pair ∷ ps) =
-    let rest = put_in key value ps in
-    by_order (int_cmp key pair.0) _ _ _ (suc (suc (length ps))) (omega arith) (omega arith) (omega (arith, rest))
 
 without : (test : ℤ → Bool) (ps : List (ℤ × ℤ)) → length (remove_entry test ps) ≤ length ps
 without test [] = omega arith
@@ -100,7 +95,7 @@ perform_grows PopR number (items xs) = last_out xs
 perform_grows PopR number (pairs ps) = tt
 perform_grows PopR number (entries es) = tt
 perform_grows (Put key value) number (items xs) = tt
-perform_grows (Put key value) number (pairs ps) = put_in key value ps
+perform_grows (Put key value) number (pairs ps) = put_length key value ps
 perform_grows (Put key value) number (entries es) = tt
 perform_grows (Del key) number (items xs) = tt
 perform_grows (Del key) number (pairs ps) = key_out key ps

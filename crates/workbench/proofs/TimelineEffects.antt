@@ -38,6 +38,7 @@ use Rattle.retro_base.specs.Order.{Fits}
 use Rattle.workbench.specs.TimelineEffects.{TimelineEffect, refuses, row_named, position_before, next_position, position_of, inserts_there, new_row, after_step, makes, edits}
 use Rattle.workbench.specs.TimelineEffects.{tells, inserts, deletes, shifts_there, shifts_by, shifts, changes, answers, undoes_step, undoes, redoes_step, redoes}
 use Rattle.retro_base.specs.OrderLaws.{time_fits, fits_before, fits_after}
+use Rattle.retro_base.specs.Facts.{one_value}
 
 pub inserts_other_kind : (t : NamedTimeline) (spot : Spot) (op : Op) → same_kind (kind_of op) t.kind ≡ false → inserts t spot op ≡ refuses t refusals.Kind
 unfolding inserts
@@ -128,10 +129,6 @@ pub shifted_ok : {E : Type 0} (result : Result Outcome E) (t after : NamedTimeli
 shifted_ok (Ok outcome) t after number place target there within leads = shifts_at_place t number place target (record { timeline = after; outcome = outcome }) there within leads
 shifted_ok (Err e) t after number place target there within leads = tt
 
--- what holds of the step that is there
-pub same_step : {X : Type 0} (o : Option X) (x y : X) → o ≡ Some x → o ≡ Some y → x ≡ y
-same_step o x y e f = cc
-
 pub at_step : (P : Step → Type 0) (step : Step) (found : Option Step) → found ≡ Some step → IfSome found P → P step
 at_step P step None same holds = absurd (cc)
 at_step P step (Some other) same holds = let is : other ≡ step = cc in subst P is holds
@@ -154,7 +151,7 @@ pub shift_accepted : (t : NamedTimeline) (target : Target) (place : ℕ) (done :
     → ShiftsAt t target place (record { timeline = after_step t done (t.next + 1); outcome = tells t done (Inserted t.next) })
 shift_accepted t target place done room number is valid =
     λ step at.
-    let same = same_step (shift_at t.rows target t.next place) step done at is in
+    let same = one_value (shift_at t.rows target t.next place) step done at is in
     rw same (shifts_makes t done room number ∙ makes_accepted t done (t.next + 1) (Inserted t.next) valid)
 
 pub shifted_told : {E : Type 0} (result : Result Outcome E) (t after : NamedTimeline) (target : Target) (place : ℕ) (done : Step)

@@ -117,10 +117,10 @@ pq_holds_entries Stack rows state same all e = absurd (cc)
 pq_holds_entries Deque rows state same all e = absurd (cc)
 pq_holds_entries Dict rows state same all e = absurd (cc)
 
-no_line : {xs : List ℤ} {es : List Entry} (state : State) → state ≡ items xs → state ≡ entries es → ⊥
+pub no_line : {xs : List ℤ} {es : List Entry} (state : State) → state ≡ items xs → state ≡ entries es → ⊥
 no_line state e f = cc
 
-no_pairs : {ps : List (ℤ × ℤ)} {es : List Entry} (state : State) → state ≡ pairs ps → state ≡ entries es → ⊥
+pub no_pairs : {ps : List (ℤ × ℤ)} {es : List Entry} (state : State) → state ≡ pairs ps → state ≡ entries es → ⊥
 no_pairs state e f = cc
 
 pub entries_are_of_pq : (kind : Kind) (rows : List Row) (state : State) (es : List Entry) → state ≡ entries es → AreOfKind kind rows → run rows (empty kind) ≡ Ok state

@@ -17,6 +17,7 @@ use Rattle.retro_base.specs.Timeline.{AreOfKind}
 use Rattle.retro_base.specs.Counting.{one_fewer, pair_after, quantity_of, quantity_after, counted}
 use Rattle.retro_base.specs.lemmas.Folds.{not_both, ok_same, one_later-ok, fold_rows-nil, fold_rows-some, fold_rows-none}
 use Rattle.retro_base.specs.lemmas.SortedPairs.{AreSorted, has, same_key, same_as_itself, sorted_with, has_with, sorted_without, others_stay, is_gone}
+use Rattle.retro_base.specs.Outcomes.{earlier_none, later_none}
 
 -- how many pairs of a key there are: 1 or none
 abbrev pub pair_count : ℤ → List (ℤ × ℤ) → ℕ
@@ -30,7 +31,7 @@ Goes op ps state = (qs : List (ℤ × ℤ)) × (state ≡ pairs qs) × AreSorted
 abbrev Stops : Op → List (ℤ × ℤ) → Type 0
 Stops op ps = (key : ℤ) × (quantity_of op ≡ Key key) × (pair_after key op (pair_count key ps) ≡ None)
 
-put_length : (k v : ℤ) (ps : List (ℤ × ℤ)) → length (with_key k v ps) ≤ suc (length ps)
+pub put_length : (k v : ℤ) (ps : List (ℤ × ℤ)) → length (with_key k v ps) ≤ suc (length ps)
 put_length k v [] = omega arith
 put_length k v (e ∷ es) =
     elim (int_cmp k e.0) as (λ o. length (match_ordering o ((k, v) ∷ e ∷ es) ((e.0, v) ∷ es) (e ∷ with_key k v es)) ≤ suc (suc (length es))) [
@@ -119,14 +120,6 @@ same_later (Ok s) (Err j) e = absurd (cc)
 same_later (Err i) (Ok t) e = absurd (cc)
 same_later (Err i) (Err j) e = let same : i ≡ j = cc in ap (λ k. Some (suc k)) same
 
-none_later : {S : Type 0} (r : Result S ℕ) → result_err (one_later r) ≡ None → result_err r ≡ None
-none_later (Ok s) e = refl
-none_later (Err i) e = absurd (cc)
-
-later_none : {S : Type 0} (r : Result S ℕ) → result_err r ≡ None → result_err (one_later r) ≡ None
-later_none (Ok s) e = refl
-later_none (Err i) e = absurd (cc)
-
 abbrev keyed : ℤ → Row → ℕ → Option ℕ
 keyed key row n = quantity_after (Key key) row.op n
 
@@ -140,7 +133,7 @@ all_keys (row ∷ rows) ps all sorted valid q =
       | Some t ↦ λ at.
           let to = goes row.op row.number ps t all.0 sorted at in
           let rest : result_err (run rows (pairs to.0)) ≡ None =
-          none_later _ (sym (ap result_err (fold_rows-some step row rows (pairs ps) (pairs to.0) (at ∙ ap (λ s. Some s) to.1))) ∙ valid) in
+          earlier_none _ (sym (ap result_err (fold_rows-some step row rows (pairs ps) (pairs to.0) (at ∙ ap (λ s. Some s) to.1))) ∙ valid) in
           ap result_err (fold_rows-some (keyed q) row rows (pair_count q ps) (pair_count q to.0) (to.3 q))
           ∙ later_none _ (all_keys rows to.0 all.1 to.2 rest q)
     ] refl
@@ -162,7 +155,7 @@ one_key key (row ∷ rows) ps all sorted others =
       | Some t ↦ λ at.
           let to = goes row.op row.number ps t all.0 sorted at in
           let rest = one_key key rows to.0 all.1 to.2
-          (λ q apart. none_later _ (sym (ap result_err (fold_rows-some (keyed q) row rows (pair_count q ps) (pair_count q to.0) (to.3 q))) ∙ others q apart)) in
+          (λ q apart. earlier_none _ (sym (ap result_err (fold_rows-some (keyed q) row rows (pair_count q ps) (pair_count q to.0) (to.3 q))) ∙ others q apart)) in
           ap result_err (fold_rows-some step row rows (pairs ps) (pairs to.0) (at ∙ ap (λ s. Some s) to.1))
           ∙ same_later _ _ rest
           ∙ sym (ap result_err (fold_rows-some (keyed key) row rows (pair_count key ps) (pair_count key to.0) (to.3 key)))
@@ -178,18 +171,18 @@ module _ (next_of : Row → ℕ → Option ℕ) (row : Row) (passes : (n : ℕ) 
         | None ↦ λ at. absurd (clash _ (ap result_err (fold_rows-none next_of first (before ++ after) n at)) (e))
         | Some m ↦ λ at.
             ap result_err (fold_rows-some next_of first (before ++ row ∷ after) n m at)
-            ∙ later_none _ (passed_in before after m (none_later _ (sym (ap result_err (fold_rows-some next_of first (before ++ after) n m at)) ∙ e)))
+            ∙ later_none _ (passed_in before after m (earlier_none _ (sym (ap result_err (fold_rows-some next_of first (before ++ after) n m at)) ∙ e)))
       ] refl
 
   pub passed_out : (before after : List Row) (n : ℕ) → result_err (fold_rows next_of (before ++ row ∷ after) n) ≡ None
       → result_err (fold_rows next_of (before ++ after) n) ≡ None
-  passed_out [] after n e = none_later _ (sym (ap result_err (fold_rows-some next_of row after n n (passes n))) ∙ e)
+  passed_out [] after n e = earlier_none _ (sym (ap result_err (fold_rows-some next_of row after n n (passes n))) ∙ e)
   passed_out (first ∷ before) after n e =
       elim (next_of first n) as (λ o. next_of first n ≡ o → result_err (fold_rows next_of (first ∷ (before ++ after)) n) ≡ None) [
         | None ↦ λ at. absurd (clash _ (ap result_err (fold_rows-none next_of first (before ++ row ∷ after) n at)) (e))
         | Some m ↦ λ at.
             ap result_err (fold_rows-some next_of first (before ++ after) n m at)
-            ∙ later_none _ (passed_out before after m (none_later _ (sym (ap result_err (fold_rows-some next_of first (before ++ row ∷ after) n m at)) ∙ e)))
+            ∙ later_none _ (passed_out before after m (earlier_none _ (sym (ap result_err (fold_rows-some next_of first (before ++ row ∷ after) n m at)) ∙ e)))
       ] refl
 
 -- an operation of a dictionary has a key, and leaves the pairs of other keys as they are

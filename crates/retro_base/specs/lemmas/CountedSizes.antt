@@ -28,7 +28,7 @@ taken_where : (b : Bool) (size next : ℕ) → (if b then one_fewer size else So
 taken_where true size next e = shrunk size next e
 taken_where false size next e = same_size size next e
 
-size_after-le : (op : Op) (size next : ℕ) → size_after op size ≡ Some next → next ≤ suc size
+pub size_after-le : (op : Op) (size next : ℕ) → size_after op size ≡ Some next → next ≤ suc size
 size_after-le (Enq v) size next e = grown size next e
 size_after-le Deq size next e = shrunk size next e
 size_after-le (Push v) size next e = grown size next e

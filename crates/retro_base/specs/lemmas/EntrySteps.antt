@@ -20,7 +20,7 @@ use Rattle.retro_base.specs.lemmas.bridges.EntryOrder.{before_irreflexive, befor
 use Rattle.retro_base.specs.lemmas.bridges.Entries.{with_first, with_later}
 
 -- what does not come before an entry does not come before a lesser one
-after_lesser : (y x e : Entry) → comes_before y x ≡ false → comes_before e x ≡ true → comes_before y e ≡ false
+pub after_lesser : (y x e : Entry) → comes_before y x ≡ false → comes_before e x ≡ true → comes_before y e ≡ false
 after_lesser y x e after lesser = elim (comes_before y e) as (λ b. comes_before y e ≡ b → b ≡ false) [
   | true ↦ λ before. sym (before_transitive y e x before lesser) ∙ after
   | false ↦ λ no. refl

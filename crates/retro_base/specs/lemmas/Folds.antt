@@ -40,7 +40,7 @@ pub one_later-ok : {S : Type 0} (r : Result S ℕ) (t : S) → one_later r ≡ O
 one_later-ok (Ok s) t e = e
 one_later-ok (Err i) t e = absurd (not_both _ refl e)
 
-one_later-err : {S : Type 0} (r : Result S ℕ) (i : ℕ) → one_later r ≡ Err i → (j : ℕ) × (r ≡ Err j) × (i ≡ suc j)
+pub one_later-err : {S : Type 0} (r : Result S ℕ) (i : ℕ) → one_later r ≡ Err i → (j : ℕ) × (r ≡ Err j) × (i ≡ suc j)
 one_later-err (Ok s) i e = absurd (not_both _ e refl)
 one_later-err (Err j) i e = (j, refl, err_same _ e refl)
 

@@ -13,12 +13,13 @@ use Rattle.retro_base.specs.declared.op.Op.{Op}
 use Rattle.retro_base.specs.declared.op.Op.TheVariants.{Enq, Deq, Push, Pop, PushL, PushR, PopL, PopR, Put, Del, Ins, DelMin}
 use Rattle.retro_base.specs.declared.row.Row.{Row}
 use Rattle.retro_base.specs.Kind.{adds, kind_of}
-use Rattle.retro_base.specs.Replay.{one_later, IsValid}
+use Rattle.retro_base.specs.Replay.{IsValid}
 use Rattle.retro_base.specs.Timeline.{AreOfKind}
 use Rattle.retro_base.specs.Counting.{one_fewer, size_after, pair_after, quantity_of, quantity_after, counted}
 use Rattle.retro_base.specs.lemmas.SortedPairs.{same_as_itself}
 use Rattle.retro_base.specs.lemmas.Folds.{fold_rows-nil, fold_rows-some, fold_rows-none, fold_rows-append, front_possible, after_possible, between_goes, later, ok_same, one_later-ok, not_both}
 use Rattle.retro_base.specs.lemmas.Counted.{all_count, around, failure_with, failure_without, of_kind_at}
+use Rattle.retro_base.specs.Outcomes.{earlier_none, later_none, is_ok}
 
 -- more is left where more was there
 abbrev Reaches : Option ℕ → Option ℕ → Type 0
@@ -71,17 +72,9 @@ quantity_reaches : (quantity : Quantity) (op : Op) (n m : ℕ) → n ≤ m → R
 quantity_reaches Items op n m within = size_reaches op n m within
 quantity_reaches (Key key) op n m within = pair_reaches key op n m within
 
-none_later : {S : Type 0} (r : Result S ℕ) → result_err (one_later r) ≡ None → result_err r ≡ None
-none_later (Ok s) e = refl
-none_later (Err i) e = absurd (cc)
-
-one_later_none : {S : Type 0} (r : Result S ℕ) → result_err r ≡ None → result_err (one_later r) ≡ None
-one_later_none (Ok s) e = refl
-one_later_none (Err i) e = absurd (cc)
-
-later_none : {S : Type 0} (n : ℕ) (r : Result S ℕ) → result_err r ≡ None → result_err (later n r) ≡ None
-later_none n (Ok s) e = refl
-later_none n (Err i) e = absurd (cc)
+still_none : {S : Type 0} (n : ℕ) (r : Result S ℕ) → result_err r ≡ None → result_err (later n r) ≡ None
+still_none n (Ok s) e = refl
+still_none n (Err i) e = absurd (cc)
 
 clash : {i : ℕ} (o : Option ℕ) → o ≡ Some i → o ≡ None → ⊥
 clash o e f = cc
@@ -107,8 +100,8 @@ more_count quantity (row ∷ rows) n m within valid =
             | None ↦ λ stops. absurd (no_none less _ stops (subst (λ q. Reaches q (quantity_after quantity row.op m)) goes (quantity_reaches quantity row.op n m within)))
             | Some more ↦ λ on.
                 let rest = more_count quantity rows less more (reached less more _ _ goes on (quantity_reaches quantity row.op n m within))
-                (none_later _ (sym (ap result_err (fold_rows-some (counting quantity) row rows n less goes)) ∙ valid)) in
-                ap result_err (fold_rows-some (counting quantity) row rows m more on) ∙ one_later_none _ rest
+                (earlier_none _ (sym (ap result_err (fold_rows-some (counting quantity) row rows n less goes)) ∙ valid)) in
+                ap result_err (fold_rows-some (counting quantity) row rows m more on) ∙ later_none _ rest
           ] refl
     ] refl
 
@@ -188,10 +181,6 @@ taken_less (Del k) n m taking e = less_where (int_eq k k) n m e
 taken_less (Ins k) n m taking e = absurd (cc)
 taken_less DelMin n m taking e = less_by n m e
 
-is_ok : {S : Type 0} (r : Result S ℕ) → result_err r ≡ None → (s : S) × (r ≡ Ok s)
-is_ok (Ok s) e = (s, refl)
-is_ok (Err i) e = absurd (cc)
-
 -- a row that adds may be put in anywhere
 pub adding_row_replays : (kind : Kind) (rows : List Row) (place : ℕ) (row : Row) → AreOfKind kind rows → IsValid kind rows → kind_of row.op ≡ kind → adds row.op ≡ true
     → IsValid kind (insert rows place row)
@@ -204,7 +193,7 @@ adding_row_replays kind rows place row all valid here adding =
     let more = added_more row.op before front.0 adding front.1 in
     let rest = more_count quantity after front.0 more.0 more.2 (after_possible (counting quantity) before after 0 front.0 front.1 whole) in
     failure_with kind rows place row all valid here
-    ∙ ap result_err (between_goes (counting quantity) before after row 0 front.0 more.0 front.1 more.1) ∙ later_none (length before + 1) _ rest
+    ∙ ap result_err (between_goes (counting quantity) before after row 0 front.0 more.0 front.1 more.1) ∙ still_none (length before + 1) _ rest
 
 -- a row that takes may be taken out
 pub taking_row_can_go : (kind : Kind) (rows : List Row) (place : ℕ) (row : Row) → AreOfKind kind rows → IsValid kind rows → slice_get rows place ≡ Some row → adds row.op ≡ false
@@ -221,7 +210,7 @@ taking_row_can_go kind rows place row all valid at taking =
       | None ↦ λ stops. absurd (clash _ (ap result_err (fold_rows-none (counting quantity) row after front.0 stops)) with_row)
       | Some less ↦ λ goes.
           let rest = more_count quantity after less front.0 (taken_less row.op front.0 less taking goes)
-          (none_later _ (sym (ap result_err (fold_rows-some (counting quantity) row after front.0 less goes)) ∙ with_row)) in
+          (earlier_none _ (sym (ap result_err (fold_rows-some (counting quantity) row after front.0 less goes)) ∙ with_row)) in
           failure_without kind rows place row all valid at
-          ∙ ap result_err (fold_rows-append (counting quantity) before after 0 front.0 front.1) ∙ later_none (length before) _ rest
+          ∙ ap result_err (fold_rows-append (counting quantity) before after 0 front.0 front.1) ∙ still_none (length before) _ rest
     ] refl

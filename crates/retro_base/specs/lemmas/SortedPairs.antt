@@ -48,7 +48,7 @@ none_above key [] all = refl
 none_above key (e ∷ es) all = has-cons key e es ∙ ap (λ o. cond (is_eq o) true (has key es)) all.0 ∙ none_above key es all.1
 
 -- the two choices may be made in either order
-swapped : (a b h : Bool) → cond a true (cond b true h) ≡ cond b true (cond a true h)
+pub swapped : (a b h : Bool) → cond a true (cond b true h) ≡ cond b true (cond a true h)
 swapped true true h = refl
 swapped true false h = refl
 swapped false true h = refl

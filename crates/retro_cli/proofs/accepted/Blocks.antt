@@ -25,6 +25,7 @@ use Rattle.retro_cli.proofs.accepted.Effects.{IsGood}
 use Rattle.retro_cli.proofs.accepted.Made.{IsRanged, IsSound}
 use Rattle.retro_cli.proofs.accepted.Positions.{same_kind_is}
 use Rattle.retro_cli.proofs.accepted.Spelled.{IsRowSpelled, row_is_spelled}
+use Rattle.retro_base.specs.Outcomes.{earlier_none, later_none, same_state}
 
 -- the rows of a block that is being read
 pub record IsGoodBlock (block : Block) : Type 0 where
@@ -42,19 +43,6 @@ begun_is_good kind next count least most = record {
   spelled = tt;
 }
 
--- One row more replays where it can be performed after the others.
-earlier_goes : {S : Type 0} (r : Result S ℕ) → result_err (one_later r) ≡ None → result_err r ≡ None
-earlier_goes (Ok s) goes = refl
-earlier_goes (Err i) goes = absurd (cc)
-
-later_goes : {S : Type 0} (r : Result S ℕ) → result_err r ≡ None → result_err (one_later r) ≡ None
-later_goes (Ok s) goes = refl
-later_goes (Err i) goes = absurd (cc)
-
-same_state : {S : Type 0} (r : Result S ℕ) (s : S) → result_unwrap_or (one_later r) s ≡ result_unwrap_or r s
-same_state (Ok t) s = refl
-same_state (Err i) s = refl
-
 goes_on : (row : Row) (rows : List Row) (s e : State) → result_err (run rows s) ≡ None → is_some (step row (result_unwrap_or (run rows s) e)) ≡ true
     → result_err (run (rows ++ row ∷ []) s) ≡ None
 unfolding fold_rows
@@ -68,7 +56,7 @@ goes_on row (first ∷ rows) s e valid performs =
       | None ↦ λ stops. let wrong : ◌≡◌ {A = Option ℕ} (Some 0) None = rw stops at valid in absurd (cc)
       | Some t ↦ λ goes.
           let later : is_some (step row (result_unwrap_or (one_later (fold_rows step rows t)) e)) ≡ true = rw goes at performs in
-          rw goes (later_goes (fold_rows step (rows ++ row ∷ []) t) (goes_on row rows t e (earlier_goes (fold_rows step rows t) (rw goes at valid))
+          rw goes (later_none (fold_rows step (rows ++ row ∷ []) t) (goes_on row rows t e (earlier_none (fold_rows step rows t) (rw goes at valid))
           (subst (λ state. is_some (step row state) ≡ true) (same_state (fold_rows step rows t) e) later)))
     ] refl
 

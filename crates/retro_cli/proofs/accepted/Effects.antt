@@ -44,9 +44,10 @@ use Rattle.workbench.specs.Reported.{evidence_of_step, reported}
 use Rattle.retro_cli.proofs.accepted.Leads.{Leads, leads_last, leads_later, leads_more, leads_so}
 use Rattle.retro_cli.proofs.accepted.Made.{IsRanged, IsSound, Makes, MakesStep, TakesBack, leads_to, sound_after, sound_later, step_back, step_later}
 use Rattle.retro_cli.proofs.accepted.Printable.{NamesTimeline}
-use Rattle.retro_cli.proofs.accepted.Telling.{Agrees, HasReported, agrees_as, is_listed, put, same_name, tells_step}
+use Rattle.retro_cli.proofs.accepted.Telling.{Agrees, HasReported, agrees_as, is_listed, put, tells_step}
 use Rattle.retro_cli.proofs.accepted.Passing.{IsPassedOver, accepted_passes, answer_passes, fate_passes, inserted_passes, refusal_passes, saved_passes}
 use Rattle.retro_cli.proofs.accepted.Positions.{IsCutOf, cut_is, position_within, same_kind_is}
+use Rattle.retro_base.specs.Facts.{same_bytes}
 
 -- the rows of which evidence tells
 abbrev pub reported_rows : Kind → List Row → List Row
@@ -72,14 +73,14 @@ TellsOf timeline effect =
     → HasReported names by timeline.name (reported_rows effect.timeline.kind effect.timeline.rows) judge (reply_text effect.outcome)
 
 pub record StaysGood (timeline : NamedTimeline) (effect : TimelineEffect) : Type 0 where
-  pub same_name : effect.timeline.name ≡ timeline.name
+  pub same_bytes : effect.timeline.name ≡ timeline.name
   pub good : IsGood effect.timeline
   pub tells : TellsOf timeline effect
 
 pub put_same : (name : List ℕ) (by : List ℕ → List Row) (rows : List Row) → by name ≡ rows → (other : List ℕ) → by other ≡ put name rows by other
 put_same name by rows own other =
     elim (bytes_eq name other) as (λ b. bytes_eq name other ≡ b → by other ≡ cond b rows (by other)) [
-      | true ↦ λ is. ap by (sym (same_name name other is)) ∙ own
+      | true ↦ λ is. ap by (sym (same_bytes name other is)) ∙ own
       | false ↦ λ apart. refl
     ] refl
 
@@ -89,7 +90,7 @@ names_no_timeline (Some row) = tt
 
 stays_as_it_was : (timeline : NamedTimeline) (outcome : Outcome) → IsGood timeline → IsPassedOver outcome → StaysGood timeline (unchanged timeline outcome)
 stays_as_it_was timeline outcome good passes = record {
-  same_name = refl;
+  same_bytes = refl;
   good = good;
   tells = λ names few listed judge by agrees own. record {
     later = judge;
@@ -160,7 +161,7 @@ module _ (truth : EditsAreReported) (spells : EditsAreSpelled) (back : PrintedRe
         elim (failure timeline.kind (edited_by timeline.rows step)) as (λ o. failure timeline.kind (edited_by timeline.rows step) ≡ o
         → StaysGood timeline (accepted_or_refused timeline (after_step timeline step next) (reported timeline.name timeline.kind timeline.rows step plain) o)) [
           | None ↦ λ valid. record {
-            same_name = refl;
+            same_bytes = refl;
             good = good_made step next more most (made valid);
             tells = λ names few listed judge by agrees own.
                 tells_made names few timeline.name good.named listed timeline.kind next step judge by timeline.rows (edited_by timeline.rows step) plain passes agrees own (made valid);
@@ -307,7 +308,7 @@ module _ (truth : EditsAreReported) (spells : EditsAreSpelled) (back : PrintedRe
         → (undo_start : List Row) → Leads (MakesStep timeline.kind timeline.next) undo_start undo after
         → (redo_start : List Row) → Leads (TakesBack timeline.kind timeline.next) redo_start redo after → StaysGood timeline (stepped after undo redo step)
     step_stays step after undo redo made undo_start undoable redo_start redoable = record {
-      same_name = refl;
+      same_bytes = refl;
       good = record {
         named = good.named;
         least = good.least;

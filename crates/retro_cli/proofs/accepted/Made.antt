@@ -8,12 +8,12 @@ use Rattle.retro_base.specs.declared.kind.Kind.TheVariants.{Pq}
 use Rattle.retro_base.specs.declared.op.Op.{Op}
 use Rattle.retro_base.specs.declared.op.Op.TheVariants.{Enq, Deq, Push, Pop, PushL, PushR, PopL, PopR, Put, Del, Ins, DelMin}
 use Rattle.retro_base.specs.declared.row.Row.{Row}
-use Rattle.retro_base.specs.Carried.{AddsOwnRow, IsPqEdit}
+use Rattle.retro_base.specs.Carried.{IsPqEdit}
 use Rattle.retro_base.specs.EditedLists.{can_go_back, there_and_back}
 use Rattle.retro_base.specs.Edits.{Edit, Step, add, cut, edited, edited_by, inverse, inverse_step, IsAccepted, IsWithin}
 use Rattle.retro_base.specs.Kind.{kind_of}
 use Rattle.retro_base.specs.Limits.{most_rows}
-use Rattle.retro_base.specs.MadeEdits.{all_inserted, inserted_is_fresh}
+use Rattle.retro_base.specs.MadeEdits.{all_inserted, adds_own_row}
 use Rattle.retro_base.specs.OrderLaws.{all_at, all_weaker}
 use Rattle.retro_base.specs.PrefixLaws.{valid_take}
 use Rattle.retro_base.specs.Replay.{IsValid}
@@ -116,11 +116,6 @@ in_range next row kind range = (range.1, pq_in_range row.op kind range.2)
 pub all_in_range : (next : ℕ) (rows : List Row) → AreOfKind Pq rows → AllByRecursion (IsRanged next) rows → AllByRecursion IsInRange rows
 all_in_range next [] kind ranged = tt
 all_in_range next (row ∷ rows) kind ranged = (in_range next row kind.0 ranged.0, all_in_range next rows kind.1 ranged.1)
-
-adds_own_row : (rows : List Row) (edit : Edit) → IsReplayable Pq (edited rows edit) → AddsOwnRow rows edit
-adds_own_row rows (add place row) after =
-    (all_inserted (λ r. kind_of r.op ≡ Pq) rows place row after.of_kind, inserted_is_fresh rows place row after.own_numbers)
-adds_own_row rows (cut place row) after = tt
 
 row_in_range : (next : ℕ) (rows : List Row) (edit : Edit) → IsSound Pq next rows → IsWithin rows edit → IsSound Pq next (edited rows edit) → IsInRange (edit_row edit)
 row_in_range next rows (add place row) before within after =

@@ -1,5 +1,5 @@
 -- The two edits that replace a row: each is made in sound rows and leads to sound rows, where the rows after both replay.
-use Rattle.std.proofs.Common.{◌≡◌, ◌≢◌, ℕ, ◌+◌, ◌<◌, ◌≤◌, zero, suc, true, false, List, [], ◌∷◌, length, slice_get, Some, refl, sym, subst, arith}
+use Rattle.std.proofs.Common.{◌≡◌, ◌≢◌, ℕ, ◌+◌, ◌<◌, ◌≤◌, true, false, List, length, slice_get, Some, refl, sym, subst, arith}
 use Rattle.std.specs.List.{insert, remove}
 use Rattle.std.proofs.lemmas.List.Edits.{length-remove}
 use Rattle.retro_base.specs.declared.kind.Kind.{Kind}
@@ -19,6 +19,7 @@ use Rattle.timeline_undo.specs.Shift.{IsTargetOf, index_after, place_for, replac
 use Rattle.timeline_undo.specs.declared.shift.Target.{Target}
 use Rattle.timeline_undo.specs.declared.shift.Target.TheVariants.{At, Into}
 use Rattle.retro_cli.proofs.accepted.Made.{IsRanged, IsSound, Makes, MakesStep, sound_later}
+use Rattle.std.proofs.lemmas.Option.{slice_get_within}
 
 -- what a row becomes has values of 64 bits
 abbrev pub HasTarget : Target → Type 0
@@ -46,11 +47,6 @@ new_of_kind kind (Into op) number old was here = here
 new_values : (target : Target) (number : ℕ) (old : Row) → HasValues old.op → HasTarget target → HasValues (replacing target number old).op
 new_values (At time) number old had has = had
 new_values (Into op) number old had has = has
-
-index_below : (rows : List Row) (index : ℕ) (old : Row) → slice_get rows index ≡ Some old → index < length rows
-index_below [] index old there = absurd (cc)
-index_below (row ∷ rows) zero old there = omega arith
-index_below (row ∷ rows) (suc index) old there = omega (arith, index_below rows index old there)
 
 -- a row with the next number comes into sound rows, and a row goes out of them
 comes : (kind : Kind) (rows : List Row) (next place : ℕ) (new : Row) → IsSound kind (next + 1) rows → IsFresh next rows → 1 ≤ next → next < next_limit → length rows < most_rows
@@ -117,7 +113,7 @@ module _ (shifts : ShiftsCanBeMade) (kind : Kind) (rows : List Row) (next : ℕ)
       subst (IsValid kind) (remove-insert middle put new within.1.0)
       (taking_row_can_go kind (insert middle put new) put new all valid (can_go_back middle (add put new) within.1.0) taking) in
       let first : Makes kind (next + 1) rows (cut index old) middle = goes kind rows (next + 1) index old lifted may.there middle_valid in
-      let fewer : length middle < most_rows = omega (arith, length-remove rows index (index_below rows index old may.there), may.room) in (
+      let fewer : length middle < most_rows = omega (arith, length-remove rows index (slice_get_within rows index old may.there), may.room) in (
         middle,
         first,
         (

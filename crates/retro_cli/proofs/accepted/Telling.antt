@@ -25,9 +25,7 @@ use Rattle.workbench.specs.Reported.{evidence_of, evidence_of_step}
 use Rattle.retro_cli.proofs.accepted.Made.{Makes, MakesStep, can_be_reported}
 use Rattle.retro_cli.proofs.accepted.Printable.{spelling_printable}
 use Rattle.retro_cli.proofs.accepted.ReadLines.{Reads, Takes, reads-append, reads_line, reads_nothing}
-
-pub same_name : (a b : List ℕ) → bytes_eq a b ≡ true → a ≡ b
-same_name a b is = (bytes_eq-Decides a b).0 is
+use Rattle.retro_base.specs.Facts.{same_bytes}
 
 pub itself : (name : List ℕ) → bytes_eq name name ≡ true
 itself name = (bytes_eq-Decides name name).1 refl
@@ -36,7 +34,7 @@ itself name = (bytes_eq-Decides name name).1 refl
 pub other_name : (first second name : List ℕ) → bytes_eq first name ≡ true → bytes_eq first second ≡ false → bytes_eq second name ≡ false
 other_name first second name own apart =
     elim (bytes_eq second name) as (λ b. bytes_eq second name ≡ b → b ≡ false) [
-      | true ↦ λ same. let wrong : true ≡ false = sym own ∙ ap (λ n. bytes_eq first n) (sym (same_name second name same)) ∙ apart in absurd (cc)
+      | true ↦ λ same. let wrong : true ≡ false = sym own ∙ ap (λ n. bytes_eq first n) (sym (same_bytes second name same)) ∙ apart in absurd (cc)
       | false ↦ λ e. refl
     ] refl
 
@@ -64,7 +62,7 @@ one_more test other so name out in_other [] listed = absurd (cc)
 one_more test other so name out in_other (first ∷ names) listed =
     elim (bytes_eq first name) as (λ b. bytes_eq first name ≡ b → counted test (first ∷ names) + 1 ≤ counted other (first ∷ names)) [
       | true ↦ λ is.
-          let same : first ≡ name = same_name first name is in
+          let same : first ≡ name = same_bytes first name is in
           let few = no_fewer test other so names in
           let first_out : test first ≡ false = ap test same ∙ out in
           let first_in : other first ≡ true = ap other same ∙ in_other in
@@ -104,7 +102,7 @@ rows_of-with name rows [] other = refl
 rows_of-with name rows (first ∷ reported) other =
     elim (is_named name first) as (λ b. is_named name first ≡ b → rows_of other (with_rows name rows (first ∷ reported)) ≡ cond (bytes_eq name other) (Some rows) (rows_of other (first ∷ reported))) [
       | true ↦ λ is.
-          rw (is, same_name first.name name is) (found_once name other rows first.rows (rows_of other reported))
+          rw (is, same_bytes first.name name is) (found_once name other rows first.rows (rows_of other reported))
       | false ↦ λ apart.
           rw apart
           (elim (is_named other first) as (λ b. is_named other first ≡ b
@@ -234,7 +232,7 @@ module _ (tells : EditsAreReported) (spells : EditsAreSpelled) (back : PrintedRe
       reads = reads_nothing judge;
       agrees = agrees_as names by (put name after by) judge.reported
           (λ other. elim (bytes_eq name other) as (λ b. bytes_eq name other ≡ b → by other ≡ cond b after (by other)) [
-            | true ↦ λ is. ap by (sym (same_name name other is)) ∙ own ∙ made
+            | true ↦ λ is. ap by (sym (same_bytes name other is)) ∙ own ∙ made
             | false ↦ λ apart. refl
           ] refl) agrees;
     }

@@ -23,7 +23,8 @@ use Rattle.retro_cli.proofs.accepted.Blocks.{all_then}
 use Rattle.retro_cli.proofs.accepted.Effects.{IsGood, StaysGood, put_same, reported_rows}
 use Rattle.retro_cli.proofs.accepted.Passing.{IsPassedOver, accepted_passes, refusal_passes}
 use Rattle.retro_cli.proofs.accepted.ReadLines.{Reads}
-use Rattle.retro_cli.proofs.accepted.Telling.{Agrees, HasReported, agrees_as, counted, is_listed, itself, other_name, put, same_name}
+use Rattle.retro_cli.proofs.accepted.Telling.{Agrees, HasReported, agrees_as, counted, is_listed, itself, other_name, put}
+use Rattle.retro_base.specs.Facts.{same_bytes}
 
 -- the names of the timelines, and the rows of each name of which evidence tells
 abbrev pub names_of : List NamedTimeline → List (List ℕ)
@@ -120,7 +121,7 @@ module _ (name : List ℕ) (effect : NamedTimeline → TimelineEffect) where
       elim (is_named name first) as (λ b. is_named name first ≡ b
       → Finds name effect (first ∷ timelines)
       (cond b (record { timelines = (effect first).timeline ∷ timelines; outcome = (effect first).outcome }) (with_first first (on_named name effect timelines)))) [
-        | true ↦ λ is. inr (found_first first timelines good (each first good.0) (same_name first.name name is))
+        | true ↦ λ is. inr (found_first first timelines good (each first good.0) (same_bytes first.name name is))
         | false ↦ λ apart. elim (finds each timelines good.1) [
           | inl none ↦ inl (ap (with_first first) none)
           | inr found ↦ inr (found_after first timelines (on_named name effect timelines) good.0 apart found)

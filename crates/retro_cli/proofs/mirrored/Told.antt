@@ -22,7 +22,8 @@ use Rattle.followers.specs.MirrorLaws.{TellsEdits}
 use Rattle.retro_cli.specs.Events.{events_spelled}
 use Rattle.retro_cli.proofs.accepted.Leads.{Leads}
 use Rattle.retro_cli.proofs.accepted.ReadLines.{SpellsSome, Takes}
-use Rattle.retro_cli.proofs.accepted.Telling.{itself, rows_of-with, same_name}
+use Rattle.retro_cli.proofs.accepted.Telling.{itself, rows_of-with}
+use Rattle.retro_base.specs.Facts.{same_bytes}
 
 -- A line that is no evidence spells no event.
 no_words : (all : List (List ℕ)) → is_evidence_line (join_with_byte 32 all) ≡ false → spelled_by all ≡ None
@@ -35,7 +36,7 @@ no_words (word ∷ next ∷ rest) other =
       | true ↦ λ begins.
           let wrong : true ≡ false =
           subst (λ first. is_evidence_line (join_with_byte 32 (first ∷ next ∷ rest)) ≡ false)
-          (same_name word (codes "edit") begins) other in
+          (same_bytes word (codes "edit") begins) other in
           absurd (cc)
       | false ↦ λ apart. refl
     ] refl
@@ -130,7 +131,7 @@ module _ (true_evidence : TrueIsAccepted) (stays : ReportedStays) (back : Printe
             subst (λ to. TellsEdits name same (e ∷ []) to) (sym (told_with judge e name))
             (elim (bytes_eq e.name name)
             as (λ b. bytes_eq e.name name ≡ b → TellsEdits name same (e ∷ []) (cond b after same)) [
-              | true ↦ λ is_own. subst (λ n. TellsEdits n (rows_told n judge) (e ∷ []) after) (same_name e.name name is_own) own
+              | true ↦ λ is_own. subst (λ n. TellsEdits n (rows_told n judge) (e ∷ []) after) (same_bytes e.name name is_own) own
               | false ↦ λ apart. TellsEdits.other same same e [] apart (TellsEdits.none same)
             ] refl);
       }

@@ -3,9 +3,10 @@ use Rattle.retro_base.specs.declared.row.Row.{Row}
 use Rattle.retro_base.specs.Kind.{kind_of}
 use Rattle.fates.specs.Fates.{holders}
 use Rattle.fates.specs.Holding.{Stands}
-use Rattle.fates.proofs.Steps.{few_more, own_same, there_first}
+use Rattle.fates.proofs.Steps.{few_more, there_first}
 use Rattle.fates.proofs.Windows.{index_within, window_goes, window_stops}
 use Rattle.fates.proofs.fate.fate_of.Goals as goal
+use Rattle.retro_base.specs.Facts.{one_at}
 
 pub standing_after-standing-requires-clause-replayable :
     goal.standing_after-standing-requires-clause-replayable
@@ -16,7 +17,7 @@ loop-from-init c = record {
   later = omega arith;
   within = omega (arith, c.requires.within);
   walked = λ own here.
-      let same = own_same c.args.rows.now c.args.place c.row_at-own.result own c.row_at-own.ensures here in
+      let same = one_at c.args.rows.now c.args.place c.row_at-own.result own c.row_at-own.ensures here in
       let stands = subst (λ (o : Row). Stands c.standing_after-standing.result o.number (holders (kind_of o.op) c.args.rows.now (suc c.args.place))) same
       c.standing_after-standing.ensures.stands in
       record {

@@ -46,7 +46,7 @@ rows_around rows place row at =
     ∙ ap (λ r. r ∷ drop (suc place) rows) (get_or_from_slice_get rows place row row at)))
     ∙ take-append-drop place rows
 
-length_front : (rows : List Row) (place : ℕ) → place ≤ length rows → length (take place rows) ≡ place
+pub length_front : (rows : List Row) (place : ℕ) → place ≤ length rows → length (take place rows) ≡ place
 length_front rows place within = omega (arith, length-take place rows)
 
 -- the seam of an added row, and of one that is cut

@@ -15,7 +15,7 @@ use Rattle.retro_base.specs.Bridges.{same_entry}
 abbrev pair_before : ℤ → ℕ → ℤ → ℕ → Bool
 pair_before k m l n = int_lt k l || (int_eq k l && nat_lt m n)
 
-key_irreflexive : (k : ℤ) → int_lt k k ≡ false
+pub key_irreflexive : (k : ℤ) → int_lt k k ≡ false
 key_irreflexive k = grind (arith, ints, nat_tests)
 
 pair_irreflexive : (k : ℤ) (m : ℕ) → pair_before k m k m ≡ false
@@ -46,7 +46,7 @@ pair_same k l m n same = ((Decides-int_eq k l).0 (grind (arith, nat_tests)), (De
 pub same_entry-refl : (a : Entry) → same_entry a a ≡ true
 same_entry-refl a = rw ((Decides-int_eq a.key a.key).1 refl, (Decides-eqb a.number a.number).1 refl) refl
 
-entry_of_parts : (k l : ℤ) (m n : ℕ) → k ≡ l → m ≡ n → ◌≡◌ {A = Entry} (record { key = k; number = m }) (record { key = l; number = n })
+pub entry_of_parts : (k l : ℤ) (m n : ℕ) → k ≡ l → m ≡ n → ◌≡◌ {A = Entry} (record { key = k; number = m }) (record { key = l; number = n })
 entry_of_parts k l m n e f = rw (e, f) refl
 
 pub same_entry-same : (a b : Entry) → same_entry a b ≡ true → a ≡ b

@@ -2,7 +2,7 @@
 -- dead entry is held at the last bridge before it, and those that were taken between are outlived by a greater dead one.
 --
 --     bridge ... place | taken entries ...      gained: the greatest dead entry from the bridge on
-use Rattle.std.proofs.Common.{◌≡◌, ℕ, zero, suc, ◌+◌, ◌-◌, ◌<◌, ◌≤◌, List, [], ◌∷◌, ◌++◌, length, take, drop, zero-add, length-take, ◌⊎◌, inl, inr, refl, ap, sym, ◌∙◌, arith, subst, Some, None}
+use Rattle.std.proofs.Common.{◌≡◌, ℕ, zero, suc, ◌+◌, ◌-◌, ◌<◌, ◌≤◌, List, [], ◌∷◌, ◌++◌, length, take, drop, zero-add, ◌⊎◌, inl, inr, refl, ap, sym, ◌∙◌, arith, subst, Some, None}
 use Rattle.std.specs.Prelude.{◌↔◌}
 use Rattle.std.proofs.lemmas.List.{take-append-drop, take-map}
 use Rattle.std.proofs.lemmas.Option.{slice_get_within}
@@ -23,7 +23,7 @@ use Rattle.retro_base.specs.lemmas.bridges.After.{after_front, entries_after, mo
 use Rattle.retro_base.specs.lemmas.bridges.Carried.{AtMost}
 use Rattle.retro_base.specs.lemmas.bridges.Chain.{NoneAfter, outlived, at_most_trans, at_most_both}
 use Rattle.retro_base.specs.lemmas.bridges.Later.{one_joins, row_at}
-use Rattle.retro_base.specs.lemmas.bridges.EditJunctions.{join_added_entry, join_cut_take, cut_take_holds}
+use Rattle.retro_base.specs.lemmas.bridges.EditJunctions.{join_added_entry, join_cut_take, cut_take_holds, length_front}
 
 -- between a bridge and a place after it
 pub record Between (rows : List Row) (bridge place : ℕ) : Type 0 where
@@ -37,13 +37,10 @@ drop_further (suc n) zero (suc index) [] at = refl
 drop_further (suc n) (suc m) (suc index) [] at = refl
 drop_further (suc n) m (suc index) (r ∷ rows) at = drop_further n m index rows (omega arith)
 
-front_of : (rows : List Row) (place : ℕ) → place ≤ length rows → length (take place rows) ≡ place
-front_of rows place within = omega (arith, length-take place rows)
-
 pub between : (rows : List Row) (bridge place : ℕ) → IsPqHistory rows → bridge ≤ place → place ≤ length rows → Between rows bridge place
 between rows bridge place history before within =
     let parts = after_front rows (take bridge rows) (drop bridge rows) bridge (place - bridge) (entries_at rows bridge) (sym (take-append-drop bridge rows))
-    (front_of rows bridge (omega arith)) history.of_kind history.valid (history_at rows bridge history).first in
+    (length_front rows bridge (omega arith)) history.of_kind history.valid (history_at rows bridge history).first in
     let there : bridge + (place - bridge) ≡ place = omega arith in
     record {
       up_to = subst (λ n. Leads (moves_of (take (place - bridge) (drop bridge rows))) (entries_at rows bridge) (entries_at rows n)) there parts.up_to;
@@ -58,7 +55,7 @@ none_between rows bridge place history within last = λ k next less way all.
     let before : bridge ≤ place = last.within in
     let there : entries_at rows (bridge + suc k) ≡ next =
     entries_after rows (take bridge rows) (drop bridge rows) bridge (suc k) (entries_at rows bridge) next (sym (take-append-drop bridge rows))
-    (front_of rows bridge (omega arith)) history.of_kind (history_at rows bridge history).first
+    (length_front rows bridge (omega arith)) history.of_kind (history_at rows bridge history).first
     (subst (λ l. Leads l (entries_at rows bridge) next) (take-map added_by (suc k) (drop bridge rows)) way) in
     last.last (bridge + suc k) (omega arith) (omega arith)
     (all_bridge (survivors rows) (entries_at rows (bridge + suc k)) (subst (AllIn (survivors rows)) (sym there) all))

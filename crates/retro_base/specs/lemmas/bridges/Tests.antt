@@ -1,5 +1,5 @@
 -- The tests say what they mean: an entry is among some entries, and a place is a bridge.
-use Rattle.std.proofs.Common.{◌≡◌, ℕ, Bool, true, false, ◌&&◌, ◌||◌, List, [], ◌∷◌, inl, inr, refl}
+use Rattle.std.proofs.Common.{◌≡◌, ℕ, true, false, ◌||◌, List, [], ◌∷◌, inl, inr, refl}
 use Rattle.std.specs.Prelude.{Contains}
 use Rattle.std.specs.List.{AllByRecursion, list_all}
 use Rattle.retro_base.specs.declared.row.Entry.{Entry}
@@ -7,14 +7,7 @@ use Rattle.retro_base.specs.declared.row.Row.{Row}
 use Rattle.retro_base.specs.Bridges.{entries_at, survivors, IsBridge, is_bridge, is_among, same_entry}
 use Rattle.retro_base.specs.lemmas.bridges.EntryOrder.{same_entry-refl, same_entry-same}
 use Rattle.retro_base.specs.lemmas.bridges.Entries.{In, contains_in, in_contains}
-
-either_true : (a b : Bool) → b ≡ true → (a || b) ≡ true
-either_true true b h = refl
-either_true false b h = h
-
-both_true : (a b : Bool) → (a && b) ≡ true → (a ≡ true) × (b ≡ true)
-both_true true b h = (refl, h)
-both_true false b h = absurd (cc)
+use Rattle.retro_base.specs.Facts.{both_true, either_true}
 
 pub in_is_among : (x : Entry) (xs : List Entry) → In x xs → is_among xs x ≡ true
 in_is_among x [] inside = absurd inside

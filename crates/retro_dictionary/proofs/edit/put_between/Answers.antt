@@ -1,8 +1,9 @@
 use Rattle.std.proofs.Common.{◌≡◌, refl, ap, ◌∙◌, rules}
 use Rattle.std.specs.List.{insert, remove}
-use Rattle.retro_dictionary.proofs.EditSteps.{all-same, kept-as, undone, remove-insert, labels-back}
+use Rattle.retro_dictionary.proofs.EditSteps.{all-same, kept-as, undone, labels-back}
 use Rattle.retro_dictionary.proofs.KeptEdits.{kept-with, can-cut, no_row-at}
 use Rattle.retro_dictionary.proofs.edit.put_between.Goals as goal
+use Rattle.retro_base.specs.EditedLists.{remove-insert}
 
 pub returns-then-is_err-clause-err : goal.returns-then-is_err-clause-err
 returns-then-is_err-clause-err g c =

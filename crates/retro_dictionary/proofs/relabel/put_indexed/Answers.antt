@@ -2,8 +2,8 @@ use Rattle.std.proofs.Common.{◌≡◌, List, ap, ◌∙◌, rules}
 use Rattle.std.specs.List.{insert, remove}
 use Rattle.retro_base.specs.declared.row.Row.{Row}
 use Rattle.retro_dictionary.specs.declared.kept.Kept.{Kept}
-use Rattle.retro_dictionary.proofs.EditSteps.{remove-insert}
 use Rattle.retro_dictionary.proofs.relabel.put_indexed.Goals as goal
+use Rattle.retro_base.specs.EditedLists.{remove-insert}
 
 pub returns-then-is_err-clause-err : goal.returns-then-is_err-clause-err
 returns-then-is_err-clause-err g c =

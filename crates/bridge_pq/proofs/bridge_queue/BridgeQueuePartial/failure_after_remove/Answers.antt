@@ -7,8 +7,9 @@ use Rattle.bridge_pq.specs.declared.marked_row.MarkedRow.{MarkedRow}
 use Rattle.bridge_pq.proofs.Edited.{history-of}
 use Rattle.bridge_pq.proofs.Failures.{cut-survivor-goes, cut-take-goes}
 use Rattle.bridge_pq.proofs.Places.{get-map}
-use Rattle.bridge_pq.proofs.Present.{mark-lives, mark-dead, unmarked, marked-set}
+use Rattle.bridge_pq.proofs.Present.{mark-lives, mark-dead, unmarked}
 use Rattle.bridge_pq.proofs.bridge_queue.BridgeQueuePartial.failure_after_remove.Goals as goal
+use Rattle.retro_base.specs.Facts.{not_false}
 
 pub failure_without_dead-requires-clause-dead : goal.failure_without_dead-requires-clause-dead
 failure_without_dead-requires-clause-dead g c =
@@ -20,7 +21,7 @@ returns-in_default-clause-first g c =
     (cut-survivor-goes (rows_of c.self.inside.rows) c.args.place c.get-item.result.row c.in-Some.own (history-of c.self.inside.rows c.self.inside.entries c.self.invariant)
     (get-map (λ (item : MarkedRow). item.row) c.self.inside.rows c.args.place c.get-item.result c.get-item.ensures.item) (sym c.added_entry.ensures ∙ c.in-Some.is)
     (mark-lives c.self.inside.rows c.self.inside.entries c.self.invariant c.args.place c.get-item.result c.in-Some.own c.get-item.ensures.item
-    (sym c.added_entry.ensures ∙ c.in-Some.is) (marked-set _ c.if-not-item.false))))
+    (sym c.added_entry.ensures ∙ c.in-Some.is) (not_false _ c.if-not-item.false))))
 
 pub returns-in_default-2-clause-first : goal.returns-in_default-2-clause-first
 returns-in_default-2-clause-first g c =

@@ -2,9 +2,9 @@ use Rattle.std.proofs.Common.{◌≡◌, ◌+◌, ◌-◌, ◌∙◌, min, ap, a
 use Rattle.std.specs.List.{slice_get}
 use Rattle.retro_base.specs.VisitsLaws.{visits-again}
 use Rattle.bridge_pq.specs.Gathered.{HeldLater}
-use Rattle.bridge_pq.proofs.CursorEntries.{get_drop}
 use Rattle.bridge_pq.proofs.GatheredEntries.{at_most_index, nth_beyond}
 use Rattle.bridge_pq.proofs.held.Held.take_nth.Goals as goal
+use Rattle.retro_base.specs.Facts.{get_drop}
 
 pub loop-preserved : goal.loop-preserved
 loop-preserved g c =
