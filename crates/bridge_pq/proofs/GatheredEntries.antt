@@ -9,7 +9,7 @@ use Rattle.retro_base.specs.EntriesInOrder.{AreInOrder}
 use Rattle.retro_base.specs.OrderLaws.{all_weaker}
 use Rattle.retro_base.specs.State.{comes_before, with_entry}
 use Rattle.retro_base.specs.lemmas.EntrySteps.{in_order_with, after_lesser}
-use Rattle.retro_base.specs.lemmas.bridges.EntryOrder.{before_irreflexive, before_transitive, before_or_after, same_or_other}
+use Rattle.retro_base.specs.lemmas.bridges.EntryOrder.{before_irreflexive, before_or_after, same_or_other, before_later, not_before_later}
 use Rattle.retro_base.specs.lemmas.bridges.Entries.{with_first, with_later, with_swapped}
 use Rattle.retro_base.specs.lemmas.CountedEntries.{with_length}
 use Rattle.bridge_pq.specs.declared.marked_entry.MarkedEntry.{MarkedEntry}
@@ -66,16 +66,6 @@ gathered_with e (x ∷ entries) others = elim (comes_before e x) as (λ b. with_
   | true ↦ refl
   | false ↦ ap (with_entry x) (gathered_with e entries others) ∙ swapped x e (with_all entries others)
 ]
-
--- the order is one of all
-not_before_later : (y x e : Entry) → comes_before y x ≡ false → comes_before x e ≡ false → comes_before y e ≡ false
-not_before_later y x e after before = elim (comes_before y e) as (λ b. comes_before y e ≡ b → b ≡ false) [
-  | true ↦ λ first. elim (same_or_other x e) [
-    | inl same ↦ sym first ∙ rw (← same) after
-    | inr other ↦ sym (before_transitive y e x first (before_or_after x e other before)) ∙ after
-  ]
-  | false ↦ λ no. refl
-] refl
 
 none_of_later : (f x : Entry) (xs : List Entry) → comes_before f x ≡ true → NoneBefore x xs → NoneBefore f xs
 none_of_later f x xs lesser none = all_weaker (λ y. comes_before y x ≡ false) (λ y. comes_before y f ≡ false) xs (λ y after. after_lesser y x f after lesser) none
@@ -137,12 +127,6 @@ left_in_order (Some x) left held = held.order.1
 pub after_none : (left rest : List Entry) (next : Option Entry) → IsTaken left next rest → next ≡ None → rest ≡ []
 after_none [] rest next taken nothing = taken.others
 after_none (x ∷ left) rest next taken nothing = absurd (let wrong : Some x ≡ None = sym taken.first ∙ nothing in cc)
-
-before_later : (f y w : Entry) → comes_before f y ≡ true → comes_before w y ≡ false → comes_before f w ≡ true
-before_later f y w first after = elim (same_or_other y w) [
-  | inl same ↦ rw (← same) first
-  | inr other ↦ before_transitive f y w first (before_or_after w y (λ back. other (sym back)) after)
-]
 
 drop_none : (m n : ℕ) → ◌≡◌ {A = List Entry} (drop m []) (drop n [])
 drop_none zero zero = refl

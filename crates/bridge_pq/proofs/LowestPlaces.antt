@@ -5,7 +5,8 @@ use Rattle.std.proofs.lemmas.Int.{ints}
 use Rattle.std.proofs.lemmas.Bool.{cases_lt}
 use Rattle.std.proofs.lemmas.Bool.Decides.{nat_tests}
 use Rattle.monoid_laws.specs.Summed.{sum_to}
-use Rattle.bridge_pq.specs.Dips.{falls_in, place_in, lower, one_dip, dip_of, is_lowest_up_to}
+use Rattle.bridge_pq.specs.Dips.{falls_in, place_in, lower, dip_of, is_lowest_up_to}
+use Rattle.bridge_pq.specs.MarkedRows.{one_dip-items}
 
 -- after so many steps the sum is first as far below 0 as it ever is
 pub record IsFirstLowest (xs : List ℤ) (place depth : ℕ) : Type 0 where
@@ -69,13 +70,9 @@ first_lowest [] = record { within = omega arith; there = refl; least = nothing_l
 first_lowest (pos n ∷ xs) = step_up n xs (dip_of xs).low (first_lowest xs)
 first_lowest (negsuc n ∷ xs) = step_down n xs (dip_of xs).low (first_lowest xs)
 
-one_step : (x : ℤ) → (one_dip x).items ≡ 1
-one_step (pos n) = refl
-one_step (negsuc n) = refl
-
 dip_items : (xs : List ℤ) → (dip_of xs).items ≡ length xs
 dip_items [] = refl
-dip_items (x ∷ xs) = omega (arith, one_step x, dip_items xs)
+dip_items (x ∷ xs) = omega (arith, one_dip-items x, dip_items xs)
 
 -- how many steps are after the lowest point tells how many are before it
 same_test : (all to place items low : ℕ) → items ≡ all - place → place ≤ all → to ≤ all → low ≤ items → nat_le (all - to) (items - low) ≡ nat_le (place + low) to

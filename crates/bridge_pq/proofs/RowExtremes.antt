@@ -21,7 +21,7 @@ use Rattle.bridge_pq.specs.declared.marked_row.MarkedRow.{MarkedRow}
 use Rattle.bridge_pq.specs.Bridged.{AddsAt}
 use Rattle.bridge_pq.specs.MarkedRows.{rows_of, is_one_of, AreMarked, dead_in, alive_in}
 use Rattle.bridge_pq.proofs.RowMeasures.{dead_of, alive_of, map-take, map-drop}
-use Rattle.retro_base.specs.Facts.{get_drop}
+use Rattle.retro_base.specs.Facts.{get_drop, get_taken}
 
 -- marks of parts
 pub marked-drop : (alive : List Entry) (items : List MarkedRow) (n : ℕ) → AreMarked alive items → AreMarked alive (drop n items)
@@ -127,12 +127,6 @@ adds-in [] place row x at adds = absurd (cc)
 adds-in (first ∷ rows) zero row x at adds = adds_here rows row first x adds at
 adds-in (first ∷ rows) (suc place) row x at adds = adds_later rows first x (adds-in rows place row x at adds)
 
-get_take : {A : Type 0} (xs : List A) (n k : ℕ) (x : A) → slice_get (take n xs) k ≡ Some x → slice_get xs k ≡ Some x
-get_take xs zero k x at = absurd (cc)
-get_take [] (suc n) k x at = at
-get_take (y ∷ ys) (suc n) zero x at = at
-get_take (y ∷ ys) (suc n) (suc k) x at = get_take ys n k x at
-
 module _ (order : Entry → Entry → Ordering) (agrees : (a b : Entry) → is_gt (order a b) ≡ false → comes_before b a ≡ false)
     (items : List MarkedRow) (marked : AreMarked (survivors (rows_of items)) items) where
   abbrev rows : List Row
@@ -192,7 +186,7 @@ module _ (order : Entry → Entry → Ordering) (agrees : (a b : Entry) → is_g
     pub some-alive : (place : ℕ) (e : Entry) → IsFirstGreatest (flip_args order) (alive_of before) e place → (x : Entry) × AddsAt rows place x × IsLeast (IsSurvivorBefore rows to) x
     some-alive place e first =
         let at = alive-there alive before place e (marked-take alive items to marked) first.there in
-        let row_there : slice_get rows place ≡ Some at.row = get_take rows to place at.row (ap (λ l. slice_get l place) (sym before_rows) ∙ at.there) in
+        let row_there : slice_get rows place ≡ Some at.row = get_taken rows to place at.row (ap (λ l. slice_get l place) (sym before_rows) ∙ at.there) in
         let inside : In e (added (take to rows)) = subst (λ l. In e (added l)) before_rows (adds-in (rows_of before) place at.row e at.there at.adds) in (
           e,
           (at.row, row_there, at.adds),

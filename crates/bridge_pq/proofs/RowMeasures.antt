@@ -15,6 +15,7 @@ use Rattle.retro_base.specs.Bridges.{survivors}
 use Rattle.retro_base.specs.Weights.{added_by, weight, weight_as, sum_of_weights}
 use Rattle.bridge_pq.specs.declared.marked_row.MarkedRow.{MarkedRow}
 use Rattle.bridge_pq.specs.MarkedRows.{rows_of, is_one_of, AreMarked, weight_in, dead_in, alive_in, weights_of, row_measure}
+use Rattle.monoid_laws.specs.SummedLaws.{add_assoc}
 
 -- the dead and the survivors that the rows add
 abbrev pub dead_of : List MarkedRow → List (Option Entry)
@@ -65,12 +66,9 @@ marked-weights alive (item ∷ items) marked =
     ap (λ w. w ∷ weights_of items) (weighs_by alive (added_by item.row) item.survives marked.0)
     ∙ ap (λ ws. weight_as alive (added_by item.row) ∷ ws) (marked-weights alive items marked.1)
 
-add_first : (a b c : ℤ) → (a +ℤ b) +ℤ c ≡ a +ℤ (b +ℤ c)
-add_first a b c = omega (arith, ints)
-
 folded : (f : Row → ℤ) (z : ℤ) (rows : List Row) → fold (λ sum row. sum +ℤ f row) z rows ≡ z +ℤ sum_of (map f rows)
 folded f z [] = omega (arith, ints)
-folded f z (row ∷ rows) = folded f (z +ℤ f row) rows ∙ add_first z (f row) (sum_of (map f rows))
+folded f z (row ∷ rows) = folded f (z +ℤ f row) rows ∙ add_assoc z (f row) (sum_of (map f rows))
 
 pub sums-are : (items : List MarkedRow) (place : ℕ) → AreMarked (survivors (rows_of items)) items → sum_to (weights_of items) place ≡ sum_of_weights (rows_of items) place
 sums-are items place marked =

@@ -65,7 +65,7 @@ row_measure item = (
   (one_element (dead_in item.survives (added_by item.row)), one_element (alive_in item.survives (added_by item.row))),
 )
 
-one_dip-items : (x : ℤ) → (one_dip x).items ≡ 1
+pub one_dip-items : (x : ℤ) → (one_dip x).items ≡ 1
 one_dip-items (pos n) = refl
 one_dip-items (negsuc n) = refl
 

@@ -22,11 +22,10 @@ use Rattle.retro_base.specs.Weights.{added_as, added_by}
 use Rattle.evidence.specs.Evidence.{IsPqOp}
 use Rattle.retro_base.specs.Changes.{Gains, Loses, change_of}
 use Rattle.retro_base.specs.OrderLaws.{all_at}
-use Rattle.retro_base.specs.lemmas.bridges.EntryOrder.{before_irreflexive, before_one_way}
+use Rattle.retro_base.specs.lemmas.bridges.EntryOrder.{before_irreflexive, before_one_way, not_before_later}
 use Rattle.evidence_check.specs.declared.marked_row.MarkedRow.{MarkedRow}
 use Rattle.evidence_check.specs.Marks.{MarksSurvivors, IsMarked, alive_entry, cut_change, dead_entry, gained, greatest_dead, is_alive_at, is_greater, is_less, least_alive, lost, marked_change, row_of, rows_of}
 use Rattle.evidence_check.specs.Truth.{bridge_of, edit_with}
-use Rattle.evidence_check.proofs.EntryOrder.{passed_on}
 use Rattle.evidence_check.proofs.Best.{best_is, none_shown}
 use Rattle.evidence_check.proofs.Members.{among_absent, among_contains}
 use Rattle.evidence_check.proofs.Shown.{is_dead_from, dead_from_shown, is_survivor_before, survivor_before_shown}
@@ -50,7 +49,7 @@ pub record Laws : Type 0 where
 
 -- the order turned round
 pub turned_on : (a b c : Entry) → is_greater a b ≡ false → is_greater b c ≡ false → is_greater a c ≡ false
-turned_on a b c first second = passed_on c b a second first
+turned_on a b c first second = not_before_later c b a second first
 
 pub turned_way : (a b : Entry) → is_greater a b ≡ true → is_greater b a ≡ false
 turned_way a b first = before_one_way b a first
@@ -75,7 +74,7 @@ module _ (laws : Laws) (marked : List MarkedRow) (kept : MarksSurvivors marked) 
   -- the greatest dead entry from a bridge on, and the least survivor before one
   is_greatest : (bridge : ℕ) (entry : Entry) → greatest_dead None (drop bridge marked) ≡ Some entry → IsGreatest (IsDeadFrom rows bridge) entry
   is_greatest bridge entry is =
-      let best = best_is is_less before_irreflexive passed_on before_one_way dead_entry None (drop bridge marked) entry is in
+      let best = best_is is_less before_irreflexive not_before_later before_one_way dead_entry None (drop bridge marked) entry is in
       record {
         one = elim best.one [ inl none ↦ absurd (cc) | inr shown ↦ is_dead_from marked kept bridge entry shown ];
         greatest = λ other dead. best.others other (dead_from_shown marked kept bridge other dead);
@@ -83,7 +82,7 @@ module _ (laws : Laws) (marked : List MarkedRow) (kept : MarksSurvivors marked) 
 
   is_greatest_with : (bridge : ℕ) (new entry : Entry) → greatest_dead (Some new) (drop bridge marked) ≡ Some entry → IsGreatest (λ e. (e ≡ new) ⊎ IsDeadFrom rows bridge e) entry
   is_greatest_with bridge new entry is =
-      let best = best_is is_less before_irreflexive passed_on before_one_way dead_entry (Some new) (drop bridge marked) entry is in
+      let best = best_is is_less before_irreflexive not_before_later before_one_way dead_entry (Some new) (drop bridge marked) entry is in
       record {
         one = elim best.one [ inl same ↦ inl (let one : entry ≡ new = cc in one) | inr shown ↦ inr (is_dead_from marked kept bridge entry shown) ];
         greatest = λ other is. elim is [ inl same ↦ best.first other (ap Some (sym same)) | inr dead ↦ best.others other (dead_from_shown marked kept bridge other dead) ];
@@ -99,11 +98,11 @@ module _ (laws : Laws) (marked : List MarkedRow) (kept : MarksSurvivors marked) 
 
   none_dead : (bridge : ℕ) → greatest_dead None (drop bridge marked) ≡ None → (entry : Entry) → ¬ IsDeadFrom rows bridge entry
   none_dead bridge none entry dead =
-      (none_shown is_less before_irreflexive passed_on before_one_way dead_entry None (drop bridge marked) none).1 entry (dead_from_shown marked kept bridge entry dead)
+      (none_shown is_less before_irreflexive not_before_later before_one_way dead_entry None (drop bridge marked) none).1 entry (dead_from_shown marked kept bridge entry dead)
 
   never_none : (bridge : ℕ) (new : Entry) → greatest_dead (Some new) (drop bridge marked) ≢ None
   never_none bridge new none =
-      let gone = (none_shown is_less before_irreflexive passed_on before_one_way dead_entry (Some new) (drop bridge marked) none).0 in cc
+      let gone = (none_shown is_less before_irreflexive not_before_later before_one_way dead_entry (Some new) (drop bridge marked) none).0 in cc
 
   none_before : (bridge : ℕ) → least_alive (take bridge marked) ≡ None → ¬ ((entry : Entry) × IsSurvivorBefore rows bridge entry)
   none_before bridge none some =

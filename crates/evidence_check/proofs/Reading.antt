@@ -13,7 +13,7 @@ use Rattle.retro_base.specs.Carried.{IsPqEdit}
 use Rattle.retro_base.specs.Changes.{change_of}
 use Rattle.retro_base.specs.Edits.{Edit, IsAccepted}
 use Rattle.retro_base.specs.Weights.{added_as}
-use Rattle.retro_base.specs.lemmas.bridges.EntryOrder.{before_irreflexive, before_one_way, same_entry-refl}
+use Rattle.retro_base.specs.lemmas.bridges.EntryOrder.{before_irreflexive, before_one_way, same_entry-refl, not_before_later}
 use Rattle.evidence.specs.declared.evidence.Evidence.{Evidence}
 use Rattle.evidence.specs.Evidence.{IsEvidence}
 use Rattle.evidence_check.specs.declared.marked_row.MarkedRow.{MarkedRow}
@@ -23,7 +23,6 @@ use Rattle.evidence_check.specs.Truth.{cause_of, fails_at, reported_edit}
 use Rattle.evidence_check.proofs.Accepted.{accepted_from}
 use Rattle.evidence_check.proofs.Best.{best-from}
 use Rattle.evidence_check.proofs.ChangesRead.{IsRight, Laws, right}
-use Rattle.evidence_check.proofs.EntryOrder.{passed_on}
 use Rattle.evidence_check.specs.Parts.{is_entry}
 use Rattle.evidence_check.proofs.Possible.{possible}
 use Rattle.evidence_check.proofs.Walks.{found_is}
@@ -39,7 +38,7 @@ fails_some test place marked row some =
 
 -- what is gained, by the greatest dead entry alone
 greatest_with : (new : Option Entry) (marked : List MarkedRow) → greatest_dead new marked ≡ better_of is_less new (greatest_dead None marked)
-greatest_with new marked = best-from is_less before_irreflexive passed_on before_one_way dead_entry new marked
+greatest_with new marked = best-from is_less before_irreflexive not_before_later before_one_way dead_entry new marked
 
 pub gained_is : (marked : List MarkedRow) (place bridge : ℕ) (new dead best : Option Entry) → bridge ≡ last_bridge (rows_of marked) place → dead ≡ greatest_dead None (drop bridge marked)
     → best ≡ better_of is_less new dead → option_map (λ entry. Gain bridge entry) best ≡ gained marked place new

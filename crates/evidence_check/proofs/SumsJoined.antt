@@ -4,14 +4,13 @@ use Rattle.std.specs.Prelude.{◌+ℤ◌, ◌≤ℤ◌}
 use Rattle.std.proofs.lemmas.Bool.Decides.{nat_tests}
 use Rattle.std.proofs.lemmas.Int.{ints}
 use Rattle.retro_base.specs.declared.row.Entry.{Entry}
-use Rattle.retro_base.specs.lemmas.bridges.EntryOrder.{before_irreflexive, before_one_way}
+use Rattle.retro_base.specs.lemmas.bridges.EntryOrder.{before_irreflexive, before_one_way, not_before_later}
 use Rattle.evidence_check.specs.declared.marked_row.MarkedRow.{MarkedRow}
 use Rattle.evidence_check.specs.declared.sums.Sums.{Sums}
 use Rattle.evidence_check.specs.Marks.{alive_entry, dead_entry, entry_of, greatest_dead, is_greater, is_less, least_alive, better_of}
 use Rattle.evidence_check.specs.Sums.{AreBounded, joined, lesser, low_of, sum_of, sums_of, weight_by, weight_of}
 use Rattle.evidence_check.proofs.Best.{best-join}
 use Rattle.evidence_check.proofs.ChangesRead.{turned_on, turned_way}
-use Rattle.evidence_check.proofs.EntryOrder.{passed_on}
 
 -- a weight is at most 1, up or down
 weight-up : (alive : Bool) (o : Option Entry) → weight_by alive o ≤ℤ pos 1
@@ -67,7 +66,7 @@ low-join (x ∷ xs) ys =
     ap (λ n. lesser (weight_of x) (weight_of x +ℤ n)) (low-join xs ys) ∙ lesser-moved (weight_of x) (low_of xs) (sum_of xs) (low_of ys)
 
 pub dead-join : (xs ys : List MarkedRow) → greatest_dead None (xs ++ ys) ≡ better_of is_less (greatest_dead None xs) (greatest_dead None ys)
-dead-join xs ys = best-join is_less before_irreflexive passed_on before_one_way dead_entry xs ys
+dead-join xs ys = best-join is_less before_irreflexive not_before_later before_one_way dead_entry xs ys
 
 pub alive-join : (xs ys : List MarkedRow) → least_alive (xs ++ ys) ≡ better_of is_greater (least_alive xs) (least_alive ys)
 alive-join xs ys = best-join is_greater before_irreflexive turned_on turned_way alive_entry xs ys

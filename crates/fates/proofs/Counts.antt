@@ -1,5 +1,5 @@
 -- The number of entries that are at most a given one, along a replay.
-use Rattle.std.proofs.Common.{◌≡◌, ℕ, zero, suc, ◌+◌, ◌-◌, Bool, true, false, not, cond, List, [], ◌∷◌, take, length, slice_get, refl, ap, ◌∙◌, arith, Option, Some, None, Ok, inl, inr}
+use Rattle.std.proofs.Common.{◌≡◌, ℕ, zero, suc, ◌+◌, ◌-◌, Bool, true, false, not, cond, List, [], ◌∷◌, take, length, slice_get, refl, sym, ap, ◌∙◌, arith, Option, Some, None, Ok}
 use Rattle.std.specs.Prelude.{filter}
 use Rattle.std.specs.List.{AllByRecursion}
 use Rattle.std.specs.Result.{result_err, result_unwrap_or}
@@ -13,7 +13,7 @@ use Rattle.retro_base.specs.EntriesInOrder.{AreInOrder}
 use Rattle.retro_base.specs.Replay.{fold_rows, run}
 use Rattle.retro_base.specs.State.{State, comes_before, entries, perform, step, with_entry}
 use Rattle.retro_base.specs.lemmas.EntrySteps.{in_order_with}
-use Rattle.retro_base.specs.lemmas.bridges.EntryOrder.{before_or_after, before_transitive, same_or_other}
+use Rattle.retro_base.specs.lemmas.bridges.EntryOrder.{before_later}
 use Rattle.retro_base.specs.Facts.{some_is}
 use Rattle.retro_base.specs.Outcomes.{earlier_none}
 
@@ -38,14 +38,6 @@ count_with most e (x ∷ xs) =
     elim (comes_before e x) as (λ b. count most (cond b (e ∷ x ∷ xs) (x ∷ with_entry e xs)) ≡ cond (is_at_most most e) (count most (x ∷ xs) + 1) (count most (x ∷ xs))) [
       | true ↦ first_counted (is_at_most most e) e (filter (is_at_most most) (x ∷ xs))
       | false ↦ later_counted (is_at_most most x) (is_at_most most e) x (filter (is_at_most most) (with_entry e xs)) (filter (is_at_most most) xs) (count_with most e xs)
-    ]
-
--- one entry less: the least one
-before_later : (most x y : Entry) → comes_before most x ≡ true → comes_before y x ≡ false → comes_before most y ≡ true
-before_later most x y first later =
-    elim (same_or_other y x) [
-      | inl same ↦ rw same first
-      | inr other ↦ before_transitive most x y first (before_or_after y x other later)
     ]
 
 none_counted : (most x : Entry) (xs : List Entry) → comes_before most x ≡ true → AllByRecursion (λ y. comes_before y x ≡ false) xs → filter (is_at_most most) xs ≡ []

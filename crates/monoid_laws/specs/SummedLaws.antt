@@ -11,10 +11,10 @@ summed items sum = record { items = items; sum = sum }
 add_zero : (a : ℤ) → a +ℤ pos 0 ≡ a
 add_zero a = omega (arith, ints)
 
-zero_add : (a : ℤ) → pos 0 +ℤ a ≡ a
+pub zero_add : (a : ℤ) → pos 0 +ℤ a ≡ a
 zero_add a = omega (arith, ints)
 
-add_assoc : (a b c : ℤ) → (a +ℤ b) +ℤ c ≡ a +ℤ (b +ℤ c)
+pub add_assoc : (a b c : ℤ) → (a +ℤ b) +ℤ c ≡ a +ℤ (b +ℤ c)
 add_assoc a b c = omega (arith, ints)
 
 same : {m n : ℕ} {a b : ℤ} → m ≡ n → a ≡ b → summed m a ≡ summed n b

@@ -54,9 +54,6 @@ first_row kind row rows xs zs line of_kind is =
 end_is : (xs zs : List ℤ) → run [] (items xs) ≡ Ok (items zs) → xs ≡ zs
 end_is xs zs is = items_same xs zs (run-nil (items xs) (items zs) is)
 
-further : (a b c : ℤ) → (a +ℤ b) +ℤ c ≡ a +ℤ (b +ℤ c)
-further a b c = omega (arith, ints)
-
 module _ (kind : Kind) (line : IsLine kind) (position : ℤ) where
   -- the position is inside after so many rows, where the ends stood at these growths before
   abbrev InsideAt : ℤ → ℤ → List Row → ℕ → Type 0

@@ -1,17 +1,14 @@
 -- What a range of signs with marks measures: two walks, that of the signs and that of the marks.
-use Rattle.std.specs.Prelude.{◌≡◌, ℕ, ℤ, pos, negsuc, ◌+ℤ◌, ◌-ℤ◌, Bool, List, take, if◌then◌else◌, refl}
+use Rattle.std.specs.Prelude.{◌≡◌, ℕ, ℤ, pos, ◌+ℤ◌, ◌-ℤ◌, Bool, List, take, if◌then◌else◌}
 use Rattle.std.specs.List.{slice_range}
 use Rattle.std.specs.Int.Signed.{le_z, lt_z}
 use Rattle.monoid_laws.specs.Walk.{Walk, one_step, walk_of, lowest_of, height_of}
 use Rattle.prefix_trees.specs.SignPrefixes.{signs_of, prefix, marks_in}
+use Rattle.prefix_trees.specs.Walks.{one_step-items}
 
 -- one sign with its mark
 abbrev pub one_walk : ℤ × Bool → Walk × Walk
 one_walk item = (one_step item.0, one_step (pos (if item.1 then 1 else 0)))
-
-one_step-items : (x : ℤ) → (one_step x).items ≡ 1
-one_step-items (pos n) = refl
-one_step-items (negsuc n) = refl
 
 pub one_walk-items : (item : ℤ × Bool) → (one_walk item).0.items ≡ 1
 one_walk-items item = one_step-items item.0

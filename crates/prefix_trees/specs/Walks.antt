@@ -10,7 +10,7 @@ use Rattle.prefix_trees.specs.Growth.{sign_of, left_growth, right_growth}
 abbrev pub row_walks : Row → Walk × (Walk × Walk)
 row_walks row = (one_step (sign_of row.op), (one_step (left_growth row.op), one_step (right_growth row.op)))
 
-one_step-items : (x : ℤ) → (one_step x).items ≡ 1
+pub one_step-items : (x : ℤ) → (one_step x).items ≡ 1
 one_step-items (pos n) = refl
 one_step-items (negsuc n) = refl
 

@@ -10,6 +10,7 @@ use Rattle.prefix_trees.specs.PositionLaws.{IsInside, written_from}
 use Rattle.prefix_trees.specs.FailureLaws.{LineAt, grown-take, all_taken}
 use Rattle.std.proofs.lemmas.Option.{slice_get_within}
 use Rattle.retro_base.specs.Facts.{get_taken}
+use Rattle.monoid_laws.specs.SummedLaws.{zero_add}
 
 -- the row at the place wrote the item at the index
 pub record IsWrittenAt (rows : List Row) (items : List ℤ) (index place : ℕ) : Type 0 where
@@ -27,26 +28,23 @@ same_row row other same = cc
 no_row : (row : Row) → ◌≡◌ {A = Option Row} None (Some row) → ⊥
 no_row row same = cc
 
-from_start : (a : ℤ) → pos 0 +ℤ a ≡ a
-from_start a = omega (arith, ints)
-
 module _ (kind : Kind) (line : IsLine kind) (rows : List Row) (place index : ℕ) (items : List ℤ) (all : AreOfKind kind rows) (within : place ≤ length rows)
     (at : LineAt kind rows place items) (there : index < length items) where
   after_start : (earlier : ℕ) → earlier ≤ place → InsideAfter rows place index earlier
       → IsInside (pos 0 +ℤ grown left_growth (take place rows) earlier) (pos 0 +ℤ grown right_growth (take place rows) earlier) (pos index -ℤ grown left_growth rows place)
   after_start earlier before inside =
       subst (λ (s : ℤ). IsInside s (pos 0 +ℤ grown right_growth (take place rows) earlier) (pos index -ℤ grown left_growth rows place))
-      (sym (from_start (grown left_growth (take place rows) earlier) ∙ grown-take left_growth rows place earlier before))
+      (sym (zero_add (grown left_growth (take place rows) earlier) ∙ grown-take left_growth rows place earlier before))
       (subst (λ (s : ℤ). IsInside (grown left_growth rows earlier) s (pos index -ℤ grown left_growth rows place))
-      (sym (from_start (grown right_growth (take place rows) earlier) ∙ grown-take right_growth rows place earlier before)) inside)
+      (sym (zero_add (grown right_growth (take place rows) earlier) ∙ grown-take right_growth rows place earlier before)) inside)
 
   from_after : (earlier : ℕ) → earlier ≤ place → IsInside (pos 0 +ℤ grown left_growth (take place rows) earlier) (pos 0 +ℤ grown right_growth (take place rows) earlier) (pos index -ℤ grown left_growth rows place)
       → InsideAfter rows place index earlier
   from_after earlier before inside =
       subst (λ (s : ℤ). IsInside s (grown right_growth rows earlier) (pos index -ℤ grown left_growth rows place))
-      (from_start (grown left_growth (take place rows) earlier) ∙ grown-take left_growth rows place earlier before)
+      (zero_add (grown left_growth (take place rows) earlier) ∙ grown-take left_growth rows place earlier before)
       (subst (λ (s : ℤ). IsInside (pos 0 +ℤ grown left_growth (take place rows) earlier) s (pos index -ℤ grown left_growth rows place))
-      (from_start (grown right_growth (take place rows) earlier) ∙ grown-take right_growth rows place earlier before) inside)
+      (zero_add (grown right_growth (take place rows) earlier) ∙ grown-take right_growth rows place earlier before) inside)
 
   size : length (take place rows) ≡ place
   size = length-take-le place rows within

@@ -13,13 +13,13 @@ use Rattle.retro_base.specs.Replay.{one_later, fold_rows, run}
 use Rattle.retro_base.specs.State.{pairs, step}
 use Rattle.retro_base.specs.Timeline.{AreOfKind}
 use Rattle.retro_base.specs.lemmas.CountedKeys.{one_key}
-use Rattle.retro_base.specs.lemmas.Folds.{not_both, ok_same, one_later-ok, err_same, fold_rows-nil, fold_rows-some, fold_rows-none, fold_rows-append_err, fold_rows-last, between_stops, front_possible, one_later-err}
+use Rattle.retro_base.specs.lemmas.Folds.{not_both, ok_same, err_same, fold_rows-nil, fold_rows-some, fold_rows-none, fold_rows-append_err, fold_rows-last, between_stops, front_possible, one_later-err}
 use Rattle.retro_base.specs.lemmas.SortedPairs.{same_key, sorted_nil}
 use Rattle.timeline_undo.specs.declared.tally.Presence.{Presence}
 use Rattle.timeline_undo.specs.declared.tally.Tally.{Tally}
 use Rattle.timeline_undo.specs.declared.tally.Tally.TheVariants.{Keys}
 use Rattle.timeline_undo.specs.Tallies.{absent, tally_after, there_after}
-use Rattle.retro_base.specs.Outcomes.{err_of, is_ok}
+use Rattle.retro_base.specs.Outcomes.{err_of, is_ok, later_ok}
 
 -- the tally after rows, or the index of the first one that finds nothing to take
 abbrev pub tally_of : List Row → Tally → Result Tally ℕ
@@ -130,7 +130,7 @@ follows (row ∷ rows) p q tally e =
             | None ↦ λ stops. absurd (not_both _ (fold_rows-none (λ row t. tally_after t row.op) row rows (Keys p q) (rw (goes, stops) refl)) e)
             | Some there ↦ λ too.
                 let rest = follows rows (with_there p here) (with_there q there) tally
-                (one_later-ok _ tally (sym (fold_rows-some (λ row t. tally_after t row.op) row rows (Keys p q) (Keys (with_there p here) (with_there q there)) (rw (goes, too) refl)) ∙ e)) in record {
+                (later_ok _ tally (sym (fold_rows-some (λ row t. tally_after t row.op) row rows (Keys p q) (Keys (with_there p here) (with_there q there)) (rw (goes, too) refl)) ∙ e)) in record {
                   first = rest.first;
                   second = rest.second;
                   is = rest.is;

@@ -15,9 +15,9 @@ use Rattle.retro_base.specs.State.{State, pairs, perform, step, with_key}
 use Rattle.retro_base.specs.Replay.{one_later, fold_rows, run}
 use Rattle.retro_base.specs.Timeline.{AreOfKind}
 use Rattle.retro_base.specs.Counting.{one_fewer, pair_after, quantity_of, quantity_after, counted}
-use Rattle.retro_base.specs.lemmas.Folds.{not_both, ok_same, one_later-ok, fold_rows-nil, fold_rows-some, fold_rows-none}
+use Rattle.retro_base.specs.lemmas.Folds.{not_both, ok_same, fold_rows-nil, fold_rows-some, fold_rows-none}
 use Rattle.retro_base.specs.lemmas.SortedPairs.{AreSorted, has, same_key, same_as_itself, sorted_with, has_with, sorted_without, others_stay, is_gone}
-use Rattle.retro_base.specs.Outcomes.{earlier_none, later_none}
+use Rattle.retro_base.specs.Outcomes.{earlier_none, later_none, later_ok}
 
 -- how many pairs of a key there are: 1 or none
 abbrev pub pair_count : ℤ → List (ℤ × ℤ) → ℕ
@@ -213,6 +213,6 @@ pairs_few (row ∷ rows) ps state all sorted e =
       | Some t ↦ λ at.
           let to = goes row.op row.number ps t all.0 sorted at in
           let rest = pairs_few rows to.0 state all.1 to.2
-          (one_later-ok _ state (sym (fold_rows-some step row rows (pairs ps) (pairs to.0) (at ∙ ap (λ s. Some s) to.1)) ∙ e)) in
+          (later_ok _ state (sym (fold_rows-some step row rows (pairs ps) (pairs to.0) (at ∙ ap (λ s. Some s) to.1)) ∙ e)) in
           (rest.0, rest.1, omega (arith, rest.2, to.4))
     ] refl

@@ -8,7 +8,8 @@ use Rattle.retro_base.specs.declared.op.Op.{Op}
 use Rattle.retro_base.specs.declared.op.Op.TheVariants.{Enq, Deq, Push, Pop, PushL, PushR, PopL, PopR, Put, Del, Ins, DelMin}
 use Rattle.retro_base.specs.declared.row.Row.{Row}
 use Rattle.retro_base.specs.Counting.{size_after, pair_after, one_fewer, quantity_after, counted}
-use Rattle.retro_base.specs.lemmas.Folds.{not_both, ok_same, one_later-ok, fold_rows-nil, fold_rows-some, fold_rows-none}
+use Rattle.retro_base.specs.lemmas.Folds.{not_both, ok_same, fold_rows-nil, fold_rows-some, fold_rows-none}
+use Rattle.retro_base.specs.Outcomes.{later_ok}
 
 grown : (size next : ℕ) → ◌≡◌ {A = Option ℕ} (Some (suc size)) (Some next) → next ≤ suc size
 grown size next e = let same : suc size ≡ next = cc in omega arith
@@ -67,6 +68,6 @@ counted-le quantity (row ∷ rows) size final e =
     elim (quantity_after quantity row.op size) as (λ o. quantity_after quantity row.op size ≡ o → final ≤ size + suc (length rows)) [
       | None ↦ λ stops. absurd (not_both _ (fold_rows-none (λ r n. quantity_after quantity r.op n) row rows size stops) e)
       | Some next ↦ λ goes.
-          let rest = counted-le quantity rows next final (one_later-ok _ final (sym (fold_rows-some (λ r n. quantity_after quantity r.op n) row rows size next goes) ∙ e)) in
+          let rest = counted-le quantity rows next final (later_ok _ final (sym (fold_rows-some (λ r n. quantity_after quantity r.op n) row rows size next goes) ∙ e)) in
           omega (arith, rest, quantity_after-le quantity row.op size next goes)
     ] refl

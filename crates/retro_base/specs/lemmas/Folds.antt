@@ -8,6 +8,7 @@ use Rattle.std.proofs.lemmas.List.{drop_all, get_or_default}
 use Rattle.retro_base.specs.declared.op.Op.TheVariants.{Enq}
 use Rattle.retro_base.specs.declared.row.Row.{Row}
 use Rattle.retro_base.specs.Replay.{one_later, fold_rows}
+use Rattle.retro_base.specs.Outcomes.{later_ok}
 
 -- the outcome of rows that stand after n more rows
 abbrev pub later : {S : Type 0} → ℕ → Result S ℕ → Result S ℕ
@@ -35,10 +36,6 @@ later-suc n (Err index) = ap (λ i. Err i) (omega arith)
 pub one_later-later : {S : Type 0} (n : ℕ) (r : Result S ℕ) → one_later (later n r) ≡ later (suc n) r
 one_later-later n (Ok state) = refl
 one_later-later n (Err index) = ap (λ i. Err i) (omega arith)
-
-pub one_later-ok : {S : Type 0} (r : Result S ℕ) (t : S) → one_later r ≡ Ok t → r ≡ Ok t
-one_later-ok (Ok s) t e = e
-one_later-ok (Err i) t e = absurd (not_both _ refl e)
 
 pub one_later-err : {S : Type 0} (r : Result S ℕ) (i : ℕ) → one_later r ≡ Err i → (j : ℕ) × (r ≡ Err j) × (i ≡ suc j)
 one_later-err (Ok s) i e = absurd (not_both _ e refl)
@@ -84,7 +81,7 @@ module _ {S : Type 0} (next_of : Row → S → Option S) where
       → fold_rows next_of (row ∷ (rows ++ b)) s ≡ later (suc (length rows)) (fold_rows next_of b t)
   append_some row rows b s u t goes rest e =
       fold_rows-some row (rows ++ b) s u goes
-      ∙ ap one_later (rest (one_later-ok _ t (sym (fold_rows-some row rows s u goes) ∙ e)))
+      ∙ ap one_later (rest (later_ok _ t (sym (fold_rows-some row rows s u goes) ∙ e)))
       ∙ one_later-later (length rows) (fold_rows next_of b t)
 
   append_by : (row : Row) (rows b : List Row) (s t : S) (o : Option S) → next_of row s ≡ o

@@ -17,9 +17,9 @@ use Rattle.retro_base.specs.Replay.{IsValid}
 use Rattle.retro_base.specs.Timeline.{AreOfKind}
 use Rattle.retro_base.specs.Counting.{one_fewer, size_after, pair_after, quantity_of, quantity_after, counted}
 use Rattle.retro_base.specs.lemmas.SortedPairs.{same_as_itself}
-use Rattle.retro_base.specs.lemmas.Folds.{fold_rows-nil, fold_rows-some, fold_rows-none, fold_rows-append, front_possible, after_possible, between_goes, later, ok_same, one_later-ok, not_both}
+use Rattle.retro_base.specs.lemmas.Folds.{fold_rows-nil, fold_rows-some, fold_rows-none, fold_rows-append, front_possible, after_possible, between_goes, later, ok_same, not_both}
 use Rattle.retro_base.specs.lemmas.Counted.{all_count, around, failure_with, failure_without, of_kind_at}
-use Rattle.retro_base.specs.Outcomes.{earlier_none, later_none, is_ok}
+use Rattle.retro_base.specs.Outcomes.{earlier_none, later_none, is_ok, later_ok}
 
 -- more is left where more was there
 abbrev Reaches : Option ℕ → Option ℕ → Type 0
@@ -139,7 +139,7 @@ one_pair key (row ∷ rows) n m few e =
       | None ↦ λ stops. absurd (not_both _ (fold_rows-none (counting (Key key)) row rows n stops) e)
       | Some next ↦ λ goes.
           one_pair key rows next m (pair_few key row.op n next few goes)
-          (one_later-ok _ m (sym (fold_rows-some (counting (Key key)) row rows n next goes) ∙ e))
+          (later_ok _ m (sym (fold_rows-some (counting (Key key)) row rows n next goes) ∙ e))
     ] refl
 
 -- a row that adds leaves at least as much as was there

@@ -68,3 +68,20 @@ not_same a b other = elim (same_entry a b) as (λ s. same_entry a b ≡ s → s 
 
 pub before_or_after : (a b : Entry) → a ≢ b → comes_before a b ≡ false → comes_before b a ≡ true
 before_or_after a b other after = pair_or_after a.key a.number b.key b.number (not_same a b other) after
+
+-- what does not come before an entry, where that one does not come before another, does not come before the other; and what comes
+-- before an entry comes before each that does not come before it
+pub not_before_later : (a b c : Entry) → comes_before a b ≡ false → comes_before b c ≡ false → comes_before a c ≡ false
+not_before_later a b c first second = elim (comes_before a c) as (λ t. comes_before a c ≡ t → t ≡ false) [
+  | true ↦ λ before. elim (same_or_other b c) [
+    | inl same ↦ sym before ∙ rw (← same) first
+    | inr other ↦ sym (before_transitive a c b before (before_or_after b c other second)) ∙ first
+  ]
+  | false ↦ λ no. refl
+] refl
+
+pub before_later : (a b c : Entry) → comes_before a b ≡ true → comes_before c b ≡ false → comes_before a c ≡ true
+before_later a b c first after = elim (same_or_other b c) [
+  | inl same ↦ rw (← same) first
+  | inr other ↦ before_transitive a b c first (before_or_after c b (λ back. other (sym back)) after)
+]
