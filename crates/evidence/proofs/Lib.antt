@@ -1,4 +1,3 @@
-pub mod Both
 pub mod NumberTexts
 pub mod Cutting
 pub mod LineWords

@@ -1,4 +1,3 @@
-pub mod EntryOrder
 pub mod Members
 pub mod Best
 pub mod Marking

@@ -1,9 +1,11 @@
+pub mod Facts
 pub mod Limits
 pub mod Kind
 pub mod Values
 pub mod Name
 pub mod State
 pub mod Replay
+pub mod Outcomes
 pub mod Answers
 pub mod EditedLists
 pub mod Edits
