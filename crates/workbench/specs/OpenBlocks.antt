@@ -3,7 +3,7 @@ use Rattle.std.specs.Prelude.{◌≡◌, Bool, List, Result, Ok, Err}
 use Rattle.retro_base.specs.declared.row.Row.{Row}
 use Rattle.timeline_file.specs.declared.block.BlockError.{BlockError}
 use Rattle.timeline_file.specs.Block.{finished}
-use Rattle.workbench.specs.declared.named_timeline.LoadedTimeline.{LoadedTimeline}
+use Rattle.workbench.specs.declared.loading.LoadedTimeline.{LoadedTimeline}
 use Rattle.workbench.specs.Bench.{OpenBlock, unspent}
 use Rattle.workbench.specs.Reaction.{of_block}
 use Rattle.workbench.specs.Reported.{loaded_evidence}

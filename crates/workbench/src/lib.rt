@@ -5,18 +5,22 @@
 //! judges each edit before anything is changed.
 //!
 //! - `Bench::line` does what a line asks for and gives the lines that answer it, by `specs/Reaction.antt`.
-//! - `bench`: the type and its calls. `timelines`, `named_timeline`: all timelines, and one of them. `open_block`: the block that is read.
+//! - `bench`: the type and its calls. `timelines`, `named_timeline`: all timelines, and one of them; `edits`, `questions`: what
+//!   can be done to one. `loading`: one that a block makes. `open_block`: the block that is read.
 //!   `position`: where a spot is. `outcome`, `reported`, `evidence_lines`: what a line is answered. `laws`: what evidence says of the
 //!   present.
 #![tactic(auto)]
 
 mod bench;
+mod edits;
 mod evidence_lines;
 pub mod laws;
+mod loading;
 mod named_timeline;
 mod open_block;
 mod outcome;
 mod position;
+mod questions;
 mod reported;
 mod timelines;
 

@@ -6,7 +6,8 @@ ghost use Rattle.timeline_file.specs.Block.{begun, finished};
 ghost use Rattle.workbench.specs.Reaction.{of_block, with_line};
 ghost use Rattle.workbench.specs.OpenBlocks.{ComesToTimeline};
 
-use crate::named_timeline::{LoadedTimeline, NamedTimeline};
+use crate::loading::LoadedTimeline;
+use crate::named_timeline::NamedTimeline;
 use retro_base::{Kind, Name, NoMemory};
 use std::alloc::Global;
 use std::marker::Model;

@@ -1,5 +1,5 @@
 use Rattle.std.proofs.Common.{◌≡◌, take}
-use Rattle.workbench.proofs.named_timeline.rows_of.Given as goal
+use Rattle.workbench.proofs.questions.rows_of.Given as goal
 
 abbrev pub invariant-loop-place : goal.invariant-loop-place
 invariant-loop-place l = l.rows ≡ take l.place l.timeline

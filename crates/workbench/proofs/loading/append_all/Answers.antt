@@ -2,7 +2,7 @@ use Rattle.std.proofs.Common.{refl, sym, ap, ◌∙◌, take}
 use Rattle.retro_base.specs.PrefixLaws.{take_more}
 use Rattle.timeline_undo.specs.Session.{SessionState}
 use Rattle.workbench.proofs.Loaded.{evidence_grows, loaded_none, put_in_after, timeline_begins, timeline_grows}
-use Rattle.workbench.proofs.named_timeline.append_all.Goals as goal
+use Rattle.workbench.proofs.loading.append_all.Goals as goal
 
 pub append-requires-clause-timeline : goal.append-requires-clause-timeline
 append-requires-clause-timeline g c =

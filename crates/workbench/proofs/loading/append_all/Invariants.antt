@@ -3,7 +3,7 @@ use Rattle.retro_base.specs.Timeline.{IsTimeline}
 use Rattle.timeline_undo.specs.Session.{SessionState}
 use Rattle.workbench.specs.Bench.{loaded_session}
 use Rattle.workbench.specs.Reported.{loaded_evidence}
-use Rattle.workbench.proofs.named_timeline.append_all.Given as goal
+use Rattle.workbench.proofs.loading.append_all.Given as goal
 
 abbrev pub invariant-loop-index : goal.invariant-loop-index
 invariant-loop-index g l = record {

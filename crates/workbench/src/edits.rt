@@ -1,0 +1,244 @@
+//! Edits of a timeline: a row put in, taken out or replaced, and steps undone and redone.
+
+ghost use Rattle.std.specs.Prelude.{◌≡◌, ◌≤◌, ◌<◌, false, length, List, Some, [], ◌∷◌, IfOk, OnErr, OnOk};
+ghost use Rattle.retro_base.specs.Kind.{kind_of, same_kind};
+ghost use Rattle.retro_base.specs.declared.row.Row.{Row};
+ghost use Rattle.retro_base.specs.Edits.{Step};
+ghost use Rattle.retro_base.specs.MadeEdits.{IsMade};
+ghost use Rattle.retro_base.specs.Order.{Fits};
+ghost use Rattle.timeline_undo.specs.Session.{AreMade, edit_reported, step_reported};
+ghost use Rattle.timeline_undo.specs.Shift.{IsTargetOf, shift_at};
+ghost use Rattle.timeline_undo.specs.declared.turn.Turns.TheVariants.{Double};
+ghost use Rattle.workbench.specs.Reported.{reported};
+ghost use Rattle.workbench.specs.declared.outcome.Outcome.TheVariants.{Accepted};
+ghost use Rattle.workbench.specs.EditErrors.{IsRefusedBy};
+
+use crate::named_timeline::{NamedTimeline, no_row};
+use crate::outcome::{Outcome, Refusal};
+use crate::position::{Position, position_of, row_named};
+use crate::reported::{reported, reported_both};
+use retro_base::{MAX_NEXT, MAX_ROWS, NoMemory, Op, Row};
+use script_grammar::Spot;
+use timeline_undo::{EditError, Target, Turn, Turns, UndoError};
+
+impl NamedTimeline {
+    ghost use Rattle.workbench.specs.Bench.{IsUnspent};
+    ghost use Rattle.workbench.specs.Outcome.{is_refusal};
+    ghost use Rattle.workbench.specs.TimelineEffects.{changes, deletes, inserts, inserts_there, moves, shifts, shifts_there, undoes, redoes};
+
+    /// Puts a row in at a spot, where the edited rows replay whole. After a refusal and after `NoMemory`
+    /// all is as before.
+    pub(crate) fn insert(&mut self, spot: Spot, op: Op) -> Result<Outcome, NoMemory>
+        requires unspent { IsUnspent self.old }
+        ensures ok { IfOk result (λ outcome. inserts self.old.timeline spot op ≡ record { timeline = self.new.timeline; outcome = outcome }) }
+        ensures unspent { IsUnspent self.new }
+        ensures err { OnErr result (self.new ≡ self.old) }
+        ensures memory { OnErr result (is_refusal (inserts self.old.timeline spot op).outcome ≡ false) }
+    {
+        if !self.takes(op) {
+            return Ok(Outcome::refused(Refusal::Kind));
+        }
+        match position_of(self.session.timeline(), spot) {
+            Some(position) => self.insert_at(position, op),
+            None => Ok(no_row(row_named(spot))),
+        }
+    }
+
+    /// Whether the operation is of the timeline's kind.
+    fn takes(&self, op: Op) -> bool
+        requires unspent { IsUnspent self.now }
+        ensures { result ≡ same_kind (kind_of op) self.now.timeline.kind }
+    {
+        op.kind() == self.session.kind()
+    }
+
+    /// Puts a row in at a position, where there is room and the edited rows replay whole.
+    fn insert_at(&mut self, position: Position, op: Op) -> Result<Outcome, NoMemory>
+        requires unspent { IsUnspent self.old }
+        requires of_kind { kind_of op ≡ self.old.timeline.kind }
+        requires within { position.place ≤ length self.old.timeline.rows }
+        requires fits { Fits self.old.timeline.rows position.place position.time }
+        ensures ok { IfOk result (λ outcome. inserts_there self.old.timeline op position ≡ record { timeline = self.new.timeline; outcome = outcome }) }
+        ensures unspent { IsUnspent self.new }
+        ensures err { OnErr result (self.new ≡ self.old) }
+        ensures memory { OnErr result (is_refusal (inserts_there self.old.timeline op position).outcome ≡ false) }
+    {
+        if self.session.timeline().len() >= MAX_ROWS {
+            return Ok(Outcome::refused(Refusal::Full));
+        }
+        if self.session.next() >= MAX_NEXT {
+            return Ok(Outcome::refused(Refusal::Numbers));
+        }
+        match self.session.put(position.place, position.time, op) {
+            Ok(put) => {
+                let row = Row {
+                    number: put.number,
+                    time: position.time,
+                    op,
+                };
+                let turn = put_in(position.place, row, put.change);
+                let number = put.number;
+                Ok(self.tell(turn, Outcome::Inserted { number }))
+            }
+            Err(error) => refused_by(error),
+        }
+    }
+
+    /// Takes the row with this number out, where the edited rows replay whole. After a refusal and after
+    /// `NoMemory` all is as before.
+    pub(crate) fn delete(&mut self, number: u32) -> Result<Outcome, NoMemory>
+        requires unspent { IsUnspent self.old }
+        ensures ok { IfOk result (λ outcome. deletes self.old.timeline number ≡ record { timeline = self.new.timeline; outcome = outcome }) }
+        ensures unspent { IsUnspent self.new }
+        ensures err { OnErr result (self.new ≡ self.old) }
+        ensures memory { OnErr result (is_refusal (deletes self.old.timeline number).outcome ≡ false) }
+    {
+        let Some(place) = self.session.timeline().place_of(number) else {
+            return Ok(no_row(number));
+        };
+        match self.session.cut(place) {
+            Ok(turn) => Ok(self.tell(turn, Outcome::Accepted)),
+            Err(error) => refused_by(error),
+        }
+    }
+
+    /// Puts the row with this number at another time, as a row that draws the next number, where the rows replay whole
+    /// after that. After a refusal all is as before.
+    pub(crate) fn move_row(&mut self, number: u32, time: u64) -> Result<Outcome, NoMemory>
+        requires unspent { IsUnspent self.old }
+        ensures ok { IfOk result (λ outcome. moves self.old.timeline number time ≡ record { timeline = self.new.timeline; outcome = outcome }) }
+        ensures unspent { OnOk result (IsUnspent self.new) }
+        ensures memory { OnErr result (is_refusal (moves self.old.timeline number time).outcome ≡ false) }
+    {
+        self.shift(number, Target::At { time })
+    }
+
+    /// Gives the row with this number another operation, as a row that draws the next number, where the rows replay whole
+    /// after that. After a refusal all is as before.
+    pub(crate) fn change(&mut self, number: u32, op: Op) -> Result<Outcome, NoMemory>
+        requires unspent { IsUnspent self.old }
+        ensures ok { IfOk result (λ outcome. changes self.old.timeline number op ≡ record { timeline = self.new.timeline; outcome = outcome }) }
+        ensures unspent { OnOk result (IsUnspent self.new) }
+        ensures memory { OnErr result (is_refusal (changes self.old.timeline number op).outcome ≡ false) }
+    {
+        if !self.takes(op) {
+            return Ok(Outcome::refused(Refusal::Kind));
+        }
+        self.shift(number, Target::Into { op })
+    }
+
+    /// Replaces the row with this number.
+    fn shift(&mut self, number: u32, target: Target) -> Result<Outcome, NoMemory>
+        requires unspent { IsUnspent self.old }
+        requires of_kind { IsTargetOf self.old.timeline.kind target }
+        ensures ok { IfOk result (λ outcome. shifts self.old.timeline number target ≡ record { timeline = self.new.timeline; outcome = outcome }) }
+        ensures unspent { OnOk result (IsUnspent self.new) }
+        ensures memory { OnErr result (is_refusal (shifts self.old.timeline number target).outcome ≡ false) }
+    {
+        match self.session.timeline().place_of(number) {
+            Some(place) => self.shift_at(place, target),
+            None => Ok(no_row(number)),
+        }
+    }
+
+    /// Replaces the row at a place, where there is room and a number.
+    fn shift_at(&mut self, place: u32, target: Target) -> Result<Outcome, NoMemory>
+        requires unspent { IsUnspent self.old }
+        requires within { place < length self.old.timeline.rows }
+        requires of_kind { IsTargetOf self.old.timeline.kind target }
+        ensures ok { IfOk result (λ outcome. (step : Step) → shift_at self.old.timeline.rows target self.old.timeline.next place ≡ Some step
+            → shifts_there self.old.timeline step ≡ record { timeline = self.new.timeline; outcome = outcome }) }
+        ensures unspent { OnOk result (IsUnspent self.new) }
+        ensures memory { OnErr result ((step : Step) → shift_at self.old.timeline.rows target self.old.timeline.next place ≡ Some step
+            → is_refusal (shifts_there self.old.timeline step).outcome ≡ false) }
+    {
+        if self.session.timeline().len() >= MAX_ROWS {
+            return Ok(Outcome::refused(Refusal::Full));
+        }
+        if self.session.next() >= MAX_NEXT {
+            return Ok(Outcome::refused(Refusal::Numbers));
+        }
+        match self.session.shift(place, target) {
+            Ok(shift) => {
+                let number = shift.number;
+                self.tell_both(shift.first, shift.second, Outcome::Inserted { number })
+            }
+            Err(error) => refused_by(error),
+        }
+    }
+
+    /// Undoes the newest step. After a refusal all is as before.
+    pub(crate) fn undo(&mut self) -> Result<Outcome, NoMemory>
+        requires unspent { IsUnspent self.old }
+        ensures ok { IfOk result (λ outcome. undoes self.old.timeline ≡ record { timeline = self.new.timeline; outcome = outcome }) }
+        ensures unspent { OnOk result (IsUnspent self.new) }
+        ensures memory { OnErr result (is_refusal (undoes self.old.timeline).outcome ≡ false) }
+    {
+        match self.session.undo() {
+            Ok(turns) => self.tell_all(turns),
+            Err(UndoError::Nothing) => Ok(Outcome::refused(Refusal::NothingToUndo)),
+            Err(UndoError::NoMemory) => Err(NoMemory),
+        }
+    }
+
+    /// Makes the step again that was undone last. After a refusal all is as before.
+    pub(crate) fn redo(&mut self) -> Result<Outcome, NoMemory>
+        requires unspent { IsUnspent self.old }
+        ensures ok { IfOk result (λ outcome. redoes self.old.timeline ≡ record { timeline = self.new.timeline; outcome = outcome }) }
+        ensures unspent { OnOk result (IsUnspent self.new) }
+        ensures memory { OnErr result (is_refusal (redoes self.old.timeline).outcome ≡ false) }
+    {
+        match self.session.redo() {
+            Ok(turns) => self.tell_all(turns),
+            Err(UndoError::Nothing) => Ok(Outcome::refused(Refusal::NothingToRedo)),
+            Err(UndoError::NoMemory) => Err(NoMemory),
+        }
+    }
+
+    /// The outcome of an accepted list edit.
+    fn tell(&self, turn: Turn, plain: Outcome) -> Outcome
+        requires unspent { IsUnspent self.now }
+        ensures { (rows : List Row) → IsMade self.now.timeline.kind rows (edit_reported turn) turn.change
+            → result ≡ reported self.now.timeline.name self.now.timeline.kind rows (edit_reported turn ∷ []) plain }
+    {
+        reported(self.alloc, self.name, self.session.kind(), turn, plain)
+    }
+
+    /// The outcome of two list edits that were accepted as one step.
+    fn tell_both(&self, first: Turn, second: Turn, plain: Outcome) -> Result<Outcome, NoMemory>
+        requires unspent { IsUnspent self.now }
+        ensures { (rows : List Row) → AreMade self.now.timeline.kind rows (Double first second)
+            → IfOk result (λ outcome. outcome ≡ reported self.now.timeline.name self.now.timeline.kind rows (step_reported (Double first second)) plain) }
+    {
+        reported_both(
+            self.alloc,
+            self.name,
+            self.session.kind(),
+            first,
+            second,
+            plain,
+        )
+    }
+
+    /// The outcome of the list edits of an undo or a redo.
+    fn tell_all(&self, turns: Turns) -> Result<Outcome, NoMemory>
+        requires unspent { IsUnspent self.now }
+        ensures { (rows : List Row) → AreMade self.now.timeline.kind rows turns
+            → IfOk result (λ outcome. outcome ≡ reported self.now.timeline.name self.now.timeline.kind rows (step_reported turns) Accepted) }
+    {
+        match turns {
+            Turns::Single { turn } => Ok(self.tell(turn, Outcome::Accepted)),
+            Turns::Double { first, second } => self.tell_both(first, second, Outcome::Accepted),
+        }
+    }
+}
+
+/// The outcome of an edit that does not stand.
+fn refused_by(error: EditError) -> Result<Outcome, NoMemory>
+    ensures { IsRefusedBy error result }
+{
+    match error {
+        EditError::Fails { number, time } => Ok(Outcome::refused(Refusal::At { number, time })),
+        EditError::NoMemory => Err(NoMemory),
+    }
+}
