@@ -91,6 +91,7 @@ impl Partial for BridgeQueue {
     ghost rows = { λ queue. queue };
 
     fn kind(&self) -> Kind {
+        // Its clause says that the rows are few.
         let _few = self.rows.len();
         Kind::Pq
     }

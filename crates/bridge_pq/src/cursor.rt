@@ -65,6 +65,7 @@ impl<'a> Cursor<'a> {
         ensures of { self.new.of ≡ self.old.of }
         ensures taken { MatchOption result (self.new.entries ≡ self.old.entries) (λ entry. self.old.entries ≡ entry ∷ self.new.entries) }
     {
+        // Its clause says that the entries are few.
         let _few = self.entries.len();
         let mut place = self.place;
         while place < self.end {
@@ -86,6 +87,7 @@ impl<'a> Cursor<'a> {
         ensures taken { IsTaken self.old.entries result self.new.entries }
         ensures visits { VisitsWithin 56 self.old.of steps.old steps.new }
     {
+        // Its clause says that the entries are few.
         let _few = self.entries.len();
         let end = end_of_present(self.entries, u64::from(self.passed), steps)?;
         let first = end - 1;

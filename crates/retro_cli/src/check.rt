@@ -57,6 +57,7 @@ pub(crate) fn run_check<S: Source, K: SendingSink>(
     let buffer = LineBuffer::new(alloc)?;
     let mut reader = LineReader::with_buffer(buffer, source, MAX_BYTES);
     let judged = judge_lines(alloc, &mut reader);
+    // Its clause says what became of the source.
     let _source = reader.into_inner();
     let judging = judged?;
     let mut text = Text::new(alloc);

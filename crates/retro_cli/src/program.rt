@@ -49,6 +49,7 @@ pub fn run<S: Source, K: Sink>(alloc: Global, words: &Words, source: &mut S, sin
 {
     let mut direct = DirectSink::new(sink);
     let status = run_direct(alloc, words, source, &mut direct);
+    // Its clause says what became of the sink.
     let _sink = direct.into_inner();
     status
 }
@@ -82,6 +83,7 @@ pub fn run_followed<S: Source, K: Sink>(
 {
     let mut direct = DirectSink::new(sink);
     let status = follow_direct(alloc, words, source, &mut direct, followers);
+    // Its clause says what became of the sink.
     let _sink = direct.into_inner();
     status
 }

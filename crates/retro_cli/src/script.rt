@@ -190,6 +190,7 @@ pub(crate) fn answer_source<S: Source, K: SendingSink>(
     let buffer = LineBuffer::new(alloc)?;
     let mut reader = SentReader::new(LineReader::with_buffer(buffer, source, MAX_BYTES));
     let answered = answer_lines(alloc, &mut reader, followers, sink);
+    // Its clause says what became of the source.
     let _source = reader.into_inner();
     answered
 }

@@ -67,6 +67,7 @@ impl<R: Retro + Drop> Session<R> {
         requires most { next ≤ next_limit }
         ensures { IfOk result (λ session. session ≡ record { kind = R.kind structure; rows = []; next = next; history = no_history; spent = false }) }
     {
+        // Its clause says that the rows replay.
         let _kind = structure.kind();
         let undo = HeapCircularBuffer::with_capacity(alloc, MAX_STEPS)?;
         let redo = HeapCircularBuffer::with_capacity(alloc, MAX_STEPS)?;

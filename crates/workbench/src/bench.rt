@@ -242,6 +242,7 @@ fn size_of(session: &Session<Engine>) -> u32
     requires { session.now.spent ≡ false }
     ensures { result ≡ size_of (present session.now.kind session.now.rows) }
 {
+    // Its clause says that the rows are few.
     let _rows = session.timeline().len();
     match session.ask_now(Question::Size) {
         Answer::Number { value } => value as u32,
