@@ -69,6 +69,7 @@ impl Fresh {
     pub(crate) fn take(&mut self) -> Option<Entry>
         ensures { IsTaken self.old result self.new }
     {
+        // Its clause says how long the list of items is.
         let _items = self.heap.as_slice();
         Some(self.heap.pop()?.0)
     }
