@@ -11,7 +11,7 @@ use Rattle.retro_base.specs.declared.row.Entry.{Entry}
 use Rattle.retro_base.specs.declared.row.Row.{Row}
 use Rattle.retro_base.specs.Bridges.{same_entry}
 use Rattle.retro_base.specs.Weights.{added_as}
-use Rattle.evidence_check.specs.declared.marked_row.MarkedRow.{MarkedRow}
+use Rattle.evidence_check.specs.declared.weighed_row.WeighedRow.{WeighedRow}
 use Rattle.evidence_check.specs.Marks.{adds, rows_of, with_mark}
 use Rattle.evidence_check.specs.Parts.{marked_at}
 use Rattle.retro_base.specs.Timeline.{HaveOwnNumbers, IsFresh}
@@ -59,7 +59,7 @@ number_without other (first ∷ rows) (suc place) row own there =
     ] refl
 
 -- a row that adds an entry has its number
-hit_number : (entry : Entry) (row : MarkedRow) → adds entry row ≡ true → row.number ≡ entry.number
+hit_number : (entry : Entry) (row : WeighedRow) → adds entry row ≡ true → row.number ≡ entry.number
 hit_number entry row hit = added_by_op row.op hit
   where
     added_by_op : (op : Op) → option_map_or (same_entry entry) (added_as op row.number) false ≡ true → row.number ≡ entry.number
@@ -76,24 +76,24 @@ hit_number entry row hit = added_by_op row.op hit
     added_by_op (Put k v) is = absurd (cc)
     added_by_op (Del k) is = absurd (cc)
 
-missed_first : (entry : Entry) (first row : MarkedRow) → adds entry row ≡ true → row.number ≢ first.number → adds entry first ≡ false
+missed_first : (entry : Entry) (first row : WeighedRow) → adds entry row ≡ true → row.number ≢ first.number → adds entry first ≡ false
 missed_first entry first row hit apart = elim (adds entry first) as (λ b. adds entry first ≡ b → b ≡ false) [
   | true ↦ λ also. absurd (apart (hit_number entry row hit ∙ sym (hit_number entry first also)))
   | false ↦ λ misses. refl
 ] refl
 
-unmarked_others : (entry : Entry) (alive : Bool) (others : List MarkedRow) (row : MarkedRow) → adds entry row ≡ true → IsFresh row.number (rows_of others) → map (with_mark entry alive) others ≡ others
+unmarked_others : (entry : Entry) (alive : Bool) (others : List WeighedRow) (row : WeighedRow) → adds entry row ≡ true → IsFresh row.number (rows_of others) → map (with_mark entry alive) others ≡ others
 unmarked_others entry alive [] row hit fresh = refl
 unmarked_others entry alive (first ∷ others) row hit fresh =
     rw (missed_first entry first row hit (λ same. fresh.0 (sym same)), unmarked_others entry alive others row hit fresh.1) refl
 
-number_at : (P : ℕ → Type 0) (marked : List MarkedRow) (place : ℕ) (row : MarkedRow) → AllByRecursion (λ r. P r.number) (rows_of marked) → slice_get marked place ≡ Some row → P row.number
+number_at : (P : ℕ → Type 0) (marked : List WeighedRow) (place : ℕ) (row : WeighedRow) → AllByRecursion (λ r. P r.number) (rows_of marked) → slice_get marked place ≡ Some row → P row.number
 number_at P [] place row all there = absurd (cc)
 number_at P (first ∷ others) zero row all there = let same : first ≡ row = cc in rw same at all.0
 number_at P (first ∷ others) (suc place) row all there = number_at P others place row all.1 there
 
 -- of a row that adds the entry, the mark alone is set
-pub set_marked : (entry : Entry) (alive : Bool) (marked : List MarkedRow) (place : ℕ) (row : MarkedRow) → HaveOwnNumbers (rows_of marked) → slice_get marked place ≡ Some row
+pub set_marked : (entry : Entry) (alive : Bool) (marked : List WeighedRow) (place : ℕ) (row : WeighedRow) → HaveOwnNumbers (rows_of marked) → slice_get marked place ≡ Some row
     → adds entry row ≡ true → marked_at place alive marked ≡ map (with_mark entry alive) marked
 set_marked entry alive [] place row own there hit = absurd (cc)
 set_marked entry alive (first ∷ others) zero row own there hit =

@@ -2,11 +2,11 @@
 use Rattle.std.proofs.Common.{◌≡◌, Bool, true, false, cond, List, [], ◌∷◌, ◌++◌, refl, sym, ap, ◌∙◌, inl, inr, Option, Some, None}
 use Rattle.std.specs.Prelude.{◌⊎◌}
 use Rattle.retro_base.specs.declared.row.Entry.{Entry}
-use Rattle.evidence_check.specs.declared.marked_row.MarkedRow.{MarkedRow}
+use Rattle.evidence_check.specs.declared.weighed_row.WeighedRow.{WeighedRow}
 use Rattle.evidence_check.specs.Marks.{best_among, better_of}
 
 -- a row shows the entry
-abbrev pub Shown : (MarkedRow → Option Entry) → List MarkedRow → Entry → Type 0
+abbrev pub Shown : (WeighedRow → Option Entry) → List WeighedRow → Entry → Type 0
 Shown shown [] entry = ⊥
 Shown shown (first ∷ others) entry = (shown first ≡ Some entry) ⊎ Shown shown others entry
 
@@ -17,15 +17,15 @@ module _ (beaten : Entry → Entry → Bool)
     (not_itself : (a : Entry) → beaten a a ≡ false)
     (passed_on : (a b c : Entry) → beaten a b ≡ false → beaten b c ≡ false → beaten a c ≡ false)
     (one_way : (a b : Entry) → beaten a b ≡ true → beaten b a ≡ false)
-    (shown : MarkedRow → Option Entry) where
+    (shown : WeighedRow → Option Entry) where
   -- the entry is the one that there was or is shown, and is beaten by none of these
-  pub record IsBest (before : Option Entry) (rows : List MarkedRow) (entry : Entry) : Type 0 where
+  pub record IsBest (before : Option Entry) (rows : List WeighedRow) (entry : Entry) : Type 0 where
     pub one : (before ≡ Some entry) ⊎ Shown shown rows entry
     pub first : (other : Entry) → before ≡ Some other → beaten entry other ≡ false
     pub others : (other : Entry) → Shown shown rows other → beaten entry other ≡ false
 
   -- one more is looked at
-  next : (before : Option Entry) (row : MarkedRow) (rows : List MarkedRow) (entry : Entry) (o : Option Entry) → shown row ≡ o
+  next : (before : Option Entry) (row : WeighedRow) (rows : List WeighedRow) (entry : Entry) (o : Option Entry) → shown row ≡ o
       → IsBest (better_of beaten before o) rows entry → IsBest before (row ∷ rows) entry
   next before row rows entry None none best = record {
     one = elim best.one [ inl same ↦ inl same | inr further ↦ inr (inr further) ];
@@ -61,7 +61,7 @@ module _ (beaten : Entry → Entry → Bool)
             }
       ] refl
 
-  pub best_is : (before : Option Entry) (rows : List MarkedRow) (entry : Entry) → best_among beaten shown before rows ≡ Some entry → IsBest before rows entry
+  pub best_is : (before : Option Entry) (rows : List WeighedRow) (entry : Entry) → best_among beaten shown before rows ≡ Some entry → IsBest before rows entry
   best_is before [] entry is = record {
     one = inl is;
     first = λ other same. let one : entry ≡ other = some_same entry other before is same in rw one (not_itself other);
@@ -76,7 +76,7 @@ module _ (beaten : Entry → Entry → Bool)
   gone (Some old) None is = absurd (cc)
   gone (Some old) (Some new) is = absurd (cc)
 
-  pub none_shown : (before : Option Entry) (rows : List MarkedRow) → best_among beaten shown before rows ≡ None → (before ≡ None) × ((entry : Entry) → ¬ Shown shown rows entry)
+  pub none_shown : (before : Option Entry) (rows : List WeighedRow) → best_among beaten shown before rows ≡ None → (before ≡ None) × ((entry : Entry) → ¬ Shown shown rows entry)
   none_shown before [] is = (is, λ entry shows. shows)
   none_shown before (row ∷ rows) is =
       let rest = none_shown (better_of beaten before (shown row)) rows is in
@@ -116,17 +116,17 @@ module _ (beaten : Entry → Entry → Bool)
   better-none (Some e) = refl
 
   -- the best one of some rows and others is the better one of their best
-  pub best-from : (best : Option Entry) (rows : List MarkedRow) → best_among beaten shown best rows ≡ better_of beaten best (best_among beaten shown None rows)
+  pub best-from : (best : Option Entry) (rows : List WeighedRow) → best_among beaten shown best rows ≡ better_of beaten best (best_among beaten shown None rows)
   best-from best [] = refl
   best-from best (row ∷ rows) =
       best-from (better_of beaten best (shown row)) rows
       ∙ better-assoc best (shown row) (best_among beaten shown None rows)
       ∙ ap (better_of beaten best) (sym (ap (λ o. best_among beaten shown o rows) (better-none (shown row)) ∙ best-from (shown row) rows))
 
-  best-append : (best : Option Entry) (rows others : List MarkedRow) → best_among beaten shown best (rows ++ others) ≡ best_among beaten shown (best_among beaten shown best rows) others
+  best-append : (best : Option Entry) (rows others : List WeighedRow) → best_among beaten shown best (rows ++ others) ≡ best_among beaten shown (best_among beaten shown best rows) others
   best-append best [] others = refl
   best-append best (row ∷ rows) others = best-append (better_of beaten best (shown row)) rows others
 
-  pub best-join : (rows others : List MarkedRow)
+  pub best-join : (rows others : List WeighedRow)
       → best_among beaten shown None (rows ++ others) ≡ better_of beaten (best_among beaten shown None rows) (best_among beaten shown None others)
   best-join rows others = best-append None rows others ∙ best-from (best_among beaten shown None rows) others

@@ -23,7 +23,7 @@ use Rattle.evidence.specs.Evidence.{IsPqOp}
 use Rattle.retro_base.specs.Changes.{Gains, Loses, change_of}
 use Rattle.retro_base.specs.OrderLaws.{all_at}
 use Rattle.retro_base.specs.lemmas.bridges.EntryOrder.{before_irreflexive, before_one_way, not_before_later}
-use Rattle.evidence_check.specs.declared.marked_row.MarkedRow.{MarkedRow}
+use Rattle.evidence_check.specs.declared.weighed_row.WeighedRow.{WeighedRow}
 use Rattle.evidence_check.specs.Marks.{MarksSurvivors, IsMarked, alive_entry, cut_change, dead_entry, gained, greatest_dead, is_alive_at, is_greater, is_less, least_alive, lost, marked_change, row_of, rows_of}
 use Rattle.evidence_check.specs.Truth.{bridge_of, edit_with}
 use Rattle.evidence_check.proofs.Best.{best_is, none_shown}
@@ -54,7 +54,7 @@ turned_on a b c first second = not_before_later c b a second first
 pub turned_way : (a b : Entry) → is_greater a b ≡ true → is_greater b a ≡ false
 turned_way a b first = before_one_way b a first
 
-module _ (laws : Laws) (marked : List MarkedRow) (kept : MarksSurvivors marked) where
+module _ (laws : Laws) (marked : List WeighedRow) (kept : MarksSurvivors marked) where
   abbrev rows : List Row
   rows = rows_of marked
 

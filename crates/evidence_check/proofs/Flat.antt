@@ -4,7 +4,7 @@ use Rattle.std.proofs.Common.{append_assoc, length-append}
 use Rattle.std.specs.Prelude.{slice_get, insert, remove, MatchOption}
 use Rattle.std.specs.List.{flat_map}
 use Rattle.std.proofs.lemmas.List.Concat.{flat_map-append}
-use Rattle.evidence_check.specs.declared.marked_row.MarkedRow.{MarkedRow}
+use Rattle.evidence_check.specs.declared.weighed_row.WeighedRow.{WeighedRow}
 use Rattle.evidence_check.specs.Parts.{marked_at}
 
 module _ {P A : Type 0} (f : P → List A) where
@@ -136,29 +136,29 @@ module _ {A : Type 0} where
       ∙ ap (λ more. xs ++ more) (remove_first ys zs (place - before) (omega arith))
 
 -- the same of a mark
-mark_first : (xs ys : List MarkedRow) (k : ℕ) (alive : Bool) → k < length xs → marked_at k alive (xs ++ ys) ≡ marked_at k alive xs ++ ys
+mark_first : (xs ys : List WeighedRow) (k : ℕ) (alive : Bool) → k < length xs → marked_at k alive (xs ++ ys) ≡ marked_at k alive xs ++ ys
 mark_first [] ys k alive within = absurd (let none : ⊥ = omega arith in none)
 mark_first (x ∷ xs) ys zero alive within = refl
 mark_first (x ∷ xs) ys (suc k) alive within = ap (λ more. x ∷ more) (mark_first xs ys k alive (omega arith))
 
-mark_second : (xs ys : List MarkedRow) (k : ℕ) (alive : Bool) → marked_at (length xs + k) alive (xs ++ ys) ≡ xs ++ marked_at k alive ys
+mark_second : (xs ys : List WeighedRow) (k : ℕ) (alive : Bool) → marked_at (length xs + k) alive (xs ++ ys) ≡ xs ++ marked_at k alive ys
 mark_second [] ys k alive = ap (λ n. marked_at n alive ys) (past_none k)
 mark_second (x ∷ xs) ys k alive = ap (λ n. marked_at n alive (x ∷ (xs ++ ys))) (past_one (length xs) k) ∙ ap (λ more. x ∷ more) (mark_second xs ys k alive)
 
-pub mark_within : (xs ys zs : List MarkedRow) (place before : ℕ) (alive : Bool) → before ≡ length xs → before ≤ place → place < before + length ys
+pub mark_within : (xs ys zs : List WeighedRow) (place before : ℕ) (alive : Bool) → before ≡ length xs → before ≤ place → place < before + length ys
     → marked_at place alive (xs ++ (ys ++ zs)) ≡ xs ++ (marked_at (place - before) alive ys ++ zs)
 mark_within xs ys zs place before alive long from to =
     let place_is : place ≡ length xs + (place - before) = omega (arith, long) in
     ap (λ p. marked_at p alive (xs ++ (ys ++ zs))) place_is ∙ mark_second xs (ys ++ zs) (place - before) alive
     ∙ ap (λ more. xs ++ more) (mark_first ys zs (place - before) alive (omega arith))
 
-pub length_marked : (place : ℕ) (alive : Bool) (xs : List MarkedRow) → length (marked_at place alive xs) ≡ length xs
+pub length_marked : (place : ℕ) (alive : Bool) (xs : List WeighedRow) → length (marked_at place alive xs) ≡ length xs
 length_marked place alive [] = refl
 length_marked zero alive (x ∷ xs) = refl
 length_marked (suc place) alive (x ∷ xs) = ap (λ n. suc n) (length_marked place alive xs)
 
 -- parts of which the later ones were taken out
-pub part_shorter : {P V : Type 0} (f : P → List MarkedRow) (items : V → List P) (rest : Option V) (old new : List P) → MatchOption rest (new ≡ old) (λ r. new ++ items r ≡ old)
+pub part_shorter : {P V : Type 0} (f : P → List WeighedRow) (items : V → List P) (rest : Option V) (old new : List P) → MatchOption rest (new ≡ old) (λ r. new ++ items r ≡ old)
     → length (flat_map f new) ≤ length (flat_map f old)
 part_shorter f items None old new same = let equal = ap (λ l. length (flat_map f l)) same in omega (arith, equal)
 part_shorter f items (Some r) old new joined =
@@ -171,7 +171,7 @@ length_insert xs zero x within = refl
 length_insert [] (suc place) x within = absurd (let none : ⊥ = omega arith in none)
 length_insert (y ∷ xs) (suc place) x within = ap (λ n. suc n) (length_insert xs place x (omega arith))
 
-pub rest_shorter : {P : Type 0} (f : P → List MarkedRow) (old new rest : List P) → new ++ rest ≡ old → length (flat_map f rest) ≤ length (flat_map f old)
+pub rest_shorter : {P : Type 0} (f : P → List WeighedRow) (old new rest : List P) → new ++ rest ≡ old → length (flat_map f rest) ≤ length (flat_map f old)
 rest_shorter f old new rest joined =
     let whole : length (flat_map f old) ≡ length (flat_map f new) + length (flat_map f rest) =
     ap (λ l. length (flat_map f l)) (sym joined) ∙ ap length (flat_map-append f new rest) ∙ length-append (flat_map f new) (flat_map f rest) in

@@ -3,13 +3,13 @@ use Rattle.std.proofs.Common.{◌≡◌, ℕ, zero, suc, ◌+◌, ◌-◌, ◌<�
 use Rattle.std.specs.Prelude.{slice_get, insert, remove, OnErr}
 use Rattle.std.specs.List.{flat_map}
 use Rattle.std.proofs.lemmas.Option.{get_or_from_slice_get, slice_get_within}
-use Rattle.evidence_check.specs.declared.marked_row.MarkedRow.{MarkedRow}
+use Rattle.evidence_check.specs.declared.weighed_row.WeighedRow.{WeighedRow}
 use Rattle.evidence_check.specs.declared.search.Held.{Held}
 use Rattle.evidence_check.specs.Parts.{Holds, HoldsBefore, marked_at}
 use Rattle.evidence_check.proofs.Flat.{flat_around, flat_more, flat_set, flat_without, insert_within, mark_within, remove_within}
 use Rattle.evidence_check.proofs.Walks.{fits, row_there, small, there}
 
-remove_only : (rows : List MarkedRow) (place : ℕ) → length rows ≡ 1 → place < length rows → remove rows place ≡ []
+remove_only : (rows : List WeighedRow) (place : ℕ) → length rows ≡ 1 → place < length rows → remove rows place ≡ []
 remove_only [] place one within = absurd (let none : ⊥ = omega arith in none)
 remove_only (row ∷ []) zero one within = refl
 remove_only (row ∷ []) (suc place) one within = absurd (let none : ⊥ = omega arith in none)
@@ -23,7 +23,7 @@ pub some_first : {P : Type 0} (parts : List P) → 0 < length parts → (part : 
 some_first [] some = absurd (let none : ⊥ = omega arith in none)
 some_first (part ∷ parts) some = (part, refl)
 
-module _ {P : Type 0} (f : P → List MarkedRow) (parts : List P) (place : ℕ) (held : Held) (holds : Holds f parts place held) (part : P) (is : part ≡ get_or parts held.index part) where
+module _ {P : Type 0} (f : P → List WeighedRow) (parts : List P) (place : ℕ) (held : Held) (holds : Holds f parts place held) (part : P) (is : part ≡ get_or parts held.index part) where
   pub held_within : held.index < length parts
   held_within = slice_get_within parts held.index holds.part holds.there
 
@@ -66,7 +66,7 @@ module _ {P : Type 0} (f : P → List MarkedRow) (parts : List P) (place : ℕ) 
       ∙ sym (remove_within (flat_map f (take held.index parts)) (f part) (flat_map f (drop (suc held.index) parts)) place held.before holds.before holds.from held_to)
       ∙ ap (λ l. remove l place) (sym (flat_around f parts held.index part held_there))
 
-module _ {P : Type 0} (f : P → List MarkedRow) (parts : List P) (place : ℕ) (held : Held) (holds : HoldsBefore f parts place held) (part : P) (is : part ≡ get_or parts held.index part) where
+module _ {P : Type 0} (f : P → List WeighedRow) (parts : List P) (place : ℕ) (held : Held) (holds : HoldsBefore f parts place held) (part : P) (is : part ≡ get_or parts held.index part) where
   pub goes_within : held.index < length parts
   goes_within = slice_get_within parts held.index holds.part holds.there
 
@@ -85,22 +85,22 @@ module _ {P : Type 0} (f : P → List MarkedRow) (parts : List P) (place : ℕ) 
   pub goes_less : (most : ℕ) → length (flat_map f parts) < most → length (f part) < most
   goes_less most few = let less = fits f parts held.index part goes_within is in omega (arith, less, few)
 
-  around_insert : (row : MarkedRow) → flat_map f (take held.index parts) ++ (insert (f part) (place - held.before) row ++ flat_map f (drop (suc held.index) parts)) ≡ insert (flat_map f parts) place row
+  around_insert : (row : WeighedRow) → flat_map f (take held.index parts) ++ (insert (f part) (place - held.before) row ++ flat_map f (drop (suc held.index) parts)) ≡ insert (flat_map f parts) place row
   around_insert row =
       sym (insert_within (flat_map f (take held.index parts)) (f part) (flat_map f (drop (suc held.index) parts)) place held.before row holds.before holds.from goes_to)
       ∙ ap (λ l. insert l place row) (sym (flat_around f parts held.index part goes_there))
 
   -- all fits, or there is a rest
-  pub goes_in : (new : P) (row : MarkedRow) → f new ++ [] ≡ insert (f part) (place - held.before) row → flat_map f (set parts held.index new) ≡ insert (flat_map f parts) place row
+  pub goes_in : (new : P) (row : WeighedRow) → f new ++ [] ≡ insert (f part) (place - held.before) row → flat_map f (set parts held.index new) ≡ insert (flat_map f parts) place row
   goes_in new row inserts =
       flat_set f parts held.index part new goes_there
       ∙ ap (λ l. flat_map f (take held.index parts) ++ (l ++ flat_map f (drop (suc held.index) parts))) (sym (nothing_after (f new)) ∙ inserts) ∙ around_insert row
     where
-      nothing_after : (xs : List MarkedRow) → xs ++ [] ≡ xs
+      nothing_after : (xs : List WeighedRow) → xs ++ [] ≡ xs
       nothing_after [] = refl
       nothing_after (x ∷ xs) = ap (λ more. x ∷ more) (nothing_after xs)
 
-  pub goes_with_rest : (new rest : P) (row : MarkedRow) (after : ℕ) → after ≡ held.index + 1 → f new ++ f rest ≡ insert (f part) (place - held.before) row
+  pub goes_with_rest : (new rest : P) (row : WeighedRow) (after : ℕ) → after ≡ held.index + 1 → f new ++ f rest ≡ insert (f part) (place - held.before) row
       → flat_map f (insert (set parts held.index new) after rest) ≡ insert (flat_map f parts) place row
   goes_with_rest new rest row after is_after inserts =
       ap (λ n. flat_map f (insert (set parts held.index new) n rest)) (let one : after ≡ suc held.index = omega (arith, is_after) in one)

@@ -24,8 +24,8 @@ use Rattle.retro_base.specs.Timeline.{AreOfKind, IsFresh, IsReplayable}
 use Rattle.retro_base.specs.lemmas.bridges.EntryOrder.{same_entry-same, same_entry-refl}
 use Rattle.evidence.specs.declared.evidence.Evidence.{Evidence}
 use Rattle.evidence.specs.Evidence.{IsEvidence, IsPqOp}
-use Rattle.evidence_check.specs.declared.marked_row.MarkedRow.{MarkedRow}
-use Rattle.evidence_check.specs.Marks.{MarksSurvivors, IsMarked, adds, changed_marks, edited_rows, entry_of, marked_row, row_of, rows_of, with_mark}
+use Rattle.evidence_check.specs.declared.weighed_row.WeighedRow.{WeighedRow}
+use Rattle.evidence_check.specs.Marks.{MarksSurvivors, IsMarked, adds, changed_marks, edited_rows, entry_of, weighed_row, row_of, rows_of, with_mark}
 use Rattle.evidence_check.specs.Truth.{cause_of, edit_with, is_full, is_outside, has_wrong_number, rows_after, reported_edit}
 use Rattle.evidence_check.proofs.Accepted.{accepted_from}
 use Rattle.evidence_check.proofs.Survivors.{fresh_entry}
@@ -69,40 +69,40 @@ module _ (entry : Entry) (fewer : List Entry) where
   missed (Some x) miss = sym (among_with x entry fewer ∙ rw (other_way entry x miss) refl)
 
   -- the marks, where the entry is gained, and where it is lost
-  pub mark_gained : (row : MarkedRow) → IsMarked fewer row → IsMarked (with_entry entry fewer) (with_mark entry true row)
+  pub mark_gained : (row : WeighedRow) → IsMarked fewer row → IsMarked (with_entry entry fewer) (with_mark entry true row)
   mark_gained row marks = elim (adds entry row) as (λ b. adds entry row ≡ b → IsMarked (with_entry entry fewer) (with_mark entry true row)) [
     | true ↦ λ hit. rw hit (hit_more (entry_of row) hit)
     | false ↦ λ miss. rw miss (marks ∙ missed (entry_of row) miss)
   ] refl
 
-  pub mark_lost : is_among fewer entry ≡ false → (row : MarkedRow) → IsMarked (with_entry entry fewer) row → IsMarked fewer (with_mark entry false row)
+  pub mark_lost : is_among fewer entry ≡ false → (row : WeighedRow) → IsMarked (with_entry entry fewer) row → IsMarked fewer (with_mark entry false row)
   mark_lost absent row marks = elim (adds entry row) as (λ b. adds entry row ≡ b → IsMarked fewer (with_mark entry false row)) [
     | true ↦ λ hit. rw hit (hit_fewer absent (entry_of row) hit)
     | false ↦ λ miss. rw miss (marks ∙ sym (missed (entry_of row) miss))
   ] refl
 
 -- marks change no row
-row_marked : (entry : Entry) (alive : Bool) (row : MarkedRow) → row_of (with_mark entry alive row) ≡ row_of row
+row_marked : (entry : Entry) (alive : Bool) (row : WeighedRow) → row_of (with_mark entry alive row) ≡ row_of row
 row_marked entry alive row = elim (adds entry row) as (λ b. adds entry row ≡ b → row_of (with_mark entry alive row) ≡ row_of row) [
   | true ↦ λ hit. rw hit refl
   | false ↦ λ miss. rw miss refl
 ] refl
 
-pub rows_marked : (entry : Entry) (alive : Bool) (rows : List MarkedRow) → rows_of (map (with_mark entry alive) rows) ≡ rows_of rows
+pub rows_marked : (entry : Entry) (alive : Bool) (rows : List WeighedRow) → rows_of (map (with_mark entry alive) rows) ≡ rows_of rows
 rows_marked entry alive [] = refl
 rows_marked entry alive (row ∷ rows) = rw (row_marked entry alive row, rows_marked entry alive rows) refl
 
-rows_changed : (change : Change) (rows : List MarkedRow) → rows_of (changed_marks change rows) ≡ rows_of rows
+rows_changed : (change : Change) (rows : List WeighedRow) → rows_of (changed_marks change rows) ≡ rows_of rows
 rows_changed Plain rows = refl
 rows_changed (Gain bridge entry) rows = rows_marked entry true rows
 rows_changed (Lose bridge entry) rows = rows_marked entry false rows
 
-rows_edited : (added : Bool) (marked : List MarkedRow) (place : ℕ) (row : MarkedRow) → rows_of (edited_rows marked added place row) ≡ edited (rows_of marked) (edit_with added place (row_of row))
+rows_edited : (added : Bool) (marked : List WeighedRow) (place : ℕ) (row : WeighedRow) → rows_of (edited_rows marked added place row) ≡ edited (rows_of marked) (edit_with added place (row_of row))
 rows_edited true marked place row = insert_rows place marked row
 rows_edited false marked place row = remove_rows place marked
 
-pub rows_reported : (marked : List MarkedRow) (e : Evidence) → rows_of (changed_marks e.change (edited_rows marked e.added e.place (marked_row e))) ≡ rows_after (rows_of marked) e
-rows_reported marked e = rows_changed e.change _ ∙ rows_edited e.added marked e.place (marked_row e)
+pub rows_reported : (marked : List WeighedRow) (e : Evidence) → rows_of (changed_marks e.change (edited_rows marked e.added e.place (weighed_row e))) ≡ rows_after (rows_of marked) e
+rows_reported marked e = rows_changed e.change _ ∙ rows_edited e.added marked e.place (weighed_row e)
 
 -- the new row, as long as it has no mark
 unmarked : (rows : List Row) (number : ℕ) (op : Op) → IsPqOp op → AreOfKind Pq rows → IsFresh number rows
@@ -111,14 +111,14 @@ unmarked rows number (Ins key) is kind fresh = sym (fresh_entry number rows (rec
 unmarked rows number DelMin is kind fresh = refl
 unmarked rows number op is kind fresh = absurd is
 
-marks_edited : (marked : List MarkedRow) → MarksSurvivors marked → (added : Bool) (place number : ℕ) (op : Op) → IsPqOp op → has_wrong_number added number place (rows_of marked) ≡ false
+marks_edited : (marked : List WeighedRow) → MarksSurvivors marked → (added : Bool) (place number : ℕ) (op : Op) → IsPqOp op → has_wrong_number added number place (rows_of marked) ≡ false
     → AllByRecursion (IsMarked (survivors (rows_of marked))) (edited_rows marked added place (record { number = number; op = op; alive = false }))
 marks_edited marked kept true place number op is own =
     all_with (IsMarked (survivors (rows_of marked))) marked place (record { number = number; op = op; alive = false }) kept.marks
     (unmarked (rows_of marked) number op is kept.replayable.of_kind (is_fresh number (rows_of marked) own))
 marks_edited marked kept false place number op is own = all_without (IsMarked (survivors (rows_of marked))) marked place kept.marks
 
-marks_changed : (change : Change) (rows : List Row) (e : Evidence) (marked : List MarkedRow) → IsPqChange rows (reported_edit e) change → AllByRecursion (IsMarked (survivors rows)) marked
+marks_changed : (change : Change) (rows : List Row) (e : Evidence) (marked : List WeighedRow) → IsPqChange rows (reported_edit e) change → AllByRecursion (IsMarked (survivors rows)) marked
     → AllByRecursion (IsMarked (survivors (rows_after rows e))) (changed_marks change marked)
 marks_changed Plain rows e marked is marks = absurd is
 marks_changed (Gain bridge entry) rows e marked is marks =
@@ -136,13 +136,13 @@ replayable_after rows replayable true place number op is room inside own valid =
 replayable_after rows replayable false place number op is room inside own valid = replayable_without Pq rows place replayable valid
 
 -- after evidence that is accepted
-pub kept_after : OneChangeOfPq → (marked : List MarkedRow) (e : Evidence) → MarksSurvivors marked → IsEvidence e → cause_of (rows_of marked) e ≡ None
-    → MarksSurvivors (changed_marks e.change (edited_rows marked e.added e.place (marked_row e)))
+pub kept_after : OneChangeOfPq → (marked : List WeighedRow) (e : Evidence) → MarksSurvivors marked → IsEvidence e → cause_of (rows_of marked) e ≡ None
+    → MarksSurvivors (changed_marks e.change (edited_rows marked e.added e.place (weighed_row e)))
 kept_after one marked e kept is none =
     let accepted = accepted_from (rows_of marked) e none in
     let edit : IsPqEdit (rows_of marked) (reported_edit e) = possible marked kept e.added e.place e.number e.op is.op accepted.inside accepted.number accepted.op in
     let meets : IsPqChange (rows_of marked) (reported_edit e) e.change = rw accepted.change ((one (rows_of marked) (reported_edit e) edit accepted.replays).meets) in
-    let after : List MarkedRow = changed_marks e.change (edited_rows marked e.added e.place (marked_row e)) in
+    let after : List WeighedRow = changed_marks e.change (edited_rows marked e.added e.place (weighed_row e)) in
     let same : rows_of after ≡ rows_after (rows_of marked) e = rows_reported marked e in
     let replays : IsReplayable Pq (rows_of after) =
     rw same (replayable_after (rows_of marked) kept.replayable e.added e.place e.number e.op is.op accepted.room accepted.inside accepted.number accepted.replays) in

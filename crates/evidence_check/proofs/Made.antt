@@ -19,10 +19,10 @@ use Rattle.retro_base.specs.Timeline.{HaveOwnNumbers}
 use Rattle.retro_base.specs.Weights.{added_as, added_by}
 use Rattle.retro_base.specs.lemmas.bridges.EntryOrder.{same_entry-refl}
 use Rattle.evidence.specs.declared.evidence.Evidence.{Evidence}
-use Rattle.evidence_check.specs.declared.marked_row.MarkedRow.{MarkedRow}
+use Rattle.evidence_check.specs.declared.weighed_row.WeighedRow.{WeighedRow}
 use Rattle.evidence_check.specs.Changed.{IsChanged, changed_entry, is_gain, marked_where, moved_place}
 use Rattle.evidence_check.specs.Kept.{AreKept, AreNumbers}
-use Rattle.evidence_check.specs.Marks.{adds, alive_entry, changed_marks, dead_entry, entry_of, marked_row, row_of, rows_of, with_mark}
+use Rattle.evidence_check.specs.Marks.{adds, alive_entry, changed_marks, dead_entry, entry_of, weighed_row, row_of, rows_of, with_mark}
 use Rattle.evidence_check.specs.Parts.{marked_at, shows_at}
 use Rattle.evidence_check.specs.Truth.{has_number, has_wrong_number}
 use Rattle.evidence_check.proofs.Beside.{number_with, number_without, set_marked}
@@ -78,68 +78,68 @@ unfolding fold_rows
 nothing_beside numbers none = record { marks = nothing_kept; numbers_are = λ number. ap (λ keys. list_any (is_at (nat_cmp number)) keys) none }
 
 -- the row at a place that shows an entry
-shows_row : (rows : List MarkedRow) (place : ℕ) (entry : Entry) → shows_at entry_of rows place ≡ Some entry → (row : MarkedRow) × (slice_get rows place ≡ Some row) × (adds entry row ≡ true)
+shows_row : (rows : List WeighedRow) (place : ℕ) (entry : Entry) → shows_at entry_of rows place ≡ Some entry → (row : WeighedRow) × (slice_get rows place ≡ Some row) × (adds entry row ≡ true)
 shows_row rows place entry is = in_row (slice_get rows place) is
   where
-    in_row : (o : Option MarkedRow) → option_and_then entry_of o ≡ Some entry → (row : MarkedRow) × (o ≡ Some row) × (adds entry row ≡ true)
+    in_row : (o : Option WeighedRow) → option_and_then entry_of o ≡ Some entry → (row : WeighedRow) × (o ≡ Some row) × (adds entry row ≡ true)
     in_row None none = absurd (cc)
     in_row (Some row) some = (row, refl, rw some (same_entry-refl entry))
 
-pub mark_marked : (entry : Entry) (alive : Bool) (rows : List MarkedRow) (place : ℕ) → HaveOwnNumbers (rows_of rows) → shows_at entry_of rows place ≡ Some entry
+pub mark_marked : (entry : Entry) (alive : Bool) (rows : List WeighedRow) (place : ℕ) → HaveOwnNumbers (rows_of rows) → shows_at entry_of rows place ≡ Some entry
     → marked_at place alive rows ≡ map (with_mark entry alive) rows
 mark_marked entry alive rows place own shows =
     let found = shows_row rows place entry shows in
     set_marked entry alive rows place found.0 own found.1 found.2
 
-pub dead_shows : (rows : List MarkedRow) (place : ℕ) (entry : Entry) → shows_at dead_entry rows place ≡ Some entry → shows_at entry_of rows place ≡ Some entry
+pub dead_shows : (rows : List WeighedRow) (place : ℕ) (entry : Entry) → shows_at dead_entry rows place ≡ Some entry → shows_at entry_of rows place ≡ Some entry
 dead_shows rows place entry is = in_row (slice_get rows place) is
   where
     by_mark : (alive : Bool) (o : Option Entry) → cond alive None o ≡ Some entry → o ≡ Some entry
     by_mark true o is = absurd (cc)
     by_mark false o is = is
 
-    in_row : (o : Option MarkedRow) → option_and_then dead_entry o ≡ Some entry → option_and_then entry_of o ≡ Some entry
+    in_row : (o : Option WeighedRow) → option_and_then dead_entry o ≡ Some entry → option_and_then entry_of o ≡ Some entry
     in_row None none = absurd (cc)
     in_row (Some row) some = by_mark row.alive (entry_of row) some
 
-pub alive_shows : (rows : List MarkedRow) (place : ℕ) (entry : Entry) → shows_at alive_entry rows place ≡ Some entry → shows_at entry_of rows place ≡ Some entry
+pub alive_shows : (rows : List WeighedRow) (place : ℕ) (entry : Entry) → shows_at alive_entry rows place ≡ Some entry → shows_at entry_of rows place ≡ Some entry
 alive_shows rows place entry is = in_row (slice_get rows place) is
   where
     by_mark : (alive : Bool) (o : Option Entry) → cond alive o None ≡ Some entry → o ≡ Some entry
     by_mark true o is = is
     by_mark false o is = absurd (cc)
 
-    in_row : (o : Option MarkedRow) → option_and_then alive_entry o ≡ Some entry → option_and_then entry_of o ≡ Some entry
+    in_row : (o : Option WeighedRow) → option_and_then alive_entry o ≡ Some entry → option_and_then entry_of o ≡ Some entry
     in_row None none = absurd (cc)
     in_row (Some row) some = by_mark row.alive (entry_of row) some
 
 -- a row after one was put in
-get_before : (xs : List MarkedRow) (place at : ℕ) (x : MarkedRow) → at < place → place ≤ length xs → slice_get (insert xs place x) at ≡ slice_get xs at
+get_before : (xs : List WeighedRow) (place at : ℕ) (x : WeighedRow) → at < place → place ≤ length xs → slice_get (insert xs place x) at ≡ slice_get xs at
 get_before xs zero at x before within = absurd (let none : ⊥ = omega arith in none)
 get_before [] (suc place) at x before within = absurd (let none : ⊥ = omega arith in none)
 get_before (y ∷ xs) (suc place) zero x before within = refl
 get_before (y ∷ xs) (suc place) (suc at) x before within = get_before xs place at x (omega arith) (omega arith)
 
-get_after : (xs : List MarkedRow) (place at : ℕ) (x : MarkedRow) → place ≤ at → slice_get (insert xs place x) (suc at) ≡ slice_get xs at
+get_after : (xs : List WeighedRow) (place at : ℕ) (x : WeighedRow) → place ≤ at → slice_get (insert xs place x) (suc at) ≡ slice_get xs at
 get_after xs zero at x after = refl
 get_after [] (suc place) at x after = refl
 get_after (y ∷ xs) (suc place) zero x after = absurd (let none : ⊥ = omega arith in none)
 get_after (y ∷ xs) (suc place) (suc at) x after = get_after xs place at x (omega arith)
 
-get_new : (xs : List MarkedRow) (place : ℕ) (x : MarkedRow) → place ≤ length xs → slice_get (insert xs place x) place ≡ Some x
+get_new : (xs : List WeighedRow) (place : ℕ) (x : WeighedRow) → place ≤ length xs → slice_get (insert xs place x) place ≡ Some x
 get_new xs zero x within = refl
 get_new [] (suc place) x within = absurd (let none : ⊥ = omega arith in none)
 get_new (y ∷ xs) (suc place) x within = get_new xs place x (omega arith)
 
-pub moved_shows : (rows : List MarkedRow) (e : Evidence) (changed : Option ℕ) → e.place ≤ length rows → IsChanged rows e changed
-    → shows_at entry_of (insert rows e.place (marked_row e)) (moved_place e.place changed) ≡ changed_entry e.change
-moved_shows rows e None within own = ap (option_and_then entry_of) (get_new rows e.place (marked_row e) within) ∙ own
+pub moved_shows : (rows : List WeighedRow) (e : Evidence) (changed : Option ℕ) → e.place ≤ length rows → IsChanged rows e changed
+    → shows_at entry_of (insert rows e.place (weighed_row e)) (moved_place e.place changed) ≡ changed_entry e.change
+moved_shows rows e None within own = ap (option_and_then entry_of) (get_new rows e.place (weighed_row e) within) ∙ own
 moved_shows rows e (Some place) within shows =
-    elim (nat_lt place e.place) as (λ t. nat_lt place e.place ≡ t → shows_at entry_of (insert rows e.place (marked_row e)) (cond t place (place + 1)) ≡ changed_entry e.change) [
-      | true ↦ λ before. ap (option_and_then entry_of) (get_before rows e.place place (marked_row e) (is_before before) within) ∙ shows
+    elim (nat_lt place e.place) as (λ t. nat_lt place e.place ≡ t → shows_at entry_of (insert rows e.place (weighed_row e)) (cond t place (place + 1)) ≡ changed_entry e.change) [
+      | true ↦ λ before. ap (option_and_then entry_of) (get_before rows e.place place (weighed_row e) (is_before before) within) ∙ shows
       | false ↦ λ after.
-          ap (λ n. shows_at entry_of (insert rows e.place (marked_row e)) n) (let one : place + 1 ≡ suc place = omega arith in one)
-          ∙ ap (option_and_then entry_of) (get_after rows e.place place (marked_row e) (is_after after)) ∙ shows
+          ap (λ n. shows_at entry_of (insert rows e.place (weighed_row e)) n) (let one : place + 1 ≡ suc place = omega arith in one)
+          ∙ ap (option_and_then entry_of) (get_after rows e.place place (weighed_row e) (is_after after)) ∙ shows
     ] refl
   where
     is_before : nat_lt place e.place ≡ true → place < e.place
@@ -149,30 +149,30 @@ moved_shows rows e (Some place) within shows =
     is_after test = grind (arith, nat_tests)
 
 -- marks by the change
-pub changed_is : (change : Change) (entry : Entry) (rows : List MarkedRow) → changed_entry change ≡ Some entry → changed_marks change rows ≡ map (with_mark entry (is_gain change)) rows
+pub changed_is : (change : Change) (entry : Entry) (rows : List WeighedRow) → changed_entry change ≡ Some entry → changed_marks change rows ≡ map (with_mark entry (is_gain change)) rows
 changed_is Plain entry rows is = absurd (cc)
 changed_is (Gain bridge other) entry rows is = let same : other ≡ entry = cc in ap (λ e. map (with_mark e true) rows) same
 changed_is (Lose bridge other) entry rows is = let same : other ≡ entry = cc in ap (λ e. map (with_mark e false) rows) same
 
-pub made_added : (rows : List MarkedRow) (e : Evidence) (changed : Option ℕ) (entry : Entry) → changed_entry e.change ≡ Some entry → e.place ≤ length rows → IsChanged rows e changed
-    → HaveOwnNumbers (rows_of (insert rows e.place (marked_row e)))
-    → marked_at (moved_place e.place changed) (is_gain e.change) (insert rows e.place (marked_row e)) ≡ changed_marks e.change (insert rows e.place (marked_row e))
+pub made_added : (rows : List WeighedRow) (e : Evidence) (changed : Option ℕ) (entry : Entry) → changed_entry e.change ≡ Some entry → e.place ≤ length rows → IsChanged rows e changed
+    → HaveOwnNumbers (rows_of (insert rows e.place (weighed_row e)))
+    → marked_at (moved_place e.place changed) (is_gain e.change) (insert rows e.place (weighed_row e)) ≡ changed_marks e.change (insert rows e.place (weighed_row e))
 made_added rows e changed entry names within shows own =
-    mark_marked entry (is_gain e.change) (insert rows e.place (marked_row e)) (moved_place e.place changed) own (moved_shows rows e changed within shows ∙ names)
-    ∙ sym (changed_is e.change entry (insert rows e.place (marked_row e)) names)
+    mark_marked entry (is_gain e.change) (insert rows e.place (weighed_row e)) (moved_place e.place changed) own (moved_shows rows e changed within shows ∙ names)
+    ∙ sym (changed_is e.change entry (insert rows e.place (weighed_row e)) names)
 
-remove_map : (f : MarkedRow → MarkedRow) (rows : List MarkedRow) (place : ℕ) → remove (map f rows) place ≡ map f (remove rows place)
+remove_map : (f : WeighedRow → WeighedRow) (rows : List WeighedRow) (place : ℕ) → remove (map f rows) place ≡ map f (remove rows place)
 remove_map f [] zero = refl
 remove_map f [] (suc place) = refl
 remove_map f (row ∷ rows) zero = refl
 remove_map f (row ∷ rows) (suc place) = ap (λ more. f row ∷ more) (remove_map f rows place)
 
-remove_mark : (rows : List MarkedRow) (place : ℕ) (alive : Bool) → remove (marked_at place alive rows) place ≡ remove rows place
+remove_mark : (rows : List WeighedRow) (place : ℕ) (alive : Bool) → remove (marked_at place alive rows) place ≡ remove rows place
 remove_mark [] place alive = refl
 remove_mark (row ∷ rows) zero alive = refl
 remove_mark (row ∷ rows) (suc place) alive = ap (λ more. row ∷ more) (remove_mark rows place alive)
 
-pub made_cut : (rows : List MarkedRow) (e : Evidence) (changed : Option ℕ) (entry : Entry) → changed_entry e.change ≡ Some entry → IsChanged rows e changed
+pub made_cut : (rows : List WeighedRow) (e : Evidence) (changed : Option ℕ) (entry : Entry) → changed_entry e.change ≡ Some entry → IsChanged rows e changed
     → HaveOwnNumbers (rows_of rows) → shows_at entry_of rows e.place ≡ added_as e.op e.number
     → remove (marked_where changed (is_gain e.change) rows) e.place ≡ changed_marks e.change (remove rows e.place)
 made_cut rows e None entry names own_row own there =
@@ -183,22 +183,22 @@ made_cut rows e (Some place) entry names shows own there =
     ∙ remove_map (with_mark entry (is_gain e.change)) rows e.place ∙ sym (changed_is e.change entry (remove rows e.place) names)
 
 -- the row that is cut adds what evidence says
-pub cut_there : (rows : List MarkedRow) (place number : ℕ) (op : Op) → slice_get (rows_of rows) place ≡ Some (record { number = number; time = 0; op = op }) → shows_at entry_of rows place ≡ added_as op number
+pub cut_there : (rows : List WeighedRow) (place number : ℕ) (op : Op) → slice_get (rows_of rows) place ≡ Some (record { number = number; time = 0; op = op }) → shows_at entry_of rows place ≡ added_as op number
 cut_there rows place number op there = in_row (slice_get rows place) (sym (slice_get-map row_of rows place) ∙ there)
   where
-    in_row : (o : Option MarkedRow) → option_map row_of o ≡ Some (record { number = number; time = 0; op = op }) → option_and_then entry_of o ≡ added_as op number
+    in_row : (o : Option WeighedRow) → option_map row_of o ≡ Some (record { number = number; time = 0; op = op }) → option_and_then entry_of o ≡ added_as op number
     in_row None none = absurd (cc)
     in_row (Some row) some = let same : row_of row ≡ record { number = number; time = 0; op = op } = cc in ap added_by same
 
 -- a mark changes no number
-pub marked_rows : (place : ℕ) (alive : Bool) (rows : List MarkedRow) → rows_of (marked_at place alive rows) ≡ rows_of rows
-marked_rows place alive [] = refl
-marked_rows zero alive (row ∷ rows) = refl
-marked_rows (suc place) alive (row ∷ rows) = ap (λ more. row_of row ∷ more) (marked_rows place alive rows)
+pub weighed_rows : (place : ℕ) (alive : Bool) (rows : List WeighedRow) → rows_of (marked_at place alive rows) ≡ rows_of rows
+weighed_rows place alive [] = refl
+weighed_rows zero alive (row ∷ rows) = refl
+weighed_rows (suc place) alive (row ∷ rows) = ap (λ more. row_of row ∷ more) (weighed_rows place alive rows)
 
-pub where_rows : (changed : Option ℕ) (alive : Bool) (rows : List MarkedRow) → rows_of (marked_where changed alive rows) ≡ rows_of rows
+pub where_rows : (changed : Option ℕ) (alive : Bool) (rows : List WeighedRow) → rows_of (marked_where changed alive rows) ≡ rows_of rows
 where_rows None alive rows = refl
-where_rows (Some place) alive rows = marked_rows place alive rows
+where_rows (Some place) alive rows = weighed_rows place alive rows
 
-pub own_added : (rows : List MarkedRow) (place : ℕ) (row : MarkedRow) → HaveOwnNumbers (rows_of rows) → has_number row.number (rows_of rows) ≡ false → HaveOwnNumbers (rows_of (insert rows place row))
+pub own_added : (rows : List WeighedRow) (place : ℕ) (row : WeighedRow) → HaveOwnNumbers (rows_of rows) → has_number row.number (rows_of rows) ≡ false → HaveOwnNumbers (rows_of (insert rows place row))
 own_added rows place row own fresh = rw (insert_rows place rows row) (own_numbers_with (rows_of rows) place (row_of row) own (is_fresh row.number (rows_of rows) fresh))

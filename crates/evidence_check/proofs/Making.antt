@@ -9,16 +9,16 @@ use Rattle.retro_base.specs.Limits.{most_rows}
 use Rattle.retro_base.specs.Weights.{added_as}
 use Rattle.evidence.specs.declared.evidence.Evidence.{Evidence}
 use Rattle.evidence.specs.Evidence.{IsEvidence}
-use Rattle.evidence_check.specs.declared.marked_row.MarkedRow.{MarkedRow}
+use Rattle.evidence_check.specs.declared.weighed_row.WeighedRow.{WeighedRow}
 use Rattle.evidence_check.specs.Changed.{IsChanged, changed_entry, is_gain, marked_where, moved_place}
 use Rattle.evidence_check.specs.Kept.{AreKept, AreNumbers}
-use Rattle.evidence_check.specs.Marks.{MarksSurvivors, changed_marks, edited_rows, entry_of, marked_change, marked_row, rows_of}
+use Rattle.evidence_check.specs.Marks.{MarksSurvivors, changed_marks, edited_rows, entry_of, marked_change, weighed_row, rows_of}
 use Rattle.evidence_check.specs.Parts.{marked_at, shows_at}
 use Rattle.evidence_check.specs.Truth.{cause_of, has_number, has_wrong_number, has_wrong_op, is_outside}
 use Rattle.evidence_check.proofs.Accepted.{Accepted, accepted_from}
 use Rattle.evidence_check.proofs.Flat.{length_insert, length_marked}
 use Rattle.evidence_check.proofs.Kept.{kept_after}
-use Rattle.evidence_check.proofs.Made.{cut_there, made_added, made_cut, marked_rows, moved_shows, own_added, where_rows}
+use Rattle.evidence_check.proofs.Made.{cut_there, made_added, made_cut, weighed_rows, moved_shows, own_added, where_rows}
 use Rattle.evidence_check.proofs.Marking.{length_rows}
 use Rattle.evidence_check.proofs.Possible.{possible}
 use Rattle.evidence_check.proofs.Reading.{names_entry}
@@ -29,15 +29,15 @@ not_full : (added : Bool) (n m : ℕ) → added ≡ true → (added && nat_le n 
 not_full true n m is test = grind (arith, nat_tests)
 not_full false n m is test = absurd (cc)
 
-inside_added : (added : Bool) (place n : ℕ) (rows : List MarkedRow) → added ≡ true → is_outside added place (rows_of rows) ≡ false → place ≤ length (rows_of rows)
+inside_added : (added : Bool) (place n : ℕ) (rows : List WeighedRow) → added ≡ true → is_outside added place (rows_of rows) ≡ false → place ≤ length (rows_of rows)
 inside_added true place n rows is test = grind (arith, nat_tests)
 inside_added false place n rows is test = absurd (cc)
 
-inside_cut : (added : Bool) (place : ℕ) (rows : List MarkedRow) → added ≡ false → is_outside added place (rows_of rows) ≡ false → place < length (rows_of rows)
+inside_cut : (added : Bool) (place : ℕ) (rows : List WeighedRow) → added ≡ false → is_outside added place (rows_of rows) ≡ false → place < length (rows_of rows)
 inside_cut true place rows is test = absurd (cc)
 inside_cut false place rows is test = grind (arith, nat_tests)
 
-module _ (old : List MarkedRow) (e : Evidence) (kept : MarksSurvivors old) (is : IsEvidence e) (none : cause_of (rows_of old) e ≡ None) where
+module _ (old : List WeighedRow) (e : Evidence) (kept : MarksSurvivors old) (is : IsEvidence e) (none : cause_of (rows_of old) e ≡ None) where
   accepted : Accepted (rows_of old) e
   accepted = accepted_from (rows_of old) e none
 
@@ -73,41 +73,41 @@ module _ (old : List MarkedRow) (e : Evidence) (kept : MarksSurvivors old) (is :
         inside None own = tt
         inside (Some place) there = shown_within entry_of old place entry.0 (there ∙ entry.1)
 
-    pub moved_inside : e.added ≡ true → (rows : List MarkedRow) → rows ≡ insert old e.place (marked_row e) → moved_place e.place changed < length rows
+    pub moved_inside : e.added ≡ true → (rows : List WeighedRow) → rows ≡ insert old e.place (weighed_row e) → moved_place e.place changed < length rows
     moved_inside added rows is_rows = rw is_rows
-        (shown_within entry_of (insert old e.place (marked_row e)) (moved_place e.place changed) entry.0 (moved_shows old e changed (place_added added) shows ∙ entry.1))
+        (shown_within entry_of (insert old e.place (weighed_row e)) (moved_place e.place changed) entry.0 (moved_shows old e changed (place_added added) shows ∙ entry.1))
 
-    pub rows_added : e.added ≡ true → (rows after : List MarkedRow) (alive : Bool) → rows ≡ insert old e.place (marked_row e) → alive ≡ is_gain e.change
-        → after ≡ marked_at (moved_place e.place changed) alive rows → after ≡ changed_marks e.change (edited_rows old e.added e.place (marked_row e))
+    pub rows_added : e.added ≡ true → (rows after : List WeighedRow) (alive : Bool) → rows ≡ insert old e.place (weighed_row e) → alive ≡ is_gain e.change
+        → after ≡ marked_at (moved_place e.place changed) alive rows → after ≡ changed_marks e.change (edited_rows old e.added e.place (weighed_row e))
     rows_added added rows after alive is_rows is_alive is_after =
         is_after ∙ ap (λ l. marked_at (moved_place e.place changed) alive l) is_rows
-        ∙ ap (λ b. marked_at (moved_place e.place changed) b (insert old e.place (marked_row e))) is_alive
-        ∙ made_added old e changed entry.0 entry.1 (place_added added) shows (own_added old e.place (marked_row e) kept.replayable.own_numbers (fresh_added added))
-        ∙ ap (λ b. changed_marks e.change (edited_rows old b e.place (marked_row e))) (sym added)
+        ∙ ap (λ b. marked_at (moved_place e.place changed) b (insert old e.place (weighed_row e))) is_alive
+        ∙ made_added old e changed entry.0 entry.1 (place_added added) shows (own_added old e.place (weighed_row e) kept.replayable.own_numbers (fresh_added added))
+        ∙ ap (λ b. changed_marks e.change (edited_rows old b e.place (weighed_row e))) (sym added)
 
-    pub rows_cut : e.added ≡ false → (rows after : List MarkedRow) (alive : Bool) → rows ≡ marked_where changed alive old → alive ≡ is_gain e.change
-        → after ≡ remove rows e.place → after ≡ changed_marks e.change (edited_rows old e.added e.place (marked_row e))
+    pub rows_cut : e.added ≡ false → (rows after : List WeighedRow) (alive : Bool) → rows ≡ marked_where changed alive old → alive ≡ is_gain e.change
+        → after ≡ remove rows e.place → after ≡ changed_marks e.change (edited_rows old e.added e.place (weighed_row e))
     rows_cut cuts rows after alive is_rows is_alive is_after =
         is_after ∙ ap (λ l. remove l e.place) (is_rows ∙ ap (λ b. marked_where changed b old) is_alive)
         ∙ made_cut old e changed entry.0 entry.1 shows kept.replayable.own_numbers (own_cut cuts)
-        ∙ ap (λ b. changed_marks e.change (edited_rows old b e.place (marked_row e))) (sym cuts)
+        ∙ ap (λ b. changed_marks e.change (edited_rows old b e.place (weighed_row e))) (sym cuts)
 
-  pub few_added : e.added ≡ true → (rows : List MarkedRow) → rows ≡ insert old e.place (marked_row e) → length rows ≤ most_rows
+  pub few_added : e.added ≡ true → (rows : List WeighedRow) → rows ≡ insert old e.place (weighed_row e) → length rows ≤ most_rows
   few_added added rows is_rows =
       let room = room_added added in
-      let long : length rows ≡ suc (length old) = ap length is_rows ∙ length_insert old e.place (marked_row e) (place_added added) in
+      let long : length rows ≡ suc (length old) = ap length is_rows ∙ length_insert old e.place (weighed_row e) (place_added added) in
       omega (arith, room, long)
 
-  pub kept_made : OneChangeOfPq → (after : List MarkedRow) (numbers : BTreeSet ℕ) → after ≡ changed_marks e.change (edited_rows old e.added e.place (marked_row e)) → AreNumbers (rows_of after) numbers
+  pub kept_made : OneChangeOfPq → (after : List WeighedRow) (numbers : BTreeSet ℕ) → after ≡ changed_marks e.change (edited_rows old e.added e.place (weighed_row e)) → AreNumbers (rows_of after) numbers
       → AreKept after numbers
   kept_made one after numbers is_after are = record { marks = rw is_after (kept_after one old e kept is none); numbers_are = are }
 
-pub length_where : (changed : Option ℕ) (alive : Bool) (rows : List MarkedRow) → length (marked_where changed alive rows) ≡ length rows
+pub length_where : (changed : Option ℕ) (alive : Bool) (rows : List WeighedRow) → length (marked_where changed alive rows) ≡ length rows
 length_where None alive rows = refl
 length_where (Some place) alive rows = length_marked place alive rows
 
-pub numbers_marked : (place : ℕ) (alive : Bool) (rows after : List MarkedRow) (numbers : BTreeSet ℕ) → after ≡ marked_at place alive rows → AreNumbers (rows_of rows) numbers → AreNumbers (rows_of after) numbers
-numbers_marked place alive rows after numbers is_after are = rw (is_after, marked_rows place alive rows) are
+pub numbers_marked : (place : ℕ) (alive : Bool) (rows after : List WeighedRow) (numbers : BTreeSet ℕ) → after ≡ marked_at place alive rows → AreNumbers (rows_of rows) numbers → AreNumbers (rows_of after) numbers
+numbers_marked place alive rows after numbers is_after are = rw (is_after, weighed_rows place alive rows) are
 
-pub numbers_where : (changed : Option ℕ) (alive : Bool) (rows after : List MarkedRow) (numbers : BTreeSet ℕ) → after ≡ marked_where changed alive rows → AreNumbers (rows_of rows) numbers → AreNumbers (rows_of after) numbers
+pub numbers_where : (changed : Option ℕ) (alive : Bool) (rows after : List WeighedRow) (numbers : BTreeSet ℕ) → after ≡ marked_where changed alive rows → AreNumbers (rows_of rows) numbers → AreNumbers (rows_of after) numbers
 numbers_where changed alive rows after numbers is_after are = rw (is_after, where_rows changed alive rows) are

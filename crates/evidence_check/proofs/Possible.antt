@@ -14,7 +14,7 @@ use Rattle.retro_base.specs.Kind.{kind_of}
 use Rattle.retro_base.specs.Timeline.{IsFresh}
 use Rattle.retro_base.specs.OrderLaws.{all_at}
 use Rattle.evidence.specs.Evidence.{IsPqOp}
-use Rattle.evidence_check.specs.declared.marked_row.MarkedRow.{MarkedRow}
+use Rattle.evidence_check.specs.declared.weighed_row.WeighedRow.{WeighedRow}
 use Rattle.evidence_check.specs.Marks.{MarksSurvivors, rows_of}
 use Rattle.evidence_check.specs.Truth.{edit_with, fails_at, has_number, has_wrong_number, has_wrong_op, is_outside, same_op}
 use Rattle.evidence_check.proofs.Weighing.{history}
@@ -78,11 +78,11 @@ possible_in rows reported timeless false place number op is inside right_number 
   own_row = tt;
 }
 
-marked_timeless : (marked : List MarkedRow) → AllByRecursion (λ row. row.time ≡ 0) (rows_of marked)
+marked_timeless : (marked : List WeighedRow) → AllByRecursion (λ row. row.time ≡ 0) (rows_of marked)
 marked_timeless [] = tt
 marked_timeless (first ∷ others) = (refl, marked_timeless others)
 
-pub possible : (marked : List MarkedRow) → MarksSurvivors marked → (added : Bool) (place number : ℕ) (op : Op) → IsPqOp op
+pub possible : (marked : List WeighedRow) → MarksSurvivors marked → (added : Bool) (place number : ℕ) (op : Op) → IsPqOp op
     → is_outside added place (rows_of marked) ≡ false → has_wrong_number added number place (rows_of marked) ≡ false → has_wrong_op added op place (rows_of marked) ≡ false
     → IsPqEdit (rows_of marked) (edit_with added place (record { number = number; time = 0; op = op }))
 possible marked kept added place number op is inside right_number right_op =

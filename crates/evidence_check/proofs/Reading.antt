@@ -16,7 +16,7 @@ use Rattle.retro_base.specs.Weights.{added_as}
 use Rattle.retro_base.specs.lemmas.bridges.EntryOrder.{before_irreflexive, before_one_way, same_entry-refl, not_before_later}
 use Rattle.evidence.specs.declared.evidence.Evidence.{Evidence}
 use Rattle.evidence.specs.Evidence.{IsEvidence}
-use Rattle.evidence_check.specs.declared.marked_row.MarkedRow.{MarkedRow}
+use Rattle.evidence_check.specs.declared.weighed_row.WeighedRow.{WeighedRow}
 use Rattle.evidence_check.specs.Changed.{changed_entry}
 use Rattle.evidence_check.specs.Marks.{MarksSurvivors, better_of, cut_change, gained, greatest_dead, is_alive_at, is_less, least_alive, lost, marked_change, row_of, rows_of, dead_entry}
 use Rattle.evidence_check.specs.Truth.{cause_of, fails_at, reported_edit}
@@ -28,19 +28,19 @@ use Rattle.evidence_check.proofs.Possible.{possible}
 use Rattle.evidence_check.proofs.Walks.{found_is}
 
 -- a test of the row at a place
-pub fails_none : (test : Row → Bool) (place : ℕ) (marked : List MarkedRow) → slice_get marked place ≡ None → true ≡ fails_at test place (rows_of marked)
+pub fails_none : (test : Row → Bool) (place : ℕ) (marked : List WeighedRow) → slice_get marked place ≡ None → true ≡ fails_at test place (rows_of marked)
 fails_none test place marked none =
     sym (ap (λ o. option_map_or (λ row. not (test row)) o true) (slice_get-map row_of marked place ∙ ap (option_map row_of) none))
 
-pub fails_some : (test : Row → Bool) (place : ℕ) (marked : List MarkedRow) (row : MarkedRow) → slice_get marked place ≡ Some row → not (test (row_of row)) ≡ fails_at test place (rows_of marked)
+pub fails_some : (test : Row → Bool) (place : ℕ) (marked : List WeighedRow) (row : WeighedRow) → slice_get marked place ≡ Some row → not (test (row_of row)) ≡ fails_at test place (rows_of marked)
 fails_some test place marked row some =
     sym (ap (λ o. option_map_or (λ r. not (test r)) o true) (slice_get-map row_of marked place ∙ ap (option_map row_of) some))
 
 -- what is gained, by the greatest dead entry alone
-greatest_with : (new : Option Entry) (marked : List MarkedRow) → greatest_dead new marked ≡ better_of is_less new (greatest_dead None marked)
+greatest_with : (new : Option Entry) (marked : List WeighedRow) → greatest_dead new marked ≡ better_of is_less new (greatest_dead None marked)
 greatest_with new marked = best-from is_less before_irreflexive not_before_later before_one_way dead_entry new marked
 
-pub gained_is : (marked : List MarkedRow) (place bridge : ℕ) (new dead best : Option Entry) → bridge ≡ last_bridge (rows_of marked) place → dead ≡ greatest_dead None (drop bridge marked)
+pub gained_is : (marked : List WeighedRow) (place bridge : ℕ) (new dead best : Option Entry) → bridge ≡ last_bridge (rows_of marked) place → dead ≡ greatest_dead None (drop bridge marked)
     → best ≡ better_of is_less new dead → option_map (λ entry. Gain bridge entry) best ≡ gained marked place new
 gained_is marked place bridge new dead best is_bridge is_dead is_best =
     ap (option_map (λ entry. Gain bridge entry)) (is_best ∙ ap (better_of is_less new) is_dead ∙ sym (greatest_with new (drop bridge marked)))
@@ -51,7 +51,7 @@ read_right : (rows : List Row) (edit : Edit) (read : Option Change) (change : Ch
 read_right rows edit None change fails accepted is = absurd (let wrong : false ≡ true = ap is_some (sym accepted) ∙ fails in cc)
 read_right rows edit (Some read) change is_right accepted is = ap Some (is_right.1 ∙ sym is)
 
-pub read_is : Laws → (marked : List MarkedRow) (e : Evidence) → MarksSurvivors marked → IsEvidence e → cause_of (rows_of marked) e ≡ None
+pub read_is : Laws → (marked : List WeighedRow) (e : Evidence) → MarksSurvivors marked → IsEvidence e → cause_of (rows_of marked) e ≡ None
     → marked_change marked e.added e.place (added_as e.op e.number) ≡ Some e.change
 read_is laws marked e kept is none =
     let accepted = accepted_from (rows_of marked) e none in
@@ -89,7 +89,7 @@ one_of new None entry is = inl is
 one_of None (Some d) entry is = inr is
 one_of (Some n) (Some d) entry is = elim (is_less n d) as (λ t. Some (cond t d n) ≡ Some entry → (Some n ≡ Some entry) ⊎ (Some d ≡ Some entry)) [ true ↦ λ same. inr same | false ↦ λ same. inl same ] is
 
-gained_one : (marked : List MarkedRow) (place bridge : ℕ) (new : Option Entry) (entry : Entry) → gained marked place new ≡ Some (Gain bridge entry)
+gained_one : (marked : List WeighedRow) (place bridge : ℕ) (new : Option Entry) (entry : Entry) → gained marked place new ≡ Some (Gain bridge entry)
     → (new ≡ Some entry) ⊎ (greatest_dead None (drop bridge marked) ≡ Some entry)
 gained_one marked place bridge new entry is =
     let other : ℕ = last_bridge (rows_of marked) place in
@@ -100,7 +100,7 @@ gained_one marked place bridge new entry is =
 dead_found : (o : Option Entry) (entry : Entry) (P : Type 0) → (None ≡ Some entry) ⊎ P → P
 dead_found o entry P either = elim either [ inl none ↦ absurd (cc) | inr is ↦ is ]
 
-pub gain_read : (marked : List MarkedRow) (added : Bool) (place bridge : ℕ) (new : Option Entry) (entry : Entry) → marked_change marked added place new ≡ Some (Gain bridge entry)
+pub gain_read : (marked : List WeighedRow) (added : Bool) (place bridge : ℕ) (new : Option Entry) (entry : Entry) → marked_change marked added place new ≡ Some (Gain bridge entry)
     → ((added ≡ true) × (new ≡ Some entry)) ⊎ (greatest_dead None (drop bridge marked) ≡ Some entry)
 gain_read marked true place bridge None entry is = absurd (no_gain bridge _ entry _ is)
 gain_read marked true place bridge (Some n) entry is = elim (gained_one marked place bridge (Some n) entry is) [ inl own ↦ inl (refl, own) | inr dead ↦ inr dead ]
@@ -111,14 +111,14 @@ gain_read marked false place bridge (Some n) entry is =
       | false ↦ λ wrong. absurd (no_gain bridge _ entry _ wrong)
     ] is
 
-lost_one : (marked : List MarkedRow) (from bridge : ℕ) (entry : Entry) → lost marked from ≡ Some (Lose (Some bridge) entry) → least_alive (take bridge marked) ≡ Some entry
+lost_one : (marked : List WeighedRow) (from bridge : ℕ) (entry : Entry) → lost marked from ≡ Some (Lose (Some bridge) entry) → least_alive (take bridge marked) ≡ Some entry
 lost_one marked from bridge entry is =
     let other : ℕ = first_bridge (rows_of marked) from in
     let parts = loss_is (Some bridge) other entry (least_alive (take other marked)) is in
     let same : bridge ≡ other = let whole : Some bridge ≡ Some other = parts.0 in cc in
     ap (λ b. least_alive (take b marked)) same ∙ parts.1
 
-pub loss_read : (marked : List MarkedRow) (added : Bool) (place bridge : ℕ) (new : Option Entry) (entry : Entry) → marked_change marked added place new ≡ Some (Lose (Some bridge) entry)
+pub loss_read : (marked : List WeighedRow) (added : Bool) (place bridge : ℕ) (new : Option Entry) (entry : Entry) → marked_change marked added place new ≡ Some (Lose (Some bridge) entry)
     → least_alive (take bridge marked) ≡ Some entry
 loss_read marked true place bridge None entry is = lost_one marked place bridge entry is
 loss_read marked true place bridge (Some n) entry is = absurd (no_loss (Some bridge) _ entry _ is)
@@ -133,7 +133,7 @@ not_nowhere : (other : ℕ) (entry : Entry) (found : Option Entry) → option_ma
 not_nowhere other entry None is = cc
 not_nowhere other entry (Some e) is = cc
 
-pub own_read : (marked : List MarkedRow) (added : Bool) (place : ℕ) (new : Option Entry) (entry : Entry) → marked_change marked added place new ≡ Some (Lose None entry) → new ≡ Some entry
+pub own_read : (marked : List WeighedRow) (added : Bool) (place : ℕ) (new : Option Entry) (entry : Entry) → marked_change marked added place new ≡ Some (Lose None entry) → new ≡ Some entry
 own_read marked true place None entry is = absurd (not_nowhere _ entry _ is)
 own_read marked true place (Some n) entry is = absurd (no_loss None _ entry _ is)
 own_read marked false place None entry is = absurd (no_loss None _ entry _ is)
@@ -143,7 +143,7 @@ own_read marked false place (Some n) entry is =
       | false ↦ λ wrong. absurd (not_nowhere _ entry _ wrong)
     ] is
 
-pub never_plain : (marked : List MarkedRow) (added : Bool) (place : ℕ) (new : Option Entry) → marked_change marked added place new ≡ Some Plain → ⊥
+pub never_plain : (marked : List WeighedRow) (added : Bool) (place : ℕ) (new : Option Entry) → marked_change marked added place new ≡ Some Plain → ⊥
 never_plain marked true place None is = no_plain_loss _ _ is
 never_plain marked true place (Some n) is = no_plain_gain _ _ is
 never_plain marked false place None is = no_plain_gain _ _ is
@@ -164,7 +164,7 @@ not_own added new entry other is same =
     let wrong : true ≡ false = sym both ∙ other in cc
 
 -- so a change that was read names an entry
-pub names_entry : (marked : List MarkedRow) (added : Bool) (place : ℕ) (new : Option Entry) (change : Change) → marked_change marked added place new ≡ Some change
+pub names_entry : (marked : List WeighedRow) (added : Bool) (place : ℕ) (new : Option Entry) (change : Change) → marked_change marked added place new ≡ Some change
     → (entry : Entry) × (changed_entry change ≡ Some entry)
 names_entry marked added place new Plain is = absurd (never_plain marked added place new is)
 names_entry marked added place new (Gain bridge entry) is = (entry, refl)

@@ -6,7 +6,7 @@ use Rattle.std.specs.List.{AllByRecursion, cons_option}
 use Rattle.retro_base.specs.declared.row.Entry.{Entry}
 use Rattle.retro_base.specs.Bridges.{is_among, survivors}
 use Rattle.retro_base.specs.BridgeTable.{added, IsDeadFrom, IsSurvivorBefore}
-use Rattle.evidence_check.specs.declared.marked_row.MarkedRow.{MarkedRow}
+use Rattle.evidence_check.specs.declared.weighed_row.WeighedRow.{WeighedRow}
 use Rattle.evidence_check.specs.Marks.{MarksSurvivors, IsMarked, alive_entry, dead_entry, entry_of, rows_of}
 use Rattle.evidence_check.proofs.Best.{Shown}
 use Rattle.evidence_check.proofs.Members.{In, contains_in, in_contains, absent_among, among_absent, among_contains, contains_among}
@@ -45,28 +45,28 @@ reported_alive survive mark o e marks entry among =
     rw alive entry
 
 module _ (survive : List Entry) (e : Entry) where
-  dead_shown : (marked : List MarkedRow) → AllByRecursion (IsMarked survive) marked → Shown dead_entry marked e → In e (added (rows_of marked)) × (is_among survive e ≡ false)
+  dead_shown : (marked : List WeighedRow) → AllByRecursion (IsMarked survive) marked → Shown dead_entry marked e → In e (added (rows_of marked)) × (is_among survive e ≡ false)
   dead_shown [] marks shown = absurd shown
   dead_shown (first ∷ others) marks shown = elim shown [
     | inl here ↦ let reported = dead_reported survive first.alive (entry_of first) e marks.0 here in (in_more (entry_of first) (added (rows_of others)) e (inl reported.entry), reported.among)
     | inr further ↦ let rest = dead_shown others marks.1 further in (in_more (entry_of first) (added (rows_of others)) e (inr rest.0), rest.1)
   ]
 
-  shown_dead : (marked : List MarkedRow) → AllByRecursion (IsMarked survive) marked → In e (added (rows_of marked)) → is_among survive e ≡ false → Shown dead_entry marked e
+  shown_dead : (marked : List WeighedRow) → AllByRecursion (IsMarked survive) marked → In e (added (rows_of marked)) → is_among survive e ≡ false → Shown dead_entry marked e
   shown_dead [] marks inside among = absurd inside
   shown_dead (first ∷ others) marks inside among = elim (more_in (entry_of first) (added (rows_of others)) e inside) [
     | inl here ↦ inl (reported_dead survive first.alive (entry_of first) e marks.0 here among)
     | inr further ↦ inr (shown_dead others marks.1 further among)
   ]
 
-  pub alive_shown : (marked : List MarkedRow) → AllByRecursion (IsMarked survive) marked → Shown alive_entry marked e → In e (added (rows_of marked)) × (is_among survive e ≡ true)
+  pub alive_shown : (marked : List WeighedRow) → AllByRecursion (IsMarked survive) marked → Shown alive_entry marked e → In e (added (rows_of marked)) × (is_among survive e ≡ true)
   alive_shown [] marks shown = absurd shown
   alive_shown (first ∷ others) marks shown = elim shown [
     | inl here ↦ let reported = alive_reported survive first.alive (entry_of first) e marks.0 here in (in_more (entry_of first) (added (rows_of others)) e (inl reported.entry), reported.among)
     | inr further ↦ let rest = alive_shown others marks.1 further in (in_more (entry_of first) (added (rows_of others)) e (inr rest.0), rest.1)
   ]
 
-  pub shown_alive : (marked : List MarkedRow) → AllByRecursion (IsMarked survive) marked → In e (added (rows_of marked)) → is_among survive e ≡ true → Shown alive_entry marked e
+  pub shown_alive : (marked : List WeighedRow) → AllByRecursion (IsMarked survive) marked → In e (added (rows_of marked)) → is_among survive e ≡ true → Shown alive_entry marked e
   shown_alive [] marks inside among = absurd inside
   shown_alive (first ∷ others) marks inside among = elim (more_in (entry_of first) (added (rows_of others)) e inside) [
     | inl here ↦ inl (reported_alive survive first.alive (entry_of first) e marks.0 here among)
@@ -84,7 +84,7 @@ all_drop P (suc n) [] all = tt
 all_drop P (suc n) (x ∷ xs) all = all_drop P n xs all.1
 
 -- in the words of the table
-module _ (marked : List MarkedRow) (kept : MarksSurvivors marked) (bridge : ℕ) (e : Entry) where
+module _ (marked : List WeighedRow) (kept : MarksSurvivors marked) (bridge : ℕ) (e : Entry) where
   pub is_dead_from : Shown dead_entry (drop bridge marked) e → IsDeadFrom (rows_of marked) bridge e
   is_dead_from shown =
       let reported = dead_shown (survivors (rows_of marked)) e (drop bridge marked) (all_drop (IsMarked (survivors (rows_of marked))) bridge marked kept.marks) shown in

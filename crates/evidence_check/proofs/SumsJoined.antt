@@ -5,7 +5,7 @@ use Rattle.std.proofs.lemmas.Bool.Decides.{nat_tests}
 use Rattle.std.proofs.lemmas.Int.{ints}
 use Rattle.retro_base.specs.declared.row.Entry.{Entry}
 use Rattle.retro_base.specs.lemmas.bridges.EntryOrder.{before_irreflexive, before_one_way, not_before_later}
-use Rattle.evidence_check.specs.declared.marked_row.MarkedRow.{MarkedRow}
+use Rattle.evidence_check.specs.declared.weighed_row.WeighedRow.{WeighedRow}
 use Rattle.evidence_check.specs.declared.sums.Sums.{Sums}
 use Rattle.evidence_check.specs.Marks.{alive_entry, dead_entry, entry_of, greatest_dead, is_greater, is_less, least_alive, better_of}
 use Rattle.evidence_check.specs.Sums.{AreBounded, joined, lesser, low_of, sum_of, sums_of, weight_by, weight_of}
@@ -40,7 +40,7 @@ lesser-one : (m : ℤ) → m ≤ℤ pos 1 → m ≡ lesser (pos 1) (pos 0 +ℤ m
 lesser-one m most = grind (arith, ints, nat_tests)
 
 -- sums of weights
-pub sum-join : (xs ys : List MarkedRow) → sum_of (xs ++ ys) ≡ sum_of xs +ℤ sum_of ys
+pub sum-join : (xs ys : List WeighedRow) → sum_of (xs ++ ys) ≡ sum_of xs +ℤ sum_of ys
 sum-join [] ys = let n : ℤ = sum_of ys in none n
   where
     none : (n : ℤ) → n ≡ pos 0 +ℤ n
@@ -50,7 +50,7 @@ sum-join (x ∷ xs) ys = ap (λ n. weight_of x +ℤ n) (sum-join xs ys) ∙ move
     moved : (a b c : ℤ) → (a +ℤ (b +ℤ c)) ≡ ((a +ℤ b) +ℤ c)
     moved a b c = omega (arith, ints)
 
-pub low-up : (xs : List MarkedRow) → low_of xs ≤ℤ pos 1
+pub low-up : (xs : List WeighedRow) → low_of xs ≤ℤ pos 1
 low-up [] = omega (arith, ints)
 low-up (x ∷ xs) =
     let first = lesser-first (weight_of x) (weight_of x +ℤ low_of xs) in
@@ -60,15 +60,15 @@ low-up (x ∷ xs) =
     below : (a b : ℤ) → a ≤ℤ b → b ≤ℤ pos 1 → a ≤ℤ pos 1
     below a b first weight = omega (arith, ints)
 
-low-join : (xs ys : List MarkedRow) → low_of (xs ++ ys) ≡ lesser (low_of xs) (sum_of xs +ℤ low_of ys)
+low-join : (xs ys : List WeighedRow) → low_of (xs ++ ys) ≡ lesser (low_of xs) (sum_of xs +ℤ low_of ys)
 low-join [] ys = lesser-one (low_of ys) (low-up ys)
 low-join (x ∷ xs) ys =
     ap (λ n. lesser (weight_of x) (weight_of x +ℤ n)) (low-join xs ys) ∙ lesser-moved (weight_of x) (low_of xs) (sum_of xs) (low_of ys)
 
-pub dead-join : (xs ys : List MarkedRow) → greatest_dead None (xs ++ ys) ≡ better_of is_less (greatest_dead None xs) (greatest_dead None ys)
+pub dead-join : (xs ys : List WeighedRow) → greatest_dead None (xs ++ ys) ≡ better_of is_less (greatest_dead None xs) (greatest_dead None ys)
 dead-join xs ys = best-join is_less before_irreflexive not_before_later before_one_way dead_entry xs ys
 
-pub alive-join : (xs ys : List MarkedRow) → least_alive (xs ++ ys) ≡ better_of is_greater (least_alive xs) (least_alive ys)
+pub alive-join : (xs ys : List WeighedRow) → least_alive (xs ++ ys) ≡ better_of is_greater (least_alive xs) (least_alive ys)
 alive-join xs ys = best-join is_greater before_irreflexive turned_on turned_way alive_entry xs ys
 
 pub same_sums : (n m : ℕ) (s t l k : ℤ) (d e a b : Option Entry) → n ≡ m → s ≡ t → l ≡ k → d ≡ e → a ≡ b
@@ -76,30 +76,30 @@ pub same_sums : (n m : ℕ) (s t l k : ℤ) (d e a b : Option Entry) → n ≡ m
 same_sums n m s t l k d e a b one two three four five = rw (one, two, three, four, five) refl
 
 -- the law
-pub sums-join : (xs ys : List MarkedRow) → sums_of (xs ++ ys) ≡ joined (sums_of xs) (sums_of ys)
+pub sums-join : (xs ys : List WeighedRow) → sums_of (xs ++ ys) ≡ joined (sums_of xs) (sums_of ys)
 sums-join xs ys = same_sums _ _ _ _ _ _ _ _ _ _ (length-append xs ys) (sum-join xs ys) (low-join xs ys) (dead-join xs ys) (alive-join xs ys)
 
 -- sums keep within the number of rows
-pub sum-up : (xs : List MarkedRow) → sum_of xs ≤ℤ pos (length xs)
+pub sum-up : (xs : List WeighedRow) → sum_of xs ≤ℤ pos (length xs)
 sum-up [] = omega (arith, ints)
 sum-up (x ∷ xs) = more (weight_of x) (sum_of xs) (length xs) (weight-up x.alive (entry_of x)) (sum-up xs)
   where
     more : (w s : ℤ) (n : ℕ) → w ≤ℤ pos 1 → s ≤ℤ pos n → (w +ℤ s) ≤ℤ pos (suc n)
     more w s n first rest = omega (arith, ints)
 
-pub sum-down : (xs : List MarkedRow) → pos 0 ≤ℤ (sum_of xs +ℤ pos (length xs))
+pub sum-down : (xs : List WeighedRow) → pos 0 ≤ℤ (sum_of xs +ℤ pos (length xs))
 sum-down [] = omega (arith, ints)
 sum-down (x ∷ xs) = more (weight_of x) (sum_of xs) (length xs) (weight-down x.alive (entry_of x)) (sum-down xs)
   where
     more : (w s : ℤ) (n : ℕ) → pos 0 ≤ℤ (w +ℤ pos 1) → pos 0 ≤ℤ (s +ℤ pos n) → pos 0 ≤ℤ ((w +ℤ s) +ℤ pos (suc n))
     more w s n first rest = omega (arith, ints)
 
-pub low-down : (xs : List MarkedRow) → pos 0 ≤ℤ (low_of xs +ℤ pos (length xs))
+pub low-down : (xs : List WeighedRow) → pos 0 ≤ℤ (low_of xs +ℤ pos (length xs))
 low-down [] = omega (arith, ints)
 low-down (x ∷ xs) = more (weight_of x) (low_of xs) (length xs) (weight-down x.alive (entry_of x)) (low-down xs)
   where
     more : (w l : ℤ) (n : ℕ) → pos 0 ≤ℤ (w +ℤ pos 1) → pos 0 ≤ℤ (l +ℤ pos n) → pos 0 ≤ℤ (lesser w (w +ℤ l) +ℤ pos (suc n))
     more w l n first rest = grind (arith, ints, nat_tests)
 
-pub sums-bounded : (xs : List MarkedRow) → AreBounded (sums_of xs)
+pub sums-bounded : (xs : List WeighedRow) → AreBounded (sums_of xs)
 sums-bounded xs = record { up = sum-up xs; down = sum-down xs; low_up = low-up xs; low_down = low-down xs }

@@ -10,7 +10,7 @@ use Rattle.std.proofs.lemmas.Option.{slice_get_read}
 use Rattle.retro_base.specs.declared.row.Entry.{Entry}
 use Rattle.retro_base.specs.Limits.{most_rows}
 use Rattle.retro_base.specs.lemmas.bridges.EntryOrder.{same_entry-same, same_entry-refl}
-use Rattle.evidence_check.specs.declared.marked_row.MarkedRow.{MarkedRow}
+use Rattle.evidence_check.specs.declared.weighed_row.WeighedRow.{WeighedRow}
 use Rattle.evidence_check.specs.declared.sums.Sums.{Sums}
 use Rattle.evidence_check.specs.Marks.{better_of, greatest_dead, is_greater, is_less, least_alive}
 use Rattle.evidence_check.specs.Parts.{is_entry, shows_at}
@@ -34,16 +34,16 @@ neither beaten a None entry first second = first
 neither beaten None (Some b) entry first second = second
 neither beaten (Some a) (Some b) entry first second = elim (beaten a b) as (λ t. is_entry (Some (cond t b a)) entry ≡ false) [ true ↦ second | false ↦ first ]
 
-pub shown_within : (shown : MarkedRow → Option Entry) (rows : List MarkedRow) (place : ℕ) (entry : Entry) → shows_at shown rows place ≡ Some entry → place < length rows
+pub shown_within : (shown : WeighedRow → Option Entry) (rows : List WeighedRow) (place : ℕ) (entry : Entry) → shows_at shown rows place ≡ Some entry → place < length rows
 shown_within shown [] place entry is = absurd (cc)
 shown_within shown (first ∷ others) zero entry is = omega arith
 shown_within shown (first ∷ others) (suc place) entry is = let rest = shown_within shown others place entry is in omega (arith, rest)
 
-module _ {P : Type 0} (f : P → List MarkedRow) (parts : List P) (index : ℕ) (part : P) (within : index < length parts) (is : part ≡ get_or parts index part) where
-  abbrev first : List MarkedRow
+module _ {P : Type 0} (f : P → List WeighedRow) (parts : List P) (index : ℕ) (part : P) (within : index < length parts) (is : part ≡ get_or parts index part) where
+  abbrev first : List WeighedRow
   first = flat_map f (take index parts)
 
-  abbrev rest : List MarkedRow
+  abbrev rest : List WeighedRow
   rest = flat_map f (drop (suc index) parts)
 
   pub there : slice_get parts index ≡ Some part
@@ -105,7 +105,7 @@ module _ {P : Type 0} (f : P → List MarkedRow) (parts : List P) (index : ℕ) 
       ∙ neither is_greater (least_alive (take to first)) found entry before other
 
   -- what a part shows
-  pub shown_there : (shown : MarkedRow → Option Entry) (passed place : ℕ) (entry : Entry) → passed ≡ length first → shows_at shown (f part) place ≡ Some entry
+  pub shown_there : (shown : WeighedRow → Option Entry) (passed place : ℕ) (entry : Entry) → passed ≡ length first → shows_at shown (f part) place ≡ Some entry
       → shows_at shown (flat_map f parts) (passed + place) ≡ Some entry
   shown_there shown passed place entry long shows =
       ap (λ l. shows_at shown l (passed + place)) around ∙ ap (λ n. shows_at shown (first ++ (f part ++ rest)) (n + place)) long

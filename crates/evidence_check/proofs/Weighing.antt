@@ -18,14 +18,14 @@ use Rattle.retro_base.specs.BridgeLaws.{WeightsCountTheDead}
 use Rattle.retro_base.specs.Bridges.{entries_at, entries_of, is_among, is_bridge, survivors, last_bridge, first_bridge, first_bridge_among}
 use Rattle.retro_base.specs.Carried.{IsPqHistory}
 use Rattle.retro_base.specs.Weights.{added_by, dead_at, weight, weight_as}
-use Rattle.evidence_check.specs.declared.marked_row.MarkedRow.{MarkedRow}
+use Rattle.evidence_check.specs.declared.weighed_row.WeighedRow.{WeighedRow}
 use Rattle.evidence_check.proofs.Marking.{length_rows, take_rows}
 use Rattle.evidence_check.proofs.Members.{In, in_is_among}
 use Rattle.evidence_check.specs.Marks.{MarksSurvivors, IsMarked, entry_of, rows_of}
 use Rattle.evidence_check.specs.Sums.{sum_of, weight_by, weight_of}
 use Rattle.evidence_check.specs.Zeros.{IsFirstZero, IsLastZero, IsZero}
 
-pub history : (marked : List MarkedRow) → MarksSurvivors marked → IsPqHistory (rows_of marked)
+pub history : (marked : List WeighedRow) → MarksSurvivors marked → IsPqHistory (rows_of marked)
 history marked kept = record {
   of_kind = kept.replayable.of_kind;
   own_numbers = kept.replayable.own_numbers;
@@ -66,7 +66,7 @@ weight_marked : (survive : List Entry) (alive : Bool) (o : Option Entry) → ali
 weight_marked survive alive None mark = refl
 weight_marked survive alive (Some e) mark = ap (λ b. cond b (pos 0) (pos 1)) (sym mark)
 
-weights_folded : (survive : List Entry) (start : ℤ) (marked : List MarkedRow) → AllByRecursion (IsMarked survive) marked
+weights_folded : (survive : List Entry) (start : ℤ) (marked : List WeighedRow) → AllByRecursion (IsMarked survive) marked
     → fold (λ sum row. sum +ℤ weight_as survive (added_by row)) start (rows_of marked) ≡ start +ℤ sum_of marked
 weights_folded survive start [] all = omega (arith, ints)
 weights_folded survive start (first ∷ others) all =
@@ -83,24 +83,24 @@ all_take P (suc place) [] all = tt
 all_take P (suc place) (x ∷ xs) all = (all.0, all_take P place xs all.1)
 
 -- the weights of marked rows count the dead
-pub sum_counts : WeightsCountTheDead → (marked : List MarkedRow) → MarksSurvivors marked → (place : ℕ) → (pos 0 +ℤ sum_of (take place marked)) ≡ pos (dead_at (rows_of marked) place)
+pub sum_counts : WeightsCountTheDead → (marked : List WeighedRow) → MarksSurvivors marked → (place : ℕ) → (pos 0 +ℤ sum_of (take place marked)) ≡ pos (dead_at (rows_of marked) place)
 sum_counts count marked kept place =
     sym (weights_folded (survivors (rows_of marked)) (pos 0) (take place marked) (all_take (IsMarked (survivors (rows_of marked))) place marked kept.marks))
     ∙ ap (fold (λ sum row. sum +ℤ weight (rows_of marked) row) (pos 0)) (sym (take_rows place marked))
     ∙ count (rows_of marked) place (history marked kept)
 
-pub bridge_is_zero : WeightsCountTheDead → (marked : List MarkedRow) → MarksSurvivors marked → (place : ℕ) → IsZero (pos 0) marked place → is_bridge (rows_of marked) place ≡ true
+pub bridge_is_zero : WeightsCountTheDead → (marked : List WeighedRow) → MarksSurvivors marked → (place : ℕ) → IsZero (pos 0) marked place → is_bridge (rows_of marked) place ≡ true
 bridge_is_zero count marked kept place zeroes =
     let none : pos (dead_at (rows_of marked) place) ≡ pos 0 = sym (sum_counts count marked kept place) ∙ zeroes in
     let no_dead : dead_at (rows_of marked) place ≡ 0 = omega (arith, ints) in
     bridge_by_count (rows_of marked) place ∙ ap (λ n. n == 0) no_dead
 
-pub no_bridge : WeightsCountTheDead → (marked : List MarkedRow) → MarksSurvivors marked → (place : ℕ) → ¬ IsZero (pos 0) marked place → is_bridge (rows_of marked) place ≡ false
+pub no_bridge : WeightsCountTheDead → (marked : List WeighedRow) → MarksSurvivors marked → (place : ℕ) → ¬ IsZero (pos 0) marked place → is_bridge (rows_of marked) place ≡ false
 no_bridge count marked kept place other =
     bridge_by_count (rows_of marked) place
     ∙ ne_eqb (dead_at (rows_of marked) place) 0 (λ none. other (sum_counts count marked kept place ∙ ap (λ n. pos n) none))
 
-pub zero_at_end : WeightsCountTheDead → (marked : List MarkedRow) → MarksSurvivors marked → IsZero (pos 0) marked (length marked)
+pub zero_at_end : WeightsCountTheDead → (marked : List WeighedRow) → MarksSurvivors marked → IsZero (pos 0) marked (length marked)
 zero_at_end count marked kept =
     sum_counts count marked kept (length marked) ∙ ap (λ n. pos (dead_at (rows_of marked) n)) (sym (length_rows marked)) ∙ ap (λ n. pos n) (dead_at_end (rows_of marked))
 
@@ -133,7 +133,7 @@ first_found rows (suc more) from place least most is none =
           first_found rows more (suc from) place (omega arith) (omega arith) is (λ other up before. none other (omega arith) before) ∙ rw misses refl
     ]
 
-module _ (count : WeightsCountTheDead) (marked : List MarkedRow) (kept : MarksSurvivors marked) where
+module _ (count : WeightsCountTheDead) (marked : List WeighedRow) (kept : MarksSurvivors marked) where
   pub last_is : (to place : ℕ) → to ≤ length marked → IsLastZero (pos 0) marked to place → place ≡ last_bridge (rows_of marked) to
   last_is to place within found =
       last_found (rows_of marked) to place found.within (λ some. bridge_is_zero count marked kept place (found.is_zero some))

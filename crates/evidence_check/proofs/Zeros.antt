@@ -4,7 +4,7 @@ use Rattle.std.specs.Prelude.{◌+ℤ◌, ◌≤ℤ◌}
 use Rattle.std.proofs.lemmas.Bool.{cases_lt}
 use Rattle.std.proofs.lemmas.Int.{ints}
 use Rattle.std.proofs.lemmas.List.{take-append-le, take_all}
-use Rattle.evidence_check.specs.declared.marked_row.MarkedRow.{MarkedRow}
+use Rattle.evidence_check.specs.declared.weighed_row.WeighedRow.{WeighedRow}
 use Rattle.retro_base.specs.Limits.{most_rows}
 use Rattle.evidence_check.specs.Sums.{HasRoom, low_of, sum_of, weight_of}
 use Rattle.evidence_check.specs.Zeros.{HasNoZero, IsFirstZero, IsLastZero, IsZero}
@@ -12,7 +12,7 @@ use Rattle.evidence_check.proofs.Flat.{take-join}
 use Rattle.evidence_check.proofs.SumsJoined.{lesser-first, lesser-second, sum-join}
 
 -- no sum of the first rows is less than the least one
-low_least : (xs : List MarkedRow) (place : ℕ) → place < length xs → low_of xs ≤ℤ sum_of (take (suc place) xs)
+low_least : (xs : List WeighedRow) (place : ℕ) → place < length xs → low_of xs ≤ℤ sum_of (take (suc place) xs)
 low_least [] place within = absurd (let none : ⊥ = omega arith in none)
 low_least (x ∷ xs) zero within = one (weight_of x) (weight_of x +ℤ low_of xs) (lesser-first (weight_of x) (weight_of x +ℤ low_of xs))
   where
@@ -25,7 +25,7 @@ low_least (x ∷ xs) (suc place) within =
     more m w l s first rest = omega (arith, ints)
 
 -- where the least sum is above 0 there is no place
-pub none_above : (before : ℤ) (xs : List MarkedRow) (from to : ℕ) → pos 1 ≤ℤ (before +ℤ low_of xs) → HasNoZero before xs from to
+pub none_above : (before : ℤ) (xs : List WeighedRow) (from to : ℕ) → pos 1 ≤ℤ (before +ℤ low_of xs) → HasNoZero before xs from to
 none_above before xs from to above zero one up down within zeroes = absurd (let none : ⊥ = omega arith in none)
 none_above before xs from to above (suc place) one up down within zeroes =
     apart before (low_of xs) (sum_of (take (suc place) xs)) above (low_least xs place within) zeroes
@@ -33,7 +33,7 @@ none_above before xs from to above (suc place) one up down within zeroes =
     apart : (b l s : ℤ) → pos 1 ≤ℤ (b +ℤ l) → l ≤ℤ s → (b +ℤ s) ≡ pos 0 → ⊥
     apart b l s above least zeroes = omega (arith, ints)
 
-module _ (before : ℤ) (xs ys : List MarkedRow) where
+module _ (before : ℤ) (xs ys : List WeighedRow) where
   -- the sum up to a place in the second list
   sum_beyond : (k : ℕ) → (before +ℤ sum_of (take (length xs + k) (xs ++ ys))) ≡ ((before +ℤ sum_of xs) +ℤ sum_of (take k ys))
   sum_beyond k =
@@ -70,13 +70,13 @@ module _ (before : ℤ) (xs ys : List MarkedRow) where
       ]
 
 -- the walk on: the rows passed, their weights, and no place among them
-pub record NoneBefore (before : ℤ) (passed : List MarkedRow) (from count : ℕ) (sum : ℤ) : Type 0 where
+pub record NoneBefore (before : ℤ) (passed : List WeighedRow) (from count : ℕ) (sum : ℤ) : Type 0 where
   pub rows : count ≡ length passed
   pub weights : sum ≡ before +ℤ sum_of passed
   pub none : HasNoZero before passed from (length passed)
 
 -- the walk back: the rows before, their weights, and no place after them
-pub record NoneAfter (before : ℤ) (all left : List MarkedRow) (to count : ℕ) (sum : ℤ) : Type 0 where
+pub record NoneAfter (before : ℤ) (all left : List WeighedRow) (to count : ℕ) (sum : ℤ) : Type 0 where
   pub rows : count ≡ length left
   pub weights : sum ≡ before +ℤ sum_of left
   pub none : HasNoZero before all (suc count) to
@@ -88,7 +88,7 @@ few_of before n room = bounded before n room.up room.down
     bounded : (b : ℤ) (n : ℕ) → (b +ℤ pos n) ≤ℤ pos most_rows → pos n ≤ℤ (b +ℤ pos most_rows) → n ≤ most_rows
     bounded b n up down = omega (arith, ints)
 
-pub none_first : (before : ℤ) (xs : List MarkedRow) (from : ℕ) → HasNoZero before xs from (length xs) → IsFirstZero before xs from 0
+pub none_first : (before : ℤ) (xs : List WeighedRow) (from : ℕ) → HasNoZero before xs from (length xs) → IsFirstZero before xs from 0
 none_first before xs from none = record {
   within = λ one. absurd (let wrong : ⊥ = omega arith in wrong);
   inside = omega arith;
@@ -97,7 +97,7 @@ none_first before xs from none = record {
   none = λ zeroes. none;
 }
 
-pub none_last : (before : ℤ) (xs : List MarkedRow) (to : ℕ) → HasNoZero before xs 1 to → IsLastZero before xs to 0
+pub none_last : (before : ℤ) (xs : List WeighedRow) (to : ℕ) → HasNoZero before xs 1 to → IsLastZero before xs to 0
 none_last before xs to none = record {
   within = omega arith;
   inside = omega arith;
@@ -105,5 +105,5 @@ none_last before xs to none = record {
   last = none;
 }
 
-pub none_beyond : (before : ℤ) (xs : List MarkedRow) (to count : ℕ) → count ≡ length xs → HasNoZero before xs (suc count) to
+pub none_beyond : (before : ℤ) (xs : List WeighedRow) (to count : ℕ) → count ≡ length xs → HasNoZero before xs (suc count) to
 none_beyond before xs to count long place one up down within zeroes = absurd (let wrong : ⊥ = omega (arith, long) in wrong)

@@ -5,7 +5,7 @@ use Rattle.retro_base.specs.declared.row.Change.TheVariants.{Plain, Gain, Lose}
 use Rattle.retro_base.specs.declared.row.Entry.{Entry}
 use Rattle.retro_base.specs.Weights.{added_as}
 use Rattle.evidence.specs.declared.evidence.Evidence.{Evidence}
-use Rattle.evidence_check.specs.declared.marked_row.MarkedRow.{MarkedRow}
+use Rattle.evidence_check.specs.declared.weighed_row.WeighedRow.{WeighedRow}
 use Rattle.evidence_check.specs.Marks.{entry_of}
 use Rattle.evidence_check.specs.Parts.{marked_at, shows_at}
 
@@ -21,7 +21,7 @@ is_gain (Gain bridge entry) = true
 is_gain (Lose bridge entry) = false
 
 -- where it stands before the edit; nowhere, where it is the row of the edit itself
-abbrev pub IsChanged : List MarkedRow → Evidence → Option ℕ → Type 0
+abbrev pub IsChanged : List WeighedRow → Evidence → Option ℕ → Type 0
 IsChanged marked e None = added_as e.op e.number ≡ changed_entry e.change
 IsChanged marked e (Some place) = shows_at entry_of marked place ≡ changed_entry e.change
 
@@ -31,6 +31,6 @@ moved_place added None = added
 moved_place added (Some place) = if nat_lt place added then place else place + 1
 
 -- the rows with this mark there, if it stands somewhere
-abbrev pub marked_where : Option ℕ → Bool → List MarkedRow → List MarkedRow
+abbrev pub marked_where : Option ℕ → Bool → List WeighedRow → List WeighedRow
 marked_where None alive marked = marked
 marked_where (Some place) alive marked = marked_at place alive marked

@@ -17,31 +17,31 @@ use Rattle.evidence.specs.declared.evidence.Evidence.{Evidence}
 use Rattle.evidence_check.specs.declared.error.CheckError.{CheckError}
 use Rattle.evidence_check.specs.declared.error.CheckError.TheVariants as causes
 use Rattle.evidence_check.specs.Truth.{bridge_of, same_bridge, same_change}
-use Rattle.evidence_check.specs.declared.marked_row.MarkedRow.{MarkedRow}
+use Rattle.evidence_check.specs.declared.weighed_row.WeighedRow.{WeighedRow}
 
 -- the row that is marked
-abbrev pub row_of : MarkedRow → Row
+abbrev pub row_of : WeighedRow → Row
 row_of marked = record { number = marked.number; time = 0; op = marked.op }
 
-abbrev pub rows_of : List MarkedRow → List Row
+abbrev pub rows_of : List WeighedRow → List Row
 rows_of marked = map row_of marked
 
 -- the entry that it adds, where it adds one; the same where the entry survives, and where it is dead
-abbrev pub entry_of : MarkedRow → Option Entry
+abbrev pub entry_of : WeighedRow → Option Entry
 entry_of marked = added_as marked.op marked.number
 
-abbrev pub alive_entry : MarkedRow → Option Entry
+abbrev pub alive_entry : WeighedRow → Option Entry
 alive_entry marked = if marked.alive then entry_of marked else None
 
-abbrev pub dead_entry : MarkedRow → Option Entry
+abbrev pub dead_entry : WeighedRow → Option Entry
 dead_entry marked = if marked.alive then None else entry_of marked
 
 -- the mark says whether the entry of the row is among these
-abbrev pub IsMarked : List Entry → MarkedRow → Type 0
+abbrev pub IsMarked : List Entry → WeighedRow → Type 0
 IsMarked alive marked = marked.alive ≡ option_map_or (is_among alive) (entry_of marked) false
 
 -- the rows replay whole, and the marks are those of their survivors
-pub record MarksSurvivors (marked : List MarkedRow) : Type 0 where
+pub record MarksSurvivors (marked : List WeighedRow) : Type 0 where
   pub few : length marked ≤ most_rows
   pub replayable : IsReplayable Pq (rows_of marked)
   pub marks : AllByRecursion (IsMarked (survivors (rows_of marked))) marked
@@ -53,7 +53,7 @@ better_of beaten_by None (Some entry) = Some entry
 better_of beaten_by (Some best) (Some entry) = Some (if beaten_by best entry then entry else best)
 
 -- the best one of an entry and those that rows show
-abbrev pub best_among : (Entry → Entry → Bool) → (MarkedRow → Option Entry) → Option Entry → List MarkedRow → Option Entry
+abbrev pub best_among : (Entry → Entry → Bool) → (WeighedRow → Option Entry) → Option Entry → List WeighedRow → Option Entry
 best_among beaten_by shown best [] = best
 best_among beaten_by shown best (first ∷ others) = best_among beaten_by shown (better_of beaten_by best (shown first)) others
 
@@ -65,45 +65,45 @@ abbrev pub is_greater : Entry → Entry → Bool
 is_greater entry other = comes_before other entry
 
 -- the greatest one of an entry and the dead ones; the least one of those that survive
-abbrev pub greatest_dead : Option Entry → List MarkedRow → Option Entry
+abbrev pub greatest_dead : Option Entry → List WeighedRow → Option Entry
 greatest_dead new marked = best_among is_less dead_entry new marked
 
-abbrev pub least_alive : List MarkedRow → Option Entry
+abbrev pub least_alive : List WeighedRow → Option Entry
 least_alive marked = best_among is_greater alive_entry None marked
 
 -- the row with this mark, where it adds the entry
-abbrev pub adds : Entry → MarkedRow → Bool
+abbrev pub adds : Entry → WeighedRow → Bool
 adds entry marked = option_map_or (same_entry entry) (entry_of marked) false
 
-abbrev pub with_mark : Entry → Bool → MarkedRow → MarkedRow
+abbrev pub with_mark : Entry → Bool → WeighedRow → WeighedRow
 with_mark entry alive marked = if adds entry marked then record marked { alive = alive } else marked
 
 -- what is read off the marks of an edit's change: the greatest entry from the last bridge on is gained, and the least one
 -- before the first bridge is lost
-abbrev pub gained : List MarkedRow → ℕ → Option Entry → Option Change
+abbrev pub gained : List WeighedRow → ℕ → Option Entry → Option Change
 gained marked place new =
     let bridge = last_bridge (rows_of marked) place in
     option_map (λ entry. Gain bridge entry) (greatest_dead new (drop bridge marked))
 
-abbrev pub lost : List MarkedRow → ℕ → Option Change
+abbrev pub lost : List WeighedRow → ℕ → Option Change
 lost marked from =
     let bridge = first_bridge (rows_of marked) from in
     option_map (λ entry. Lose (Some bridge) entry) (least_alive (take bridge marked))
 
-abbrev pub added_change : List MarkedRow → ℕ → Option Entry → Option Change
+abbrev pub added_change : List WeighedRow → ℕ → Option Entry → Option Change
 added_change marked place None = lost marked place
 added_change marked place (Some new) = gained marked place (Some new)
 
 -- the row that is cut adds no entry, or one that survives or is dead
-abbrev pub cut_change : List MarkedRow → ℕ → Bool → Option Entry → Option Change
+abbrev pub cut_change : List WeighedRow → ℕ → Bool → Option Entry → Option Change
 cut_change marked place alive None = gained marked place None
 cut_change marked place true (Some entry) = Some (Lose None entry)
 cut_change marked place false (Some entry) = lost marked (suc place)
 
-abbrev pub is_alive_at : List MarkedRow → ℕ → Bool
+abbrev pub is_alive_at : List WeighedRow → ℕ → Bool
 is_alive_at marked place = option_map_or (λ row. row.alive) (slice_get marked place) false
 
-abbrev pub marked_change : List MarkedRow → Bool → ℕ → Option Entry → Option Change
+abbrev pub marked_change : List WeighedRow → Bool → ℕ → Option Entry → Option Change
 marked_change marked true place entry = added_change marked place entry
 marked_change marked false place entry = cut_change marked place (is_alive_at marked place) entry
 
@@ -116,15 +116,15 @@ cause_against stated (Some change) =
     else None)
 
 -- the rows after an edit, and their marks: the entry is gained, or lost
-abbrev pub edited_rows : List MarkedRow → Bool → ℕ → MarkedRow → List MarkedRow
+abbrev pub edited_rows : List WeighedRow → Bool → ℕ → WeighedRow → List WeighedRow
 edited_rows marked true place row = insert marked place row
 edited_rows marked false place row = remove marked place
 
-abbrev pub changed_marks : Change → List MarkedRow → List MarkedRow
+abbrev pub changed_marks : Change → List WeighedRow → List WeighedRow
 changed_marks Plain marked = marked
 changed_marks (Gain bridge entry) marked = map (with_mark entry true) marked
 changed_marks (Lose bridge entry) marked = map (with_mark entry false) marked
 
 -- the row that evidence tells of, without a mark
-abbrev pub marked_row : Evidence → MarkedRow
-marked_row e = record { number = e.number; op = e.op; alive = false }
+abbrev pub weighed_row : Evidence → WeighedRow
+weighed_row e = record { number = e.number; op = e.op; alive = false }

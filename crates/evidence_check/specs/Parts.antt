@@ -5,17 +5,17 @@ use Rattle.std.specs.Option.{option_and_then}
 use Rattle.std.specs.List.{flat_map}
 use Rattle.retro_base.specs.declared.row.Entry.{Entry}
 use Rattle.retro_base.specs.Bridges.{same_entry}
-use Rattle.evidence_check.specs.declared.marked_row.MarkedRow.{MarkedRow}
+use Rattle.evidence_check.specs.declared.weighed_row.WeighedRow.{WeighedRow}
 use Rattle.evidence_check.specs.declared.search.Held.{Held}
 
 -- the row at a place has this mark
-abbrev pub marked_at : ℕ → Bool → List MarkedRow → List MarkedRow
+abbrev pub marked_at : ℕ → Bool → List WeighedRow → List WeighedRow
 marked_at place alive [] = []
 marked_at zero alive (first ∷ others) = record first { alive = alive } ∷ others
 marked_at (suc place) alive (first ∷ others) = first ∷ marked_at place alive others
 
 -- the entry that the row at a place shows
-abbrev pub shows_at : (MarkedRow → Option Entry) → List MarkedRow → ℕ → Option Entry
+abbrev pub shows_at : (WeighedRow → Option Entry) → List WeighedRow → ℕ → Option Entry
 shows_at shown marked place = option_and_then shown (slice_get marked place)
 
 -- there is one, and it is this entry
@@ -24,12 +24,12 @@ is_entry None entry = false
 is_entry (Some other) entry = same_entry other entry
 
 -- the rows of what did not fit, and its parts
-abbrev pub rest_of : {P : Type 0} → (P → List MarkedRow) → Option P → List MarkedRow
+abbrev pub rest_of : {P : Type 0} → (P → List WeighedRow) → Option P → List WeighedRow
 rest_of rows None = []
 rest_of rows (Some part) = rows part
 
 -- the part that holds the row at a place, and how many rows stand before it
-pub record Holds {P : Type 0} (rows : P → List MarkedRow) (parts : List P) (place : ℕ) (held : Held) : Type 0 where
+pub record Holds {P : Type 0} (rows : P → List WeighedRow) (parts : List P) (place : ℕ) (held : Held) : Type 0 where
   pub part : P
   pub there : slice_get parts held.index ≡ Some part
   pub before : held.before ≡ length (flat_map rows (take held.index parts))
@@ -37,7 +37,7 @@ pub record Holds {P : Type 0} (rows : P → List MarkedRow) (parts : List P) (pl
   pub to : place < held.before + length (rows part)
 
 -- the part into which a row at a place goes
-pub record HoldsBefore {P : Type 0} (rows : P → List MarkedRow) (parts : List P) (place : ℕ) (held : Held) : Type 0 where
+pub record HoldsBefore {P : Type 0} (rows : P → List WeighedRow) (parts : List P) (place : ℕ) (held : Held) : Type 0 where
   pub part : P
   pub there : slice_get parts held.index ≡ Some part
   pub before : held.before ≡ length (flat_map rows (take held.index parts))

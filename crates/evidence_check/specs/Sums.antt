@@ -3,7 +3,7 @@ use Rattle.std.specs.Prelude.{ℕ, ◌+◌, ℤ, pos, negsuc, ◌+ℤ◌, ◌≤
 use Rattle.std.specs.Prelude.{Option, Some, None}
 use Rattle.retro_base.specs.declared.row.Entry.{Entry}
 use Rattle.retro_base.specs.Limits.{most_rows}
-use Rattle.evidence_check.specs.declared.marked_row.MarkedRow.{MarkedRow}
+use Rattle.evidence_check.specs.declared.weighed_row.WeighedRow.{WeighedRow}
 use Rattle.evidence_check.specs.declared.sums.Sums.{Sums}
 use Rattle.evidence_check.specs.Marks.{better_of, entry_of, greatest_dead, is_greater, is_less, least_alive}
 
@@ -12,11 +12,11 @@ abbrev pub weight_by : Bool → Option Entry → ℤ
 weight_by alive None = negsuc 0
 weight_by alive (Some entry) = if alive then pos 0 else pos 1
 
-abbrev pub weight_of : MarkedRow → ℤ
+abbrev pub weight_of : WeighedRow → ℤ
 weight_of marked = weight_by marked.alive (entry_of marked)
 
 -- the weights of rows, added up
-abbrev pub sum_of : List MarkedRow → ℤ
+abbrev pub sum_of : List WeighedRow → ℤ
 sum_of [] = pos 0
 sum_of (first ∷ others) = weight_of first +ℤ sum_of others
 
@@ -24,12 +24,12 @@ abbrev pub lesser : ℤ → ℤ → ℤ
 lesser number other = if int_lt other number then other else number
 
 -- the least of the sums of the first one, the first two and so on of the rows; 1 where there is none
-abbrev pub low_of : List MarkedRow → ℤ
+abbrev pub low_of : List WeighedRow → ℤ
 low_of [] = pos 1
 low_of (first ∷ others) = lesser (weight_of first) (weight_of first +ℤ low_of others)
 
 -- the sums of rows
-abbrev pub sums_of : List MarkedRow → Sums
+abbrev pub sums_of : List WeighedRow → Sums
 sums_of marked = record { rows = length marked; sum = sum_of marked; low = low_of marked; dead = greatest_dead None marked; alive = least_alive marked }
 
 -- the sums of rows and then others, by those of each

@@ -10,9 +10,9 @@ ghost use Rattle.evidence_check.specs.Truth.{bridge_of, cause_of, change_cause, 
 
 use crate::CheckError;
 use crate::better::later_of;
-use crate::marked_row::{added_entry, is_same};
 use crate::part::Part;
 use crate::rows::{Rows, first_bridge, last_bridge};
+use crate::weighed_row::{added_entry, is_same};
 use evidence::Evidence;
 use retro_base::laws::{
     greatest_from_bridge_is_gained, least_before_bridge_is_lost, one_change_is_named,

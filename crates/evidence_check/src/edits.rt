@@ -8,17 +8,17 @@ ghost use Rattle.evidence.specs.Evidence.{IsEvidence};
 ghost use Rattle.evidence_check.specs.declared.error.CheckError.TheVariants as causes;
 ghost use Rattle.evidence_check.specs.Changed.{IsChanged, is_gain, marked_where, moved_place};
 ghost use Rattle.evidence_check.specs.Kept.{AreKept, AreNumbers};
-ghost use Rattle.evidence_check.specs.Marks.{MarksSurvivors, changed_marks, edited_rows, marked_change, marked_row, rows_of};
+ghost use Rattle.evidence_check.specs.Marks.{MarksSurvivors, changed_marks, edited_rows, marked_change, weighed_row, rows_of};
 ghost use Rattle.evidence_check.specs.Parts.{is_entry, marked_at};
 ghost use Rattle.evidence_check.specs.Truth.{cause_of, has_number, has_wrong_number};
 
 use crate::CheckError;
 use crate::changes::read_change;
-use crate::marked_row::{MarkedRow, added_entry};
 use crate::numbers::Numbers;
 use crate::part::Part;
 use crate::rows::Rows;
 use crate::search::is_entry;
+use crate::weighed_row::{WeighedRow, added_entry};
 use evidence::Evidence;
 use retro_base::laws::one_change_is_named;
 use retro_base::{Change, Entry};
@@ -35,7 +35,7 @@ pub(crate) fn make(
     requires evidence { IsEvidence evidence.now }
     requires truth { cause_of (rows_of rows.old) evidence.now ≡ None }
     ensures kept { AreKept rows.new numbers.new }
-    ensures ok { OnOk result (rows.new ≡ changed_marks evidence.now.change (edited_rows rows.old evidence.now.added evidence.now.place (marked_row evidence.now))) }
+    ensures ok { OnOk result (rows.new ≡ changed_marks evidence.now.change (edited_rows rows.old evidence.now.added evidence.now.place (weighed_row evidence.now))) }
     ensures err { OnErr result (rows.new ≡ rows.old) }
     ensures cause { IfErr result (λ cause. cause ≡ causes.NoMemory) }
 {
@@ -135,12 +135,12 @@ fn put_in(
     requires fresh { has_number evidence.now.number (rows_of rows.old) ≡ false }
     requires numbers { AreNumbers (rows_of rows.old) numbers.old }
     ensures numbers { AreNumbers (rows_of rows.new) numbers.new }
-    ensures ok { OnOk result (rows.new ≡ insert rows.old evidence.now.place (marked_row evidence.now)) }
+    ensures ok { OnOk result (rows.new ≡ insert rows.old evidence.now.place (weighed_row evidence.now)) }
     ensures err { OnErr result (rows.new ≡ rows.old) }
     ensures cause { IfErr result (λ cause. cause ≡ causes.NoMemory) }
 {
     numbers.insert(evidence.number)?;
-    let row = MarkedRow {
+    let row = WeighedRow {
         number: evidence.number,
         op: evidence.op,
         alive: false,

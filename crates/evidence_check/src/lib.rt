@@ -17,7 +17,7 @@
 //! - `checker`: `Checker` takes the lines. `error`: `CheckError` says why one is refused. `laws`: evidence is accepted exactly where it is true.
 //! - `reported`: what was reported of one timeline. `causes`, `changes`: why a line is refused, by the rows before it.
 //! - `edits`: an accepted line, made in the rows and in their `numbers`.
-//! - `rows`: the rows of a timeline, and the bridges among them. `marked_row`: one of them.
+//! - `rows`: the rows of a timeline, and the bridges among them. `weighed_row`: one of them.
 //! - `part`: what a part answers. `one_row`, `pack`: a row as a part, and a pack. `sums`, `better`: what a pack knows.
 //! - `search`, `splice`: what is looked for in parts that follow one another, and edits of them.
 #![tactic(auto)]
@@ -29,7 +29,6 @@ mod checker;
 mod edits;
 mod error;
 pub mod laws;
-mod marked_row;
 mod numbers;
 mod one_row;
 mod pack;
@@ -39,6 +38,7 @@ mod rows;
 mod search;
 mod splice;
 mod sums;
+mod weighed_row;
 
 pub use checker::Checker;
 pub use error::CheckError;

@@ -1,19 +1,19 @@
 //! A row as a part.
 
 use crate::CheckError;
-use crate::marked_row::MarkedRow;
 use crate::part::Part;
 use crate::sums::Sums;
+use crate::weighed_row::WeighedRow;
 use retro_base::Entry;
 use std::alloc::Global;
 use std::mem;
 
-impl Part for MarkedRow {
+impl Part for WeighedRow {
     ghost use Rattle.std.specs.Prelude.{[], ◌∷◌};
 
     ghost rows = { λ row. row ∷ [] };
 
-    fn of_row(row: MarkedRow, _alloc: Global) -> Result<MarkedRow, CheckError> {
+    fn of_row(row: WeighedRow, _alloc: Global) -> Result<WeighedRow, CheckError> {
         Ok(row)
     }
 
@@ -21,7 +21,7 @@ impl Part for MarkedRow {
         Sums::of_row(*self)
     }
 
-    fn row(&self, place: u32) -> Option<MarkedRow> {
+    fn row(&self, place: u32) -> Option<WeighedRow> {
         if place == 0 { Some(*self) } else { None }
     }
 
@@ -64,9 +64,9 @@ impl Part for MarkedRow {
     fn insert(
         &mut self,
         place: u32,
-        row: MarkedRow,
+        row: WeighedRow,
         _alloc: Global,
-    ) -> Result<Option<MarkedRow>, CheckError> {
+    ) -> Result<Option<WeighedRow>, CheckError> {
         if place == 0 {
             Ok(Some(mem::replace(self, row)))
         } else {

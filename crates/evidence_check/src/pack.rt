@@ -6,7 +6,6 @@ ghost use Rattle.retro_base.specs.Limits.{most_rows};
 ghost use Rattle.evidence_check.specs.declared.error.CheckError.TheVariants as causes;
 
 use crate::CheckError;
-use crate::marked_row::MarkedRow;
 use crate::part::Part;
 use crate::search::{
     alive_among, alive_place_among, dead_among, dead_place_among, first_zero_among,
@@ -14,6 +13,7 @@ use crate::search::{
 };
 use crate::splice::{ROOM, insert_among, mark_among, remove_among, spill};
 use crate::sums::Sums;
+use crate::weighed_row::WeighedRow;
 use retro_base::Entry;
 use std::alloc::Global;
 use std::marker::Model;
@@ -28,10 +28,10 @@ pub(crate) struct Pack<P: Part> {
 impl<P: Part> Model for Pack<P> {
     ghost use Rattle.std.specs.Prelude.{◌≡◌, List};
     ghost use Rattle.std.specs.List.{flat_map};
-    ghost use Rattle.evidence_check.specs.declared.marked_row.MarkedRow.{MarkedRow};
+    ghost use Rattle.evidence_check.specs.declared.weighed_row.WeighedRow.{WeighedRow};
     ghost use Rattle.evidence_check.specs.Sums.{sums_of};
 
-    ghost Value = { List MarkedRow };
+    ghost Value = { List WeighedRow };
 
     ghost view = { λ p. flat_map P.rows p.parts.items };
 
@@ -69,7 +69,7 @@ impl<P: Part> Pack<P> {
     pub(crate) fn put_in(
         &mut self,
         place: u32,
-        row: MarkedRow,
+        row: WeighedRow,
         alloc: Global,
     ) -> Result<(), CheckError>
         requires few { length self.old < most_rows }
@@ -97,7 +97,7 @@ impl<P: Part> Pack<P> {
 impl<P: Part> Part for Pack<P> {
     ghost rows = { λ rows. rows };
 
-    fn of_row(row: MarkedRow, alloc: Global) -> Result<Pack<P>, CheckError> {
+    fn of_row(row: WeighedRow, alloc: Global) -> Result<Pack<P>, CheckError> {
         let mut parts = Vec::with_capacity(alloc, ROOM)?;
         parts.push(P::of_row(row, alloc)?)?;
         Ok(Pack {
@@ -110,7 +110,7 @@ impl<P: Part> Part for Pack<P> {
         self.sums
     }
 
-    fn row(&self, place: u32) -> Option<MarkedRow> {
+    fn row(&self, place: u32) -> Option<WeighedRow> {
         if place < self.sums.rows {
             row_among(&self.parts, place)
         } else {
@@ -174,7 +174,7 @@ impl<P: Part> Part for Pack<P> {
     fn insert(
         &mut self,
         place: u32,
-        row: MarkedRow,
+        row: WeighedRow,
         alloc: Global,
     ) -> Result<Option<Pack<P>>, CheckError> {
         let at_end = place == self.sums.rows;

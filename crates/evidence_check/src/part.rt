@@ -3,25 +3,25 @@
 ghost use Rattle.std.specs.Prelude.{◌≡◌, ◌+◌, ◌<◌, ◌≤◌, ◌++◌, [], ◌∷◌, List, None, Some, length, take, drop, slice_get, insert, remove, OnErr, IfOk, IfErr};
 ghost use Rattle.retro_base.specs.Limits.{most_rows};
 ghost use Rattle.evidence_check.specs.declared.error.CheckError.TheVariants as causes;
-ghost use Rattle.evidence_check.specs.declared.marked_row.MarkedRow.{MarkedRow};
+ghost use Rattle.evidence_check.specs.declared.weighed_row.WeighedRow.{WeighedRow};
 ghost use Rattle.evidence_check.specs.Marks.{alive_entry, dead_entry, greatest_dead, least_alive};
 ghost use Rattle.evidence_check.specs.Parts.{marked_at, rest_of, shows_at};
 ghost use Rattle.evidence_check.specs.Sums.{HasRoom, sums_of};
 ghost use Rattle.evidence_check.specs.Zeros.{IsFirstZero, IsLastZero};
 
 use crate::CheckError;
-use crate::marked_row::MarkedRow;
 use crate::sums::Sums;
+use crate::weighed_row::WeighedRow;
 use retro_base::Entry;
 use std::alloc::Global;
 
 /// Rows that follow one another. Places are counted within the part.
 pub(crate) trait Part: Drop {
     /// The rows in their order.
-    ghost rows: { Self → List MarkedRow };
+    ghost rows: { Self → List WeighedRow };
 
     /// A part of one row.
-    fn of_row(row: MarkedRow, alloc: Global) -> Result<Self, CheckError>
+    fn of_row(row: WeighedRow, alloc: Global) -> Result<Self, CheckError>
         ensures ok { IfOk result (λ part. rows part ≡ row ∷ []) }
         ensures cause { IfErr result (λ cause. cause ≡ causes.NoMemory) };
 
@@ -31,7 +31,7 @@ pub(crate) trait Part: Drop {
         ensures { result ≡ sums_of (rows self.now) };
 
     /// The row at a place, where one stands there.
-    fn row(&self, place: u32) -> Option<MarkedRow>
+    fn row(&self, place: u32) -> Option<WeighedRow>
         requires { length (rows self.now) ≤ most_rows }
         ensures { result ≡ slice_get (rows self.now) place };
 
@@ -77,7 +77,7 @@ pub(crate) trait Part: Drop {
     fn insert(
         &mut self,
         place: u32,
-        row: MarkedRow,
+        row: WeighedRow,
         alloc: Global,
     ) -> Result<Option<Self>, CheckError>
         requires few { length (rows self.old) < most_rows }

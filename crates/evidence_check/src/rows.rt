@@ -4,14 +4,14 @@ ghost use Rattle.std.specs.Prelude.{◌≡◌, ◌≤◌, length};
 ghost use Rattle.retro_base.specs.Bridges.{first_bridge, last_bridge};
 ghost use Rattle.evidence_check.specs.Marks.{MarksSurvivors, rows_of};
 
-use crate::marked_row::MarkedRow;
 use crate::pack::Pack;
 use crate::part::Part;
+use crate::weighed_row::WeighedRow;
 use retro_base::laws::weights_count_the_dead;
 
 /// Marked rows. Three levels of packs stand below the list, which may have any number of parts: a full timeline that has
 /// grown at its end has four.
-pub(crate) type Rows = Pack<Pack<Pack<Pack<MarkedRow>>>>;
+pub(crate) type Rows = Pack<Pack<Pack<Pack<WeighedRow>>>>;
 
 /// The last bridge up to a place.
 pub(crate) fn last_bridge(rows: &Rows, place: u32) -> u32

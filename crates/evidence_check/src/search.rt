@@ -9,9 +9,9 @@ ghost use Rattle.evidence_check.specs.Sums.{HasRoom, sums_of};
 ghost use Rattle.evidence_check.specs.Zeros.{IsFirstZero, IsLastZero};
 
 use crate::better::{earlier_of, later_of};
-use crate::marked_row::{MarkedRow, is_same};
 use crate::part::Part;
 use crate::sums::Sums;
+use crate::weighed_row::{WeighedRow, is_same};
 use retro_base::Entry;
 
 /// The part that holds a row, and how many rows stand before it.
@@ -51,7 +51,7 @@ pub(crate) fn sums_among<P: Part>(parts: &[P]) -> Sums
 }
 
 /// The row at a place.
-pub(crate) fn row_among<P: Part>(parts: &[P], place: u32) -> Option<MarkedRow>
+pub(crate) fn row_among<P: Part>(parts: &[P], place: u32) -> Option<WeighedRow>
     requires few { length (flat_map P.rows parts.now) ≤ most_rows }
     requires within { place < length (flat_map P.rows parts.now) }
     ensures { result ≡ slice_get (flat_map P.rows parts.now) place }

@@ -7,9 +7,9 @@ ghost use Rattle.evidence_check.specs.declared.error.CheckError.TheVariants as c
 ghost use Rattle.evidence_check.specs.Parts.{HoldsBefore, marked_at};
 
 use crate::CheckError;
-use crate::marked_row::MarkedRow;
 use crate::part::Part;
 use crate::search::{Held, holding};
+use crate::weighed_row::WeighedRow;
 use std::alloc::Global;
 
 /// So many parts fill a pack.
@@ -33,7 +33,7 @@ pub(crate) fn mark_among<P: Part>(parts: &mut Vec<P>, place: u32, alive: bool)
 pub(crate) fn insert_among<P: Part>(
     parts: &mut Vec<P>,
     place: u32,
-    row: MarkedRow,
+    row: WeighedRow,
     alloc: Global,
 ) -> Result<(), CheckError>
     requires few { length (flat_map P.rows parts.old.items) < most_rows }

@@ -5,7 +5,7 @@ ghost use Rattle.retro_base.specs.Limits.{most_rows};
 ghost use Rattle.evidence_check.specs.Sums.{AreBounded, joined, lesser, sums_of};
 
 use crate::better::{earlier_of, later_of};
-use crate::marked_row::MarkedRow;
+use crate::weighed_row::WeighedRow;
 use retro_base::Entry;
 
 /// The sums of some rows.
@@ -38,7 +38,7 @@ impl Sums {
     }
 
     /// Those of one row.
-    pub(crate) fn of_row(row: MarkedRow) -> Sums
+    pub(crate) fn of_row(row: WeighedRow) -> Sums
         ensures { result ≡ sums_of (row ∷ []) }
     {
         let weight = row.weight();

@@ -50,7 +50,7 @@ kept-as rows more labels marks index listed lifetimes lives kept p q r s =
 
 -- a dictionary with the same in each of its parts is the same
 pub all-same : (kept : Kept) (rows : List Row) (labels : List ℕ) (index : List KeyRow) (lifetimes : List (Lifetime (ℤ × ℤ))) → rows ≡ kept.rows → labels ≡ kept.labels → index ≡ kept.index → lifetimes ≡ kept.segments
-    → record { rows = rows; labels = labels; since = kept.since; index = index; segments = lifetimes } ≡ kept
+    → record { rows = rows; labels = labels; insertions_since_relabel = kept.insertions_since_relabel; index = index; segments = lifetimes } ≡ kept
 all-same kept rows labels index lifetimes p q r s =
     ap (λ rs. record kept { rows = rs; labels = labels; index = index; segments = lifetimes }) p
     ∙ ap (λ ls. record kept { labels = ls; index = index; segments = lifetimes }) q

@@ -19,4 +19,4 @@ pub mod SortedPairs
 pub mod Relabelling
 pub mod RareRows
 pub mod MadeLifetimes
-pub mod LatelyRead
+pub mod RecentRead

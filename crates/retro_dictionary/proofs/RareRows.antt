@@ -12,8 +12,8 @@ use Rattle.order_labels.specs.ApartLaws.{gap_at, apart_with, apart_without, less
 use Rattle.order_labels.specs.SpreadLaws.{exponent-falls, multiples-apart, spread-apart}
 use Rattle.order_labels.specs.PowerLaws.{power-within, power-least, power-next, twice}
 use Rattle.order_labels.specs.RareLaws.{least-number}
-use Rattle.retro_dictionary.specs.declared.lately.Lately.{Lately}
-use Rattle.retro_dictionary.specs.declared.lately.Lately.TheVariants.{Before, After, Neither}
+use Rattle.retro_dictionary.specs.declared.recent.RecentNeighbour.{RecentNeighbour}
+use Rattle.retro_dictionary.specs.declared.recent.RecentNeighbour.TheVariants.{Before, After, Neither}
 use Rattle.retro_dictionary.specs.Edited.{IsBetween}
 use Rattle.retro_dictionary.specs.RelabellingLaw.{EndInRelabelling, RelabellingIsRare, RowEdit, label_edit, one_more}
 use Rattle.retro_dictionary.specs.RelabellingLaw.RowEdit.{PutIn, TakeOut}
@@ -46,23 +46,23 @@ unit-least : (k gap room : ℕ) → 2 * 2 ^ k ≤ gap → 4 * 2 ^ k ≤ room →
 unit-least k gap room far some = rounded-least k (distance_after gap room) (omega arith)
 
 -- how far that of a row before others lies from those beside it
-pub beside-some : (lately : Lately) (since left gap right : ℕ) → 0 < unit_beside lately since left gap right
-beside-some lately since left gap right = rounded-some (min (gap / 2) (max (owed since) (distance_by lately left gap right)))
+pub beside-some : (recent : RecentNeighbour) (so_far left gap right : ℕ) → 0 < unit_beside recent so_far left gap right
+beside-some recent so_far left gap right = rounded-some (min (gap / 2) (max (owed so_far) (distance_by recent left gap right)))
 
 within-half : (gap owed distance unit : ℕ) → 2 ≤ gap → unit ≤ max (min (gap / 2) (max owed distance)) 1 → 2 * unit ≤ gap
 within-half gap owed distance unit some within = omega arith
 
-pub beside-within : (lately : Lately) (since left gap right : ℕ) → 2 ≤ gap → 2 * unit_beside lately since left gap right ≤ gap
-beside-within lately since left gap right some =
-    within-half gap (owed since) (distance_by lately left gap right) (unit_beside lately since left gap right) some
-    (rounded-within (min (gap / 2) (max (owed since) (distance_by lately left gap right))))
+pub beside-within : (recent : RecentNeighbour) (so_far left gap right : ℕ) → 2 ≤ gap → 2 * unit_beside recent so_far left gap right ≤ gap
+beside-within recent so_far left gap right some =
+    within-half gap (owed so_far) (distance_by recent left gap right) (unit_beside recent so_far left gap right) some
+    (rounded-within (min (gap / 2) (max (owed so_far) (distance_by recent left gap right))))
 
 at-least : (gap owed distance least : ℕ) → 2 * least ≤ gap → least ≤ owed → least ≤ max (min (gap / 2) (max owed distance)) 1
 at-least gap owed distance least far some = omega arith
 
-beside-least : (lately : Lately) (k since left gap right : ℕ) → 2 * 2 ^ k ≤ gap → 2 ^ k ≤ owed since → 2 ^ k ≤ unit_beside lately since left gap right
-beside-least lately k since left gap right far some =
-    rounded-least k (min (gap / 2) (max (owed since) (distance_by lately left gap right))) (at-least gap (owed since) (distance_by lately left gap right) (2 ^ k) far some)
+beside-least : (recent : RecentNeighbour) (k so_far left gap right : ℕ) → 2 * 2 ^ k ≤ gap → 2 ^ k ≤ owed so_far → 2 ^ k ≤ unit_beside recent so_far left gap right
+beside-least recent k so_far left gap right far some =
+    rounded-least k (min (gap / 2) (max (owed so_far) (distance_by recent left gap right))) (at-least gap (owed so_far) (distance_by recent left gap right) (2 ^ k) far some)
 
 -- a power of two by digits that are moved
 pub shifted : (k : ℕ) → k ≤ 21 → 1 * 2 ^ k % 2 ^ 64 ≡ 2 ^ k
@@ -70,30 +70,30 @@ shifted k few =
     let small : 2 ^ k ≤ 2 ^ 21 = pow-le-pow_right (omega arith) few in
     omega (arith, small)
 
-owed-least : (k since : ℕ) → suc k + since ≤ least_insertions → 2 ^ k ≤ owed since
-owed-least k since fits = pow-le-pow_right (omega arith) (omega arith)
+owed-least : (k so_far : ℕ) → suc k + so_far ≤ least_insertions → 2 ^ k ≤ owed so_far
+owed-least k so_far fits = pow-le-pow_right (omega arith) (omega arith)
 
 -- it lies as far from both as that far, where the unit is no less
-pub beside-apart : (lately : Lately) (since left before after right distance : ℕ) → before + 2 ≤ after → before + 2 * distance ≤ after → distance ≤ unit_beside lately since left (after - before) right
-    → (before + distance ≤ label_beside lately since left before after right) × (label_beside lately since left before after right + distance ≤ after)
-beside-apart Before since left before after right distance some far least =
-    let within : 2 * unit_beside Before since left (after - before) right ≤ after - before = beside-within Before since left (after - before) right (omega arith) in
+pub beside-apart : (recent : RecentNeighbour) (so_far left before after right distance : ℕ) → before + 2 ≤ after → before + 2 * distance ≤ after → distance ≤ unit_beside recent so_far left (after - before) right
+    → (before + distance ≤ label_beside recent so_far left before after right) × (label_beside recent so_far left before after right + distance ≤ after)
+beside-apart Before so_far left before after right distance some far least =
+    let within : 2 * unit_beside Before so_far left (after - before) right ≤ after - before = beside-within Before so_far left (after - before) right (omega arith) in
     (omega (arith, within, least), omega (arith, within, least))
-beside-apart After since left before after right distance some far least =
-    let within : 2 * unit_beside After since left (after - before) right ≤ after - before = beside-within After since left (after - before) right (omega arith) in
+beside-apart After so_far left before after right distance some far least =
+    let within : 2 * unit_beside After so_far left (after - before) right ≤ after - before = beside-within After so_far left (after - before) right (omega arith) in
     (omega (arith, within, least, far), omega (arith, within, least))
-beside-apart Neither since left before after right distance some far least =
-    let within : 2 * unit_beside Neither since left (after - before) right ≤ after - before = beside-within Neither since left (after - before) right (omega arith) in
+beside-apart Neither so_far left before after right distance some far least =
+    let within : 2 * unit_beside Neither so_far left (after - before) right ≤ after - before = beside-within Neither so_far left (after - before) right (omega arith) in
     (omega (arith, within, least), omega (arith, within, least))
 
 -- that of the first row leaves as much twice at the end
-first-beside : (lately : Lately) (k since : ℕ) → 4 * 2 ^ k ≤ label_limit → 2 ^ k ≤ 2 ^ 21 → label_beside lately since label_limit 0 label_limit label_limit + 2 * 2 ^ k ≤ label_limit
-first-beside Before k since room small = omega (arith, room, beside-within Before since label_limit label_limit label_limit (omega arith))
-first-beside After k since room small =
-    let far : 2 ^ suc k ≤ unit_beside After since label_limit label_limit label_limit =
-    rounded-least (suc k) (min (label_limit / 2) (max (owed since) (distance_beside label_limit label_limit))) (omega (arith, small, power-next k)) in
-    omega (arith, far, power-next k, beside-within After since label_limit label_limit label_limit (omega arith))
-first-beside Neither k since room small = omega (arith, room, beside-within Neither since label_limit label_limit label_limit (omega arith))
+first-beside : (recent : RecentNeighbour) (k so_far : ℕ) → 4 * 2 ^ k ≤ label_limit → 2 ^ k ≤ 2 ^ 21 → label_beside recent so_far label_limit 0 label_limit label_limit + 2 * 2 ^ k ≤ label_limit
+first-beside Before k so_far room small = omega (arith, room, beside-within Before so_far label_limit label_limit label_limit (omega arith))
+first-beside After k so_far room small =
+    let far : 2 ^ suc k ≤ unit_beside After so_far label_limit label_limit label_limit =
+    rounded-least (suc k) (min (label_limit / 2) (max (owed so_far) (distance_beside label_limit label_limit))) (omega (arith, small, power-next k)) in
+    omega (arith, far, power-next k, beside-within After so_far label_limit label_limit label_limit (omega arith))
+first-beside Neither k so_far room small = omega (arith, room, beside-within Neither so_far label_limit label_limit label_limit (omega arith))
 
 -- the labels lie 2 ^ k apart, with twice as much left at the end, and so many insertions were counted that k more are enough
 abbrev pub LieApart : ℕ → List ℕ → Type 0
@@ -112,21 +112,21 @@ with_label distance labels place label within apart before after =
 has : (labels : List ℕ) (place : ℕ) → label_before 0 labels place + 2 ≤ label_later label_limit labels place → has_room labels place ≡ true
 has labels place room = le-leb 2 (label_later label_limit labels place - label_before 0 labels place) (omega arith)
 
-by_rule : (lately : Lately) (since : ℕ) (labels : List ℕ) (place : ℕ)
-    → label_before 0 labels place + 2 ≤ label_later label_limit labels place → row_rule lately since labels place ≡ Some (row_label lately since labels place)
-by_rule lately since labels place room = ap (λ b. cond b (Some (row_label lately since labels place)) None) (has labels place room)
+by_rule : (recent : RecentNeighbour) (so_far : ℕ) (labels : List ℕ) (place : ℕ)
+    → label_before 0 labels place + 2 ≤ label_later label_limit labels place → row_rule recent so_far labels place ≡ Some (row_label recent so_far labels place)
+by_rule recent so_far labels place room = ap (λ b. cond b (Some (row_label recent so_far labels place)) None) (has labels place room)
 
-pub before-others : (lately : Lately) (since : ℕ) (labels : List ℕ) (place : ℕ) → is_after_all labels place ≡ false
-    → row_label lately since labels place ≡ label_beside lately since (gap_before labels place) (label_before 0 labels place) (label_later label_limit labels place) (gap_after labels place)
-before-others lately since labels place is =
+pub before-others : (recent : RecentNeighbour) (so_far : ℕ) (labels : List ℕ) (place : ℕ) → is_after_all labels place ≡ false
+    → row_label recent so_far labels place ≡ label_beside recent so_far (gap_before labels place) (label_before 0 labels place) (label_later label_limit labels place) (gap_after labels place)
+before-others recent so_far labels place is =
     ap (λ b. cond b (label_after (label_before 0 labels (place - 1)) (label_before 0 labels place))
-    (label_beside lately since (gap_before labels place) (label_before 0 labels place) (label_later label_limit labels place) (gap_after labels place))) is
+    (label_beside recent so_far (gap_before labels place) (label_before 0 labels place) (label_later label_limit labels place) (gap_after labels place))) is
 
-pub after-all : (lately : Lately) (since : ℕ) (labels : List ℕ) (place : ℕ)
-    → is_after_all labels place ≡ true → row_label lately since labels place ≡ label_after (label_before 0 labels (place - 1)) (label_before 0 labels place)
-after-all lately since labels place is =
+pub after-all : (recent : RecentNeighbour) (so_far : ℕ) (labels : List ℕ) (place : ℕ)
+    → is_after_all labels place ≡ true → row_label recent so_far labels place ≡ label_after (label_before 0 labels (place - 1)) (label_before 0 labels place)
+after-all recent so_far labels place is =
     ap (λ b. cond b (label_after (label_before 0 labels (place - 1)) (label_before 0 labels place))
-    (label_beside lately since (gap_before labels place) (label_before 0 labels place) (label_later label_limit labels place) (gap_after labels place))) is
+    (label_beside recent so_far (gap_before labels place) (label_before 0 labels place) (label_later label_limit labels place) (gap_after labels place))) is
 
 pub not-last : (labels : List ℕ) (place : ℕ) → place < length labels → is_after_all labels place ≡ false
 not-last labels place within = simp (ne_eqb place (length labels) (λ same. omega (arith, same)))
@@ -135,9 +135,9 @@ pub last-place : (labels : List ℕ) (place : ℕ) → 0 < place → place ≡ l
 last-place labels place some same = simp (lt-ltb 0 place some, eq-eqb place (length labels) same)
 
 -- a row gets a label that lies half as far from those beside it
-module _ (lately : Lately) (k since : ℕ) (fits : suc k + since ≤ least_insertions) where
+module _ (recent : RecentNeighbour) (k so_far : ℕ) (fits : suc k + so_far ≤ least_insertions) where
   Halves : List ℕ → ℕ → Type 0
-  Halves labels place = (label : ℕ) × (row_rule lately since labels place ≡ Some label) × LieApart k (insert labels place label)
+  Halves labels place = (label : ℕ) × (row_rule recent so_far labels place ≡ Some label) × LieApart k (insert labels place label)
 
   inside : (labels : List ℕ) (place : ℕ) → place < length labels → LieApart (suc k) labels → Halves labels place
   unfolding Halves
@@ -150,10 +150,10 @@ module _ (lately : Lately) (k since : ℕ) (fits : suc k + since ≤ least_inser
       let left = gap_before labels place in
       let right = gap_after labels place in
       let beside =
-      beside-apart lately since left before after right distance (omega (arith, far, pow_pos k)) far (beside-least lately k since left (after - before) right (omega (arith, far)) (owed-least k since fits)) in
-      let label = label_beside lately since left before after right in (
+      beside-apart recent so_far left before after right distance (omega (arith, far, pow_pos k)) far (beside-least recent k so_far left (after - before) right (omega (arith, far)) (owed-least k so_far fits)) in
+      let label = label_beside recent so_far left before after right in (
         label,
-        by_rule lately since labels place (omega (arith, far, pow_pos k)) ∙ ap Some (before-others lately since labels place (not-last labels place within)),
+        by_rule recent so_far labels place (omega (arith, far, pow_pos k)) ∙ ap Some (before-others recent so_far labels place (not-last labels place within)),
         with_label distance labels place label (omega arith) (wide k labels apart) beside.0 (omega (arith, beside.1, next_inside (label_limit - distance) label_limit labels place within)),
       )
 
@@ -162,11 +162,11 @@ module _ (lately : Lately) (k since : ℕ) (fits : suc k + since ≤ least_inser
   first apart =
       let distance = 2 ^ k in
       let room : 4 * distance ≤ label_limit = omega (arith, wide k [] apart) in
-      let beside = beside-apart lately since label_limit 0 label_limit label_limit distance (omega arith) (omega (arith, room))
-      (beside-least lately k since label_limit label_limit label_limit (omega (arith, room)) (owed-least k since fits)) in
+      let beside = beside-apart recent so_far label_limit 0 label_limit label_limit distance (omega arith) (omega (arith, room))
+      (beside-least recent k so_far label_limit label_limit label_limit (omega (arith, room)) (owed-least k so_far fits)) in
       let few : k ≤ 21 = omega (arith, fits, least-number) in
       let small : 2 ^ k ≤ 2 ^ 21 = pow-le-pow_right (omega arith) few in
-      (label_beside lately since label_limit 0 label_limit label_limit, refl, (beside.0, omega (arith, first-beside lately k since room small)))
+      (label_beside recent so_far label_limit 0 label_limit label_limit, refl, (beside.0, omega (arith, first-beside recent k so_far room small)))
 
   at_end : (labels : List ℕ) (place : ℕ) → 0 < place → place ≡ length labels → LieApart (suc k) labels → Halves labels place
   unfolding Halves
@@ -189,7 +189,7 @@ module _ (lately : Lately) (k since : ℕ) (fits : suc k + since ≤ least_inser
       let most : 2 * unit ≤ max 2 ((label_limit - last) / 2) = unit-within (last - former) (label_limit - last) (omega (arith, pow_pos k)) in
       let beside = further unit last (unit-some (last - former) (label_limit - last)) in (
         label_after former last,
-        by_rule lately since labels place (omega (arith, pow_pos k, next_at_end label_limit labels place same)) ∙ ap Some (after-all lately since labels place (last-place labels place some same)),
+        by_rule recent so_far labels place (omega (arith, pow_pos k, next_at_end label_limit labels place same)) ∙ ap Some (after-all recent so_far labels place (last-place labels place some same)),
         with_label distance labels place (label_after former last) (omega arith) (wide k labels apart) (omega (arith, beside.0))
             (omega (arith, beside.1, pow_pos k, next_at_end (label_limit - distance) labels place same)),
       )
@@ -206,20 +206,20 @@ not_both : {label : ℕ} {found : Option ℕ} → found ≡ Some label → found
 not_both some none = cc
 
 -- so as many insertions as labels last for come before one that relabels
-lasts : (k since : ℕ) (labels : List ℕ) (edits : List RowEdit) (last : RowEdit) → k + since ≤ least_insertions → LieApart k labels → EndInRelabelling row_rule since labels edits last
+lasts : (k so_far : ℕ) (labels : List ℕ) (edits : List RowEdit) (last : RowEdit) → k + so_far ≤ least_insertions → LieApart k labels → EndInRelabelling row_rule so_far labels edits last
     → k ≤ insertions (map label_edit edits)
 unfolding Halves
-lasts k since labels [] (TakeOut place) fits apart ends = absurd ends.1
-lasts zero since labels [] (PutIn lately place) fits apart ends = omega arith
-lasts (suc k) since labels [] (PutIn lately place) fits apart ends = absurd (not_both (halves lately k since fits labels place ends.0.0 apart).1 ends.1)
-lasts k since labels (TakeOut place ∷ edits) last fits apart ends =
-    lasts k since (remove labels place) edits last fits (apart_without (2 ^ k) 0 (label_limit - 2 ^ k) labels place ends.0.0 apart) ends.1
-lasts zero since labels (PutIn lately place ∷ edits) last fits apart ends = omega arith
-lasts (suc k) since labels (PutIn lately place ∷ edits) last fits apart ends =
-    let with = halves lately k since fits labels place ends.0.0.0 apart in
-    let after = subst (λ found. EndInRelabelling row_rule (option_map_or (λ (label : ℕ). one_more since) found 0)
+lasts k so_far labels [] (TakeOut place) fits apart ends = absurd ends.1
+lasts zero so_far labels [] (PutIn recent place) fits apart ends = omega arith
+lasts (suc k) so_far labels [] (PutIn recent place) fits apart ends = absurd (not_both (halves recent k so_far fits labels place ends.0.0 apart).1 ends.1)
+lasts k so_far labels (TakeOut place ∷ edits) last fits apart ends =
+    lasts k so_far (remove labels place) edits last fits (apart_without (2 ^ k) 0 (label_limit - 2 ^ k) labels place ends.0.0 apart) ends.1
+lasts zero so_far labels (PutIn recent place ∷ edits) last fits apart ends = omega arith
+lasts (suc k) so_far labels (PutIn recent place ∷ edits) last fits apart ends =
+    let with = halves recent k so_far fits labels place ends.0.0.0 apart in
+    let after = subst (λ found. EndInRelabelling row_rule (option_map_or (λ (label : ℕ). one_more so_far) found 0)
     (option_map_or (λ label. insert labels place label) found (spread (length labels + 1))) edits last) with.1 ends.1 in
-    omega (arith, lasts k (one_more since) (insert labels place with.0) edits last (omega arith) with.2 after)
+    omega (arith, lasts k (one_more so_far) (insert labels place with.0) edits last (omega arith) with.2 after)
 
 -- labels that are spread last for as many as have to be
 nearer : (j k : ℕ) (labels : List ℕ) → j ≤ k → LieApart k labels → LieApart j labels
@@ -274,8 +274,8 @@ after-between labels place same room =
     let most = unit-within gap (label_limit - last) (omega arith) in
     record { before = omega (arith, beside.0, unit-some gap (label_limit - last)); after_it = omega (arith, beside.1, most, next_at_end label_limit labels place same) }
 
-pub beside-between : (lately : Lately) (since left before after right label : ℕ) (labels : List ℕ) (place : ℕ) → before ≡ label_before 0 labels place → after ≡ label_later label_limit labels place → before + 2 ≤ after
-    → label ≡ label_beside lately since left before after right → IsBetween labels place label
-beside-between lately since left before after right label labels place first last room is =
-    let beside = beside-apart lately since left before after right 1 room (omega arith) (beside-some lately since left (after - before) right) in
+pub beside-between : (recent : RecentNeighbour) (so_far left before after right label : ℕ) (labels : List ℕ) (place : ℕ) → before ≡ label_before 0 labels place → after ≡ label_later label_limit labels place → before + 2 ≤ after
+    → label ≡ label_beside recent so_far left before after right → IsBetween labels place label
+beside-between recent so_far left before after right label labels place first last room is =
+    let beside = beside-apart recent so_far left before after right 1 room (omega arith) (beside-some recent so_far left (after - before) right) in
     record { before = omega (arith, beside.0, first, is); after_it = omega (arith, beside.1, last, is) }

@@ -46,4 +46,4 @@ with_row_at place row kept = record kept { rows = insert kept.rows place row }
 
 -- one with a label more, and with its lifetimes made from its index
 abbrev pub labelled_anew : ℕ → Kept → Kept
-labelled_anew place kept = record kept { labels = inserted kept.labels place; since = 0; segments = ordered (lifetimes_of kept.index) }
+labelled_anew place kept = record kept { labels = inserted kept.labels place; insertions_since_relabel = 0; segments = ordered (lifetimes_of kept.index) }

@@ -5,8 +5,8 @@ use Rattle.order_labels.specs.LabelLaws.{LabelEdit, IsAccepted, KeepsLabels, Rel
 use Rattle.order_labels.specs.LabelLaws.LabelEdit.{Insert, Remove}
 use Rattle.order_labels.specs.Labels.{LabelRule, spread}
 use Rattle.retro_base.specs.Limits.{most_rows}
-use Rattle.retro_dictionary.specs.declared.lately.Lately.{Lately}
-use Rattle.retro_dictionary.specs.declared.lately.Lately.TheVariants.{Neither}
+use Rattle.retro_dictionary.specs.declared.recent.RecentNeighbour.{RecentNeighbour}
+use Rattle.retro_dictionary.specs.declared.recent.RecentNeighbour.TheVariants.{Neither}
 
 -- for each number of insertions a rule
 abbrev pub CountingRule : Type 0
@@ -14,41 +14,41 @@ CountingRule = ℕ → LabelRule
 
 -- one insertion more, counted up to as many as there have to be
 abbrev pub one_more : ℕ → ℕ
-one_more since = min (since + 1) least_insertions
+one_more so_far = min (so_far + 1) least_insertions
 
 -- the number once a place has got a label by a rule: none where all are relabelled
 abbrev pub counted_by : CountingRule → ℕ → List ℕ → ℕ → ℕ
-counted_by rule since labels place = option_map_or (λ label. one_more since) (rule since labels place) 0
+counted_by rule so_far labels place = option_map_or (λ label. one_more so_far) (rule so_far labels place) 0
 
 -- and after an edit
 abbrev pub counted : CountingRule → ℕ → List ℕ → LabelEdit → ℕ
-counted rule since labels (Insert place) = counted_by rule since labels place
-counted rule since labels (Remove place) = since
+counted rule so_far labels (Insert place) = counted_by rule so_far labels place
+counted rule so_far labels (Remove place) = so_far
 
 -- an insertion, with what came in lately beside its place, or a removal
 pub data RowEdit : Type 0 where
-  PutIn : Lately → ℕ → RowEdit
+  PutIn : RecentNeighbour → ℕ → RowEdit
   TakeOut : ℕ → RowEdit
 
 -- the edit of the labels
 abbrev pub label_edit : RowEdit → LabelEdit
-label_edit (PutIn lately place) = Insert place
+label_edit (PutIn recent place) = Insert place
 label_edit (TakeOut place) = Remove place
 
 -- and the rule for it
-abbrev pub rule_for : (Lately → CountingRule) → RowEdit → CountingRule
-rule_for rule (PutIn lately place) = rule lately
+abbrev pub rule_for : (RecentNeighbour → CountingRule) → RowEdit → CountingRule
+rule_for rule (PutIn recent place) = rule recent
 rule_for rule (TakeOut place) = rule Neither
 
 -- these edits are made one after another and relabel nothing, and then comes one that relabels
-abbrev pub EndInRelabelling : (Lately → CountingRule) → ℕ → List ℕ → List RowEdit → RowEdit → Type 0
-EndInRelabelling rule since labels [] last = IsAccepted labels (label_edit last) × Relabels (rule_for rule last since) labels (label_edit last)
-EndInRelabelling rule since labels (edit ∷ edits) last =
-    KeepsLabels (rule_for rule edit since) labels (label_edit edit)
-    × EndInRelabelling rule (counted (rule_for rule edit) since labels (label_edit edit)) (edited (rule_for rule edit since) labels (label_edit edit)) edits last
+abbrev pub EndInRelabelling : (RecentNeighbour → CountingRule) → ℕ → List ℕ → List RowEdit → RowEdit → Type 0
+EndInRelabelling rule so_far labels [] last = IsAccepted labels (label_edit last) × Relabels (rule_for rule last so_far) labels (label_edit last)
+EndInRelabelling rule so_far labels (edit ∷ edits) last =
+    KeepsLabels (rule_for rule edit so_far) labels (label_edit edit)
+    × EndInRelabelling rule (counted (rule_for rule edit) so_far labels (label_edit edit)) (edited (rule_for rule edit so_far) labels (label_edit edit)) edits last
 
 -- at least so many insertions come between labels that are spread and the next relabelling, whatever came in lately where
-abbrev pub RelabellingIsRare : (Lately → CountingRule) → Type 0
+abbrev pub RelabellingIsRare : (RecentNeighbour → CountingRule) → Type 0
 RelabellingIsRare rule =
     (count : ℕ) (edits : List RowEdit) (last : RowEdit) → count ≤ most_rows → EndInRelabelling rule 0 (spread count) edits last
     → least_insertions ≤ insertions (map label_edit edits)

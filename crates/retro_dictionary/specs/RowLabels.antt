@@ -7,8 +7,8 @@ use Rattle.order_labels.specs.Labels.{label_limit, label_before, label_after as 
 use Rattle.std.specs.Option.{option_map_or}
 use Rattle.retro_base.specs.declared.row.Row.{Row}
 use Rattle.retro_base.specs.Limits.{most_rows}
-use Rattle.retro_dictionary.specs.declared.lately.Lately.{Lately}
-use Rattle.retro_dictionary.specs.declared.lately.Lately.TheVariants.{Before, After, Neither}
+use Rattle.retro_dictionary.specs.declared.recent.RecentNeighbour.{RecentNeighbour}
+use Rattle.retro_dictionary.specs.declared.recent.RecentNeighbour.TheVariants.{Before, After, Neither}
 use Rattle.retro_dictionary.specs.RelabellingLaw.{CountingRule}
 
 -- the greatest power of two up to a distance: lifetimes between round labels are made up of few spans
@@ -37,7 +37,7 @@ label_after former last = unit_further (unit_after (last - former) (label_limit 
 
 -- so far apart labels have to lie after the next insertion, that there are enough of them before all rows are relabelled
 abbrev pub owed : ℕ → ℕ
-owed since = 2 ^ (least_insertions - 1 - since)
+owed so_far = 2 ^ (least_insertions - 1 - so_far)
 
 -- the gap before the label before a place, and the one after the label after it; the limit where there is no such label
 abbrev pub gap_before : List ℕ → ℕ → ℕ
@@ -47,15 +47,15 @@ abbrev pub gap_after : List ℕ → ℕ → ℕ
 gap_after labels place = if nat_lt place (length labels) then label_later label_limit labels (place + 1) - label_later label_limit labels place else label_limit
 
 -- a row came in lately before another one: its number is less, by 8 at the most
-abbrev pub came_lately : ℕ → ℕ → Bool
-came_lately number next = nat_lt number next && nat_le next (number + 8)
+abbrev pub is_recent : ℕ → ℕ → Bool
+is_recent number next = nat_lt number next && nat_le next (number + 8)
 
 abbrev pub is_lately : Option Row → ℕ → Bool
-is_lately found next = option_map_or (λ (row : Row). came_lately row.number next) found false
+is_lately found next = option_map_or (λ (row : Row). is_recent row.number next) found false
 
 -- what came in lately beside a place, before the row with a number: the row before it, the one after it, or neither; after all rows none is looked at
-abbrev pub lately_beside : List Row → ℕ → ℕ → Lately
-lately_beside rows place next =
+abbrev pub recent_beside : List Row → ℕ → ℕ → RecentNeighbour
+recent_beside rows place next =
     if nat_eq place (length rows) then Neither else if nat_lt 0 place && is_lately (slice_get rows (place - 1)) next then Before else if is_lately (slice_get rows place) next then After else Neither
 
 -- how far a row comes from one that came in lately, with this gap beyond that one: the next ones come on the other side of it, most
@@ -64,29 +64,29 @@ abbrev pub distance_beside : ℕ → ℕ → ℕ
 distance_beside near gap = max (gap / 4096) (min (near / 2) (gap / 4))
 
 -- and the middle where neither came in lately
-abbrev pub distance_by : Lately → ℕ → ℕ → ℕ → ℕ
+abbrev pub distance_by : RecentNeighbour → ℕ → ℕ → ℕ → ℕ
 distance_by Before left gap right = distance_beside left gap
 distance_by After left gap right = distance_beside right gap
 distance_by Neither left gap right = gap / 2
 
 -- as far as is owed too, but half the gap at the place at the most
-abbrev pub unit_beside : Lately → ℕ → ℕ → ℕ → ℕ → ℕ
-unit_beside lately since left gap right = rounded (min (gap / 2) (max (owed since) (distance_by lately left gap right)))
+abbrev pub unit_beside : RecentNeighbour → ℕ → ℕ → ℕ → ℕ → ℕ
+unit_beside recent so_far left gap right = rounded (min (gap / 2) (max (owed so_far) (distance_by recent left gap right)))
 
 -- the label of a row before others, by the labels beside it and the gaps beyond them
-abbrev pub label_beside : Lately → ℕ → ℕ → ℕ → ℕ → ℕ → ℕ
-label_beside Before since left before after right = before + unit_beside Before since left (after - before) right
-label_beside After since left before after right = after - unit_beside After since left (after - before) right
-label_beside Neither since left before after right = before + unit_beside Neither since left (after - before) right
+abbrev pub label_beside : RecentNeighbour → ℕ → ℕ → ℕ → ℕ → ℕ → ℕ
+label_beside Before so_far left before after right = before + unit_beside Before so_far left (after - before) right
+label_beside After so_far left before after right = after - unit_beside After so_far left (after - before) right
+label_beside Neither so_far left before after right = before + unit_beside Neither so_far left (after - before) right
 
 -- the label of a row at a place
-abbrev pub row_label : Lately → ℕ → List ℕ → ℕ → ℕ
-row_label lately since labels place =
+abbrev pub row_label : RecentNeighbour → ℕ → List ℕ → ℕ → ℕ
+row_label recent so_far labels place =
     if is_after_all labels place then
     label_after (label_before 0 labels (place - 1)) (label_before 0 labels place)
     else
-    label_beside lately since (gap_before labels place) (label_before 0 labels place) (label_later label_limit labels place) (gap_after labels place)
+    label_beside recent so_far (gap_before labels place) (label_before 0 labels place) (label_later label_limit labels place) (gap_after labels place)
 
 -- it gets this label where a number lies between those beside the place
-abbrev pub row_rule : Lately → CountingRule
-row_rule lately since labels place = if has_room labels place then Some (row_label lately since labels place) else None
+abbrev pub row_rule : RecentNeighbour → CountingRule
+row_rule recent so_far labels place = if has_room labels place then Some (row_label recent so_far labels place) else None

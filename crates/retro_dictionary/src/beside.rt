@@ -6,8 +6,8 @@ ghost use Rattle.retro_dictionary.specs.Edited.{IsBetween};
 ghost use Rattle.retro_dictionary.specs.RelabellingLaw.{one_more};
 ghost use Rattle.retro_dictionary.specs.RowLabels.{distance_beside, distance_by, label_after, label_beside, owed, rounded, row_rule, unit_after, unit_beside};
 
-use crate::lately::Lately;
 use crate::lifetimes::END;
+use crate::recent::RecentNeighbour;
 use order_labels::{Labels, greatest_power};
 use retro_base::MAX_ROWS;
 
@@ -36,10 +36,15 @@ pub(crate) fn label_before(labels: &Labels, place: u32) -> u64
 /// in lately leaves most of the gap on its other side, and any other one halves it: in simulations a full dictionary was put in row
 /// by row, and thousands of rows at one place or at random, and none was relabelled. What is proved is that a relabelling is rare
 /// (specs/RelabellingLaw.antt).
-pub(crate) fn free_label(labels: &Labels, lately: Lately, since: u32, place: u32) -> Option<u64>
+pub(crate) fn free_label(
+    labels: &Labels,
+    recent: RecentNeighbour,
+    so_far: u32,
+    place: u32,
+) -> Option<u64>
     requires within { place ≤ length labels.now }
     requires labels { AreLabels labels.now }
-    ensures rule { result ≡ row_rule lately since labels.now place }
+    ensures rule { result ≡ row_rule recent so_far labels.now place }
     ensures between { IfSome result (λ label. IsBetween labels.now place label) }
     ensures full { IfNone result (has_room labels.now place ≡ false) }
 {
@@ -52,7 +57,7 @@ pub(crate) fn free_label(labels: &Labels, lately: Lately, since: u32, place: u32
     }
     let left = gap_or_end(place > 0, beside.former, beside.before);
     let right = gap_or_end(place < labels.len(), beside.after, beside.later);
-    Some(label_beside(lately, since, left, beside.before, beside.after, right))
+    Some(label_beside(recent, so_far, left, beside.before, beside.after, right))
 }
 
 /// The gap beyond a label that stands beside a place, or the end of all labels where no such label stands there.
@@ -64,48 +69,55 @@ fn gap_or_end(is_gap: bool, lower: u64, upper: u64) -> u64
 }
 
 /// One insertion more since all rows were relabelled, counted up to 22.
-pub(crate) fn one_more(since: u32) -> u32
-    ensures { result ≡ one_more since }
+pub(crate) fn one_more(so_far: u32) -> u32
+    ensures { result ≡ one_more so_far }
 {
-    since.min(LEAST_INSERTIONS - 1) + 1
+    so_far.min(LEAST_INSERTIONS - 1) + 1
 }
 
 /// The label of a row before others, by the labels beside it and the gaps beyond them.
-fn label_beside(lately: Lately, since: u32, left: u64, before: u64, after: u64, right: u64) -> u64
+fn label_beside(
+    recent: RecentNeighbour,
+    so_far: u32,
+    left: u64,
+    before: u64,
+    after: u64,
+    right: u64,
+) -> u64
     requires room { before + 2 ≤ after }
     requires within { after ≤ label_limit }
-    ensures { result ≡ label_beside lately since left before after right }
+    ensures { result ≡ label_beside recent so_far left before after right }
 {
-    let unit = unit_beside(lately, since, left, after - before, right);
-    match lately {
-        Lately::Before | Lately::Neither => before + unit,
-        Lately::After => after - unit,
+    let unit = unit_beside(recent, so_far, left, after - before, right);
+    match recent {
+        RecentNeighbour::Before | RecentNeighbour::Neither => before + unit,
+        RecentNeighbour::After => after - unit,
     }
 }
 
 /// How far it comes from one of these labels, with this gap between them.
-fn unit_beside(lately: Lately, since: u32, left: u64, gap: u64, right: u64) -> u64
-    ensures { result ≡ unit_beside lately since left gap right }
+fn unit_beside(recent: RecentNeighbour, so_far: u32, left: u64, gap: u64, right: u64) -> u64
+    ensures { result ≡ unit_beside recent so_far left gap right }
 {
-    let distance = owed(since).max(distance_by(lately, left, gap, right));
+    let distance = owed(so_far).max(distance_by(recent, left, gap, right));
     rounded((gap / 2).min(distance))
 }
 
 /// So far as leaves room for as many insertions as have to come before all rows are relabelled.
-fn owed(since: u32) -> u64
-    ensures { result ≡ owed since }
+fn owed(so_far: u32) -> u64
+    ensures { result ≡ owed so_far }
 {
-    1 << (LEAST_INSERTIONS - 1).saturating_sub(since)
+    1 << (LEAST_INSERTIONS - 1).saturating_sub(so_far)
 }
 
 /// And so far as leaves room for rows that come on its other side, where one beside it came in lately.
-fn distance_by(lately: Lately, left: u64, gap: u64, right: u64) -> u64
-    ensures { result ≡ distance_by lately left gap right }
+fn distance_by(recent: RecentNeighbour, left: u64, gap: u64, right: u64) -> u64
+    ensures { result ≡ distance_by recent left gap right }
 {
-    match lately {
-        Lately::Before => distance_beside(left, gap),
-        Lately::After => distance_beside(right, gap),
-        Lately::Neither => gap / 2,
+    match recent {
+        RecentNeighbour::Before => distance_beside(left, gap),
+        RecentNeighbour::After => distance_beside(right, gap),
+        RecentNeighbour::Neither => gap / 2,
     }
 }
 

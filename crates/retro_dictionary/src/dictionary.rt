@@ -10,8 +10,8 @@ use crate::beside::label_before;
 use crate::edit::{put, take_out};
 use crate::failing::{place_of_bad, place_of_bad_label};
 use crate::kept::{Kept, op_of_row};
-use crate::lately::lately_beside;
 use crate::listed::list_at;
+use crate::recent::recent_beside;
 use retro_base::{Answer, Change, Kind, Listing, NoMemory, Op, Question, Retro, Row};
 use std::alloc::Global;
 use std::marker::{Brand, Model};
@@ -109,8 +109,8 @@ impl Retro for RetroDictionary {
     }
 
     fn insert(&mut self, place: u32, row: Row) -> Result<Change, NoMemory> {
-        let lately = lately_beside::<Brand>(&self.kept.rows, place, row.number, Blank::new(1));
-        put::<Brand>(&mut self.kept, place, row, lately, Blank::new(1))?;
+        let recent = recent_beside::<Brand>(&self.kept.rows, place, row.number, Blank::new(1));
+        put::<Brand>(&mut self.kept, place, row, recent, Blank::new(1))?;
         Ok(Change::Plain)
     }
 

@@ -10,12 +10,12 @@ ghost use Rattle.retro_base.specs.Visits.{OpensCounter};
 ghost use Rattle.retro_dictionary.specs.Edited.{CanPut, CanCut, CanRemove, IsBetween, left_of, next_of, cut_by, joined_by};
 ghost use Rattle.retro_dictionary.specs.Ready.{IsKept, IsReadyFor};
 ghost use Rattle.retro_dictionary.specs.RelabellingLaw.{counted_by, one_more};
-ghost use Rattle.retro_dictionary.specs.RowLabels.{lately_beside, row_rule};
+ghost use Rattle.retro_dictionary.specs.RowLabels.{recent_beside, row_rule};
 
 use crate::beside::{free_label, one_more};
 use crate::kept::Kept;
-use crate::lately::Lately;
 use crate::lifetimes::{cut, join, key_of, label_or_end, placed_by, put_by};
+use crate::recent::RecentNeighbour;
 use crate::relabel::put_relabelled;
 use crate::search::PairSearch;
 use key_index::KeyIndex;
@@ -88,7 +88,7 @@ fn put_between<L: Ledger>(
     requires between { IsBetween kept.old.labels place label }
     ensures rows { OnOk result (kept.new.rows ≡ insert kept.old.rows place row) }
     ensures labels { OnOk result (kept.new.labels ≡ insert kept.old.labels place label) }
-    ensures since { OnOk result (kept.new.since ≡ one_more kept.old.since) }
+    ensures insertions_since_relabel { OnOk result (kept.new.insertions_since_relabel ≡ one_more kept.old.insertions_since_relabel) }
     ensures kept { OnOk result (IsKept kept.new) }
     ensures err { OnErr result (kept.new ≡ kept.old) }
 {
@@ -107,7 +107,7 @@ fn put_between<L: Ledger>(
         kept.labels.remove(place);
         return Err(NoMemory);
     }
-    kept.since = one_more(kept.since);
+    kept.insertions_since_relabel = one_more(kept.insertions_since_relabel);
     Ok(())
 }
 
@@ -116,19 +116,19 @@ pub(crate) fn put<L: Ledger>(
     kept: &mut Kept,
     place: u32,
     row: Row,
-    lately: Lately,
+    recent: RecentNeighbour,
     blank: Blank,
 ) -> Result<(), NoMemory>
     requires counter { OpensCounter blank.name L.name blank.parts L.parts }
     requires ready { IsReadyFor kept.old place row }
-    requires lately { lately ≡ lately_beside kept.old.rows place row.number }
+    requires recent { recent ≡ recent_beside kept.old.rows place row.number }
     ensures rows { OnOk result (kept.new.rows ≡ insert kept.old.rows place row) }
-    ensures labels { OnOk result (kept.new.labels ≡ inserted_by (row_rule lately kept.old.since) kept.old.labels place) }
-    ensures since { OnOk result (kept.new.since ≡ counted_by (row_rule lately) kept.old.since kept.old.labels place) }
+    ensures labels { OnOk result (kept.new.labels ≡ inserted_by (row_rule recent kept.old.insertions_since_relabel) kept.old.labels place) }
+    ensures insertions_since_relabel { OnOk result (kept.new.insertions_since_relabel ≡ counted_by (row_rule recent) kept.old.insertions_since_relabel kept.old.labels place) }
     ensures kept { OnOk result (IsKept kept.new) }
     ensures err { OnErr result (kept.new ≡ kept.old) }
 {
-    match free_label(&kept.labels, lately, kept.since, place) {
+    match free_label(&kept.labels, recent, kept.insertions_since_relabel, place) {
         Some(label) => put_between::<L>(kept, place, label, row, blank),
         None => put_relabelled::<L>(kept, place, row, blank),
     }
@@ -146,7 +146,7 @@ pub(crate) fn take_out<L: Ledger>(
     ensures row { IfOk result (λ row. slice_get kept.old.rows place ≡ Some row) }
     ensures rows { OnOk result (kept.new.rows ≡ remove kept.old.rows place) }
     ensures labels { OnOk result (kept.new.labels ≡ remove kept.old.labels place) }
-    ensures since { kept.new.since ≡ kept.old.since }
+    ensures insertions_since_relabel { kept.new.insertions_since_relabel ≡ kept.old.insertions_since_relabel }
     ensures kept { OnOk result (IsKept kept.new) }
     ensures err { OnErr result (kept.new ≡ kept.old) }
 {

@@ -21,7 +21,7 @@ pub(crate) struct Kept {
     pub(crate) rows: Tree<Counted<Row>>,
     pub(crate) labels: Labels,
     /// How many rows were put in since there were none or all were relabelled, counted up to 22.
-    pub(crate) since: u32,
+    pub(crate) insertions_since_relabel: u32,
     pub(crate) index: KeyIndex,
     pub(crate) segments: Segments<PairSearch>,
 }
@@ -34,7 +34,7 @@ impl Kept {
         Kept {
             rows: Tree::new(alloc),
             labels: Labels::new(alloc),
-            since: 0,
+            insertions_since_relabel: 0,
             index: KeyIndex::new(alloc),
             segments: Segments::new(alloc),
         }

@@ -27,7 +27,7 @@
 //! get new ones. Rows that come in one after another, at the end or at one place, mostly find a label: each leaves most of the
 //! gap there for those that follow.
 //!
-//! - `dictionary`: the type and its calls. `edit`: rows put in and taken out; `beside`, the label of a new row, by `lately`, and `relabel`,
+//! - `dictionary`: the type and its calls. `edit`: rows put in and taken out; `beside`, the label of a new row, by `recent`, and `relabel`,
 //!   where none is left; `lifetimes`, what becomes of two lifetimes. `failing`: the place of the row that fails first.
 //! - `asked`: questions, by what is found of a range of keys. `listed`: the whole content.
 //! - `pairs`: `KeyPair`, `KeyRange`, `Found`. `search`: `PairSearch`. `kept`: what is kept of the rows.
@@ -40,11 +40,11 @@ mod dictionary;
 mod edit;
 mod failing;
 mod kept;
-mod lately;
 pub mod laws;
 mod lifetimes;
 mod listed;
 mod pairs;
+mod recent;
 mod relabel;
 mod search;
 

@@ -149,7 +149,7 @@ fn label_anew<L: Ledger>(kept: &mut Kept, place: u32, steps: &mut Steps<L>) -> R
 {
     let segments = segments_of(&kept.rows, &kept.index, steps)?;
     kept.labels.insert(place)?;
-    kept.since = 0;
+    kept.insertions_since_relabel = 0;
     kept.segments = segments;
     Ok(())
 }
@@ -190,7 +190,7 @@ pub(crate) fn put_relabelled<L: Ledger>(
     requires full { has_room kept.old.labels place ≡ false }
     ensures rows { OnOk result (kept.new.rows ≡ insert kept.old.rows place row) }
     ensures labels { OnOk result (kept.new.labels ≡ spread (length kept.old.labels + 1)) }
-    ensures since { OnOk result (kept.new.since ≡ 0) }
+    ensures insertions_since_relabel { OnOk result (kept.new.insertions_since_relabel ≡ 0) }
     ensures kept { OnOk result (IsKept kept.new) }
     ensures err { OnErr result (kept.new ≡ kept.old) }
 {

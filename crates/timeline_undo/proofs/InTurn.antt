@@ -6,8 +6,8 @@ use Rattle.retro_base.specs.Limits.{next_limit}
 use Rattle.retro_base.specs.Edits.{Edit, edited, edited_by, inverse, inverse_step, IsWithin}
 use Rattle.retro_base.specs.OrderLaws.{all_weaker}
 use Rattle.retro_base.specs.Timeline.{IsTimeline}
-use Rattle.timeline_undo.specs.declared.noted.NotedStep.{NotedStep}
-use Rattle.timeline_undo.specs.declared.noted.NotedStep.TheVariants.{Single, Double}
+use Rattle.timeline_undo.specs.declared.history.HistoryStep.{HistoryStep}
+use Rattle.timeline_undo.specs.declared.history.HistoryStep.TheVariants.{Single, Double}
 use Rattle.timeline_undo.specs.Kept.{AreReady, StandInTurn, edit_of, step_of}
 use Rattle.timeline_undo.proofs.Edits.{inverse_twice}
 use Rattle.retro_base.specs.EditedLists.{can_go_back, there_and_back}
@@ -50,7 +50,7 @@ in_turn_back kind next rows edit more within timeline turn =
     (record { within = can_go_back rows edit within; timeline = rw back timeline }, rw back turn)
 
 -- and so it is after a step
-pub step_back : (kind : Kind) (next : ℕ) (rows : List Row) (noted : NotedStep) (more : List Edit) → IsTimeline kind rows next
+pub step_back : (kind : Kind) (next : ℕ) (rows : List Row) (noted : HistoryStep) (more : List Edit) → IsTimeline kind rows next
     → StandInTurn kind next rows (step_of noted) → StandInTurn kind next rows more
     → StandInTurn kind next (edited_by rows (step_of noted)) (inverse_step (step_of noted) ++ more)
 step_back kind next rows (Single edit) more timeline made turn = in_turn_back kind next rows (edit_of edit) more made.0.within timeline turn
@@ -71,7 +71,7 @@ ready kind next rows (edit ∷ more) turn =
     (turn.0.within, turn.0.timeline.in_order, turn.0.timeline.replayable, ready kind next (edited rows edit) more turn.1)
 
 -- a step that is taken back twice
-pub inverse_step_twice : (noted : NotedStep) → inverse_step (inverse_step (step_of noted)) ≡ step_of noted
+pub inverse_step_twice : (noted : HistoryStep) → inverse_step (inverse_step (step_of noted)) ≡ step_of noted
 inverse_step_twice (Single edit) = ap (λ e. e ∷ []) (inverse_twice (edit_of edit))
 inverse_step_twice (Double first second) =
     ap (λ e. e ∷ inverse (inverse (edit_of second)) ∷ []) (inverse_twice (edit_of first)) ∙ ap (λ e. edit_of first ∷ e ∷ []) (inverse_twice (edit_of second))

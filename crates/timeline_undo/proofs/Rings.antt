@@ -8,7 +8,7 @@ use Rattle.std.proofs.lemmas.Option.{slice_get-map, slice_get-get_or}
 use Rattle.circular_buffer.specs.Buffer.{keep_last}
 use Rattle.retro_base.specs.Limits.{most_steps}
 use Rattle.retro_base.specs.Edits.{Step, Edit, inverse_step}
-use Rattle.timeline_undo.specs.declared.noted.NotedStep.{NotedStep}
+use Rattle.timeline_undo.specs.declared.history.HistoryStep.{HistoryStep}
 use Rattle.timeline_undo.specs.History.{newest, older_steps, newest_step}
 use Rattle.timeline_undo.specs.Kept.{step_of, steps_of, latest, latest_undone}
 
@@ -22,52 +22,52 @@ up_to_newest (y ∷ z ∷ zs) x last =
     rw one_more (ap (λ more. y ∷ more) (up_to_newest (z ∷ zs) x there))
 
 -- the edits of steps with one more at the end, taken from the end on
-from_the_end : (f : NotedStep → List Edit) (noted : List NotedStep) (new : NotedStep)
+from_the_end : (f : HistoryStep → List Edit) (noted : List HistoryStep) (new : HistoryStep)
     → flat_map f (reverse (noted ++ new ∷ [])) ≡ f new ++ flat_map f (reverse noted)
 from_the_end f noted new = ap (flat_map f) (reverse-append noted (new ∷ [])) ∙ flat_map-cons f new (reverse noted)
 
 -- the edits of a ring that has one more
-pub latest-more : (noted : List NotedStep) (new : NotedStep) → latest (noted ++ new ∷ []) ≡ step_of new ++ latest noted
+pub latest-more : (noted : List HistoryStep) (new : HistoryStep) → latest (noted ++ new ∷ []) ≡ step_of new ++ latest noted
 latest-more noted new = from_the_end step_of noted new
 
-pub latest_undone-more : (noted : List NotedStep) (new : NotedStep) → latest_undone (noted ++ new ∷ []) ≡ inverse_step (step_of new) ++ latest_undone noted
+pub latest_undone-more : (noted : List HistoryStep) (new : HistoryStep) → latest_undone (noted ++ new ∷ []) ≡ inverse_step (step_of new) ++ latest_undone noted
 latest_undone-more noted new = from_the_end (λ step. inverse_step (step_of step)) noted new
 
 -- the edits of a ring that has kept only its newest ones come first among those that it had
-pub latest_undone-kept : (n : ℕ) (noted : List NotedStep) → latest_undone (drop n noted) ++ latest_undone (take n noted) ≡ latest_undone noted
+pub latest_undone-kept : (n : ℕ) (noted : List HistoryStep) → latest_undone (drop n noted) ++ latest_undone (take n noted) ≡ latest_undone noted
 latest_undone-kept n noted =
-    sym (flat_map-append (λ (step : NotedStep). inverse_step (step_of step)) (reverse (drop n noted)) (reverse (take n noted)))
-    ∙ ap (flat_map (λ (step : NotedStep). inverse_step (step_of step))) (sym (reverse-append (take n noted) (drop n noted)) ∙ ap reverse (take-append-drop n noted))
+    sym (flat_map-append (λ (step : HistoryStep). inverse_step (step_of step)) (reverse (drop n noted)) (reverse (take n noted)))
+    ∙ ap (flat_map (λ (step : HistoryStep). inverse_step (step_of step))) (sym (reverse-append (take n noted) (drop n noted)) ∙ ap reverse (take-append-drop n noted))
 
 -- a ring of so many keeps no more
 pub few_kept : {X : Type 0} (n : ℕ) (xs : List X) → length (keep_last n xs) ≤ n
 few_kept n xs = omega (arith, length-drop (length xs - n) xs)
 
 -- the steps of a ring after one more, and after one fewer
-pub steps-recorded : (noted : List NotedStep) (new : NotedStep) → steps_of (keep_last most_steps (noted ++ new ∷ [])) ≡ newest (steps_of noted ++ step_of new ∷ [])
+pub steps-recorded : (noted : List HistoryStep) (new : HistoryStep) → steps_of (keep_last most_steps (noted ++ new ∷ [])) ≡ newest (steps_of noted ++ step_of new ∷ [])
 steps-recorded noted new =
     let all = noted ++ new ∷ [] in
     let same : steps_of all ≡ steps_of noted ++ step_of new ∷ [] = map-append _ noted (new ∷ []) in
     sym (drop-map _ (length all - most_steps) all) ∙ ap (λ n. drop (n - most_steps) (steps_of all)) (sym (length-map all _)) ∙ ap newest same
 
-pub steps-older : (noted : List NotedStep) → steps_of (take (length noted - 1) noted) ≡ older_steps (steps_of noted)
+pub steps-older : (noted : List HistoryStep) → steps_of (take (length noted - 1) noted) ≡ older_steps (steps_of noted)
 steps-older noted = sym (take-map _ (length noted - 1) noted) ∙ ap (λ n. take (n - 1) (steps_of noted)) (sym (length-map noted _))
 
-pub steps-more : (noted : List NotedStep) (new : NotedStep) → steps_of (noted ++ new ∷ []) ≡ steps_of noted ++ step_of new ∷ []
+pub steps-more : (noted : List HistoryStep) (new : HistoryStep) → steps_of (noted ++ new ∷ []) ≡ steps_of noted ++ step_of new ∷ []
 steps-more noted new = map-append _ noted (new ∷ [])
 
 -- the newest step of a ring
-pub steps-newest : (noted : List NotedStep) (last : NotedStep) → slice_get noted (length noted - 1) ≡ Some last → newest_step (steps_of noted) ≡ Some (step_of last)
+pub steps-newest : (noted : List HistoryStep) (last : HistoryStep) → slice_get noted (length noted - 1) ≡ Some last → newest_step (steps_of noted) ≡ Some (step_of last)
 steps-newest noted last there =
     ap (λ n. slice_get (steps_of noted) (n - 1)) (length-map noted _) ∙ slice_get-map _ noted (length noted - 1) ∙ ap (option_map step_of) there
 
 -- a ring without a newest element has no steps, and one with steps has a newest element
-pub no_newest : (noted : List NotedStep) → slice_get noted (length noted - 1) ≡ None → steps_of noted ≡ []
+pub no_newest : (noted : List HistoryStep) → slice_get noted (length noted - 1) ≡ None → steps_of noted ≡ []
 no_newest [] none = refl
 no_newest (x ∷ xs) none = let there = slice_get-get_or (x ∷ xs) (length (x ∷ xs) - 1) x (omega arith) in absurd (cc)
 
 -- a ring without steps is empty
-pub nothing_noted : (noted : List NotedStep) → steps_of noted ≡ [] → noted ≡ []
+pub nothing_noted : (noted : List HistoryStep) → steps_of noted ≡ [] → noted ≡ []
 nothing_noted [] none = refl
 nothing_noted (x ∷ xs) none = absurd (cc)
 

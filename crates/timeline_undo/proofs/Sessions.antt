@@ -13,7 +13,7 @@ use Rattle.retro_base.specs.ReplayableLaws.{replayable_with, replayable_without}
 use Rattle.retro_base.specs.Timeline.{IsFresh, IsTimeline}
 use Rattle.retro_base.specs.TimelineLaws.{next_is_fresh, timeline_with, timeline_without}
 use Rattle.std.specs.List.{insert, remove}
-use Rattle.timeline_undo.specs.declared.noted.NotedStep.{NotedStep}
+use Rattle.timeline_undo.specs.declared.history.HistoryStep.{HistoryStep}
 use Rattle.timeline_undo.specs.declared.turn.Turn.{Turn}
 use Rattle.timeline_undo.specs.declared.edit.Interrupted.{Interrupted}
 use Rattle.timeline_undo.specs.declared.edit.Interrupted.TheVariants.{AtOnce, Midway}
@@ -44,7 +44,7 @@ pub append_leads : (kind : Kind) (rows : List Row) (next place : ℕ) (row : Row
 append_leads kind rows next place row end timeline = rw (end, insert_end rows row) timeline
 
 -- after it a session without a history is one still
-pub session_appended : (kind : Kind) (old performed rows after : List Row) (next : ℕ) (undo redo : Buffer NotedStep) → IsSession kind old rows next undo redo
+pub session_appended : (kind : Kind) (old performed rows after : List Row) (next : ℕ) (undo redo : Buffer HistoryStep) → IsSession kind old rows next undo redo
     → undo.items ≡ [] → redo.items ≡ [] → performed ≡ after → IsTimeline kind after next → IsSession kind performed after next undo redo
 session_appended kind old performed rows after next undo redo session no_undo no_redo same timeline = record {
   same = same;
@@ -57,25 +57,25 @@ session_appended kind old performed rows after next undo redo session no_undo no
 }
 
 -- the newest step of the undo ring can be taken back, and then those before it
-pub undo_stands : (kind : Kind) (next : ℕ) (rows : List Row) (noted : List NotedStep) (last : NotedStep) → slice_get noted (length noted - 1) ≡ Some last
+pub undo_stands : (kind : Kind) (next : ℕ) (rows : List Row) (noted : List HistoryStep) (last : HistoryStep) → slice_get noted (length noted - 1) ≡ Some last
     → StandInTurn kind next rows (latest_undone noted)
     → StandInTurn kind next rows (inverse_step (step_of last) ++ latest_undone (take (length noted - 1) noted))
 undo_stands kind next rows noted last there turn =
     subst (StandInTurn kind next rows) (ap latest_undone (sym (up_to_newest noted last there)) ∙ latest_undone-more (take (length noted - 1) noted) last) turn
 
 -- and the newest step of the redo ring can be redone
-pub redo_stands : (kind : Kind) (next : ℕ) (rows : List Row) (noted : List NotedStep) (last : NotedStep) → slice_get noted (length noted - 1) ≡ Some last
+pub redo_stands : (kind : Kind) (next : ℕ) (rows : List Row) (noted : List HistoryStep) (last : HistoryStep) → slice_get noted (length noted - 1) ≡ Some last
     → StandInTurn kind next rows (latest noted) → StandInTurn kind next rows (step_of last ++ latest (take (length noted - 1) noted))
 redo_stands kind next rows noted last there turn =
     subst (StandInTurn kind next rows) (ap latest (sym (up_to_newest noted last there)) ∙ latest-more (take (length noted - 1) noted) last) turn
 
 -- there is one in the ring
-some_there : (noted : List NotedStep) (last : NotedStep) → slice_get noted (length noted - 1) ≡ Some last → length (take (length noted - 1) noted) + 1 ≡ length noted
+some_there : (noted : List HistoryStep) (last : HistoryStep) → slice_get noted (length noted - 1) ≡ Some last → length (take (length noted - 1) noted) + 1 ≡ length noted
 some_there noted last there =
     sym (length-append (take (length noted - 1) noted) (last ∷ [])) ∙ ap length (up_to_newest noted last there)
 
 -- after an accepted step that was noted
-pub session_noted : (kind : Kind) (performed rows : List Row) (next : ℕ) (undo redo : Buffer NotedStep) (noted : NotedStep)
+pub session_noted : (kind : Kind) (performed rows : List Row) (next : ℕ) (undo redo : Buffer HistoryStep) (noted : HistoryStep)
     → undo.capacity ≡ most_steps → redo.capacity ≡ most_steps → performed ≡ edited_by rows (step_of noted)
     → IsTimeline kind rows next → StandInTurn kind next rows (step_of noted) → StandInTurn kind next rows (latest_undone undo.items)
     → IsSession kind performed (edited_by rows (step_of noted)) next
@@ -95,7 +95,7 @@ session_noted kind performed rows next undo redo noted undo_room redo_room same 
     }
 
 -- after a step that met out of memory after its first edit
-pub session_spent : (kind : Kind) (performed rows : List Row) (next : ℕ) (undo redo : Buffer NotedStep)
+pub session_spent : (kind : Kind) (performed rows : List Row) (next : ℕ) (undo redo : Buffer HistoryStep)
     → undo.capacity ≡ most_steps → redo.capacity ≡ most_steps → performed ≡ rows → IsTimeline kind rows next
     → IsSession kind performed rows next (buffer [] undo.capacity) (buffer [] redo.capacity)
 session_spent kind performed rows next undo redo undo_room redo_room same timeline = record {
@@ -130,7 +130,7 @@ midway_spent before after next (edit ∷ []) Midway is left = left
 midway_spent before after next (first ∷ second ∷ more) Midway is left = ap (λ rows. spent_with before rows next) left
 
 -- after an undo
-pub session_undone : (kind : Kind) (old performed rows : List Row) (next : ℕ) (undo redo : Buffer NotedStep) (last back : NotedStep)
+pub session_undone : (kind : Kind) (old performed rows : List Row) (next : ℕ) (undo redo : Buffer HistoryStep) (last back : HistoryStep)
     → IsSession kind old rows next undo redo → slice_get undo.items (length undo.items - 1) ≡ Some last
     → step_of back ≡ inverse_step (step_of last) → performed ≡ edited_by rows (step_of back)
     → IsSession kind performed (edited_by rows (step_of back)) next
@@ -150,7 +150,7 @@ session_undone kind old performed rows next undo redo last back session there is
     }
 
 -- after a redo
-pub session_redone : (kind : Kind) (old performed rows : List Row) (next : ℕ) (undo redo : Buffer NotedStep) (last : NotedStep)
+pub session_redone : (kind : Kind) (old performed rows : List Row) (next : ℕ) (undo redo : Buffer HistoryStep) (last : HistoryStep)
     → IsSession kind old rows next undo redo → slice_get redo.items (length redo.items - 1) ≡ Some last
     → performed ≡ edited_by rows (step_of last)
     → IsSession kind performed (edited_by rows (step_of last)) next

@@ -26,7 +26,7 @@ use Rattle.timeline_undo.specs.declared.shift.Target.TheVariants.{At, Into}
 use Rattle.timeline_undo.specs.Kept.{StandInTurn, steps_of}
 use Rattle.timeline_undo.specs.Replaced.{Replaces, replaced, replacement_of, step_of_replacement}
 use Rattle.timeline_undo.specs.declared.error.EditError.{EditError}
-use Rattle.timeline_undo.specs.declared.noted.NotedStep.{NotedStep}
+use Rattle.timeline_undo.specs.declared.history.HistoryStep.{HistoryStep}
 use Rattle.timeline_undo.specs.Session.{FailsFirst, HasRoom, IsLeftByShift, IsShiftUnmade, IsStepCause, IsUnmade, SessionState}
 use Rattle.timeline_undo.specs.Shift.{IsTargetOf, index_after, place_for, put_then_cut, cut_then_put, replacing, shift_at, shift_of}
 use Rattle.timeline_undo.proofs.InTurn.{timeline_later}
@@ -227,7 +227,7 @@ if_there P rows target next index old there holds =
     subst (λ (o : Option Row). IfSome (option_map (shift_of rows target next index) o) P) (sym there) holds
 
 -- why it is not replaced
-abbrev pub seen : Kind → List Row → ℕ → Buffer NotedStep → Buffer NotedStep → Bool → SessionState
+abbrev pub seen : Kind → List Row → ℕ → Buffer HistoryStep → Buffer HistoryStep → Bool → SessionState
 seen kind rows next undo redo spent =
     record { kind = kind; rows = rows; next = next; history = record { undo = steps_of undo.items; redo = steps_of redo.items }; spent = spent }
 

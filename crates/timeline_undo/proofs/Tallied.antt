@@ -28,35 +28,35 @@ use Rattle.retro_base.specs.lemmas.Folds.{no_row, BothOrNeither, folds_agree, sa
 use Rattle.retro_base.specs.lemmas.SortedPairs.{sorted_nil}
 use Rattle.timeline_undo.specs.declared.replacement.Replacement.{Replacement}
 use Rattle.timeline_undo.specs.Replaced.{replaced}
-use Rattle.timeline_undo.specs.declared.tally.Presence.{Presence}
-use Rattle.timeline_undo.specs.declared.tally.Tally.{Tally}
-use Rattle.timeline_undo.specs.declared.tally.Tally.TheVariants.{Items, Keys}
+use Rattle.timeline_undo.specs.declared.walk_count.Presence.{Presence}
+use Rattle.timeline_undo.specs.declared.walk_count.WalkCount.{WalkCount}
+use Rattle.timeline_undo.specs.declared.walk_count.WalkCount.TheVariants.{Items, Keys}
 use Rattle.timeline_undo.specs.Tallies.{IsUpTo, absent, key_of, presence_after, tallied, tally_after, tally_before, tally_of_keys}
 use Rattle.timeline_undo.proofs.TwoKeys.{counted_key, keyed, tally_of, two_keys}
 
 -- rows in two parts
-pub tallied-some : (row : Row) (rows : List Row) (tally next : Tally) → tally_after tally row.op ≡ Some next → tallied (row ∷ rows) tally ≡ tallied rows next
+pub tallied-some : (row : Row) (rows : List Row) (tally next : WalkCount) → tally_after tally row.op ≡ Some next → tallied (row ∷ rows) tally ≡ tallied rows next
 unfolding tallied
 tallied-some row rows tally next e = rw e refl
 
-pub tallied-none : (row : Row) (rows : List Row) (tally : Tally) → tally_after tally row.op ≡ None → tallied (row ∷ rows) tally ≡ Err row
+pub tallied-none : (row : Row) (rows : List Row) (tally : WalkCount) → tally_after tally row.op ≡ None → tallied (row ∷ rows) tally ≡ Err row
 unfolding tallied
 tallied-none row rows tally e = rw e refl
 
-pub tallied-nil : (tally : Tally) → tallied [] tally ≡ Ok tally
+pub tallied-nil : (tally : WalkCount) → tallied [] tally ≡ Ok tally
 unfolding tallied
 tallied-nil tally = refl
 
-pub tallied-then : (rows more : List Row) (tally next : Tally) → tallied rows tally ≡ Ok next → tallied (rows ++ more) tally ≡ tallied more next
-tallied-then [] more tally next e = let same : tally ≡ next = (let here : ◌≡◌ {A = Result Tally Row} (Ok tally) (Ok next) = sym (tallied-nil tally) ∙ e in cc) in ap (tallied more) same
+pub tallied-then : (rows more : List Row) (tally next : WalkCount) → tallied rows tally ≡ Ok next → tallied (rows ++ more) tally ≡ tallied more next
+tallied-then [] more tally next e = let same : tally ≡ next = (let here : ◌≡◌ {A = Result WalkCount Row} (Ok tally) (Ok next) = sym (tallied-nil tally) ∙ e in cc) in ap (tallied more) same
 tallied-then (row ∷ rows) more tally next e =
     elim (tally_after tally row.op) as (λ o. tally_after tally row.op ≡ o → tallied (row ∷ (rows ++ more)) tally ≡ tallied more next) [
-      | None ↦ λ stops. absurd (let wrong : ◌≡◌ {A = Result Tally Row} (Err row) (Ok next) = sym (tallied-none row rows tally stops) ∙ e in cc)
+      | None ↦ λ stops. absurd (let wrong : ◌≡◌ {A = Result WalkCount Row} (Err row) (Ok next) = sym (tallied-none row rows tally stops) ∙ e in cc)
       | Some to ↦ λ goes. tallied-some row (rows ++ more) tally to goes ∙ tallied-then rows more to next (sym (tallied-some row rows tally to goes) ∙ e)
     ] refl
 
-pub tallied-stops : (rows more : List Row) (tally : Tally) (failing : Row) → tallied rows tally ≡ Err failing → tallied (rows ++ more) tally ≡ Err failing
-tallied-stops [] more tally failing e = absurd (let wrong : ◌≡◌ {A = Result Tally Row} (Ok tally) (Err failing) = sym (tallied-nil tally) ∙ e in cc)
+pub tallied-stops : (rows more : List Row) (tally : WalkCount) (failing : Row) → tallied rows tally ≡ Err failing → tallied (rows ++ more) tally ≡ Err failing
+tallied-stops [] more tally failing e = absurd (let wrong : ◌≡◌ {A = Result WalkCount Row} (Ok tally) (Err failing) = sym (tallied-nil tally) ∙ e in cc)
 tallied-stops (row ∷ rows) more tally failing e =
     elim (tally_after tally row.op) as (λ o. tally_after tally row.op ≡ o → tallied (row ∷ (rows ++ more)) tally ≡ Err failing) [
       | None ↦ λ stops. tallied-none row (rows ++ more) tally stops ∙ sym (tallied-none row rows tally stops) ∙ e
@@ -64,23 +64,23 @@ tallied-stops (row ∷ rows) more tally failing e =
     ] refl
 
 -- one more turn of a loop over rows
-pub along_next : (rows : List Row) (i : ℕ) (tally next : Tally) → i < length rows → tally_after tally (get_or rows i no_row).op ≡ Some next
+pub along_next : (rows : List Row) (i : ℕ) (tally next : WalkCount) → i < length rows → tally_after tally (get_or rows i no_row).op ≡ Some next
     → tallied (drop i rows) tally ≡ tallied (drop (i + 1) rows) next
 along_next rows i tally next within goes =
     ap (λ rs. tallied rs tally) (drop-cons rows i no_row within) ∙ tallied-some _ _ tally next goes ∙ (let one : suc i ≡ i + 1 = omega arith in ap (λ n. tallied (drop n rows) next) one)
 
-pub along_stops : (rows : List Row) (i : ℕ) (tally : Tally) → i < length rows → tally_after tally (get_or rows i no_row).op ≡ None
+pub along_stops : (rows : List Row) (i : ℕ) (tally : WalkCount) → i < length rows → tally_after tally (get_or rows i no_row).op ≡ None
     → tallied (drop i rows) tally ≡ Err (get_or rows i no_row)
 along_stops rows i tally within stops = ap (λ rs. tallied rs tally) (drop-cons rows i no_row within) ∙ tallied-none _ _ tally stops
 
-pub along_end : (rows : List Row) (i : ℕ) (tally : Tally) → length rows ≤ i → tallied (drop i rows) tally ≡ Ok tally
+pub along_end : (rows : List Row) (i : ℕ) (tally : WalkCount) → length rows ≤ i → tallied (drop i rows) tally ≡ Ok tally
 along_end rows i tally all = ap (λ rs. tallied rs tally) (drop_all i rows all) ∙ tallied-nil tally
 
 -- rows in three parts
-pub second_stops : (a b c : List Row) (t u : Tally) (failing : Row) → tallied a t ≡ Ok u → tallied b u ≡ Err failing → tallied (a ++ (b ++ c)) t ≡ Err failing
+pub second_stops : (a b c : List Row) (t u : WalkCount) (failing : Row) → tallied a t ≡ Ok u → tallied b u ≡ Err failing → tallied (a ++ (b ++ c)) t ≡ Err failing
 second_stops a b c t u failing e f = tallied-then a (b ++ c) t u e ∙ tallied-stops b c u failing f
 
-pub all_parts : (a b c : List Row) (t u v : Tally) → tallied a t ≡ Ok u → tallied b u ≡ Ok v → tallied (a ++ (b ++ c)) t ≡ tallied c v
+pub all_parts : (a b c : List Row) (t u v : WalkCount) → tallied a t ≡ Ok u → tallied b u ≡ Ok v → tallied (a ++ (b ++ c)) t ≡ tallied c v
 all_parts a b c t u v e f = tallied-then a (b ++ c) t u e ∙ tallied-then b c u v f
 
 -- the rows of a walk: those that one reading gives come first
@@ -93,19 +93,19 @@ read_first rows place read to within =
     ap (λ k. take k (drop place rows)) n ∙ slice_two rows place read (to - (place + read))
 
 -- a turn of a walk
-pub walk_stops : (rows : List Row) (place count to : ℕ) (tally : Tally) (failing : Row) → place + count ≤ to
+pub walk_stops : (rows : List Row) (place count to : ℕ) (tally : WalkCount) (failing : Row) → place + count ≤ to
     → tallied (take count (drop place rows)) tally ≡ Err failing → tallied (slice_range rows place to) tally ≡ Err failing
 walk_stops rows place count to tally failing within e =
     ap (λ rs. tallied rs tally) (read_first rows place count to within)
     ∙ tallied-stops (take count (drop place rows)) (slice_range rows (place + count) to) tally failing e
 
-pub walk_goes : (rows : List Row) (place count to : ℕ) (tally next : Tally) → place + count ≤ to
+pub walk_goes : (rows : List Row) (place count to : ℕ) (tally next : WalkCount) → place + count ≤ to
     → tallied (take count (drop place rows)) tally ≡ Ok next → tallied (slice_range rows place to) tally ≡ tallied (slice_range rows (place + count) to) next
 walk_goes rows place count to tally next within e =
     ap (λ rs. tallied rs tally) (read_first rows place count to within)
     ∙ tallied-then (take count (drop place rows)) (slice_range rows (place + count) to) tally next e
 
-pub walk_ends : (rows : List Row) (place to : ℕ) (tally : Tally) → to ≤ place → tallied (slice_range rows place to) tally ≡ Ok tally
+pub walk_ends : (rows : List Row) (place to : ℕ) (tally : WalkCount) → to ≤ place → tallied (slice_range rows place to) tally ≡ Ok tally
 walk_ends rows place to tally all =
     let none : to - place ≡ 0 = omega arith in ap (λ n. tallied (take n (drop place rows)) tally) none ∙ tallied-nil tally
 
@@ -130,49 +130,49 @@ new_later rows r above within =
     rw (lt-leb r.before r.index above, from_the_start rows r.index, to_the_end rows r.before within, one)
     (ap (λ rs. take r.index rows ++ rs) (sym (append_assoc (slice_range rows (suc r.index) r.before) (r.new ∷ []) (drop r.before rows))))
 
-item_by : (op : Op) (n most : ℕ) (next : Tally) → n ≤ most → option_map Items (size_after op n) ≡ Some next → IsUpTo next (suc most)
+item_by : (op : Op) (n most : ℕ) (next : WalkCount) → n ≤ most → option_map Items (size_after op n) ≡ Some next → IsUpTo next (suc most)
 item_by op n most next within e =
     elim (size_after op n) as (λ o. size_after op n ≡ o → IsUpTo next (suc most)) [
-      | None ↦ λ stops. absurd (let wrong : ◌≡◌ {A = Option Tally} None (Some next) = rw stops at e in cc)
+      | None ↦ λ stops. absurd (let wrong : ◌≡◌ {A = Option WalkCount} None (Some next) = rw stops at e in cc)
       | Some m ↦ λ goes.
-          let is : Items m ≡ next = (let here : ◌≡◌ {A = Option Tally} (Some (Items m)) (Some next) = rw goes at e in cc) in
+          let is : Items m ≡ next = (let here : ◌≡◌ {A = Option WalkCount} (Some (Items m)) (Some next) = rw goes at e in cc) in
           rw (← is) (omega (arith, size_after-le op n m goes))
     ] refl
 
-abbrev is_keys : Tally → Bool
+abbrev is_keys : WalkCount → Bool
 is_keys (Items n) = false
 is_keys (Keys p q) = true
 
-keys_up_to : (next : Tally) (most : ℕ) → is_keys next ≡ true → IsUpTo next most
+keys_up_to : (next : WalkCount) (most : ℕ) → is_keys next ≡ true → IsUpTo next most
 keys_up_to (Items n) most e = absurd (cc)
 keys_up_to (Keys p q) most e = tt
 
-keys_stay : (p q : Presence) (op : Op) (next : Tally) → tally_after (Keys p q) op ≡ Some next → is_keys next ≡ true
+keys_stay : (p q : Presence) (op : Op) (next : WalkCount) → tally_after (Keys p q) op ≡ Some next → is_keys next ≡ true
 keys_stay p q op next e =
     elim (presence_after p op) as (λ o. presence_after p op ≡ o → is_keys next ≡ true) [
-      | None ↦ λ stops. absurd (let wrong : ◌≡◌ {A = Option Tally} None (Some next) = rw stops at e in cc)
+      | None ↦ λ stops. absurd (let wrong : ◌≡◌ {A = Option WalkCount} None (Some next) = rw stops at e in cc)
       | Some one ↦ λ goes.
           elim (presence_after q op) as (λ o. presence_after q op ≡ o → is_keys next ≡ true) [
-            | None ↦ λ stops. absurd (let wrong : ◌≡◌ {A = Option Tally} None (Some next) = rw (goes, stops) at e in cc)
-            | Some other ↦ λ too. let is : Keys one other ≡ next = (let here : ◌≡◌ {A = Option Tally} (Some (Keys one other)) (Some next) = rw (goes, too) at e in cc) in rw (← is) refl
+            | None ↦ λ stops. absurd (let wrong : ◌≡◌ {A = Option WalkCount} None (Some next) = rw (goes, stops) at e in cc)
+            | Some other ↦ λ too. let is : Keys one other ≡ next = (let here : ◌≡◌ {A = Option WalkCount} (Some (Keys one other)) (Some next) = rw (goes, too) at e in cc) in rw (← is) refl
           ] refl
     ] refl
 
-pub one_row_up_to : (tally next : Tally) (op : Op) (most : ℕ) → IsUpTo tally most → tally_after tally op ≡ Some next → IsUpTo next (suc most)
+pub one_row_up_to : (tally next : WalkCount) (op : Op) (most : ℕ) → IsUpTo tally most → tally_after tally op ≡ Some next → IsUpTo next (suc most)
 one_row_up_to (Items n) next op most within e = item_by op n most next within e
 one_row_up_to (Keys p q) next op most within e = keys_up_to next (suc most) (keys_stay p q op next e)
 
-pub up_to_more : (tally : Tally) (less more : ℕ) → less ≤ more → IsUpTo tally less → IsUpTo tally more
+pub up_to_more : (tally : WalkCount) (less more : ℕ) → less ≤ more → IsUpTo tally less → IsUpTo tally more
 up_to_more (Items n) less more within up = omega arith
 up_to_more (Keys p q) less more within up = tt
 
-pub rows_up_to : (rows : List Row) (tally next : Tally) (most : ℕ) → IsUpTo tally most → tallied rows tally ≡ Ok next → IsUpTo next (most + length rows)
+pub rows_up_to : (rows : List Row) (tally next : WalkCount) (most : ℕ) → IsUpTo tally most → tallied rows tally ≡ Ok next → IsUpTo next (most + length rows)
 rows_up_to [] tally next most up e =
-    let same : tally ≡ next = (let here : ◌≡◌ {A = Result Tally Row} (Ok tally) (Ok next) = sym (tallied-nil tally) ∙ e in cc) in
+    let same : tally ≡ next = (let here : ◌≡◌ {A = Result WalkCount Row} (Ok tally) (Ok next) = sym (tallied-nil tally) ∙ e in cc) in
     rw (← same) (up_to_more tally most (most + 0) (omega arith) up)
 rows_up_to (row ∷ rows) tally next most up e =
     elim (tally_after tally row.op) as (λ o. tally_after tally row.op ≡ o → IsUpTo next (most + suc (length rows))) [
-      | None ↦ λ stops. absurd (let wrong : ◌≡◌ {A = Result Tally Row} (Err row) (Ok next) = sym (tallied-none row rows tally stops) ∙ e in cc)
+      | None ↦ λ stops. absurd (let wrong : ◌≡◌ {A = Result WalkCount Row} (Err row) (Ok next) = sym (tallied-none row rows tally stops) ∙ e in cc)
       | Some to ↦ λ goes.
           up_to_more next (suc most + length rows) (most + suc (length rows)) (omega arith)
           (rows_up_to rows to next (suc most) (one_row_up_to tally to row.op most up goes) (sym (tallied-some row rows tally to goes) ∙ e))
@@ -182,28 +182,28 @@ rows_up_to (row ∷ rows) tally next most up e =
 slice_few : (rows : List Row) (from to : ℕ) → length (slice_range rows from to) ≤ to - from
 slice_few rows from to = omega (arith, length-take (to - from) (drop from rows))
 
-pub walked_up_to : (rows : List Row) (from to : ℕ) (tally next : Tally) (most more : ℕ) → IsUpTo tally most → tallied (slice_range rows from to) tally ≡ Ok next
+pub walked_up_to : (rows : List Row) (from to : ℕ) (tally next : WalkCount) (most more : ℕ) → IsUpTo tally most → tallied (slice_range rows from to) tally ≡ Ok next
     → most + (to - from) ≤ more → IsUpTo next more
 walked_up_to rows from to tally next most more up e within =
     up_to_more next (most + length (slice_range rows from to)) more (omega (arith, slice_few rows from to)) (rows_up_to (slice_range rows from to) tally next most up e)
 
-pub read_up_to : (rows : List Row) (count most : ℕ) (tally next : Tally) → IsUpTo tally most → tallied (take count rows) tally ≡ Ok next → IsUpTo next (most + count)
+pub read_up_to : (rows : List Row) (count most : ℕ) (tally next : WalkCount) → IsUpTo tally most → tallied (take count rows) tally ≡ Ok next → IsUpTo next (most + count)
 read_up_to rows count most tally next up e =
     up_to_more next (most + length (take count rows)) (most + count) (omega (arith, length-take count rows)) (rows_up_to (take count rows) tally next most up e)
 
-pub added_up_to : (rows : List Row) (from to : ℕ) (new : Row) (tally next : Tally) (most more : ℕ) → IsUpTo tally most
+pub added_up_to : (rows : List Row) (from to : ℕ) (new : Row) (tally next : WalkCount) (most more : ℕ) → IsUpTo tally most
     → tallied (slice_range rows from to ++ new ∷ []) tally ≡ Ok next → most + (to - from) + 1 ≤ more → IsUpTo next more
 added_up_to rows from to new tally next most more up e within =
     up_to_more next (most + length (slice_range rows from to ++ new ∷ [])) more
     (omega (arith, slice_few rows from to, length-append (slice_range rows from to) (new ∷ []))) (rows_up_to (slice_range rows from to ++ new ∷ []) tally next most up e)
 
 -- the row that the tally names is the one at the index where it stops
-one_later_row : (row : Row) (rows : List Row) (r : Result Tally ℕ)
+one_later_row : (row : Row) (rows : List Row) (r : Result WalkCount ℕ)
     → option_and_then (slice_get (row ∷ rows)) (result_err (one_later r)) ≡ option_and_then (slice_get rows) (result_err r)
 one_later_row row rows (Ok t) = refl
 one_later_row row rows (Err i) = refl
 
-pub names_row : (rows : List Row) (tally : Tally) → result_err (tallied rows tally) ≡ option_and_then (slice_get rows) (result_err (tally_of rows tally))
+pub names_row : (rows : List Row) (tally : WalkCount) → result_err (tallied rows tally) ≡ option_and_then (slice_get rows) (result_err (tally_of rows tally))
 names_row [] tally = ap result_err (tallied-nil tally) ∙ sym (ap (λ r. option_and_then (slice_get []) (result_err r)) (fold_rows-nil (λ row t. tally_after t row.op) tally))
 names_row (row ∷ rows) tally =
     elim (tally_after tally row.op) as (λ o. tally_after tally row.op ≡ o
@@ -217,14 +217,14 @@ names_row (row ∷ rows) tally =
     ] refl
 
 -- counting items, and counting them in a tally, keep pace
-abbrev IsItems : Tally → ℕ → Type 0
+abbrev IsItems : WalkCount → ℕ → Type 0
 IsItems tally n = tally ≡ Items n
 
 both_items : (o : Option ℕ) → BothOrNeither IsItems (option_map Items o) o
 both_items None = tt
 both_items (Some n) = refl
 
-items_keep_pace : (row : Row) (tally : Tally) (n : ℕ) → Unit {0} → IsItems tally n → BothOrNeither IsItems (tally_after tally row.op) (quantity_after (quantity_of Deq) row.op n)
+items_keep_pace : (row : Row) (tally : WalkCount) (n : ℕ) → Unit {0} → IsItems tally n → BothOrNeither IsItems (tally_after tally row.op) (quantity_after (quantity_of Deq) row.op n)
 items_keep_pace row tally n any is = rw is (both_items (size_after row.op n))
 
 all_rows : (rows : List Row) → AllByRecursion (λ row. Unit {0}) rows

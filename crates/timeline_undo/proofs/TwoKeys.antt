@@ -15,14 +15,14 @@ use Rattle.retro_base.specs.Timeline.{AreOfKind}
 use Rattle.retro_base.specs.lemmas.CountedKeys.{one_key}
 use Rattle.retro_base.specs.lemmas.Folds.{not_both, ok_same, err_same, fold_rows-nil, fold_rows-some, fold_rows-none, fold_rows-append_err, fold_rows-last, between_stops, front_possible, one_later-err}
 use Rattle.retro_base.specs.lemmas.SortedPairs.{same_key, sorted_nil}
-use Rattle.timeline_undo.specs.declared.tally.Presence.{Presence}
-use Rattle.timeline_undo.specs.declared.tally.Tally.{Tally}
-use Rattle.timeline_undo.specs.declared.tally.Tally.TheVariants.{Keys}
+use Rattle.timeline_undo.specs.declared.walk_count.Presence.{Presence}
+use Rattle.timeline_undo.specs.declared.walk_count.WalkCount.{WalkCount}
+use Rattle.timeline_undo.specs.declared.walk_count.WalkCount.TheVariants.{Keys}
 use Rattle.timeline_undo.specs.Tallies.{absent, tally_after, there_after}
 use Rattle.retro_base.specs.Outcomes.{err_of, is_ok, later_ok}
 
 -- the tally after rows, or the index of the first one that finds nothing to take
-abbrev pub tally_of : List Row → Tally → Result Tally ℕ
+abbrev pub tally_of : List Row → WalkCount → Result WalkCount ℕ
 tally_of rows tally = fold_rows (λ row t. tally_after t row.op) rows tally
 
 -- so many pairs of the key are there
@@ -100,7 +100,7 @@ stops_at next_of (first ∷ rows) s index e =
     ] refl
 
 -- a tally of two keys that has come along all rows has counted both
-record Follows (rows : List Row) (p q : Presence) (tally : Tally) : Type 0 where
+record Follows (rows : List Row) (p q : Presence) (tally : WalkCount) : Type 0 where
   first : Presence
   second : Presence
   is : tally ≡ Keys first second
@@ -112,7 +112,7 @@ record Follows (rows : List Row) (p q : Presence) (tally : Tally) : Type 0 where
 abbrev with_there : Presence → Bool → Presence
 with_there p there = record p { there = there }
 
-follows : (rows : List Row) (p q : Presence) (tally : Tally) → tally_of rows (Keys p q) ≡ Ok tally → Follows rows p q tally
+follows : (rows : List Row) (p q : Presence) (tally : WalkCount) → tally_of rows (Keys p q) ≡ Ok tally → Follows rows p q tally
 follows [] p q tally e = record {
   first = p;
   second = q;

@@ -9,23 +9,23 @@ use Rattle.retro_base.specs.Edits.{Edit, Step, add, cut, edited, inverse_step, I
 use Rattle.retro_base.specs.Timeline.{IsReplayable, IsTimeline, TimesNeverFall}
 use Rattle.timeline_undo.specs.declared.edit.Interrupted.{Interrupted}
 use Rattle.timeline_undo.specs.declared.edit.Interrupted.TheVariants.{AtOnce, Midway}
-use Rattle.timeline_undo.specs.declared.noted.Noted.{Noted}
-use Rattle.timeline_undo.specs.declared.noted.Noted.TheVariants.{Added, Taken}
-use Rattle.timeline_undo.specs.declared.noted.NotedStep.{NotedStep}
-use Rattle.timeline_undo.specs.declared.noted.NotedStep.TheVariants.{Single, Double}
+use Rattle.timeline_undo.specs.declared.history.HistoryEdit.{HistoryEdit}
+use Rattle.timeline_undo.specs.declared.history.HistoryEdit.TheVariants.{Added, Taken}
+use Rattle.timeline_undo.specs.declared.history.HistoryStep.{HistoryStep}
+use Rattle.timeline_undo.specs.declared.history.HistoryStep.TheVariants.{Single, Double}
 
 -- the edit that is noted
-abbrev pub edit_of : Noted → Edit
+abbrev pub edit_of : HistoryEdit → Edit
 edit_of (Added place row) = add place row
 edit_of (Taken place row) = cut place row
 
 -- the step that is noted
-abbrev pub step_of : NotedStep → Step
+abbrev pub step_of : HistoryStep → Step
 step_of (Single edit) = edit_of edit ∷ []
 step_of (Double first second) = edit_of first ∷ edit_of second ∷ []
 
 -- the steps that a ring keeps
-abbrev pub steps_of : List NotedStep → List Step
+abbrev pub steps_of : List HistoryStep → List Step
 steps_of noted = map step_of noted
 
 -- the edit can be made in these rows, and leaves a timeline
@@ -52,14 +52,14 @@ IsLeftMidway before (edit ∷ []) after Midway = ⊥
 IsLeftMidway before (first ∷ second ∷ more) after Midway = after ≡ edited before first
 
 -- the edits of a ring, those of the newest step first: those that are redone, and those that undo
-abbrev pub latest : List NotedStep → List Edit
+abbrev pub latest : List HistoryStep → List Edit
 latest noted = flat_map step_of (reverse noted)
 
-abbrev pub latest_undone : List NotedStep → List Edit
+abbrev pub latest_undone : List HistoryStep → List Edit
 latest_undone noted = flat_map (λ step. inverse_step (step_of step)) (reverse noted)
 
 -- the structure performs the rows of the timeline; the rings have room, and what they keep can be undone and redone
-pub record IsSession (kind : Kind) (performed rows : List Row) (next : ℕ) (undo redo : Buffer NotedStep) : Type 0 where
+pub record IsSession (kind : Kind) (performed rows : List Row) (next : ℕ) (undo redo : Buffer HistoryStep) : Type 0 where
   pub same : performed ≡ rows
   pub timeline : IsTimeline kind rows next
   pub undo_room : undo.capacity ≡ most_steps

@@ -8,9 +8,9 @@ use Rattle.retro_base.specs.declared.op.Op.{Op}
 use Rattle.retro_base.specs.declared.op.Op.TheVariants.{Put, Del}
 use Rattle.retro_base.specs.declared.row.Row.{Row}
 use Rattle.retro_base.specs.Counting.{size_after}
-use Rattle.timeline_undo.specs.declared.tally.Tally.{Tally}
-use Rattle.timeline_undo.specs.declared.tally.Tally.TheVariants.{Items, Keys}
-use Rattle.timeline_undo.specs.declared.tally.Presence.{Presence}
+use Rattle.timeline_undo.specs.declared.walk_count.WalkCount.{WalkCount}
+use Rattle.timeline_undo.specs.declared.walk_count.WalkCount.TheVariants.{Items, Keys}
+use Rattle.timeline_undo.specs.declared.walk_count.Presence.{Presence}
 
 -- whether a key is there after an operation, or none where the operation takes it and it is not there
 abbrev pub there_after : ℤ → Op → Bool → Option Bool
@@ -22,18 +22,18 @@ abbrev pub presence_after : Presence → Op → Option Presence
 presence_after presence op = option_map (λ there. record presence { there = there }) (there_after presence.key op presence.there)
 
 -- the tally after an operation, or none where it finds nothing to take
-abbrev pub tally_after : Tally → Op → Option Tally
+abbrev pub tally_after : WalkCount → Op → Option WalkCount
 tally_after (Items size) op = option_map Items (size_after op size)
 tally_after (Keys first second) op =
     option_and_then (λ one. option_map (λ other. Keys one other) (presence_after second op)) (presence_after first op)
 
 -- the tally after rows, or the first of them that finds nothing to take
-unfoldable pub tallied : List Row → Tally → Result Tally Row
+unfoldable pub tallied : List Row → WalkCount → Result WalkCount Row
 tallied [] tally = Ok tally
 tallied (row ∷ rows) tally = option_map_or (λ next. tallied rows next) (tally_after tally row.op) (Err row)
 
 -- it counts so many at the most
-abbrev pub IsUpTo : Tally → ℕ → Type 0
+abbrev pub IsUpTo : WalkCount → ℕ → Type 0
 IsUpTo (Items size) most = size ≤ most
 IsUpTo (Keys first second) most = Unit {0}
 
@@ -47,9 +47,9 @@ abbrev pub absent : ℤ → Presence
 absent key = record { key = key; there = false }
 
 -- the tally before the first row, where a row of the one operation is replaced by a row of the other
-abbrev pub tally_of_keys : Option ℤ → Option ℤ → Tally
+abbrev pub tally_of_keys : Option ℤ → Option ℤ → WalkCount
 tally_of_keys (Some first) (Some second) = Keys (absent first) (absent second)
 tally_of_keys first second = Items 0
 
-abbrev pub tally_before : Op → Op → Tally
+abbrev pub tally_before : Op → Op → WalkCount
 tally_before old new = tally_of_keys (key_of old) (key_of new)

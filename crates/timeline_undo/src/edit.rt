@@ -10,7 +10,7 @@ ghost use Rattle.timeline_undo.specs.Kept.{AreReady, IsLeftMidway, edit_of, step
 ghost use Rattle.timeline_undo.specs.Session.{AreMade, edit_reported, step_reported};
 ghost use Rattle.timeline_undo.specs.declared.turn.Turns.TheVariants.{Double};
 
-use crate::noted::{Noted, NotedStep};
+use crate::history::{HistoryEdit, HistoryStep};
 use crate::{Turn, Turns};
 use order_timeline::Timeline;
 use retro_base::{Change, NoMemory, Retro, Row};
@@ -28,7 +28,7 @@ pub(crate) enum Interrupted {
 pub(crate) fn make_step<R: Retro>(
     timeline: &mut Timeline,
     structure: &mut R,
-    step: NotedStep,
+    step: HistoryStep,
 ) -> Result<Turns, Interrupted>
     requires same { R.rows structure.old ≡ timeline.old }
     requires before { IsReplayable (R.kind structure.old) timeline.old }
@@ -41,11 +41,11 @@ pub(crate) fn make_step<R: Retro>(
     ensures err { IfErr result (IsLeftMidway timeline.old (step_of step) timeline.new) }
 {
     match step {
-        NotedStep::Single { edit } => match make(timeline, structure, edit) {
+        HistoryStep::Single { edit } => match make(timeline, structure, edit) {
             Ok(turn) => Ok(Turns::Single { turn }),
             Err(NoMemory) => Err(Interrupted::AtOnce),
         },
-        NotedStep::Double { first, second } => {
+        HistoryStep::Double { first, second } => {
             let (first, second) = make_both(timeline, structure, first, second)?;
             Ok(Turns::Double { first, second })
         }
@@ -56,8 +56,8 @@ pub(crate) fn make_step<R: Retro>(
 pub(crate) fn make_both<R: Retro>(
     timeline: &mut Timeline,
     structure: &mut R,
-    first: Noted,
-    second: Noted,
+    first: HistoryEdit,
+    second: HistoryEdit,
 ) -> Result<(Turn, Turn), Interrupted>
     requires same { R.rows structure.old ≡ timeline.old }
     requires before { IsReplayable (R.kind structure.old) timeline.old }
@@ -83,7 +83,7 @@ pub(crate) fn make_both<R: Retro>(
 pub(crate) fn make<R: Retro>(
     timeline: &mut Timeline,
     structure: &mut R,
-    edit: Noted,
+    edit: HistoryEdit,
 ) -> Result<Turn, NoMemory>
     requires same { R.rows structure.old ≡ timeline.old }
     requires before { IsReplayable (R.kind structure.old) timeline.old }
@@ -98,7 +98,7 @@ pub(crate) fn make<R: Retro>(
     ensures err { OnErr result (timeline.new ≡ timeline.old) }
 {
     match edit {
-        Noted::Added { place, row } => {
+        HistoryEdit::Added { place, row } => {
             let change = insert_in_both(timeline, structure, place, row)?;
             Ok(Turn {
                 added: true,
@@ -107,7 +107,7 @@ pub(crate) fn make<R: Retro>(
                 change,
             })
         }
-        Noted::Taken { place, row } => {
+        HistoryEdit::Taken { place, row } => {
             let change = remove_from_both(timeline, structure, place, row)?;
             Ok(Turn {
                 added: false,

@@ -28,22 +28,22 @@
 //! | `ask_now`, `ask`, `all` | those of the structure |
 //!
 //! - `session`: the type and its calls. `turn`, `shift`, `error`: what they take and answer.
-//! - `edit`, `noted`, `failing`: an edit in both lists, what the history keeps of it, the row that fails.
-//! - `replacement`, `scan`, `tally`: a row that is to be replaced, the search and the walk that judge it, what the walk counts.
+//! - `edit`, `history`, `failing`: an edit in both lists, what the history keeps of it, the row that fails.
+//! - `replacement`, `scan`, `walk_count`: a row that is to be replaced, the search and the walk that judge it, what the walk counts.
 //! - `laws`: an undo leads back.
 #![tactic(auto)]
 
 mod edit;
 mod error;
 mod failing;
+mod history;
 pub mod laws;
-mod noted;
 mod replacement;
 mod scan;
 mod session;
 mod shift;
-mod tally;
 mod turn;
+mod walk_count;
 
 pub use error::{EditError, UndoError};
 pub use session::{MAX_STEPS, Session};

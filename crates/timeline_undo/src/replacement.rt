@@ -5,7 +5,7 @@ ghost use Rattle.timeline_undo.specs.Kept.{edit_of};
 ghost use Rattle.timeline_undo.specs.Replaced.{replacement_of, step_of_replacement};
 
 use crate::Target;
-use crate::noted::Noted;
+use crate::history::HistoryEdit;
 use order_timeline::Timeline;
 use retro_base::Row;
 
@@ -56,12 +56,12 @@ impl Replacement {
     }
 
     /// Its two edits, in order.
-    pub(crate) fn edits(self) -> (Noted, Noted)
+    pub(crate) fn edits(self) -> (HistoryEdit, HistoryEdit)
         requires { self.index + 1 < 2 ^ 32 }
         ensures { edit_of result.0 ∷ edit_of result.1 ∷ [] ≡ step_of_replacement self }
     {
         if self.new.op.adds() {
-            let put = Noted::Added {
+            let put = HistoryEdit::Added {
                 place: self.before,
                 row: self.new,
             };
@@ -72,7 +72,7 @@ impl Replacement {
             };
             (
                 put,
-                Noted::Taken {
+                HistoryEdit::Taken {
                     place: index,
                     row: self.old,
                 },
@@ -83,12 +83,12 @@ impl Replacement {
             } else {
                 self.before - 1
             };
-            let put = Noted::Added {
+            let put = HistoryEdit::Added {
                 place,
                 row: self.new,
             };
             (
-                Noted::Taken {
+                HistoryEdit::Taken {
                     place: self.index,
                     row: self.old,
                 },

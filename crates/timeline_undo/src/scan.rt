@@ -10,7 +10,7 @@ ghost use Rattle.timeline_undo.specs.Tallies.{IsUpTo, tallied, tally_before};
 ghost use Rattle.timeline_undo.specs.Replaced.{Replaces, replaced};
 
 use crate::replacement::Replacement;
-use crate::tally::Tally;
+use crate::walk_count::WalkCount;
 use order_timeline::Timeline;
 use retro_base::{Op, Retro, Row};
 
@@ -65,12 +65,16 @@ fn failing_by_walk(timeline: &Timeline, replacement: Replacement) -> Option<Row>
     requires few { length timeline.now ≤ most_rows }
     ensures { result ≡ result_err (tallied (replaced timeline.now replacement) (tally_before replacement.old.op replacement.new.op)) }
 {
-    let tally = Tally::before(replacement.old.op, replacement.new.op);
+    let tally = WalkCount::before(replacement.old.op, replacement.new.op);
     tally_along(timeline, replacement, tally).err()
 }
 
 /// The tally after all rows, the one row replaced by the other, or the first of them that finds nothing to take.
-fn tally_along(timeline: &Timeline, replacement: Replacement, tally: Tally) -> Result<Tally, Row>
+fn tally_along(
+    timeline: &Timeline,
+    replacement: Replacement,
+    tally: WalkCount,
+) -> Result<WalkCount, Row>
     requires index { replacement.index < length timeline.now }
     requires before { replacement.before ≤ length timeline.now }
     requires few { length timeline.now ≤ most_rows }
@@ -112,8 +116,8 @@ fn walk_and_add(
     from: u32,
     to: u32,
     new: Row,
-    tally: Tally,
-) -> Result<Tally, Row>
+    tally: WalkCount,
+) -> Result<WalkCount, Row>
     requires from { from ≤ to }
     requires to { to ≤ length timeline.now }
     requires few { length timeline.now ≤ most_rows }
@@ -127,7 +131,7 @@ fn walk_and_add(
 }
 
 /// The tally after the rows from one place to before another, or the first of them that finds nothing to take.
-fn walk(timeline: &Timeline, from: u32, to: u32, tally: Tally) -> Result<Tally, Row>
+fn walk(timeline: &Timeline, from: u32, to: u32, tally: WalkCount) -> Result<WalkCount, Row>
     requires from { from ≤ to }
     requires to { to ≤ length timeline.now }
     requires few { length timeline.now ≤ most_rows }

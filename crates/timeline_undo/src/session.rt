@@ -16,7 +16,7 @@ ghost use Rattle.timeline_undo.specs.declared.turn.Turns.TheVariants.{Double};
 
 use crate::edit::{Interrupted, make, make_both, make_step};
 use crate::failing::{fails_at, row_after_insert, row_after_remove};
-use crate::noted::{Noted, NotedStep, forget, newest, note, pass_on};
+use crate::history::{HistoryEdit, HistoryStep, forget, newest, note, pass_on};
 use crate::replacement::Replacement;
 use crate::scan::failing_after;
 use crate::{EditError, Put, Shift, Target, Turn, Turns, UndoError};
@@ -36,8 +36,8 @@ pub struct Session<R: Retro + Drop> {
     timeline: Timeline,
     structure: R,
     next: u32,
-    undo: HeapCircularBuffer<NotedStep>,
-    redo: HeapCircularBuffer<NotedStep>,
+    undo: HeapCircularBuffer<HistoryStep>,
+    redo: HeapCircularBuffer<HistoryStep>,
     spent: bool,
 }
 
@@ -143,9 +143,9 @@ impl<R: Retro + Drop> Session<R> {
         if let Some(index) = self.structure.failure_after_insert(place, op) {
             return Err(fails_at(row_after_insert(&self.timeline, place, row, index)));
         }
-        let edit = Noted::Added { place, row };
+        let edit = HistoryEdit::Added { place, row };
         let turn = make(&mut self.timeline, &mut self.structure, edit)?;
-        note(&mut self.undo, &mut self.redo, NotedStep::Single { edit });
+        note(&mut self.undo, &mut self.redo, HistoryStep::Single { edit });
         self.next += 1;
         Ok(Put {
             number: row.number,
@@ -164,7 +164,7 @@ impl<R: Retro + Drop> Session<R> {
         ensures err { OnErr result (self.new ≡ self.old) }
     {
         let place = self.timeline.len();
-        let edit = Noted::Added { place, row };
+        let edit = HistoryEdit::Added { place, row };
         let turn = make(&mut self.timeline, &mut self.structure, edit)?;
         Ok(turn.change)
     }
@@ -185,9 +185,9 @@ impl<R: Retro + Drop> Session<R> {
         if let Some(index) = self.structure.failure_after_remove(place) {
             return Err(fails_at(row_after_remove(&self.timeline, place, index)));
         }
-        let edit = Noted::Taken { place, row };
+        let edit = HistoryEdit::Taken { place, row };
         let turn = make(&mut self.timeline, &mut self.structure, edit)?;
-        note(&mut self.undo, &mut self.redo, NotedStep::Single { edit });
+        note(&mut self.undo, &mut self.redo, HistoryStep::Single { edit });
         Ok(turn)
     }
 
@@ -216,7 +216,7 @@ impl<R: Retro + Drop> Session<R> {
                 note(
                     &mut self.undo,
                     &mut self.redo,
-                    NotedStep::Double { first, second },
+                    HistoryStep::Double { first, second },
                 );
                 self.next += 1;
                 Ok(Shift {

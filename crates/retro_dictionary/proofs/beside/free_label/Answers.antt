@@ -42,5 +42,5 @@ label_beside-requires-clause-within c = omega (arith, c.beside-beside.ensures.af
 
 pub returns-clause-between : goal.returns-clause-between
 returns-clause-between c =
-    beside-between c.args.lately c.args.since c.gap_or_end-left.result c.beside-beside.result.before c.beside-beside.result.after c.gap_or_end-right.result c.label_beside.result c.args.labels.now c.args.place
+    beside-between c.args.recent c.args.so_far c.gap_or_end-left.result c.beside-beside.result.before c.beside-beside.result.after c.gap_or_end-right.result c.label_beside.result c.args.labels.now c.args.place
     c.beside-beside.ensures.before c.beside-beside.ensures.after_it (omega arith) c.label_beside.ensures

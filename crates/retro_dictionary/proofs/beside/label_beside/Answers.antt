@@ -5,7 +5,7 @@ use Rattle.retro_dictionary.proofs.beside.label_beside.Goals.{After-unit_beside-
 
 -- it lies no further than half the way
 within : (c : After-unit_beside-unit) → 2 * c.unit_beside-unit.result ≤ c.args.after - c.args.before
-within c = omega (arith, c.unit_beside-unit.ensures, beside-within c.args.lately c.args.since c.args.left (c.args.after - c.args.before) c.args.right (omega arith))
+within c = omega (arith, c.unit_beside-unit.ensures, beside-within c.args.recent c.args.so_far c.args.left (c.args.after - c.args.before) c.args.right (omega arith))
 
 pub overflow_add-result : goal.overflow_add-result
 overflow_add-result c = omega (arith, within (goal.at.overflow_add-result c).After-unit_beside-unit)

@@ -6,5 +6,5 @@ use Rattle.retro_dictionary.proofs.beside.owed.Goals as goal
 
 pub returns : goal.returns
 returns c =
-    let same : c.saturating_sub.result ≡ least_insertions - 1 - c.args.since = omega (arith, least-number, c.saturating_sub.ensures) in
+    let same : c.saturating_sub.result ≡ least_insertions - 1 - c.args.so_far = omega (arith, least-number, c.saturating_sub.ensures) in
     shifted c.saturating_sub.result (omega (arith, c.saturating_sub.ensures)) ∙ ap (λ k. 2 ^ k) same

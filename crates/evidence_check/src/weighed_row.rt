@@ -10,14 +10,14 @@ use retro_base::{Entry, Op};
 
 /// A row of a priority queue, with a mark.
 #[derive(Clone, Copy, Debug)]
-pub(crate) struct MarkedRow {
+pub(crate) struct WeighedRow {
     pub(crate) number: u32,
     pub(crate) op: Op,
     /// Whether the row adds an entry that survives.
     pub(crate) alive: bool,
 }
 
-impl MarkedRow {
+impl WeighedRow {
     /// The entry that the row adds, if it adds one.
     pub(crate) fn entry(self) -> Option<Entry>
         ensures { result ≡ entry_of self }

@@ -2,8 +2,8 @@
 
 ghost use Rattle.std.specs.Prelude.{◌≡◌, ◌≤◌, length, if◌then◌else◌};
 ghost use Rattle.retro_base.specs.Visits.{OpensCounter};
-ghost use Rattle.retro_dictionary.specs.declared.lately.Lately.TheVariants.{Before, After, Neither};
-ghost use Rattle.retro_dictionary.specs.RowLabels.{came_lately, lately_beside};
+ghost use Rattle.retro_dictionary.specs.declared.recent.RecentNeighbour.TheVariants.{Before, After, Neither};
+ghost use Rattle.retro_dictionary.specs.RowLabels.{is_recent, recent_beside};
 
 use monoid_laws::Counted;
 use retro_base::{Row, Steps};
@@ -12,7 +12,7 @@ use weighted_tree::Tree;
 
 /// Which of the rows beside a place came in lately.
 #[derive(Clone, Copy)]
-pub(crate) enum Lately {
+pub(crate) enum RecentNeighbour {
     /// The one before it.
     Before,
     /// The one after it.
@@ -25,18 +25,18 @@ const LATEST: u32 = 8;
 
 /// Which of the rows beside a place came in lately, before a row with this number is put in there. After all rows the rule does not
 /// ask. Where no row stands before the place, this number stands for that row's: no number is lately before itself.
-pub(crate) fn lately_beside<L: Ledger>(
+pub(crate) fn recent_beside<L: Ledger>(
     rows: &Tree<Counted<Row>>,
     place: u32,
     number: u32,
     blank: Blank,
-) -> Lately
+) -> RecentNeighbour
     requires counter { OpensCounter blank.name L.name blank.parts L.parts }
     requires within { place ≤ length rows.now }
-    ensures { result ≡ lately_beside rows.now place number }
+    ensures { result ≡ recent_beside rows.now place number }
 {
     if place == rows.len() {
-        return Lately::Neither;
+        return RecentNeighbour::Neither;
     }
     let mut steps = Steps::<L>::new(blank);
     let count = place.min(1);
@@ -47,25 +47,25 @@ pub(crate) fn lately_beside<L: Ledger>(
         &mut numbers[1 - count as usize..],
         &mut steps,
     );
-    lately_in(numbers[0], numbers[1], number)
+    recent_in(numbers[0], numbers[1], number)
 }
 
 /// Which of the rows with these numbers, before a place and after it, came in lately before the one with the next number.
-fn lately_in(before: u32, after: u32, next: u32) -> Lately
-    ensures { result ≡ if came_lately before next then Before else if came_lately after next then After else Neither }
+fn recent_in(before: u32, after: u32, next: u32) -> RecentNeighbour
+    ensures { result ≡ if is_recent before next then Before else if is_recent after next then After else Neither }
 {
-    if came_lately(before, next) {
-        Lately::Before
-    } else if came_lately(after, next) {
-        Lately::After
+    if is_recent(before, next) {
+        RecentNeighbour::Before
+    } else if is_recent(after, next) {
+        RecentNeighbour::After
     } else {
-        Lately::Neither
+        RecentNeighbour::Neither
     }
 }
 
 /// Whether the row with a number came in lately before the one with the next one.
-fn came_lately(number: u32, next: u32) -> bool
-    ensures { result ≡ came_lately number next }
+fn is_recent(number: u32, next: u32) -> bool
+    ensures { result ≡ is_recent number next }
 {
     number < next && next - number <= LATEST
 }

@@ -10,40 +10,45 @@ use retro_base::Row;
 
 /// An edit, as the rings keep it: a row was put in at a place, or the row of a place was taken out.
 #[derive(Clone, Copy, Debug, PartialEq, Eq)]
-pub(crate) enum Noted {
+pub(crate) enum HistoryEdit {
     Added { place: u32, row: Row },
     Taken { place: u32, row: Row },
 }
 
 /// A step, as the rings keep it: an edit, or the two of a shift in the order in which they were made.
 #[derive(Clone, Copy, Debug, PartialEq, Eq)]
-pub(crate) enum NotedStep {
-    Single { edit: Noted },
-    Double { first: Noted, second: Noted },
+pub(crate) enum HistoryStep {
+    Single {
+        edit: HistoryEdit,
+    },
+    Double {
+        first: HistoryEdit,
+        second: HistoryEdit,
+    },
 }
 
-impl Noted {
+impl HistoryEdit {
     /// The edit that takes this one back.
-    pub(crate) fn inverse(self) -> Noted
+    pub(crate) fn inverse(self) -> HistoryEdit
         ensures { edit_of result ≡ inverse (edit_of self) }
     {
         match self {
-            Noted::Added { place, row } => Noted::Taken { place, row },
-            Noted::Taken { place, row } => Noted::Added { place, row },
+            HistoryEdit::Added { place, row } => HistoryEdit::Taken { place, row },
+            HistoryEdit::Taken { place, row } => HistoryEdit::Added { place, row },
         }
     }
 }
 
-impl NotedStep {
+impl HistoryStep {
     /// The step that takes this one back.
-    pub(crate) fn inverse(self) -> NotedStep
+    pub(crate) fn inverse(self) -> HistoryStep
         ensures { step_of result ≡ inverse_step (step_of self) }
     {
         match self {
-            NotedStep::Single { edit } => NotedStep::Single {
+            HistoryStep::Single { edit } => HistoryStep::Single {
                 edit: edit.inverse(),
             },
-            NotedStep::Double { first, second } => NotedStep::Double {
+            HistoryStep::Double { first, second } => HistoryStep::Double {
                 first: second.inverse(),
                 second: first.inverse(),
             },
@@ -52,7 +57,7 @@ impl NotedStep {
 }
 
 /// The newest step of a ring.
-pub(crate) fn newest(ring: &HeapCircularBuffer<NotedStep>) -> Option<NotedStep>
+pub(crate) fn newest(ring: &HeapCircularBuffer<HistoryStep>) -> Option<HistoryStep>
     ensures { result ≡ slice_get ring.now.items (length ring.now.items - 1) }
 {
     ring.back().copied()
@@ -60,9 +65,9 @@ pub(crate) fn newest(ring: &HeapCircularBuffer<NotedStep>) -> Option<NotedStep>
 
 /// Notes an accepted step: it can be undone, and nothing can be redone.
 pub(crate) fn note(
-    undo: &mut HeapCircularBuffer<NotedStep>,
-    redo: &mut HeapCircularBuffer<NotedStep>,
-    step: NotedStep,
+    undo: &mut HeapCircularBuffer<HistoryStep>,
+    redo: &mut HeapCircularBuffer<HistoryStep>,
+    step: HistoryStep,
 )
     ensures undo { undo.new ≡ buffer (keep_last undo.old.capacity (undo.old.items ++ step ∷ [])) undo.old.capacity }
     ensures redo { redo.new ≡ buffer [] redo.old.capacity }
@@ -73,9 +78,9 @@ pub(crate) fn note(
 
 /// Takes the newest step out of one ring, and puts it into the other, which has room for it.
 pub(crate) fn pass_on(
-    from: &mut HeapCircularBuffer<NotedStep>,
-    to: &mut HeapCircularBuffer<NotedStep>,
-    step: NotedStep,
+    from: &mut HeapCircularBuffer<HistoryStep>,
+    to: &mut HeapCircularBuffer<HistoryStep>,
+    step: HistoryStep,
 )
     requires { length to.old.items < to.old.capacity }
     ensures from { from.new ≡ buffer (take (length from.old.items - 1) from.old.items) from.old.capacity }
@@ -87,8 +92,8 @@ pub(crate) fn pass_on(
 
 /// Forgets all steps.
 pub(crate) fn forget(
-    undo: &mut HeapCircularBuffer<NotedStep>,
-    redo: &mut HeapCircularBuffer<NotedStep>,
+    undo: &mut HeapCircularBuffer<HistoryStep>,
+    redo: &mut HeapCircularBuffer<HistoryStep>,
 )
     ensures undo { undo.new ≡ buffer [] undo.old.capacity }
     ensures redo { redo.new ≡ buffer [] redo.old.capacity }

@@ -17,47 +17,47 @@ pub(crate) struct Presence {
 /// What is counted along rows to find the first one that cannot be performed, where a row of one operation was replaced by a row of
 /// another.
 #[derive(Clone, Copy)]
-pub(crate) enum Tally {
+pub(crate) enum WalkCount {
     /// How many items or entries there are.
     Items { size: u32 },
     /// Whether the keys of both operations are there.
     Keys { first: Presence, second: Presence },
 }
 
-impl Tally {
+impl WalkCount {
     /// The tally before the first row.
-    pub(crate) fn before(old: Op, new: Op) -> Tally
+    pub(crate) fn before(old: Op, new: Op) -> WalkCount
         ensures { result ≡ tally_before old new }
     {
         match (key_of(old), key_of(new)) {
-            (Some(first), Some(second)) => Tally::Keys {
+            (Some(first), Some(second)) => WalkCount::Keys {
                 first: absent(first),
                 second: absent(second),
             },
-            _ => Tally::Items { size: 0 },
+            _ => WalkCount::Items { size: 0 },
         }
     }
 
     /// The tally after an operation, where it finds what it takes.
-    fn after(self, op: Op) -> Option<Tally>
+    fn after(self, op: Op) -> Option<WalkCount>
         requires { IsUpTo self (2 ^ 32 - 2) }
         ensures { result ≡ tally_after self op }
     {
         match self {
-            Tally::Items { size } => {
+            WalkCount::Items { size } => {
                 let size = size_after(op, size)?;
-                Some(Tally::Items { size })
+                Some(WalkCount::Items { size })
             }
-            Tally::Keys { first, second } => {
+            WalkCount::Keys { first, second } => {
                 let first = first.after(op)?;
                 let second = second.after(op)?;
-                Some(Tally::Keys { first, second })
+                Some(WalkCount::Keys { first, second })
             }
         }
     }
 
     /// The tally after rows, or the first of them that finds nothing to take.
-    pub(crate) fn along(self, rows: &[Row]) -> Result<Tally, Row>
+    pub(crate) fn along(self, rows: &[Row]) -> Result<WalkCount, Row>
         requires few { length rows.now ≤ most_rows }
         requires room { IsUpTo self (2 * most_rows) }
         ensures { result ≡ tallied rows.now self }

@@ -1,7 +1,7 @@
 use Rattle.std.proofs.Common.{sym, ◌∙◌, ◌+◌, ◌-◌, ◌*◌, ◌^◌, suc, arith}
 use Rattle.retro_base.specs.Limits.{most_rows}
 use Rattle.timeline_undo.proofs.Tallied.{along_end, along_next, along_stops, one_row_up_to, up_to_more}
-use Rattle.timeline_undo.proofs.tally.Tally.along.Goals as goal
+use Rattle.timeline_undo.proofs.walk_count.WalkCount.along.Goals as goal
 
 pub after-requires : goal.after-requires
 after-requires c = up_to_more c.loop-row.tally (2 * most_rows + c.loop-row.row-index) (2 ^ 32 - 2) (omega arith) c.loop-row.invariant.up_to

@@ -1,9 +1,0 @@
-use Rattle.std.proofs.Common.{◌∙◌, arith, rules}
-use Rattle.retro_dictionary.proofs.LatelyRead.{lately_read}
-use Rattle.retro_dictionary.proofs.lately.lately_beside.Goals as goal
-
-pub returns : goal.returns
-returns g c =
-    c.lately_in.ensures
-    ∙ lately_read c.args.number c.args.rows.now c.args.place c.min-count.result c.read.result c.read.new.items (omega (arith, c.requires.within, c.len.ensures, c.if-place-len.false)) c.min-count.ensures
-    c.read.ensures.count (c.read.ensures.items (λ row. row.number) (λ row answer call. search rules))
