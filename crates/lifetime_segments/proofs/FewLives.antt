@@ -1,6 +1,6 @@
 -- Few lifetimes, kept as they lie in a span.
 use Rattle.std.proofs.Common.{◌≡◌, ℕ, zero, suc, ◌≤◌, ◌<◌, Bool, true, false, cond, List, [], ◌∷◌, length, refl, sym, subst, ap, ◌∙◌, arith, ◌++◌, take, drop, slice_get, Some}
-use Rattle.std.specs.Prelude.{◌^◌, map}
+use Rattle.std.specs.Prelude.{◌^◌, ◌==◌, ◌&&◌, ◌||◌, nat_le, nat_lt, map}
 use Rattle.std.specs.List.{filter, AllByRecursion}
 use Rattle.std.proofs.lemmas.Bool.Decides.{nat_tests}
 use Rattle.std.proofs.lemmas.List.{append-nil, length-map}
@@ -133,3 +133,27 @@ items_at-gone label lives place life there gone =
     items_at-next label lives place life there
     ∙ ap (λ b. items_at label (take place lives) ++ cond b (life.item ∷ []) []) gone
     ∙ append-nil (items_at label (take place lives))
+
+-- from one that begins after a label on, none holds it
+begun_later : {A : Type 0} (before : A → A → Bool) (label : ℕ) (life : Lifetime A) (lives : List (Lifetime A)) → label < life.from → AllByRecursion (λ later. stands_earlier before later life ≡ false) lives → items_at label lives ≡ []
+begun_later before label life [] after ordered = refl
+begun_later before label life (first ∷ lives) after ordered =
+    let gone : holds label first ≡ false = later_gone label first.from life.from first.to _ after ordered.0 in
+    ap (λ b. map (λ l. l.item) (cond b (first ∷ filter (holds label) lives) (filter (holds label) lives))) gone ∙ begun_later before label life lives after ordered.1 where
+      later_gone : (label from other to : ℕ) (rest : Bool) → label < other → (nat_lt from other || ((from == other) && rest)) ≡ false → (nat_le from label && nat_lt label to) ≡ false
+      later_gone label from other to rest after later = grind (arith, nat_tests)
+
+pub items_at-begun : {A : Type 0} (before : A → A → Bool) (label : ℕ) (lives : List (Lifetime A)) (place : ℕ) (life : Lifetime A) → AreInOrder (stands_earlier before) lives → slice_get lives place ≡ Some life → label < life.from
+    → items_at label (take place lives) ≡ items_at label lives
+items_at-begun before label [] place life ordered there after = absurd (cc)
+items_at-begun before label (first ∷ lives) zero life ordered there after =
+    let same : first ≡ life = cc in
+    let gone : holds label first ≡ false = subst (λ l. holds label l ≡ false) (sym same) (grind (arith, nat_tests)) in
+    sym (ap (λ b. map (λ l. l.item) (cond b (first ∷ filter (holds label) lives) (filter (holds label) lives))) gone
+    ∙ begun_later before label first lives (subst (λ l. label < l.from) (sym same) after) ordered.0)
+items_at-begun before label (first ∷ lives) (suc place) life ordered there after =
+    elim (holds label first) as (λ b. map (λ l. l.item) (cond b (first ∷ filter (holds label) (take place lives)) (filter (holds label) (take place lives)))
+    ≡ map (λ l. l.item) (cond b (first ∷ filter (holds label) lives) (filter (holds label) lives))) [
+      | true ↦ ap (λ items. first.item ∷ items) (items_at-begun before label lives place life ordered.1 there after)
+      | false ↦ items_at-begun before label lives place life ordered.1 there after
+    ]

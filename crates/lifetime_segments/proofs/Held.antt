@@ -1,16 +1,16 @@
 -- The lifetimes that are held, and the trie of their items, through an edit.
-use Rattle.std.proofs.Common.{◌≡◌, ℕ, ◌<◌, Some, Bool, true, List, [], length, slice_set, sym, subst, ap, ◌∙◌, arith}
+use Rattle.std.proofs.Common.{◌≡◌, ℕ, suc, ◌<◌, ◌≤◌, Bool, true, List, [], length, slice_set, sym, subst, ap, ◌∙◌, arith}
 use Rattle.lifetime_segments.specs.declared.lifetime.Lifetime.{Lifetime}
 use Rattle.lifetime_segments.specs.declared.trie.Trie.{Trie, Few}
 use Rattle.lifetime_segments.specs.Lawful.{most_items}
-use Rattle.lifetime_segments.specs.Ordered.{IsOrder, AreInOrder, put_in, is_in, without, position_in}
+use Rattle.lifetime_segments.specs.Ordered.{IsOrder, AreInOrder, put_in, is_in, without, place_in}
 use Rattle.lifetime_segments.specs.OrderedLaws.{length-put_in, length-without, all-put_in, all-without, put_in-ordered, without-ordered, is_in-all, put_in-without, put_in-swap, is_in-put_in, without-put_in}
 use Rattle.lifetime_segments.specs.Lifetimes.{IsInRange, stands_earlier}
 use Rattle.lifetime_segments.specs.LifetimeLaws.{earlier_order}
 use Rattle.lifetime_segments.specs.Tries.{IsOf, HasOne, Keeps, Adds, Takes, Moves, ending, AreHeld}
 use Rattle.lifetime_segments.proofs.Moved.{of_put_in, of_without}
 use Rattle.lifetime_segments.proofs.Nodes.{of_none}
-use Rattle.lifetime_segments.proofs.Places.{position-some, replaced}
+use Rattle.lifetime_segments.proofs.Places.{replaced}
 
 pub held_none : {A M : Type 0} (before : A → A → Bool) (held : List (Lifetime A)) (root : Trie A M) → held ≡ [] → root ≡ Few [] → AreHeld before held root
 held_none before held root none no_root = subst (λ lives. AreHeld before lives root) (sym none) (record {
@@ -39,13 +39,13 @@ module _ {A : Type 0} {before : A → A → Bool} (order : IsOrder before) (x y 
   without-beside : without before x (put_in before y xs) ≡ put_in before y (without before x xs)
   without-beside = ap (without before x) put_in-beside ∙ without-put_in order x (put_in before y (without before x xs))
 
--- an element that is replaced where it stands
-pub replaced_at : {A : Type 0} {before : A → A → Bool} (order : IsOrder before) (x y : A) (xs : List A) (place : ℕ) → AreInOrder before xs → position_in before x xs ≡ Some place
-    → AreInOrder before (slice_set xs place y) → slice_set xs place y ≡ without before x (put_in before y xs)
-replaced_at {before = before} order x y xs place ordered there still =
-    let found = position-some before x xs place there in
-    subst (λ n. AreInOrder before (slice_set xs n y) → slice_set xs n y ≡ without before x (put_in before y xs)) found.1
-    (λ still. replaced order x y xs ordered found.0 still ∙ sym (without-beside order x y xs ordered found.0)) still
+-- an element that is replaced where it stands, by one that would be put in beside it
+pub replaced_at : {A : Type 0} {before : A → A → Bool} (order : IsOrder before) (x y : A) (xs : List A) (place next : ℕ) → AreInOrder before xs → is_in before x xs ≡ true
+    → place ≡ place_in before x xs → next ≡ place_in before y xs → place ≤ next → next ≤ suc place → slice_set xs place y ≡ without before x (put_in before y xs)
+replaced_at {before = before} order x y xs place next ordered there here beside low high =
+    ap (λ n. slice_set xs n y) here
+    ∙ replaced order x y xs ordered there (omega (arith, here, beside)) (omega (arith, here, beside))
+    ∙ sym (without-beside order x y xs ordered there)
 
 module _ {A : Type 0} {before : A → A → Bool} (order : IsOrder before) {M : Type 0} where
   pub held_with : (life : Lifetime A) (held : List (Lifetime A)) (root after : Trie A M) → IsInRange life → length held < most_items → AreHeld before held root → Adds before 40 life root after

@@ -1,12 +1,12 @@
 -- The place of an element among those in their order.
 use Rattle.std.proofs.Common.{◌≡◌, ℕ, zero, suc, ◌≤◌, ◌<◌, Some, None, slice_get, slice_set, Bool, true, false, cond, not, List, [], ◌∷◌, length, refl, sym, subst, ap, ◌∙◌, arith}
-use Rattle.std.proofs.lemmas.Option.{slice_get_within}
 use Rattle.std.specs.List.{AllByRecursion, insert, remove}
-use Rattle.std.specs.List.Sorted.{IsPartitionPoint}
+use Rattle.std.specs.List.Sorted.{IsPartitionPoint, IsPartitionedBy}
+use Rattle.std.specs.Prelude.{slice_index_or}
 use Rattle.retro_base.specs.OrderLaws.{all_weaker}
 use Rattle.weighted_tree.specs.Partitioned.{IsPartitioned}
-use Rattle.lifetime_segments.specs.Ordered.{IsOrder, AreInOrder, put_in, in_order, is_in, without, place_in, position_in}
-use Rattle.lifetime_segments.specs.OrderedLaws.{not_both, not_before-chains, same_at, put_in-swap, in_order-kept, without-ordered}
+use Rattle.lifetime_segments.specs.Ordered.{IsOrder, AreInOrder, put_in, is_in, without, place_in, position_in}
+use Rattle.lifetime_segments.specs.OrderedLaws.{between, not_before-chains, put_in-front}
 
 -- the place of an element is where it is put in, and where it is taken out
 pub insert-place : {A : Type 0} (before : A → A → Bool) (x : A) (xs : List A) → insert xs (place_in before x xs) x ≡ put_in before x xs
@@ -94,6 +94,12 @@ place-point before x (y ∷ ys) (suc count) within point =
     let past : before y x ≡ true = point.0 0 y (omega arith) (omega arith) in
     rw past (ap suc (place-point before x ys count (omega arith) (λ k d from to. point.0 (suc k) d (omega arith) (omega arith), λ k d from to. point.1 (suc k) d (omega arith) (omega arith))))
 
+-- what holds of all elements holds of the one at a place
+all_at : {A : Type 0} (P : A → Type 0) (xs : List A) (place : ℕ) (d : A) → AllByRecursion P xs → place < length xs → P (slice_index_or xs place d)
+all_at P [] place d all within = absurd (omega arith)
+all_at P (x ∷ xs) zero d all within = all.0
+all_at P (x ∷ xs) (suc place) d all within = all_at P xs place d all.1 (omega arith)
+
 -- in an order they stop at one place
 module _ {A : Type 0} {before : A → A → Bool} (order : IsOrder before) where
   pub place-parted : (x : A) (xs : List A) → AreInOrder before xs → IsPartitioned (λ y. before y x) xs
@@ -101,77 +107,52 @@ module _ {A : Type 0} {before : A → A → Bool} (order : IsOrder before) where
   place-parted x (y ∷ ys) ordered =
       (λ here. all_weaker (λ z. before z y ≡ false) (λ z. before z x ≡ false) ys (λ z later. not_before-chains order x y z here later) ordered.0, place-parted x ys ordered.1)
 
--- what holds of all elements after one was replaced holds of the one that replaced it
-all_set-here : {A : Type 0} (P : A → Type 0) (xs : List A) (place : ℕ) (x : A) → place < length xs → AllByRecursion P (slice_set xs place x) → P x
-all_set-here P [] place x within all = absurd (omega arith)
-all_set-here P (y ∷ ys) zero x within all = all.0
-all_set-here P (y ∷ ys) (suc place) x within all = all_set-here P ys place x (omega arith) all.1
+  -- the same as std says it of a slice
+  pub place-parted_by : (x : A) (xs : List A) → AreInOrder before xs → IsPartitionedBy (λ y. before y x) xs
+  place-parted_by x [] ordered i j d up within here = absurd (omega arith)
+  place-parted_by x (y ∷ ys) ordered zero zero d up within here = here
+  place-parted_by x (y ∷ ys) ordered zero (suc j) d up within here =
+      between order x y (slice_index_or ys j d) here (all_at (λ z. before z y ≡ false) ys j d ordered.0 (omega arith))
+  place-parted_by x (y ∷ ys) ordered (suc i) zero d up within here = absurd (omega arith)
+  place-parted_by x (y ∷ ys) ordered (suc i) (suc j) d up within here = place-parted_by x ys ordered.1 i j d (omega arith) (omega arith) here
 
-all_set : {A : Type 0} (P : A → Type 0) (xs : List A) (place : ℕ) (x : A) → P x → AllByRecursion P xs → AllByRecursion P (slice_set xs place x)
-all_set P [] place x here all = tt
-all_set P (y ∷ ys) zero x here all = (here, all.1)
-all_set P (y ∷ ys) (suc place) x here all = (all.0, all_set P ys place x here all.1)
+-- where an element would be put in at the front
+put-front : {A : Type 0} (before : A → A → Bool) (x : A) (xs : List A) → place_in before x xs ≡ 0 → put_in before x xs ≡ x ∷ xs
+put-front before x [] front = refl
+put-front before x (y ∷ ys) front = elim (before y x) as (λ b. cond b (suc (place_in before x ys)) 0 ≡ 0 → cond b (y ∷ put_in before x ys) (x ∷ y ∷ ys) ≡ x ∷ y ∷ ys) [
+  | true ↦ λ front. absurd (omega arith)
+  | false ↦ λ _. refl
+] front
 
 module _ {A : Type 0} {before : A → A → Bool} (order : IsOrder before) where
-  -- an element that stands in order between its neighbours does so among all
-  set-ordered : (xs : List A) (place : ℕ) (x : A) → AreInOrder before xs → place < length xs
-      → ((k : ℕ) (y : A) → suc k ≡ place → slice_get xs k ≡ Some y → before x y ≡ false)
-      → ((y : A) → slice_get xs (suc place) ≡ Some y → before y x ≡ false) → AreInOrder before (slice_set xs place x)
-  set-ordered [] place x ordered within front behind = absurd (omega arith)
-  set-ordered (y ∷ []) zero x ordered within front behind = (tt, tt)
-  set-ordered (y ∷ z ∷ zs) zero x ordered within front behind =
-      let next : before z x ≡ false = behind z refl in
-      ((next, all_weaker (λ later. before later z ≡ false) (λ later. before later x ≡ false) zs (λ later far. not_before-chains order x z later next far) ordered.1.0), ordered.1)
-  set-ordered (y ∷ []) (suc place) x ordered within front behind = absurd (omega arith)
-  set-ordered (y ∷ z ∷ zs) (suc zero) x ordered within front behind =
-      (all_set (λ later. before later y ≡ false) (z ∷ zs) 0 x (front 0 y refl refl) ordered.0, set-ordered (z ∷ zs) 0 x ordered.1 (omega arith) (λ k w is there. absurd (omega arith)) behind)
-  set-ordered (y ∷ z ∷ zs) (suc (suc place)) x ordered within front behind =
-      let rest : AreInOrder before (slice_set (z ∷ zs) (suc place) x) = set-ordered (z ∷ zs) (suc place) x ordered.1 (omega arith) (λ k w is there. front (suc k) w (ap suc is) there) behind in
-      let here : before x z ≡ false = all_set-here (λ later. before later z ≡ false) zs place x (omega arith) rest.0 in
-      (all_set (λ later. before later y ≡ false) (z ∷ zs) (suc place) x (not_before-chains order y z x ordered.0.0 here) ordered.0, rest)
-
-  get-place : (x : A) (xs : List A) → is_in before x xs ≡ true → slice_get xs (place_in before x xs) ≡ Some x
-  get-place x [] there = absurd (cc)
-  get-place x (y ∷ ys) there = elim (before y x) as (λ b. before y x ≡ b → cond b (is_in before x ys) (not (before x y)) ≡ true → slice_get (y ∷ ys) (cond b (suc (place_in before x ys)) 0) ≡ Some x) [
-    | true ↦ λ past there. get-place x ys there
-    | false ↦ λ here there. ap Some (sym (same_at order x y here there))
-  ] refl there
-
-  pub position-get : (x : A) (xs : List A) (place : ℕ) → position_in before x xs ≡ Some place → slice_get xs place ≡ Some x
-  position-get x xs place found =
-      let some = position-some before x xs place found in
-      subst (λ n. slice_get xs n ≡ Some x) some.1 (get-place x xs some.0)
-
-  neighbours-ordered : (xs : List A) (k : ℕ) (y z : A) → AreInOrder before xs → slice_get xs k ≡ Some y → slice_get xs (suc k) ≡ Some z → before z y ≡ false
-  neighbours-ordered [] k y z ordered here next = absurd (cc)
-  neighbours-ordered (w ∷ []) zero y z ordered here next = absurd (cc)
-  neighbours-ordered (w ∷ v ∷ vs) zero y z ordered here next = let first : w ≡ y = cc in let second : v ≡ z = cc in rw (← first, ← second) ordered.0.0
-  neighbours-ordered (w ∷ ws) (suc k) y z ordered here next = neighbours-ordered ws k y z ordered.1 here next
-
-  -- one that goes to the front is looked at from the one in front, one that goes to the back from the one behind
-  pub set-earlier : (xs : List A) (place : ℕ) (old new : A) → AreInOrder before xs → slice_get xs place ≡ Some old → before new old ≡ true
-      → ((k : ℕ) (y : A) → suc k ≡ place → slice_get xs k ≡ Some y → before new y ≡ false) → AreInOrder before (slice_set xs place new)
-  set-earlier xs place old new ordered there earlier front =
-      set-ordered xs place new ordered (slice_get_within xs place old there) front
-      (λ y behind. not_before-chains order new old y (not_both order new old earlier) (neighbours-ordered xs place old y ordered there behind))
-
-  pub set-later : (xs : List A) (place : ℕ) (old new : A) → AreInOrder before xs → slice_get xs place ≡ Some old → before new old ≡ false
-      → ((y : A) → slice_get xs (suc place) ≡ Some y → before y new ≡ false) → AreInOrder before (slice_set xs place new)
-  set-later xs place old new ordered there later behind =
-      set-ordered xs place new ordered (slice_get_within xs place old there)
-      (λ k y is front. not_before-chains order y old new (neighbours-ordered xs k y old ordered front (subst (λ n. slice_get xs n ≡ Some old) (sym is) there)) later)
-      behind
-
-  -- an element that is replaced is taken out, and the other one put in
-  in_order-set : (xs : List A) (place : ℕ) (x : A) → place < length xs → in_order before (slice_set xs place x) ≡ put_in before x (in_order before (remove xs place))
-  in_order-set [] place x within = absurd (omega arith)
-  in_order-set (y ∷ ys) zero x within = refl
-  in_order-set (y ∷ ys) (suc place) x within = ap (put_in before y) (in_order-set ys place x (omega arith)) ∙ put_in-swap order y x (in_order before (remove ys place))
-
-  pub replaced : (x y : A) (xs : List A) → AreInOrder before xs → is_in before x xs ≡ true → AreInOrder before (slice_set xs (place_in before x xs) y)
+  -- an element that would be put in right before another, or right after it, stands in order in its place
+  pub replaced : (x y : A) (xs : List A) → AreInOrder before xs → is_in before x xs ≡ true → place_in before x xs ≤ place_in before y xs → place_in before y xs ≤ suc (place_in before x xs)
       → slice_set xs (place_in before x xs) y ≡ put_in before y (without before x xs)
-  replaced x y xs ordered there still =
-      sym (in_order-kept order (slice_set xs (place_in before x xs) y) still)
-      ∙ in_order-set xs (place_in before x xs) y (place-there before x xs there)
-      ∙ ap (λ zs. put_in before y (in_order before zs)) (remove-place before x xs there)
-      ∙ ap (put_in before y) (in_order-kept order (without before x xs) (without-ordered order x xs ordered))
+  replaced x y [] ordered there low high = absurd (cc)
+  replaced x y (z ∷ zs) ordered there low high = elim (before z x) as
+      (λ b. cond b (is_in before x zs) (not (before x z)) ≡ true → cond b (suc (place_in before x zs)) 0 ≤ place_in before y (z ∷ zs) → place_in before y (z ∷ zs) ≤ suc (cond b (suc (place_in before x zs)) 0)
+      → slice_set (z ∷ zs) (cond b (suc (place_in before x zs)) 0) y ≡ put_in before y (cond b (z ∷ without before x zs) (cond (before x z) (z ∷ zs) zs))) [
+        | true ↦ λ there low high. behind (replaced x y zs ordered.1 there) low high
+        | false ↦ λ there _ high. sym (ap (put_in before y) (here there) ∙ at_front high)
+      ] there low high where
+        behind : (place_in before x zs ≤ place_in before y zs → place_in before y zs ≤ suc (place_in before x zs) → slice_set zs (place_in before x zs) y ≡ put_in before y (without before x zs))
+            → suc (place_in before x zs) ≤ place_in before y (z ∷ zs) → place_in before y (z ∷ zs) ≤ suc (suc (place_in before x zs))
+            → z ∷ slice_set zs (place_in before x zs) y ≡ put_in before y (z ∷ without before x zs)
+        behind rest low high = elim (before z y) as
+            (λ b. suc (place_in before x zs) ≤ cond b (suc (place_in before y zs)) 0 → cond b (suc (place_in before y zs)) 0 ≤ suc (suc (place_in before x zs))
+            → z ∷ slice_set zs (place_in before x zs) y ≡ cond b (z ∷ put_in before y (without before x zs)) (y ∷ z ∷ without before x zs)) [
+              | true ↦ λ low high. ap (λ ws. z ∷ ws) (rest (omega arith) (omega arith))
+              | false ↦ λ low _. absurd (omega arith)
+            ] low high
+
+        here : not (before x z) ≡ true → cond (before x z) (z ∷ zs) zs ≡ zs
+        here there = elim (before x z) as (λ b. not b ≡ true → cond b (z ∷ zs) zs ≡ zs) [
+          | true ↦ λ there. absurd (cc)
+          | false ↦ λ _. refl
+        ] there
+
+        at_front : place_in before y (z ∷ zs) ≤ 1 → put_in before y zs ≡ y ∷ zs
+        at_front high = elim (before z y) as (λ b. before z y ≡ b → cond b (suc (place_in before y zs)) 0 ≤ 1 → put_in before y zs ≡ y ∷ zs) [
+          | true ↦ λ _ high. put-front before y zs (omega arith)
+          | false ↦ λ far _. put_in-front order y zs (all_weaker (λ w. before w z ≡ false) (λ w. before w y ≡ false) zs (λ w later. not_before-chains order y z w far later) ordered.0)
+        ] refl high

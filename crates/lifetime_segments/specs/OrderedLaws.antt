@@ -175,7 +175,7 @@ module _ {A : Type 0} {before : A → A → Bool} (order : IsOrder before) where
   in_order-ordered (x ∷ xs) = put_in-ordered x (in_order before xs) (in_order-ordered xs)
 
   -- at the front of a list whose elements do not stand before it
-  put_in-front : (x : A) (xs : List A) → AllByRecursion (λ later. before later x ≡ false) xs → put_in before x xs ≡ x ∷ xs
+  pub put_in-front : (x : A) (xs : List A) → AllByRecursion (λ later. before later x ≡ false) xs → put_in before x xs ≡ x ∷ xs
   put_in-front x [] all = refl
   put_in-front x (y ∷ ys) all = put_in-here x y ys all.0
 

@@ -1,10 +1,13 @@
+//! The items on the way to a label.
 ghost use Rattle.std.specs.Prelude.{◌≡◌, ◌<◌, ◌≤◌, ◌^◌, ◌++◌, suc, [], OnOk, IfOk};
 ghost use Rattle.retro_base.specs.Visits.{OpensCounter};
-ghost use Rattle.lifetime_segments.specs.Lifetimes.{items_at};
+ghost use Rattle.lifetime_segments.specs.Lifetimes.{items_at, stands_earlier};
+ghost use Rattle.lifetime_segments.specs.Ordered.{AreInOrder};
 ghost use Rattle.lifetime_segments.specs.Tries.{CollectsAt, NodeCollectsAt};
 
 use crate::decomposable::Decomposable;
-use crate::lifetime::{Lifetime, labels};
+use crate::life_list::LifeList;
+use crate::lifetime::labels;
 use crate::trie::{Node, Trie};
 use monoid_laws::Measured;
 use retro_base::{NoMemory, Steps};
@@ -45,7 +48,7 @@ fn collect<D: Decomposable, L: Ledger>(
     ensures { OnOk result (CollectsAt D.stands_before level label trie.now items.old.items items.new.items) }
 {
     let node = match trie {
-        Trie::Few(few) => return append_few(few, label, items, steps),
+        Trie::Few(few) => return append_few::<D>(few, label, items),
         Trie::Full(node) => node,
     };
     append(&node.items, items, steps)?;
@@ -93,17 +96,19 @@ fn append<T: Measured, L: Ledger>(
     Ok(())
 }
 
-/// Appends the items of those of a few lifetimes that hold a label.
-fn append_few<T: Measured, L: Ledger>(
-    few: &Tree<Lifetime<T>>,
+/// Appends the items of those of a few lifetimes that hold a label: none does from the first one on that begins after it.
+fn append_few<D: Decomposable>(
+    few: &LifeList<D::Item>,
     label: u64,
-    items: &mut Vec<T>,
-    steps: &mut Steps<L>,
+    items: &mut Vec<D::Item>,
 ) -> Result<(), NoMemory>
-    ensures { OnOk result (items.new.items ≡ items.old.items ++ items_at label few.now) }
+    ensures { OnOk result (AreInOrder (stands_earlier D.stands_before) few.now → items.new.items ≡ items.old.items ++ items_at label few.now) }
 {
     for place in 0..few.len() {
-        let life = few.get(place, steps);
+        let life = few.get(place);
+        if label < life.from {
+            return Ok(());
+        }
         if life.holds(label) {
             items.push(life.item)?;
         }

@@ -1,3 +1,4 @@
+//! What a search over items owes: the traits.
 ghost use Rattle.std.specs.Prelude.{◌≡◌, ◌∷◌, [], Bool, List};
 ghost use Rattle.lifetime_segments.specs.Ordered.{IsOrder};
 ghost use Rattle.lifetime_segments.specs.Lawful.{IsLawful, AnswerTogether, SearchLaws};

@@ -8,7 +8,7 @@
 //!
 //! `Segments` is a segment tree (Bentley 1977) over labels of 40 bits. The spans of labels are dyadic: that of the root
 //! has all labels, and each has two halves. While the lifetimes in a span are few, it keeps them as they are, cut off where
-//! the span ends, in one tree by where they begin. Where more come in they are divided: the items of those that hold the
+//! the span ends, in one vector by where they begin. Where more come in they are divided: the items of those that hold the
 //! whole span lie in a tree of the span itself, in their order, and the others go on into the halves that they touch. So
 //! a lifetime is made up of at most two spans of each level. The spans that hold a label are those on the way from the
 //! root to it, 41 at the most, and a lifetime that holds the label lies in exactly one of them; so their answers are
@@ -20,9 +20,9 @@
 //! | Call | Cost, with n lifetimes |
 //! |---|---|
 //! | `new` | constant |
-//! | `add`, `take` | a search of log n in each of at most 80 spans; where an `add` divides a span, one for each of its 63 lifetimes as well |
+//! | `add`, `take` | a search of log n in each of at most 80 spans; where an `add` divides a span, one for each of its 127 lifetimes as well |
 //! | `move_end` | that of an `add` and a `take`, but for the spans that the lifetime has with either end |
-//! | `ask` | one `ask` in each of at most 41 spans, one `ask_one` for each of at most 63 lifetimes where the way ends, and as many of `combine` |
+//! | `ask` | one `ask` in each of at most 41 spans, one `ask_one` for each of at most 127 lifetimes where the way ends, and as many of `combine` |
 //! | `items_at` | a walk through at most 41 spans, and through the items that it gives |
 //!
 //! `add` and `move_end` take memory in the tree of each span that a lifetime comes to, and for the node of each that is
@@ -33,19 +33,23 @@
 //! specs/Lawful.antt, and the laws of lists in their order in specs/OrderedLaws.antt and specs/LifetimeLaws.antt. So a
 //! caller with a list of its own says that what is held is that list `in_order`.
 //!
-//! - `decomposable`: the traits. `segments`: the type and its calls. `lifetime`: what lies in a span, and what in its halves.
-//! - `trie`: the spans. `edit`: putting a lifetime in, moving its end and taking it out. `search`: the way to a label.
-//!   `collect`: the items on this way.
-//! - `sorted`: trees that keep their items in an order.
+//! - `decomposable`: the traits. `segments`: the type and its calls.
+//! - `trie`: the spans. `lifetime`: what of a lifetime lies in a span, and what in its halves.
+//! - `adding`, `taking`, `moving`: putting a lifetime into its spans, taking it out, and moving its end.
+//! - `search`: the way to a label, and the answers on it. `collect`: the items on this way.
+//! - `life_list`: the lifetimes of a span that has few. `sorted`: trees that keep their items in an order.
 #![tactic(auto)]
 
+mod adding;
 mod collect;
 mod decomposable;
-mod edit;
+mod life_list;
 mod lifetime;
+mod moving;
 mod search;
 mod segments;
 mod sorted;
+mod taking;
 mod trie;
 
 pub use decomposable::{AnswersOfOne, Decomposable};

@@ -1,3 +1,4 @@
+//! A lifetime: what of it lies in a span, and what in its halves.
 ghost use Rattle.std.specs.Prelude.{◌≡◌, ◌≤◌, ◌^◌, nat_lt};
 ghost use Rattle.lifetime_segments.specs.Lifetimes.{holds};
 ghost use Rattle.lifetime_segments.specs.Tries.{clipped, ending, is_whole, seen_from};

@@ -1,3 +1,4 @@
+//! The type and its calls: the lifetimes that are held, and the spans that they lie in.
 ghost use Rattle.std.specs.Prelude.{◌≡◌, ◌<◌, ◌≤◌, true, [], length, Some, IfOk, OnOk, OnErr};
 ghost use Rattle.std.specs.List.{AllByRecursion};
 ghost use Rattle.retro_base.specs.Visits.{OpensCounter};
@@ -6,12 +7,14 @@ ghost use Rattle.lifetime_segments.specs.Lifetimes.{label_end, lifetime, IsInRan
 ghost use Rattle.lifetime_segments.specs.Ordered.{AreInOrder, put_in, in_order, is_in, without, position_in};
 ghost use Rattle.lifetime_segments.specs.Tries.{AreHeld, ending};
 
+use crate::adding::add;
 use crate::collect::collected;
 use crate::decomposable::{AnswersOfOne, Decomposable};
-use crate::edit;
 use crate::lifetime::Lifetime;
-use crate::search::asked;
-use crate::sorted::{ByStart, fits_at, position, put, take_out};
+use crate::moving::move_end;
+use crate::search::ask;
+use crate::sorted::{ByStart, is_beside, place_of, position, put, take_out};
+use crate::taking::take;
 use crate::trie::Trie;
 use retro_base::{NoMemory, Steps};
 use std::alloc::Global;
@@ -119,7 +122,7 @@ impl<D: AnswersOfOne> Segments<D> {
         requires within { label < label_end }
         ensures { result ≡ D.answer (in_order D.stands_before (items_at label self.now)) query }
     {
-        asked::<D, Brand>(&self.root, LEVELS, label, query, Blank::new(1))
+        ask::<D>(&self.root, LEVELS, label, query)
     }
 }
 
@@ -139,7 +142,7 @@ fn add_held<D: Decomposable, L: Ledger>(
 {
     let mut steps = Steps::<L>::new(blank);
     put::<ByStart<D>, L>(held, life, &mut steps)?;
-    let added = edit::add::<D, L>(root, LEVELS, life, held.alloc(), &mut steps);
+    let added = add::<D, L>(root, LEVELS, life, held.alloc(), &mut steps);
     if added.is_err() {
         take_out::<ByStart<D>, L>(held, life, &mut steps);
     }
@@ -163,7 +166,7 @@ fn take_held<D: Decomposable, L: Ledger>(
         return false;
     };
     held.remove(place, &mut steps);
-    edit::take::<D, L>(root, LEVELS, life, &mut steps);
+    take::<D, L>(root, LEVELS, life, &mut steps);
     true
 }
 
@@ -201,8 +204,9 @@ fn move_held<D: Decomposable, L: Ledger>(
 {
     let mut steps = Steps::<L>::new(blank);
     let moved = life.ending(next);
-    if fits_at::<ByStart<D>, L>(held, place, &life, &moved, &mut steps) {
-        edit::move_end::<D, L>(root, LEVELS, life, next, held.alloc(), &mut steps)?;
+    let moved_place = place_of::<ByStart<D>, L>(held, &moved, &mut steps);
+    if is_beside(place as usize, moved_place as usize) {
+        move_end::<D, L>(root, LEVELS, life, next, held.alloc(), &mut steps)?;
         held.replace(place, moved, &mut steps);
         return Ok(());
     }
@@ -227,7 +231,7 @@ fn move_away<D: Decomposable, L: Ledger>(
 {
     let moved = life.ending(next);
     put::<ByStart<D>, L>(held, moved, steps)?;
-    let done = edit::move_end::<D, L>(root, LEVELS, life, next, held.alloc(), steps);
+    let done = move_end::<D, L>(root, LEVELS, life, next, held.alloc(), steps);
     let gone = if done.is_err() { moved } else { life };
     take_out::<ByStart<D>, L>(held, gone, steps);
     done

@@ -1,4 +1,5 @@
-ghost use Rattle.std.specs.Prelude.{◌≡◌, ◌<◌, ◌^◌, Bool, true, length, slice_get, slice_set, Some, OnOk, OnErr};
+//! Trees that keep their items in an order.
+ghost use Rattle.std.specs.Prelude.{◌≡◌, ◌<◌, ◌≤◌, ◌^◌, Bool, true, suc, length, OnOk, OnErr};
 ghost use Rattle.lifetime_segments.specs.Ordered.{IsOrder, AreInOrder, put_in, is_in, without, place_in, position_in};
 ghost use Rattle.lifetime_segments.specs.Lifetimes.{stands_earlier};
 ghost use Rattle.lifetime_segments.specs.LifetimeLaws.{earlier_order};
@@ -104,23 +105,13 @@ pub(crate) fn position<O: Order, L: Ledger>(
     }
 }
 
-/// Whether another item stands in order in the place of one: the neighbour on the side to which it goes decides.
-pub(crate) fn fits_at<O: Order, L: Ledger>(
-    items: &Tree<O::Item>,
-    place: u32,
-    item: &O::Item,
-    other: &O::Item,
-    steps: &mut Steps<L>,
-) -> bool
-    requires ordered { AreInOrder O.stands_before items.now }
-    requires there { slice_get items.now place ≡ Some item.now }
-    ensures { result ≡ true → AreInOrder O.stands_before (slice_set items.now place other.now) }
+/// Whether an item that would be put in at the place `next` stands in order in the place of another: right before that
+/// one, or right after it.
+pub(crate) fn is_beside(place: usize, next: usize) -> bool
+    ensures before { result ≡ true → place ≤ next }
+    ensures after { result ≡ true → next ≤ suc place }
 {
-    if O::before(other, item) {
-        place == 0 || !O::before(other, &items.get(place - 1, steps))
-    } else {
-        place == items.len() - 1 || !O::before(&items.get(place + 1, steps), other)
-    }
+    place <= next && next - place <= 1
 }
 
 /// Takes an item out that is there.
@@ -135,28 +126,4 @@ pub(crate) fn take_out<O: Order, L: Ledger>(
 {
     let place = place_of::<O, L>(items, &item, steps);
     items.remove(place, steps);
-}
-
-/// Takes an item out that is there, and puts another one in: where that one stands in order in the place of the first, it is
-/// written there. After `NoMemory` all is as before.
-pub(crate) fn exchange<O: Order, L: Ledger>(
-    items: &mut Tree<O::Item>,
-    item: O::Item,
-    other: O::Item,
-    steps: &mut Steps<L>,
-) -> Result<(), NoMemory>
-    requires ordered { AreInOrder O.stands_before items.old }
-    requires room { length items.old < 2 ^ 31 }
-    requires there { is_in O.stands_before item items.old ≡ true }
-    ensures ok { OnOk result (items.new ≡ without O.stands_before item (put_in O.stands_before other items.old)) }
-    ensures err { OnErr result (items.new ≡ items.old) }
-{
-    let place = place_of::<O, L>(items, &item, steps);
-    if fits_at::<O, L>(items, place, &item, &other, steps) {
-        items.replace(place, other, steps);
-        return Ok(());
-    }
-    put::<O, L>(items, other, steps)?;
-    take_out::<O, L>(items, item, steps);
-    Ok(())
 }

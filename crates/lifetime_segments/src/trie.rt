@@ -1,7 +1,8 @@
+//! The spans of labels: what lies in each of them.
 ghost use Rattle.std.specs.Prelude.{◌≡◌, true, false, IfOk};
 ghost use Rattle.lifetime_segments.specs.Tries.{IsNothing, IsBare};
 
-use crate::lifetime::Lifetime;
+use crate::life_list::LifeList;
 use monoid_laws::Measured;
 use retro_base::NoMemory;
 use std::alloc::Global;
@@ -10,13 +11,13 @@ use weighted_tree::Tree;
 /// So many lifetimes of a span are kept as they are at the most.
 ///
 /// With more of them less is divided, so that an edit touches fewer spans; with fewer of them a question looks at less.
-pub(crate) const FEW: u32 = 63;
+pub(crate) const FEW: usize = 127;
 
 /// The lifetimes in a span of labels: as they are, or divided over the span itself and its halves once they were more than a few.
 #[cycle(trie)]
 #[derive(Drop)]
 pub(crate) enum Trie<T: Measured> {
-    Few(Tree<Lifetime<T>>),
+    Few(LifeList<T>),
     Full(Box<Node<T>>),
 }
 
@@ -34,7 +35,7 @@ impl<T: Measured> Trie<T> {
     pub(crate) fn new(alloc: Global) -> Trie<T>
         ensures { IsNothing result }
     {
-        Trie::Few(Tree::new(alloc))
+        Trie::Few(LifeList::new(alloc))
     }
 
     /// Whether there are no lifetimes, and no node.

@@ -6,20 +6,17 @@ use Rattle.lifetime_segments.specs.Ordered.{in_order}
 use Rattle.lifetime_segments.specs.Tries.{IsOfNode, Has, NodeHas, in_first, in_second, items_below}
 use Rattle.lifetime_segments.proofs.Nodes.{LeadsTo, node_of, node_has, left_has, right_has, node_left, node_right, first-few, second-few, node_ordered, node_few, node_at, node_at_zero, node_lawful}
 use Rattle.lifetime_segments.proofs.Spans.{double}
-use Rattle.lifetime_segments.proofs.FewLives.{few_of, few_length}
+use Rattle.lifetime_segments.proofs.FewLives.{few_of, few_length, few_ordered}
 use Rattle.lifetime_segments.proofs.Moved.{few_items}
 use Rattle.lifetime_segments.proofs.search.+ask.Goals as goal
 
 pub ask-ask_few-requires : goal.ask-ask_few-requires
 ask-ask_few-requires g t c =
     let before = g.D.Decomposable.stands_before in
+    let kept = few_of before c.args.level c.requires.has.lives c.in-Few.few c.args.trie.now c.in-Few.is c.requires.has.is_of in
     record {
-      few = omega (
-        arith,
-        few_length before c.args.level c.requires.has.lives c.in-Few.few
-            (few_of before c.args.level c.requires.has.lives c.in-Few.few c.args.trie.now c.in-Few.is c.requires.has.is_of),
-        c.requires.has.few,
-      );
+      few = omega (arith, few_length before c.args.level c.requires.has.lives c.in-Few.few kept, c.requires.has.few);
+      ordered = few_ordered g.met.D.Decomposable.order c.args.level c.requires.has.lives c.in-Few.few kept;
     }
 
 pub ask-returns-in-Few : goal.ask-returns-in-Few

@@ -3,7 +3,7 @@ use Rattle.lifetime_segments.specs.Lifetimes.{items_at}
 use Rattle.lifetime_segments.specs.Lawful.{AreLawful}
 use Rattle.lifetime_segments.specs.Ordered.{in_order}
 use Rattle.lifetime_segments.specs.OrderedLaws.{in_order-absorbs, in_order-ordered, length-in_order}
-use Rattle.lifetime_segments.proofs.FewLives.{items_at-there, items_at-gone}
+use Rattle.lifetime_segments.proofs.FewLives.{items_at-there, items_at-gone, items_at-begun}
 use Rattle.lifetime_segments.proofs.Nodes.{items_at-few}
 use Rattle.lifetime_segments.proofs.search.ask_few.Given.{Over}
 use Rattle.lifetime_segments.proofs.search.ask_few.Goals as goal
@@ -41,6 +41,12 @@ combine-part-requires g c = record {
   };
 }
 
+pub returns-then-label-life : goal.returns-then-label-life
+returns-then-label-life g c =
+    c.loop-place.invariant
+    ∙ ap (λ items. g.D.Decomposable.answer (in_order g.D.Decomposable.stands_before items) c.args.query)
+    (items_at-begun g.D.Decomposable.stands_before c.args.label c.args.few.now c.loop-place.place c.get-life.result c.requires.ordered c.get-life.ensures c.if-label-life.true)
+
 pub loop-place-preserved : goal.loop-place-preserved
 loop-place-preserved g c =
     let before = g.D.Decomposable.stands_before in
@@ -57,11 +63,11 @@ loop-place-preserved g c =
           ∙ sym (g.met.D.Decomposable.laws.together (in_order before seen) (c.get-life.result.item ∷ []) c.args.query (together g (goal.at.loop-place-preserved g c).After-get-life))
           ∙ ap (λ items. answer items c.args.query)
           (in_order-absorbs g.met.D.Decomposable.order seen (c.get-life.result.item ∷ [])
-          ∙ ap (in_order before) (sym (items_at-there c.args.label few c.loop-place.place c.get-life.result c.get-life.ensures.item (sym c.holds.ensures ∙ w.if-holds.true))))
+          ∙ ap (in_order before) (sym (items_at-there c.args.label few c.loop-place.place c.get-life.result c.get-life.ensures (sym c.holds.ensures ∙ w.if-holds.true))))
           ∙ ap (λ n. answer (in_order before (items_at c.args.label (take n few))) c.args.query) next
       | else-holds w ↦
           w.part-is
           ∙ c.loop-place.invariant
-          ∙ ap (λ items. answer (in_order before items) c.args.query) (sym (items_at-gone c.args.label few c.loop-place.place c.get-life.result c.get-life.ensures.item (sym c.holds.ensures ∙ w.if-holds.false)))
+          ∙ ap (λ items. answer (in_order before items) c.args.query) (sym (items_at-gone c.args.label few c.loop-place.place c.get-life.result c.get-life.ensures (sym c.holds.ensures ∙ w.if-holds.false)))
           ∙ ap (λ n. answer (in_order before (items_at c.args.label (take n few))) c.args.query) next
     ]

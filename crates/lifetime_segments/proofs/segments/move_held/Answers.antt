@@ -4,11 +4,8 @@ use Rattle.lifetime_segments.specs.LifetimeLaws.{earlier_order}
 use Rattle.lifetime_segments.specs.Ordered.{put_in, without}
 use Rattle.lifetime_segments.specs.Tries.{AreHeld}
 use Rattle.lifetime_segments.proofs.Held.{held_one, held_range, held_moved, replaced_at}
-use Rattle.lifetime_segments.proofs.Places.{position-get, position-some, position-within}
+use Rattle.lifetime_segments.proofs.Places.{position-some, position-within}
 use Rattle.lifetime_segments.proofs.segments.move_held.Goals as goal
-
-pub fits_at-requires-clause-there : goal.fits_at-requires-clause-there
-fits_at-requires-clause-there g c = position-get (earlier_order g.met.D.Decomposable.order) c.args.life c.args.held.now c.args.place c.requires.place
 
 pub move_end-requires-clause-rises : goal.move_end-requires-clause-rises
 move_end-requires-clause-rises g c =
@@ -24,16 +21,18 @@ move_end-requires-clause-there g c =
 pub replace-requires : goal.replace-requires
 replace-requires g c = record { within = position-within (stands_earlier g.D.Decomposable.stands_before) c.args.life c.args.held.now c.args.place c.requires.place }
 
-pub returns-then-fits_at-clause-ok : goal.returns-then-fits_at-clause-ok
-returns-then-fits_at-clause-ok g c =
+pub returns-then-is_beside-clause-ok : goal.returns-then-is_beside-clause-ok
+returns-then-is_beside-clause-ok g c =
     let earlier = stands_earlier g.D.Decomposable.stands_before in
+    let some = position-some earlier c.args.life c.args.held.now c.args.place c.requires.place in
     c.replace.ensures.items
-    ∙ replaced_at (earlier_order g.met.D.Decomposable.order) c.args.life c.ending-moved.result c.args.held.now c.args.place c.requires.held.ordered c.requires.place (c.fits_at.ensures c.if-fits_at.true)
+    ∙ replaced_at (earlier_order g.met.D.Decomposable.order) c.args.life c.ending-moved.result c.args.held.now c.args.place c.place_of-moved_place.result c.requires.held.ordered some.0
+    (sym some.1) c.place_of-moved_place.ensures (c.is_beside.ensures.before c.if-is_beside.true) (c.is_beside.ensures.after c.if-is_beside.true)
     ∙ ap (λ moved. without earlier c.args.life (put_in earlier moved c.args.held.now)) c.ending-moved.ensures
 
-pub returns-then-fits_at-clause-held : goal.returns-then-fits_at-clause-held
-returns-then-fits_at-clause-held g c =
+pub returns-then-is_beside-clause-held : goal.returns-then-is_beside-clause-held
+returns-then-is_beside-clause-held g c =
     let order = g.met.D.Decomposable.order in
     let some = position-some (stands_earlier g.D.Decomposable.stands_before) c.args.life c.args.held.now c.args.place c.requires.place in
-    subst (λ held. AreHeld g.D.Decomposable.stands_before held c.move_end.new.trie) (sym (returns-then-fits_at-clause-ok g c))
+    subst (λ held. AreHeld g.D.Decomposable.stands_before held c.move_end.new.trie) (sym (returns-then-is_beside-clause-ok g c))
     (held_moved order c.args.life c.args.next c.args.held.now c.args.root.now c.move_end.new.trie c.requires.range c.requires.room some.0 c.requires.held c.in_ok-move_end.ensures.ok)

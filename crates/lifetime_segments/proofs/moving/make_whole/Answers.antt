@@ -1,7 +1,7 @@
 use Rattle.std.proofs.Common.{suc, arith}
 use Rattle.lifetime_segments.proofs.Nodes.{node_ordered, node_few, left_has_one, right_has_one}
 use Rattle.lifetime_segments.proofs.MovedEnds.{node_made_whole}
-use Rattle.lifetime_segments.proofs.edit.make_whole.Goals as goal
+use Rattle.lifetime_segments.proofs.moving.make_whole.Goals as goal
 
 pub put-requires-clause-ordered : goal.put-requires-clause-ordered
 put-requires-clause-ordered g c = node_ordered g.met.D.Decomposable.order (suc c.args.level) c.requires.has.lives c.args.node.now c.requires.has.is_of

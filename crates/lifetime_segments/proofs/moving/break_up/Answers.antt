@@ -3,7 +3,7 @@ use Rattle.lifetime_segments.specs.Tries.{NodeAdds}
 use Rattle.lifetime_segments.proofs.Moved.{node_swapped}
 use Rattle.lifetime_segments.proofs.Nodes.{node_ordered, node_is_in, node_without_whole}
 use Rattle.lifetime_segments.proofs.MovedEnds.{node_exchanged}
-use Rattle.lifetime_segments.proofs.edit.break_up.Goals as goal
+use Rattle.lifetime_segments.proofs.moving.break_up.Goals as goal
 
 pub take_out-requires-clause-ordered : goal.take_out-requires-clause-ordered
 take_out-requires-clause-ordered g c =

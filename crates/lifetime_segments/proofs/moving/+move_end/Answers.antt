@@ -6,8 +6,8 @@ use Rattle.lifetime_segments.proofs.Results.{ok_weaker, err_weaker, err_always}
 use Rattle.lifetime_segments.proofs.Nodes.{LeadsTo, node_of, trie_of, some_of, some_with, node_has, node_has_one, left_has, right_has, left_has_one, right_has_one, node_right, node_kept, below_level}
 use Rattle.lifetime_segments.proofs.MovedEnds.{first_past, second_there, node_second_moved, node_shortened, node_lengthened, node_still_whole}
 use Rattle.lifetime_segments.proofs.Spans.{double}
-use Rattle.lifetime_segments.proofs.FewLives.{few_of, of_few, few_ordered, few_there, few_moved, few_length}
-use Rattle.lifetime_segments.proofs.edit.+move_end.Goals as goal
+use Rattle.lifetime_segments.proofs.FewLives.{few_of, of_few, few_ordered, few_there, few_moved}
+use Rattle.lifetime_segments.proofs.moving.+move_end.Goals as goal
 
 pub move_end-move_in_node-requires : goal.move_end-move_in_node-requires
 move_end-move_in_node-requires g t c κs within =
@@ -38,18 +38,13 @@ move_end-returns-in-Full-clause-err g t c =
     (keeps lives (subst (IsOfNode before c.args.level lives) (sym c.deref_mut.ensures.value) (node_of before c.args.level lives c.args.trie.now c.in-Full.node.value leads is_of))))
     c.move_in_node.ensures.err
 
-pub move_end-exchange-requires-clause-ordered : goal.move_end-exchange-requires-clause-ordered
-move_end-exchange-requires-clause-ordered g t c =
+pub move_end-exchange_lives-requires-clause-ordered : goal.move_end-exchange_lives-requires-clause-ordered
+move_end-exchange_lives-requires-clause-ordered g t c =
     few_ordered g.met.D.Decomposable.order c.args.level c.requires.has.lives c.in-Few.few
     (few_of g.D.Decomposable.stands_before c.args.level c.requires.has.lives c.in-Few.few c.args.trie.now c.in-Few.is c.requires.has.is_of)
 
-pub move_end-exchange-requires-clause-room : goal.move_end-exchange-requires-clause-room
-move_end-exchange-requires-clause-room g t c =
-    let before = g.D.Decomposable.stands_before in
-    omega (arith, few_length before c.args.level c.requires.has.lives c.in-Few.few (few_of before c.args.level c.requires.has.lives c.in-Few.few c.args.trie.now c.in-Few.is c.requires.has.is_of), c.requires.has.few)
-
-pub move_end-exchange-requires-clause-there : goal.move_end-exchange-requires-clause-there
-move_end-exchange-requires-clause-there g t c =
+pub move_end-exchange_lives-requires-clause-there : goal.move_end-exchange_lives-requires-clause-there
+move_end-exchange_lives-requires-clause-there g t c =
     let before = g.D.Decomposable.stands_before in
     let others = c.requires.there.others in
     ap (λ life. is_in (stands_earlier before) life c.in-Few.few) c.clipped.ensures
@@ -60,15 +55,15 @@ pub move_end-returns-in-Few-clause-ok : goal.move_end-returns-in-Few-clause-ok
 move_end-returns-in-Few-clause-ok g t c =
     let before = g.D.Decomposable.stands_before in
     let earlier = stands_earlier before in
-    ok_weaker c.exchange.result
+    ok_weaker c.exchange_lives.result
     (λ exchanged lives is_of.
-    of_few before c.args.level (ending c.args.next c.args.life ∷ lives) c.exchange.new.items _ refl
-    (few_moved g.met.D.Decomposable.order c.args.level c.args.next c.args.life lives c.in-Few.few c.exchange.new.items (record { rises = c.requires.rises; begins = c.requires.begins }) c.requires.next
+    of_few before c.args.level (ending c.args.next c.args.life ∷ lives) c.exchange_lives.new.few _ refl
+    (few_moved g.met.D.Decomposable.order c.args.level c.args.next c.args.life lives c.in-Few.few c.exchange_lives.new.few (record { rises = c.requires.rises; begins = c.requires.begins }) c.requires.next
     (exchanged
     ∙ ap (λ life. without earlier life (put_in earlier c.clipped-moved.result c.in-Few.few)) c.clipped.ensures
     ∙ ap (λ life. without earlier (clipped c.args.level c.args.life) (put_in earlier life c.in-Few.few)) (c.clipped-moved.ensures ∙ ap (clipped c.args.level) c.ending.ensures))
     (few_of before c.args.level (c.args.life ∷ lives) c.in-Few.few c.args.trie.now c.in-Few.is is_of)))
-    c.exchange.ensures.ok
+    c.exchange_lives.ensures.ok
 
 pub move_in_node-returns-then-is_whole-2-clause-ok : goal.move_in_node-returns-then-is_whole-2-clause-ok
 move_in_node-returns-then-is_whole-2-clause-ok g t c =

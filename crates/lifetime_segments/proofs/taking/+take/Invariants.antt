@@ -1,5 +1,5 @@
 use Rattle.std.specs.Prelude.{◌+◌, ◌*◌}
-use Rattle.lifetime_segments.proofs.edit.+take.Given as goal
+use Rattle.lifetime_segments.proofs.taking.+take.Given as goal
 
 abbrev pub decreases-take : goal.decreases-take
 decreases-take g l = 3 * l.level + 1

@@ -7,15 +7,15 @@ use Rattle.std.proofs.lemmas.Bool.Decides.{nat_tests}
 use Rattle.std.proofs.lemmas.Nat.{pow_pos}
 use Rattle.lifetime_segments.proofs.Spans.{double}
 use Rattle.lifetime_segments.proofs.FewLives.{few_of, of_few, few_ordered, few_there, few_without}
-use Rattle.lifetime_segments.proofs.edit.+take.Goals as goal
+use Rattle.lifetime_segments.proofs.taking.+take.Goals as goal
 
-pub take-take_out-requires-clause-ordered : goal.take-take_out-requires-clause-ordered
-take-take_out-requires-clause-ordered g t c =
+pub take-take_life-requires-clause-ordered : goal.take-take_life-requires-clause-ordered
+take-take_life-requires-clause-ordered g t c =
     let all = c.args.life ∷ c.requires.has.others in
     few_ordered g.met.D.Decomposable.order c.args.level all c.in-Few.few (few_of g.D.Decomposable.stands_before c.args.level all c.in-Few.few c.args.trie.now c.in-Few.is c.requires.has.is_of)
 
-pub take-take_out-requires-clause-there : goal.take-take_out-requires-clause-there
-take-take_out-requires-clause-there g t c =
+pub take-take_life-requires-clause-there : goal.take-take_life-requires-clause-there
+take-take_life-requires-clause-there g t c =
     let before = g.D.Decomposable.stands_before in
     let others = c.requires.has.others in
     ap (λ life. is_in (stands_earlier before) life c.in-Few.few) c.clipped.ensures
@@ -25,9 +25,9 @@ take-take_out-requires-clause-there g t c =
 pub take-returns-in-Few : goal.take-returns-in-Few
 take-returns-in-Few g t c lives is_of =
     let before = g.D.Decomposable.stands_before in
-    of_few before c.args.level lives c.take_out.new.items _ refl
-    (few_without g.met.D.Decomposable.order c.args.level c.args.life lives c.in-Few.few c.take_out.new.items (record { rises = c.requires.rises; begins = c.requires.begins })
-    (c.take_out.ensures ∙ ap (λ life. without (stands_earlier before) life c.in-Few.few) c.clipped.ensures)
+    of_few before c.args.level lives c.take_life.new.few _ refl
+    (few_without g.met.D.Decomposable.order c.args.level c.args.life lives c.in-Few.few c.take_life.new.few (record { rises = c.requires.rises; begins = c.requires.begins })
+    (c.take_life.ensures ∙ ap (λ life. without (stands_earlier before) life c.in-Few.few) c.clipped.ensures)
     (few_of before c.args.level (c.args.life ∷ lives) c.in-Few.few c.args.trie.now c.in-Few.is is_of))
 
 pub take-take_from_node-requires : goal.take-take_from_node-requires

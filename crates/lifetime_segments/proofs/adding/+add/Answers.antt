@@ -9,7 +9,7 @@ use Rattle.lifetime_segments.proofs.Results.{ok_weaker, err_weaker, err_always}
 use Rattle.lifetime_segments.proofs.Nodes.{LeadsTo, bare_of, node_of, trie_of, some_of, some_with, node_has, left_has, right_has, node_left, node_ordered, node_few, node_with_whole, node_with_parts, node_kept, below_level}
 use Rattle.lifetime_segments.proofs.FewLives.{few_of, of_few, few_ordered, few_with, few_touch, few_length, all_get, drop_get}
 use Rattle.lifetime_segments.proofs.Moved.{few_alike, node_of_alike}
-use Rattle.lifetime_segments.proofs.edit.+add.Goals as goal
+use Rattle.lifetime_segments.proofs.adding.+add.Goals as goal
 
 pub add-add_to_node-requires : goal.add-add_to_node-requires
 add-add_to_node-requires g t c κs within =
@@ -108,21 +108,22 @@ add_to_node-returns-else-is_whole-clause-err g t c =
     (λ keeps. subst (λ n. NodeKeeps g.D.Decomposable.stands_before n c.args.node.now c.add_to_halves.new.node) (sym below) keeps)
     c.add_to_halves.ensures.err
 
-pub add-put-requires-clause-ordered : goal.add-put-requires-clause-ordered
-add-put-requires-clause-ordered g t c =
-    few_ordered g.met.D.Decomposable.order c.args.level c.requires.has.lives c.in-Few.few
-    (few_of g.D.Decomposable.stands_before c.args.level c.requires.has.lives c.in-Few.few c.args.trie.now c.in-Few.is c.requires.has.is_of)
+pub add-put_life-requires : goal.add-put_life-requires
+add-put_life-requires g t c = record {
+  ordered = few_ordered g.met.D.Decomposable.order c.args.level c.requires.has.lives c.in-Few.few
+      (few_of g.D.Decomposable.stands_before c.args.level c.requires.has.lives c.in-Few.few c.args.trie.now c.in-Few.is c.requires.has.is_of);
+}
 
 pub add-returns-then-len-lt-FEW-clause-ok : goal.add-returns-then-len-lt-FEW-clause-ok
 add-returns-then-len-lt-FEW-clause-ok g t c =
     let before = g.D.Decomposable.stands_before in
-    ok_weaker c.put.result
+    ok_weaker c.put_life.result
     (λ put lives is_of.
-    of_few before c.args.level (c.args.life ∷ lives) c.put.new.items _ refl
-    (few_with g.met.D.Decomposable.order c.args.level c.args.life lives c.in-Few.few c.put.new.items (record { rises = c.requires.rises; begins = c.requires.begins })
+    of_few before c.args.level (c.args.life ∷ lives) c.put_life.new.few _ refl
+    (few_with g.met.D.Decomposable.order c.args.level c.args.life lives c.in-Few.few c.put_life.new.few (record { rises = c.requires.rises; begins = c.requires.begins })
     (put ∙ ap (λ life. put_in (stands_earlier before) life c.in-Few.few) c.clipped.ensures)
     (few_of before c.args.level lives c.in-Few.few c.args.trie.now c.in-Few.is is_of)))
-    c.put.ensures.ok
+    c.put_life.ensures.ok
 
 pub add-divided-requires : goal.add-divided-requires
 add-divided-requires g t c κs within =
@@ -160,7 +161,7 @@ divided-loop-place-init g t c =
 pub divided-add_to_node-requires : goal.divided-add_to_node-requires
 divided-add_to_node-requires g t c κs within =
     let before = g.D.Decomposable.stands_before in
-    let touches = all_get (Touches c.args.level) c.args.few.now (c.loop-place.place - 1) c.get.result c.requires.touch c.get.ensures.item in
+    let touches = all_get (Touches c.args.level) c.args.few.now (c.loop-place.place - 1) c.get.result c.requires.touch c.get.ensures in
     let begins : c.get.result.from < 2 ^ c.args.level = touches.begins in
     let rises : c.get.result.from < c.get.result.to = touches.rises in
     let has : NodeHas before c.args.level c.deref_mut.result.now = subst (NodeHas before c.args.level) (sym c.deref_mut.ensures.value) (record {
@@ -174,7 +175,7 @@ pub divided-loop-place-preserved : goal.divided-loop-place-preserved
 divided-loop-place-preserved g t c =
     let before = g.D.Decomposable.stands_before in
     let place : suc (c.loop-place.place - 1) ≡ c.loop-place.place = omega arith in
-    subst (λ lives. IsOfNode before c.args.level lives c.add_to_node.new.node) (sym (drop_get c.args.few.now (c.loop-place.place - 1) c.get.result c.get.ensures.item))
+    subst (λ lives. IsOfNode before c.args.level lives c.add_to_node.new.node) (sym (drop_get c.args.few.now (c.loop-place.place - 1) c.get.result c.get.ensures))
     (c.in_ok-add_to_node.ensures.ok (drop (suc (c.loop-place.place - 1)) c.args.few.now)
     (subst (IsOfNode before c.args.level (drop (suc (c.loop-place.place - 1)) c.args.few.now)) (sym c.deref_mut.ensures.value)
     (subst (λ n. IsOfNode before c.args.level (drop n c.args.few.now) c.loop-place.node.value) (sym place) c.loop-place.invariant)))

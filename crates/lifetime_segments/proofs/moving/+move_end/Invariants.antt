@@ -1,5 +1,5 @@
 use Rattle.std.specs.Prelude.{◌+◌, ◌*◌}
-use Rattle.lifetime_segments.proofs.edit.+move_end.Given as goal
+use Rattle.lifetime_segments.proofs.moving.+move_end.Given as goal
 
 abbrev pub decreases-move_end : goal.decreases-move_end
 decreases-move_end g l = 5 * l.level + 1

@@ -1,6 +1,6 @@
 use Rattle.std.specs.Prelude.{◌+◌, ◌*◌, drop}
 use Rattle.lifetime_segments.specs.Tries.{IsOfNode}
-use Rattle.lifetime_segments.proofs.edit.+add.Given as goal
+use Rattle.lifetime_segments.proofs.adding.+add.Given as goal
 
 abbrev pub decreases-add : goal.decreases-add
 decreases-add g l = 5 * l.level + 2

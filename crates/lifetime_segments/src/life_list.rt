@@ -1,0 +1,142 @@
+//! The lifetimes of a span that has few: a vector of them, in their order.
+ghost use Rattle.std.specs.Prelude.{◌≡◌, ◌<◌, ◌≤◌, true, [], length, slice_get, slice_set, Some, OnOk, OnErr};
+ghost use Rattle.std.specs.List.{insert, remove};
+ghost use Rattle.lifetime_segments.specs.Lifetimes.{stands_earlier};
+ghost use Rattle.lifetime_segments.specs.Ordered.{AreInOrder, put_in, is_in, without, place_in};
+
+use crate::decomposable::Decomposable;
+use crate::lifetime::Lifetime;
+use crate::sorted::{ByStart, Order, is_beside};
+use monoid_laws::Measured;
+use retro_base::NoMemory;
+use std::alloc::Global;
+use std::marker::Model;
+
+/// A full list takes memory for so many more lifetimes: of twice as many, half would mostly stay empty.
+const MORE: usize = 8;
+
+/// A list of a few lifetimes.
+#[derive(Drop)]
+pub(crate) struct LifeList<T: Measured> {
+    lives: Vec<Lifetime<T>>,
+}
+
+impl<T: Measured> Model for LifeList<T> {
+    ghost use Rattle.std.specs.Prelude.{List};
+    ghost use Rattle.lifetime_segments.specs.declared.lifetime.Lifetime.{Lifetime};
+
+    ghost Value = { List (Lifetime T) };
+
+    ghost view = { λ few. few.lives.items };
+}
+
+impl<T: Measured> LifeList<T> {
+    /// No lifetimes, which takes no memory.
+    pub(crate) fn new(alloc: Global) -> LifeList<T>
+        ensures { result ≡ [] }
+    {
+        LifeList {
+            lives: Vec::new(alloc),
+        }
+    }
+
+    /// How many there are.
+    pub(crate) fn len(&self) -> usize
+        ensures { result ≡ length self.now }
+    {
+        self.lives.len()
+    }
+
+    /// The one at a place.
+    pub(crate) fn get(&self, place: usize) -> Lifetime<T>
+        requires within { place < length self.now }
+        ensures { slice_get self.now place ≡ Some result }
+    {
+        self.lives[place]
+    }
+
+    /// Puts one in at a place. After `NoMemory` all is as before.
+    fn insert(&mut self, place: usize, life: Lifetime<T>) -> Result<(), NoMemory>
+        requires within { place ≤ length self.old }
+        ensures ok { OnOk result (self.new ≡ insert self.old place life) }
+        ensures err { OnErr result (self.new ≡ self.old) }
+    {
+        if self.lives.len() == self.lives.capacity() {
+            self.lives.reserve_exact(MORE)?;
+        }
+        self.lives.insert(place, life)?;
+        Ok(())
+    }
+
+    /// Takes the one at a place out.
+    fn remove(&mut self, place: usize)
+        requires within { place < length self.old }
+        ensures { self.new ≡ remove self.old place }
+    {
+        self.lives.remove(place);
+    }
+
+    /// Writes another one in the place of one.
+    fn replace(&mut self, place: usize, life: Lifetime<T>)
+        requires within { place < length self.old }
+        ensures { self.new ≡ slice_set self.old place life }
+    {
+        self.lives[place] = life;
+    }
+}
+
+/// How many of the lifetimes stand before one: its place among them.
+fn life_place<D: Decomposable>(few: &LifeList<D::Item>, life: &Lifetime<D::Item>) -> usize
+    requires ordered { AreInOrder (stands_earlier D.stands_before) few.now }
+    ensures { result ≡ place_in (stands_earlier D.stands_before) life.now few.now }
+{
+    few.lives.as_slice().partition_point(|other: &Lifetime<D::Item>| ByStart::<D>::before(
+        other, life,
+    ))
+}
+
+/// Puts a lifetime in at its place.
+pub(crate) fn put_life<D: Decomposable>(
+    few: &mut LifeList<D::Item>,
+    life: Lifetime<D::Item>,
+) -> Result<(), NoMemory>
+    requires ordered { AreInOrder (stands_earlier D.stands_before) few.old }
+    ensures ok { OnOk result (few.new ≡ put_in (stands_earlier D.stands_before) life few.old) }
+    ensures err { OnErr result (few.new ≡ few.old) }
+{
+    let place = life_place::<D>(few, &life);
+    few.insert(place, life)
+}
+
+/// Takes a lifetime out that is there.
+pub(crate) fn take_life<D: Decomposable>(few: &mut LifeList<D::Item>, life: Lifetime<D::Item>)
+    requires ordered { AreInOrder (stands_earlier D.stands_before) few.old }
+    requires there { is_in (stands_earlier D.stands_before) life few.old ≡ true }
+    ensures { few.new ≡ without (stands_earlier D.stands_before) life few.old }
+{
+    let place = life_place::<D>(few, &life);
+    few.remove(place);
+}
+
+/// Takes a lifetime out that is there, and puts another one in: where that one stands in order in the place of the first, it
+/// is written there. After `NoMemory` all is as before.
+pub(crate) fn exchange_lives<D: Decomposable>(
+    few: &mut LifeList<D::Item>,
+    life: Lifetime<D::Item>,
+    other: Lifetime<D::Item>,
+) -> Result<(), NoMemory>
+    requires ordered { AreInOrder (stands_earlier D.stands_before) few.old }
+    requires there { is_in (stands_earlier D.stands_before) life few.old ≡ true }
+    ensures ok { OnOk result (few.new ≡ without (stands_earlier D.stands_before) life (put_in (stands_earlier D.stands_before) other few.old)) }
+    ensures err { OnErr result (few.new ≡ few.old) }
+{
+    let place = life_place::<D>(few, &life);
+    let next = life_place::<D>(few, &other);
+    if is_beside(place, next) {
+        few.replace(place, other);
+        return Ok(());
+    }
+    put_life::<D>(few, other)?;
+    take_life::<D>(few, life);
+    Ok(())
+}

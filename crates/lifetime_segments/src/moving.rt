@@ -1,0 +1,212 @@
+//! Moving the end of a lifetime.
+ghost use Rattle.std.specs.Prelude.{◌≡◌, ◌<◌, ◌≤◌, ◌^◌, true, false, suc, OnOk, OnErr};
+ghost use Rattle.lifetime_segments.specs.Tries.{Has, NodeHas, HasOne, NodeHasOne, FirstHasOne, Keeps, NodeKeeps, Moves, NodeMoves, MovesFirst, ending, is_whole};
+
+use crate::adding::{add_second, add_to_halves};
+use crate::decomposable::Decomposable;
+use crate::life_list::exchange_lives;
+use crate::lifetime::{Lifetime, labels};
+use crate::sorted::{ByItem, put, take_out};
+use crate::taking::{take_first, take_second};
+use crate::trie::{Node, Trie};
+use retro_base::{NoMemory, Steps};
+use std::alloc::Global;
+use std::sync::ledger::Ledger;
+
+/// Moves where a lifetime ends. Spans that it has with either end are left as they are.
+#[cycle(move_end)]
+pub(crate) fn move_end<D: Decomposable, L: Ledger>(
+    trie: &mut Trie<D::Item>,
+    level: u32,
+    life: Lifetime<D::Item>,
+    next: u64,
+    alloc: Global,
+    steps: &mut Steps<L>,
+) -> Result<(), NoMemory>
+    requires level { level ≤ 40 }
+    requires begins { life.from < 2 ^ level }
+    requires rises { life.from < life.to }
+    requires next { life.from < next }
+    requires has { Has D.stands_before level trie.old }
+    requires there { HasOne D.stands_before level life trie.old }
+    ensures ok { OnOk result (Moves D.stands_before level life next trie.old trie.new) }
+    ensures err { OnErr result (Keeps D.stands_before level trie.old trie.new) }
+{
+    match trie {
+        Trie::Few(few) => {
+            let moved = life.ending(next).clipped(level);
+            exchange_lives::<D>(few, life.clipped(level), moved)
+        }
+        Trie::Full(node) => move_in_node::<D, L>(node, level, life, next, alloc, steps),
+    }
+}
+
+#[cycle(move_end)]
+fn move_in_node<D: Decomposable, L: Ledger>(
+    node: &mut Node<D::Item>,
+    level: u32,
+    life: Lifetime<D::Item>,
+    next: u64,
+    alloc: Global,
+    steps: &mut Steps<L>,
+) -> Result<(), NoMemory>
+    requires level { level ≤ 40 }
+    requires begins { life.from < 2 ^ level }
+    requires rises { life.from < life.to }
+    requires next { life.from < next }
+    requires has { NodeHas D.stands_before level node.old }
+    requires there { NodeHasOne D.stands_before level life node.old }
+    ensures ok { OnOk result (NodeMoves D.stands_before level life next node.old node.new) }
+    ensures err { OnErr result (NodeKeeps D.stands_before level node.old node.new) }
+{
+    if life.is_whole(level) {
+        if life.ending(next).is_whole(level) {
+            return Ok(());
+        }
+        return break_up::<D, L>(node, level - 1, life, next, alloc, steps);
+    }
+    if life.ending(next).is_whole(level) {
+        return make_whole::<D, L>(node, level - 1, life, next, steps);
+    }
+    move_in_halves::<D, L>(node, level - 1, life, next, alloc, steps)
+}
+
+/// A lifetime that held a whole span ends in it: its item goes from the node into the halves.
+fn break_up<D: Decomposable, L: Ledger>(
+    node: &mut Node<D::Item>,
+    level: u32,
+    life: Lifetime<D::Item>,
+    next: u64,
+    alloc: Global,
+    steps: &mut Steps<L>,
+) -> Result<(), NoMemory>
+    requires level { level < 40 }
+    requires next { life.from < next }
+    requires whole { is_whole (suc level) life ≡ true }
+    requires broken { is_whole (suc level) (ending next life) ≡ false }
+    requires has { NodeHas D.stands_before (suc level) node.old }
+    requires there { NodeHasOne D.stands_before (suc level) life node.old }
+    ensures ok { OnOk result (NodeMoves D.stands_before (suc level) life next node.old node.new) }
+    ensures err { OnErr result (NodeKeeps D.stands_before (suc level) node.old node.new) }
+{
+    add_to_halves::<D, L>(node, level, life.ending(next), alloc, steps)?;
+    take_out::<ByItem<D>, L>(&mut node.items, life.item, steps);
+    Ok(())
+}
+
+/// A lifetime that ended in a span holds it whole: its item goes from the halves into the node.
+fn make_whole<D: Decomposable, L: Ledger>(
+    node: &mut Node<D::Item>,
+    level: u32,
+    life: Lifetime<D::Item>,
+    next: u64,
+    steps: &mut Steps<L>,
+) -> Result<(), NoMemory>
+    requires level { level < 40 }
+    requires begins { life.from < 2 ^ suc level }
+    requires rises { life.from < life.to }
+    requires broken { is_whole (suc level) life ≡ false }
+    requires whole { is_whole (suc level) (ending next life) ≡ true }
+    requires has { NodeHas D.stands_before (suc level) node.old }
+    requires there { NodeHasOne D.stands_before (suc level) life node.old }
+    ensures ok { OnOk result (NodeMoves D.stands_before (suc level) life next node.old node.new) }
+    ensures err { OnErr result (NodeKeeps D.stands_before (suc level) node.old node.new) }
+{
+    put::<ByItem<D>, L>(&mut node.items, life.item, steps)?;
+    take_first::<D, L>(&mut node.left, level, life, steps);
+    take_second::<D, L>(&mut node.right, level, life, steps);
+    Ok(())
+}
+
+/// Where both ends lie in the second half, only that half changes.
+#[cycle(move_end)]
+fn move_in_halves<D: Decomposable, L: Ledger>(
+    node: &mut Node<D::Item>,
+    level: u32,
+    life: Lifetime<D::Item>,
+    next: u64,
+    alloc: Global,
+    steps: &mut Steps<L>,
+) -> Result<(), NoMemory>
+    requires level { level < 40 }
+    requires begins { life.from < 2 ^ suc level }
+    requires rises { life.from < life.to }
+    requires next { life.from < next }
+    requires broken { is_whole (suc level) life ≡ false }
+    requires broken_next { is_whole (suc level) (ending next life) ≡ false }
+    requires has { NodeHas D.stands_before (suc level) node.old }
+    requires there { NodeHasOne D.stands_before (suc level) life node.old }
+    ensures ok { OnOk result (NodeMoves D.stands_before (suc level) life next node.old node.new) }
+    ensures err { OnErr result (NodeKeeps D.stands_before (suc level) node.old node.new) }
+{
+    let half = labels(level);
+    if next <= half {
+        move_first::<D, L>(&mut node.left, level, life, next, alloc, steps)?;
+        take_second::<D, L>(&mut node.right, level, life, steps);
+        return Ok(());
+    }
+    if half < life.to {
+        let later = life.in_second(level);
+        return move_end::<D, L>(&mut node.right, level, later, next - half, alloc, steps);
+    }
+    lengthen::<D, L>(node, level, life, next, alloc, steps)
+}
+
+/// A lifetime that ended in the first half ends in the second. After out of memory in the first half, the second has the
+/// lifetimes that it had.
+#[cycle(move_end)]
+fn lengthen<D: Decomposable, L: Ledger>(
+    node: &mut Node<D::Item>,
+    level: u32,
+    life: Lifetime<D::Item>,
+    next: u64,
+    alloc: Global,
+    steps: &mut Steps<L>,
+) -> Result<(), NoMemory>
+    requires level { level < 40 }
+    requires begins { life.from < 2 ^ suc level }
+    requires rises { life.from < life.to }
+    requires in_first { life.to ≤ 2 ^ level }
+    requires in_second { 2 ^ level < next }
+    requires broken { is_whole (suc level) life ≡ false }
+    requires broken_next { is_whole (suc level) (ending next life) ≡ false }
+    requires has { NodeHas D.stands_before (suc level) node.old }
+    requires there { NodeHasOne D.stands_before (suc level) life node.old }
+    ensures ok { OnOk result (NodeMoves D.stands_before (suc level) life next node.old node.new) }
+    ensures err { OnErr result (NodeKeeps D.stands_before (suc level) node.old node.new) }
+{
+    let longer = life.ending(next);
+    add_second::<D, L>(&mut node.right, level, longer, alloc, steps)?;
+    let moved = move_first::<D, L>(&mut node.left, level, life, next, alloc, steps);
+    if moved.is_err() {
+        take_second::<D, L>(&mut node.right, level, longer, steps);
+    }
+    moved
+}
+
+/// Where both ends lie past the first half, it is left as it is.
+#[cycle(move_end)]
+fn move_first<D: Decomposable, L: Ledger>(
+    left: &mut Trie<D::Item>,
+    level: u32,
+    life: Lifetime<D::Item>,
+    next: u64,
+    alloc: Global,
+    steps: &mut Steps<L>,
+) -> Result<(), NoMemory>
+    requires level { level < 40 }
+    requires rises { life.from < life.to }
+    requires next { life.from < next }
+    requires broken { is_whole (suc level) life ≡ false }
+    requires broken_next { is_whole (suc level) (ending next life) ≡ false }
+    requires has { Has D.stands_before level left.old }
+    requires there { FirstHasOne D.stands_before level life left.old }
+    ensures ok { OnOk result (MovesFirst D.stands_before level life next left.old left.new) }
+    ensures err { OnErr result (Keeps D.stands_before level left.old left.new) }
+{
+    let half = labels(level);
+    if half <= life.to && half <= next {
+        return Ok(());
+    }
+    move_end::<D, L>(left, level, life, next, alloc, steps)
+}
