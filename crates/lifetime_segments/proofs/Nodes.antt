@@ -23,6 +23,10 @@ abbrev pub LeadsTo : {A M : Type 0} → Trie A M → Node A M → Type 0
 LeadsTo (Few few) node = ⊥
 LeadsTo (Full' p items left right) node = (node.items ≡ items) × (node.left ≡ left) × (node.right ≡ right)
 
+-- a trie that was seen to be another one leads to a node that was seen to be another one
+pub leads_by : {A M : Type 0} {trie whole : Trie A M} {node inner : Node A M} → trie ≡ whole → node ≡ inner → LeadsTo whole inner → LeadsTo trie node
+leads_by {trie = trie} {inner = inner} is same leads = subst (LeadsTo trie) (sym same) (subst (λ t. LeadsTo t inner) (sym is) leads)
+
 -- what holds of a trie holds of the node that it leads to, and the other way round
 pub node_of : {A M : Type 0} (before : A → A → Bool) (level : ℕ) (lives : List (Lifetime A)) (trie : Trie A M) (node : Node A M) → LeadsTo trie node → IsOf before level lives trie → IsOfNode before level lives node
 unfolding IsOf IsOfNode

@@ -59,7 +59,7 @@ without-none before x (y ∷ ys) none = elim (before y x) as (λ b. cond b (is_i
 ] none
 
 module _ {A : Type 0} {before : A → A → Bool} (order : IsOrder before) where
-  pub not_both : (x y : A) → before x y ≡ true → before y x ≡ false
+  not_both : (x y : A) → before x y ≡ true → before y x ≡ false
   not_both x y up = elim (before y x) as (λ b. before y x ≡ b → b ≡ false) [
     | true ↦ λ down. sym (order.chains x y x up down) ∙ order.strict x
     | false ↦ λ _. refl
@@ -184,7 +184,7 @@ module _ {A : Type 0} {before : A → A → Bool} (order : IsOrder before) where
   in_order-kept (x ∷ xs) ordered = ap (put_in before x) (in_order-kept xs ordered.1) ∙ put_in-front x xs ordered.0
 
   -- of two of which neither stands before the other, where the tests say so
-  pub same_at : (x y : A) → before y x ≡ false → not (before x y) ≡ true → x ≡ y
+  same_at : (x y : A) → before y x ≡ false → not (before x y) ≡ true → x ≡ y
   same_at x y here there = order.total x y (elim (before x y) as (λ b. not b ≡ true → b ≡ false) [
     | true ↦ λ t. absurd (cc)
     | false ↦ λ _. refl

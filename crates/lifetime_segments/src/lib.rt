@@ -20,12 +20,12 @@
 //! | Call | Cost, with n lifetimes |
 //! |---|---|
 //! | `new` | constant |
-//! | `add`, `take` | a search of log n in each of at most 80 spans; where an `add` divides a span, one for each of its 127 lifetimes as well |
+//! | `add`, `take` | a search of log n in each of at most 80 spans, and up to 127 lifetimes to move in those that have few; where an `add` divides a span, one search for each of its 127 lifetimes as well |
 //! | `move_end` | that of an `add` and a `take`, but for the spans that the lifetime has with either end |
 //! | `ask` | one `ask` in each of at most 41 spans, one `ask_one` for each of at most 127 lifetimes where the way ends, and as many of `combine` |
 //! | `items_at` | a walk through at most 41 spans, and through the items that it gives |
 //!
-//! `add` and `move_end` take memory in the tree of each span that a lifetime comes to, and for the node of each that is
+//! `add` and `move_end` take memory in the tree or the vector of each span that a lifetime comes to, and for the node of each that is
 //! divided, and leave the lifetimes as they were where there is none; `items_at` takes it for what it gives. No other call
 //! takes any.
 //!

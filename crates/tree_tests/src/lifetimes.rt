@@ -221,35 +221,58 @@ fn moves_an_end(rt: HostRuntime) {
     assert!(rt; segments.take(2, END, item));
 }
 
-/// Adds so many lifetimes of a 1, which begin one label after another and hold fifty labels each.
-fn add_ones(rt: &impl Abort, segments: &mut Segments<Totals>, count: u64)
-    requires few { count ≤ 1000 }
-    requires room { length segments.old + count ≤ most_items }
-    ensures { length segments.new ≤ length segments.old + count }
+/// Adds lifetimes of a 1, one for each of these labels, which begin there and hold fifty labels each.
+fn add_ones(rt: &impl Abort, segments: &mut Segments<Totals>, begin: u64, end: u64)
+    requires few { end ≤ 1000 }
+    requires rises { begin ≤ end }
+    requires room { length segments.old + end ≤ most_items }
+    ensures { length segments.new + begin ≤ length segments.old + end }
 {
-    for from in 0..count {
+    for from in begin..end {
         add(rt, segments, from, from + 50, 1);
+    }
+}
+
+/// Asks how many lifetimes of a 1 hold a label.
+fn expect_ones(rt: &impl Abort, segments: &Segments<Totals>, label: u64, count: u32) {
+    assert!(rt; label < END);
+    let sum = u64::from(count);
+    assert_eq!(rt; segments.ask(label, ()), Total { count, sum });
+    let items = segments.items_at(label).expect(rt, "memory");
+    assert_eq!(rt; items.len(), count as usize);
+}
+
+#[test]
+fn answers_around_the_first_division(rt: HostRuntime) {
+    let mut segments = Segments::<Totals>::new(rt.alloc());
+    add_ones(&rt, &mut segments, 0, 127);
+    for (label, count) in [(0, 1), (49, 50), (126, 50), (127, 49), (176, 0)] {
+        expect_ones(&rt, &segments, label, count);
+    }
+    add_ones(&rt, &mut segments, 127, 128);
+    for (label, count) in [(0, 1), (49, 50), (126, 50), (127, 50), (176, 1)] {
+        expect_ones(&rt, &segments, label, count);
+    }
+    assert!(rt; segments.take(127, 177, Amount { value: 1 }));
+    for (label, count) in [(126, 50), (127, 49), (176, 0)] {
+        expect_ones(&rt, &segments, label, count);
     }
 }
 
 #[test]
 fn answers_where_more_than_a_few_are_there(rt: HostRuntime) {
     let mut segments = Segments::<Totals>::new(rt.alloc());
-    add_ones(&rt, &mut segments, 100);
+    add_ones(&rt, &mut segments, 0, 200);
     for (label, count) in [
         (0, 1),
         (10, 11),
         (49, 50),
         (60, 50),
-        (99, 50),
-        (148, 1),
-        (149, 0),
+        (199, 50),
+        (248, 1),
+        (249, 0),
     ] {
-        assert!(rt; label < END);
-        let sum = u64::from(count);
-        assert_eq!(rt; segments.ask(label, ()), Total { count, sum });
-        let items = segments.items_at(label).expect(&rt, "memory");
-        assert_eq!(rt; items.len(), count as usize);
+        expect_ones(&rt, &segments, label, count);
     }
 }
 
@@ -257,9 +280,9 @@ fn answers_where_more_than_a_few_are_there(rt: HostRuntime) {
 fn edits_where_more_than_a_few_are_there(rt: HostRuntime) {
     let mut segments = Segments::<Totals>::new(rt.alloc());
     let item = Amount { value: 1 };
-    add_ones(&rt, &mut segments, 100);
+    add_ones(&rt, &mut segments, 0, 200);
     segments.move_end(10, 60, 140, item).expect(&rt, "memory");
-    for from in 20..90 {
+    for from in 20..190 {
         assert!(rt; segments.take(from, from + 50, item));
     }
     for (label, count) in [
@@ -267,12 +290,11 @@ fn edits_where_more_than_a_few_are_there(rt: HostRuntime) {
         (19, 20),
         (65, 5),
         (69, 1),
-        (95, 7),
-        (139, 11),
-        (140, 9),
+        (139, 1),
+        (140, 0),
+        (195, 6),
+        (240, 9),
     ] {
-        assert!(rt; label < END);
-        let sum = u64::from(count);
-        assert_eq!(rt; segments.ask(label, ()), Total { count, sum });
+        expect_ones(&rt, &segments, label, count);
     }
 }

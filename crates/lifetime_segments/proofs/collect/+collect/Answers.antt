@@ -1,7 +1,7 @@
 use Rattle.std.proofs.Common.{◌≡◌, ◌<◌, ◌≤◌, ◌-◌, ◌^◌, ◌++◌, suc, refl, sym, subst, ap, ◌∙◌, arith}
 use Rattle.lifetime_segments.specs.Tries.{IsOfNode, CollectsAt}
 use Rattle.lifetime_segments.proofs.FewLives.{few_of, few_ordered}
-use Rattle.lifetime_segments.proofs.Nodes.{LeadsTo, node_of}
+use Rattle.lifetime_segments.proofs.Nodes.{LeadsTo, leads_by, node_of}
 use Rattle.lifetime_segments.proofs.Collected.{collects_few, collects_zero, collects_more, collects_first, collects_second}
 use Rattle.lifetime_segments.proofs.Results.{ok_weaker}
 use Rattle.lifetime_segments.proofs.collect.+collect.Goals as goal
@@ -18,9 +18,7 @@ collect-returns-in-Few g t c =
 
 pub collect-returns-then-level-eq0 : goal.collect-returns-then-level-eq0
 collect-returns-then-level-eq0 g t c lives is_of =
-    let leads : LeadsTo c.args.trie.now c.deref.result.now =
-    subst (LeadsTo c.args.trie.now) (sym c.deref.ensures)
-    (subst (λ trie. LeadsTo trie c.in-Full.node.value) (sym c.in-Full.is) (refl, refl, refl)) in
+    let leads : LeadsTo c.args.trie.now c.deref.result.now = leads_by c.in-Full.is c.deref.ensures (refl, refl, refl) in
     collects_zero g.met.D.Decomposable.order c.args.level c.args.label c.deref.result.now c.args.items.now.items c.append.new.items.items lives c.if-level-eq0.true c.requires.within c.in_ok-append.ensures
     (node_of g.D.Decomposable.stands_before c.args.level lives c.args.trie.now c.deref.result.now leads is_of)
 
@@ -28,9 +26,7 @@ pub collect-returns : goal.collect-returns
 collect-returns g t c = ok_weaker c.collect_half.result (λ below lives is_of.
     let before = g.D.Decomposable.stands_before in
     let down : c.args.level ≡ suc (c.args.level - 1) = omega arith in
-    let leads : LeadsTo c.args.trie.now c.deref-2.result.now =
-    subst (LeadsTo c.args.trie.now) (sym c.deref-2.ensures)
-    (subst (λ trie. LeadsTo trie c.in-Full.node.value) (sym c.in-Full.is) (refl, refl, refl)) in
+    let leads : LeadsTo c.args.trie.now c.deref-2.result.now = leads_by c.in-Full.is c.deref-2.ensures (refl, refl, refl) in
     let near : c.args.label < 2 ^ suc (c.args.level - 1) = subst (λ n. c.args.label < 2 ^ n) down c.requires.within in
     let is_of_node : IsOfNode before (suc (c.args.level - 1)) lives c.deref-2.result.now =
     subst (λ n. IsOfNode before n lives c.deref-2.result.now) down (node_of before c.args.level lives c.args.trie.now c.deref-2.result.now leads is_of) in

@@ -4,7 +4,7 @@ use Rattle.std.proofs.lemmas.Bool.Decides.{nat_tests}
 use Rattle.lifetime_segments.specs.Lifetimes.{items_at}
 use Rattle.lifetime_segments.specs.Ordered.{in_order}
 use Rattle.lifetime_segments.specs.Tries.{IsOfNode, Has, NodeHas, in_first, in_second, items_below}
-use Rattle.lifetime_segments.proofs.Nodes.{LeadsTo, node_of, node_has, left_has, right_has, node_left, node_right, first-few, second-few, node_ordered, node_few, node_at, node_at_zero, node_lawful}
+use Rattle.lifetime_segments.proofs.Nodes.{LeadsTo, leads_by, node_of, node_has, left_has, right_has, node_left, node_right, first-few, second-few, node_ordered, node_few, node_at, node_at_zero, node_lawful}
 use Rattle.lifetime_segments.proofs.Spans.{double}
 use Rattle.lifetime_segments.proofs.FewLives.{few_of, few_length, few_ordered}
 use Rattle.lifetime_segments.proofs.Moved.{few_items}
@@ -29,8 +29,7 @@ ask-returns-in-Few g t c lives is_of few =
 pub ask-ask-own-requires : goal.ask-ask-own-requires
 ask-ask-own-requires g t c =
     let has : NodeHas g.D.Decomposable.stands_before c.args.level c.deref.result.now =
-    node_has (subst (LeadsTo c.args.trie.now) (sym c.deref.ensures)
-    (subst (λ trie. LeadsTo trie c.in-Full.node.value) (sym c.in-Full.is) (refl, refl, refl))) c.requires.has
+    node_has (leads_by c.in-Full.is c.deref.ensures (refl, refl, refl)) c.requires.has
     in
     record {
       lawful = record {
@@ -41,9 +40,7 @@ ask-ask-own-requires g t c =
 
 pub ask-returns-then-level-eq0 : goal.ask-returns-then-level-eq0
 ask-returns-then-level-eq0 g t c lives is_of few =
-    let leads : LeadsTo c.args.trie.now c.deref.result.now =
-    subst (LeadsTo c.args.trie.now) (sym c.deref.ensures)
-    (subst (λ trie. LeadsTo trie c.in-Full.node.value) (sym c.in-Full.is) (refl, refl, refl)) in
+    let leads : LeadsTo c.args.trie.now c.deref.result.now = leads_by c.in-Full.is c.deref.ensures (refl, refl, refl) in
     c.ask-own.ensures
     ∙ ap (λ items. g.D.Decomposable.answer items c.args.query)
     (node_at_zero g.met.D.Decomposable.order c.args.level c.args.label lives c.deref.result.now c.if-level-eq0.true c.requires.within
@@ -52,9 +49,7 @@ ask-returns-then-level-eq0 g t c lives is_of few =
 pub ask-ask_half-requires : goal.ask-ask_half-requires
 ask-ask_half-requires g t c κs within =
     let below : c.args.level ≡ suc (c.args.level - 1) = omega arith in
-    let leads : LeadsTo c.args.trie.now c.deref-2.result.now =
-    subst (LeadsTo c.args.trie.now) (sym c.deref-2.ensures)
-    (subst (λ trie. LeadsTo trie c.in-Full.node.value) (sym c.in-Full.is) (refl, refl, refl)) in
+    let leads : LeadsTo c.args.trie.now c.deref-2.result.now = leads_by c.in-Full.is c.deref-2.ensures (refl, refl, refl) in
     let near : c.args.label < 2 ^ suc (c.args.level - 1) = subst (λ n. c.args.label < 2 ^ n) below c.requires.within in
     let has : NodeHas g.D.Decomposable.stands_before (suc (c.args.level - 1)) c.deref-2.result.now = subst (λ n. NodeHas g.D.Decomposable.stands_before n c.deref-2.result.now) below (node_has leads c.requires.has) in
     search rules
@@ -63,9 +58,7 @@ pub ask-combine-requires : goal.ask-combine-requires
 ask-combine-requires g t c =
     let before = g.D.Decomposable.stands_before in
     let below : c.args.level ≡ suc (c.args.level - 1) = omega arith in
-    let leads : LeadsTo c.args.trie.now c.deref.result.now =
-    subst (LeadsTo c.args.trie.now) (sym c.deref.ensures)
-    (subst (λ trie. LeadsTo trie c.in-Full.node.value) (sym c.in-Full.is) (refl, refl, refl)) in
+    let leads : LeadsTo c.args.trie.now c.deref.result.now = leads_by c.in-Full.is c.deref.ensures (refl, refl, refl) in
     let near : c.args.label < 2 ^ suc (c.args.level - 1) = subst (λ n. c.args.label < 2 ^ n) below c.requires.within in
     let is_of : IsOfNode before (suc (c.args.level - 1)) c.requires.has.lives c.deref.result.now =
     subst (λ n. IsOfNode before n c.requires.has.lives c.deref.result.now) below (node_of before c.args.level c.requires.has.lives c.args.trie.now c.deref.result.now leads c.requires.has.is_of) in
@@ -85,9 +78,7 @@ pub ask-returns : goal.ask-returns
 ask-returns g t c lives is_of few =
     let before = g.D.Decomposable.stands_before in
     let below : c.args.level ≡ suc (c.args.level - 1) = omega arith in
-    let leads : LeadsTo c.args.trie.now c.deref.result.now =
-    subst (LeadsTo c.args.trie.now) (sym c.deref.ensures)
-    (subst (λ trie. LeadsTo trie c.in-Full.node.value) (sym c.in-Full.is) (refl, refl, refl)) in
+    let leads : LeadsTo c.args.trie.now c.deref.result.now = leads_by c.in-Full.is c.deref.ensures (refl, refl, refl) in
     let near : c.args.label < 2 ^ suc (c.args.level - 1) = subst (λ n. c.args.label < 2 ^ n) below c.requires.within in
     let is_of_node : IsOfNode before (suc (c.args.level - 1)) lives c.deref.result.now =
     subst (λ n. IsOfNode before n lives c.deref.result.now) below (node_of before c.args.level lives c.args.trie.now c.deref.result.now leads is_of) in
