@@ -1,6 +1,7 @@
 ghost use Rattle.std.specs.Prelude.{◌≡◌, ◌+◌, ◌++◌, ◌∷◌, [], length, OnOk, OnErr};
 ghost use Rattle.std.specs.Borrow.{sem};
 
+use crate::room::make_room;
 use crate::subtree::Node;
 use monoid_laws::Measured;
 use retro_base::{NoMemory, Steps};
@@ -98,6 +99,7 @@ impl<T: Copy> ClosedItems<T> {
         ensures visit { steps.new ≡ steps.old + 1 }
     {
         steps.tick();
+        make_room(&mut self.items)?;
         match self.items.push(item) {
             Ok(()) => Ok(()),
             Err(_) => Err(NoMemory),

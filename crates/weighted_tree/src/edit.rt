@@ -4,8 +4,9 @@ ghost use Rattle.weighted_tree.specs.Balance.{weight, IsUpToOneMore};
 ghost use Rattle.weighted_tree.specs.Levels.{TwoALevel, FourALevel};
 ghost use Rattle.weighted_tree.specs.Nodes.{full};
 
-use crate::leaf::{FULL, divide};
+use crate::leaf::{FULL, divide, put_in};
 use crate::node::Side;
+use crate::room::give_back_much;
 use crate::subtree::{Link, Node, Subtree};
 use monoid_laws::{Measured, Monoid};
 use retro_base::{NoMemory, Steps};
@@ -75,12 +76,9 @@ impl<T: Measured> Subtree<T> {
         let mut items = self.take_or_new(alloc, steps);
         let place = place as usize;
         if items.len() < FULL {
-            let done = items.insert(place, item);
+            let done = put_in(&mut items, place, item);
             *self = Subtree::of_items(items);
-            return match done {
-                Ok(()) => Ok(()),
-                Err(_) => Err(NoMemory),
-            };
+            return done;
         }
         match divide(&mut items, place, item, alloc) {
             Ok(mut node) => {
@@ -199,6 +197,7 @@ impl<T: Measured> Subtree<T> {
             unreachable!()
         };
         let item = items.remove(place as usize);
+        give_back_much(&mut items);
         *self = Subtree::of_items(items);
         item
     }

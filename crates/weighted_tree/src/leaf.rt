@@ -1,4 +1,4 @@
-ghost use Rattle.std.specs.Prelude.{◌≡◌, ◌+◌, ◌-◌, ◌^◌, ◌<◌, ◌≤◌, ◌++◌, ◌∷◌, take, drop, length, slice_get, Some, IfOk, OnErr};
+ghost use Rattle.std.specs.Prelude.{◌≡◌, ◌+◌, ◌-◌, ◌^◌, ◌<◌, ◌≤◌, ◌++◌, ◌∷◌, take, drop, length, slice_get, Some, IfOk, OnOk, OnErr};
 ghost use Rattle.std.specs.List.{insert, slice_range};
 ghost use Rattle.weighted_tree.specs.Balance.{no_part};
 ghost use Rattle.weighted_tree.specs.Measures.{measure_in, passing};
@@ -9,6 +9,7 @@ ghost use Rattle.weighted_tree.specs.SearchSteps.{IsSought, joined_after};
 ghost use Rattle.weighted_tree.specs.Sides.{seen_from};
 
 use crate::node::Side;
+use crate::room::{give_back, make_room, room_for};
 use crate::search::{Search, passes};
 use crate::subtree::{Node, Subtree};
 use crate::walk::show;
@@ -129,6 +130,19 @@ pub(crate) fn read_in<T: Copy, U: Copy, F: Fn(&T) -> U, L: Ledger>(
     }
 }
 
+/// Puts one more item in at a place.
+pub(crate) fn put_in<T: Copy>(items: &mut Vec<T>, place: usize, item: T) -> Result<(), NoMemory>
+    requires within { place ≤ length items.old.items }
+    ensures ok { OnOk result (items.new.items ≡ insert items.old.items place item) }
+    ensures err { OnErr result (items.new.items ≡ items.old.items) }
+{
+    make_room(items)?;
+    match items.insert(place, item) {
+        Ok(()) => Ok(()),
+        Err(_) => Err(NoMemory),
+    }
+}
+
 /// Divides the items of a full leaf where one more comes in at a place: those of the first half stay, and a node without a
 /// left side has the next one and the others.
 pub(crate) fn divide<T: Measured>(
@@ -155,19 +169,21 @@ pub(crate) fn divide<T: Measured>(
     Ok(node)
 }
 
-/// Leaves the items before the one where a full leaf is divided, and puts the new one in where it comes among them.
+/// Leaves the items before the one where a full leaf is divided, and puts the new one in where it comes among them. The room for
+/// the others is given back.
 fn divide_left<T: Copy>(items: &mut Vec<T>, cut: usize, place: usize, item: T)
     requires cut { cut < length items.old.items }
+    requires few { length items.old.items ≤ full }
     ensures before { place ≤ cut → items.new.items ≡ insert (take cut items.old.items) place item }
     ensures after { cut < place → items.new.items ≡ take cut items.old.items }
 {
     items.truncate(cut);
-    if place > cut {
-        return;
+    if place <= cut {
+        let Ok(()) = items.insert(place, item) else {
+            unreachable!()
+        };
     }
-    let Ok(()) = items.insert(place, item) else {
-        unreachable!()
-    };
+    give_back(items);
 }
 
 /// Puts one more item in at a place, and takes the first one out.
@@ -210,12 +226,13 @@ fn divided_right<T: Measured>(
     alloc: Global,
 ) -> Result<Vec<T>, NoMemory>
     requires cut { cut < length items.now }
+    requires few { length items.now ≤ full }
     requires within { place ≤ length items.now }
     ensures before { place ≤ cut → IfOk result (λ right. right.items ≡ drop (cut + 1) items.now) }
     ensures after { cut < place → IfOk result (λ right. right.items ≡ insert (drop (cut + 1) items.now) (place - cut - 1) item) }
 {
     let (_, rest) = items.split_at(cut + 1);
-    let mut right = Vec::with_capacity(alloc, FULL)?;
+    let mut right = Vec::with_capacity(alloc, room_for(items.len() - cut))?;
     right.extend_from_slice(rest)?;
     if place > cut {
         right.insert(place - cut - 1, item)?;

@@ -2,14 +2,14 @@ use Rattle.std.proofs.Common.{◌∷◌, ap, arith, length, length-append}
 use Rattle.std.proofs.lemmas.List.Edits.{length-insert}
 use Rattle.weighted_tree.proofs.subtree.Subtree.insert_in_leaf.Goals as goal
 
-pub of_items-requires-in-Ok-divide : goal.of_items-requires-in-Ok-divide
-of_items-requires-in-Ok-divide g c =
-    let node = c.in-Ok-divide.node.value in
+pub of_items-requires-in-Ok : goal.of_items-requires-in-Ok
+of_items-requires-in-Ok g c =
+    let node = c.in-Ok.node.value in
     let same = ap length c.take_or_new-items.ensures.items in
     record {
       few = omega (
         arith,
-        ap length c.in-Ok-divide.ensures.ok,
+        ap length c.in-Ok.ensures.ok,
         length-append c.divide.new.items.items (node.item ∷ node.right.items),
         length-insert c.take_or_new-items.result.items c.args.place c.args.item (omega arith),
         same,

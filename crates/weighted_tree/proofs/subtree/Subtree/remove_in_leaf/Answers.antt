@@ -4,7 +4,7 @@ use Rattle.std.proofs.lemmas.Option.{slice_get_read}
 use Rattle.weighted_tree.proofs.subtree.Subtree.remove_in_leaf.Goals as goal
 
 pub of_items-requires : goal.of_items-requires
-of_items-requires g c = record { few = omega (arith, c.remove-item.new.self.ok.0, c.remove-item.ensures.len, c.in-Some.items.ok.0, ap length c.in-Some.ensures.taken.0, c.take_leaf.ensures.few) }
+of_items-requires g c = record { few = omega (arith, ap length c.give_back_much.ensures.items, c.remove-item.new.self.ok.0, c.remove-item.ensures.len, c.in-Some.items.ok.0, ap length c.in-Some.ensures.taken.0, c.take_leaf.ensures.few) }
 
 pub returns-clause-item : goal.returns-clause-item
 returns-clause-item g c =
