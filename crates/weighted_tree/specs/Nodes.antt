@@ -62,11 +62,18 @@ IsSound unit join measured Empty = Unit {0}
 IsSound unit join measured (Leaf closed measure) = IsLeaf unit join measured measure closed.items.items
 IsSound unit join measured (Full size nodes closed measure) = IsNode unit join measured size nodes measure closed.node.value
 
--- one side of the node gained or lost a node, whatever the link tells of it; there is a node
+-- one side of the node gained or lost a node at most; where there are as many nodes as the link told before, the sides are in balance
+-- as before
+pub record HasChangedSide {A M : Type 0} (nodes : ℕ) (node : Node A M) : Type 0 where
+  pub nearly : IsNearlyBalanced (weight node.left) (weight node.right)
+  pub fits : length (node_items node) < 2 ^ 32
+  pub unchanged : nodes ≡ node_count node → HasBalance node
+
+-- there is a node, and the link tells its number of nodes, and no more, as it was before a side changed
 abbrev pub IsUnsettled : {A M : Type 0} → Link A M → Type 0
 IsUnsettled Empty = 1 ≤ 0
 IsUnsettled (Leaf closed measure) = 1 ≤ 0
-IsUnsettled (Full size nodes closed measure) = IsNearlyBalanced (weight closed.node.value.left) (weight closed.node.value.right) × (length (node_items closed.node.value) < 2 ^ 32)
+IsUnsettled (Full size nodes closed measure) = HasChangedSide nodes closed.node.value
 
 -- the node is the root of a subtree, the number of whose items has 32 bits
 pub record IsRoot {A M : Type 0} (part : Part A) (node : Node A M) : Type 0 where

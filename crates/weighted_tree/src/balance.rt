@@ -11,8 +11,8 @@ use std::mem;
 use std::sync::ledger::Ledger;
 
 impl<T: Measured> Link<T> {
-    /// Visits the node again, of which one side gained or lost an item since: restores its balance, and
-    /// tells again what the link leads to.
+    /// Visits the node again, of which one side gained or lost an item since, and tells again what the link leads to. Where
+    /// there are other nodes below it too, its balance is restored first.
     pub(crate) fn settle<L: Ledger>(&mut self, steps: &mut Steps<L>)
         requires nearly { IsUnsettled self.old }
         ensures sound { IsSound T.Measure.unit_value T.Measure.joined T.measured self.new }
@@ -31,10 +31,13 @@ impl<T: Measured> Link<T> {
             unreachable!()
         };
         let root = node.open_mut(steps);
-        balance(root, steps);
+        let count = root.nodes();
+        if count != *nodes {
+            balance(root, steps);
+            *nodes = count;
+        }
         let node = &mut **root;
         *size = node.size();
-        *nodes = node.nodes();
         *measure = node.measure();
     }
 }

@@ -21,7 +21,7 @@
 //! its nodes and one, whatever its leaves hold, and neither side of a node weighs over 3 times the other.
 //! A side that grew too heavy is rotated, once where its inner child weighs less than 2 times the outer
 //! one and else twice; with 3 and 2 this restores the balance after an insertion and after a removal (Hirai
-//! and Yamamoto 2011). A leaf is never too heavy, so rotations move leaves and look into none. A node whose
+//! and Yamamoto 2011). An edit looks at the balance of a node only where there are other nodes below it than before. A leaf is never too heavy, so rotations move leaves and look into none. A node whose
 //! item is removed takes the first one after it; where there is none, its left side takes its place. A side
 //! weighs at most 3 quarters of the whole, so a tree of n nodes has at most 3 levels for each binary digit
 //! of n + 1 but the first, and a leaf below them.
