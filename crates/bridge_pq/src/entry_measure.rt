@@ -74,4 +74,19 @@ impl Monoid for EntryMeasure {
             present: self.present + other.present,
         }
     }
+
+    fn with(self, part: EntryMeasure) -> Option<EntryMeasure> {
+        Some(self.join(part))
+    }
+
+    fn without(self, part: EntryMeasure) -> Option<EntryMeasure> {
+        if self.entries < part.entries || self.present < part.present {
+            return None;
+        }
+        let (entries, present) = (self.entries - part.entries, self.present - part.present);
+        if present > entries {
+            return None;
+        }
+        Some(EntryMeasure { entries, present })
+    }
 }

@@ -53,4 +53,17 @@ impl Monoid for Count {
             items: self.items + other.items,
         }
     }
+
+    fn with(self, part: Count) -> Option<Count> {
+        Some(self.join(part))
+    }
+
+    fn without(self, part: Count) -> Option<Count> {
+        if self.items < part.items {
+            return None;
+        }
+        Some(Count {
+            items: self.items - part.items,
+        })
+    }
 }

@@ -6,6 +6,9 @@
 //! joined first. These laws are part of the trait, and each implementation proves them, so that a tree
 //! which keeps one value a subtree answers for any range after a few joins.
 //!
+//! Where the value tells what is left of a range without some of its items, or what it is with more among them, it says so by
+//! `without` and `with`, so that an item that goes or comes costs no look at the others. Numbers and sums do.
+//!
 //! Each value knows how many items it was made of. That number fits 32 bits, and bounds every other
 //! field, so that no sum wraps: joining asks for nothing else.
 //!

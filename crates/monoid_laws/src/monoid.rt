@@ -1,6 +1,6 @@
 //! The traits of a measure and of what is measured.
 
-ghost use Rattle.std.specs.Prelude.{◌≡◌, ℕ, ◌+◌, ◌^◌, ◌<◌};
+ghost use Rattle.std.specs.Prelude.{◌≡◌, ℕ, ◌+◌, ◌^◌, ◌<◌, IfSome};
 ghost use Rattle.monoid_laws.specs.Laws.{MonoidLaws};
 
 /// A value that a range of items makes, so that neighbouring ranges can be joined.
@@ -26,6 +26,22 @@ pub trait Monoid: Copy {
     fn join(self, other: Self) -> Self
         requires { items_of self + items_of other < 2 ^ 32 }
         ensures { result ≡ joined self other };
+
+    /// The value of a range among whose items those of `part` come in, wherever that is, where the two tell it.
+    fn with(self, part: Self) -> Option<Self>
+        requires { items_of self + items_of part < 2 ^ 32 }
+        ensures { (before after : Self) → self ≡ joined before after → IfSome result (λ all. all ≡ joined (joined before part) after) }
+    {
+        None
+    }
+
+    /// The value of what is left of a range from among whose items those of `part` are taken out, where the two tell it.
+    fn without(self, part: Self) -> Option<Self>
+        ensures rest { (before after : Self) → self ≡ joined (joined before part) after → IfSome result (λ rest. rest ≡ joined before after) }
+        ensures items { IfSome result (λ rest. items_of rest + items_of part ≡ items_of self) }
+    {
+        None
+    }
 
     /// The unit has no items, a join adds them, and both are a monoid.
     ghost laws: { MonoidLaws items_of unit_value joined };

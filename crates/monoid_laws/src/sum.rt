@@ -70,4 +70,20 @@ impl Monoid for Sum {
             sum: self.sum + other.sum,
         }
     }
+
+    fn with(self, part: Sum) -> Option<Sum> {
+        Some(self.join(part))
+    }
+
+    fn without(self, part: Sum) -> Option<Sum> {
+        if self.items < part.items {
+            return None;
+        }
+        let items = self.items - part.items;
+        let sum = self.sum - part.sum;
+        if sum.unsigned_abs() > u128::from(items) << 63 {
+            return None;
+        }
+        Some(Sum { items, sum })
+    }
 }

@@ -70,4 +70,19 @@ impl Monoid for Total {
             rows: self.rows + other.rows,
         }
     }
+
+    fn with(self, part: Total) -> Option<Total> {
+        Some(self.join(part))
+    }
+
+    fn without(self, part: Total) -> Option<Total> {
+        if self.runs < part.runs || self.rows < part.rows {
+            return None;
+        }
+        let (runs, rows) = (self.runs - part.runs, self.rows - part.rows);
+        if rows > u64::from(runs) << 32 {
+            return None;
+        }
+        Some(Total { runs, rows })
+    }
 }

@@ -10,5 +10,6 @@ pub mod Middles
 pub mod Partitions
 pub mod Ranges
 pub mod SeenFrom
+pub mod Told
 pub mod WrittenItems
 pub mod Boundaries

@@ -4,9 +4,9 @@ ghost use Rattle.weighted_tree.specs.Balance.{weight, IsUpToOneMore};
 ghost use Rattle.weighted_tree.specs.Levels.{TwoALevel, FourALevel};
 ghost use Rattle.weighted_tree.specs.Nodes.{full};
 
-use crate::leaf::{FULL, divide, put_in};
+use crate::leaf::{FULL, divide};
+use crate::leaf_edit::{put_for, put_in, take_out};
 use crate::node::Side;
-use crate::room::give_back_much;
 use crate::subtree::{Link, Node, Subtree};
 use monoid_laws::{Measured, Monoid};
 use retro_base::{NoMemory, Steps};
@@ -73,11 +73,12 @@ impl<T: Measured> Subtree<T> {
         if place > 0 && place == self.len() && place < FULL as u32 {
             return self.push_in_leaf(item, steps);
         }
+        let mut measure = self.whole();
         let mut items = self.take_or_new(alloc, steps);
         let place = place as usize;
         if items.len() < FULL {
-            let done = put_in(&mut items, place, item);
-            *self = Subtree::of_items(items);
+            let done = put_in(&mut items, place, item, &mut measure);
+            *self = Subtree::of_measured(items, measure);
             return done;
         }
         match divide(&mut items, place, item, alloc) {
@@ -87,7 +88,7 @@ impl<T: Measured> Subtree<T> {
                 Ok(())
             }
             Err(failed) => {
-                *self = Subtree::of_items(items);
+                *self = Subtree::of_measured(items, measure);
                 Err(failed)
             }
         }
@@ -193,12 +194,12 @@ impl<T: Measured> Subtree<T> {
         ensures leaf { self.new.nodes ≡ 0 }
         ensures visit { steps.new ≡ steps.old + 1 }
     {
+        let mut measure = self.whole();
         let Some(mut items) = self.take_leaf(steps) else {
             unreachable!()
         };
-        let item = items.remove(place as usize);
-        give_back_much(&mut items);
-        *self = Subtree::of_items(items);
+        let item = take_out(&mut items, place as usize, &mut measure);
+        *self = Subtree::of_measured(items, measure);
         item
     }
 
@@ -253,13 +254,12 @@ impl<T: Measured> Subtree<T> {
         ensures leaf { self.new.nodes ≡ 0 }
         ensures visit { steps.new ≡ steps.old + 1 }
     {
+        let mut measure = self.whole();
         let Some(mut items) = self.take_leaf(steps) else {
             unreachable!()
         };
-        let place = place as usize;
-        let old = items[place];
-        items[place] = item;
-        *self = Subtree::of_items(items);
+        let old = put_for(&mut items, place as usize, item, &mut measure);
+        *self = Subtree::of_measured(items, measure);
         old
     }
 }

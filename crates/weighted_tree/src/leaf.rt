@@ -1,4 +1,4 @@
-ghost use Rattle.std.specs.Prelude.{◌≡◌, ◌+◌, ◌-◌, ◌^◌, ◌<◌, ◌≤◌, ◌++◌, ◌∷◌, take, drop, length, slice_get, Some, IfOk, OnOk, OnErr};
+ghost use Rattle.std.specs.Prelude.{◌≡◌, ◌+◌, ◌-◌, ◌^◌, ◌<◌, ◌≤◌, ◌++◌, ◌∷◌, take, drop, length, slice_get, Some, IfOk, OnErr};
 ghost use Rattle.std.specs.List.{insert, slice_range};
 ghost use Rattle.weighted_tree.specs.Balance.{no_part};
 ghost use Rattle.weighted_tree.specs.Measures.{measure_in, passing};
@@ -9,7 +9,7 @@ ghost use Rattle.weighted_tree.specs.SearchSteps.{IsSought, joined_after};
 ghost use Rattle.weighted_tree.specs.Sides.{seen_from};
 
 use crate::node::Side;
-use crate::room::{give_back, make_room, room_for};
+use crate::room::{give_back, room_for};
 use crate::search::{Search, passes};
 use crate::subtree::{Node, Subtree};
 use crate::walk::show;
@@ -127,19 +127,6 @@ pub(crate) fn read_in<T: Copy, U: Copy, F: Fn(&T) -> U, L: Ledger>(
             steps.tick();
         }
         done = done + 1;
-    }
-}
-
-/// Puts one more item in at a place.
-pub(crate) fn put_in<T: Copy>(items: &mut Vec<T>, place: usize, item: T) -> Result<(), NoMemory>
-    requires within { place ≤ length items.old.items }
-    ensures ok { OnOk result (items.new.items ≡ insert items.old.items place item) }
-    ensures err { OnErr result (items.new.items ≡ items.old.items) }
-{
-    make_room(items)?;
-    match items.insert(place, item) {
-        Ok(()) => Ok(()),
-        Err(_) => Err(NoMemory),
     }
 }
 

@@ -53,6 +53,7 @@ mod closed;
 mod copy;
 mod edit;
 mod leaf;
+mod leaf_edit;
 mod node;
 mod read;
 mod room;

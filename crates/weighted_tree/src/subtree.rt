@@ -180,13 +180,23 @@ impl<T: Measured> Subtree<T> {
         ensures items { result.items ≡ items.items }
         ensures leaf { result.nodes ≡ 0 }
     {
-        let count = items.as_slice().len();
-        if count == 0 {
+        let measure = measure_between(items.as_slice(), 0, items.as_slice().len());
+        Subtree::of_measured(items, measure)
+    }
+
+    /// The same where their measure is known.
+    pub(crate) fn of_measured(items: Vec<T>, measure: T::Measure) -> Subtree<T>
+        requires few { length items.items ≤ full }
+        requires measure { measure ≡ measure_in T.Measured T.Measure.Monoid items.items }
+        ensures items { result.items ≡ items.items }
+        ensures leaf { result.nodes ≡ 0 }
+    {
+        if items.as_slice().len() == 0 {
             return Subtree::new();
         }
         Subtree {
             link: Link::Leaf {
-                measure: measure_between(items.as_slice(), 0, count),
+                measure,
                 items: ClosedItems::new(items),
             },
         }

@@ -2,8 +2,8 @@ use Rattle.std.proofs.Common.{◌∷◌, ap, arith, length, length-append}
 use Rattle.std.proofs.lemmas.List.Edits.{length-insert}
 use Rattle.weighted_tree.proofs.subtree.Subtree.insert_in_leaf.Goals as goal
 
-pub of_items-requires-in-Ok : goal.of_items-requires-in-Ok
-of_items-requires-in-Ok g c =
+pub of_items-requires : goal.of_items-requires
+of_items-requires g c =
     let node = c.in-Ok.node.value in
     let same = ap length c.take_or_new-items.ensures.items in
     record {
