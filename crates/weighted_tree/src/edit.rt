@@ -1,3 +1,4 @@
+//! Edits of a subtree: an item comes in, goes, or is replaced by another one.
 ghost use Rattle.std.specs.Prelude.{◌≡◌, ◌+◌, ◌^◌, ◌<◌, ◌≤◌, ◌++◌, ◌∷◌, length, slice_get, slice_set, Some, OnOk, OnErr};
 ghost use Rattle.std.specs.List.{insert, remove};
 ghost use Rattle.weighted_tree.specs.Balance.{weight, IsUpToOneMore};
@@ -5,7 +6,7 @@ ghost use Rattle.weighted_tree.specs.Levels.{TwoALevel, FourALevel};
 ghost use Rattle.weighted_tree.specs.Nodes.{full};
 
 use crate::leaf::{FULL, divide};
-use crate::leaf_edit::{put_for, put_in, take_out};
+use crate::leaf_edit::{exchanged, put_for, put_in, take_out};
 use crate::node::Side;
 use crate::subtree::{Link, Node, Subtree};
 use monoid_laws::{Measured, Monoid};
@@ -235,8 +236,9 @@ impl<T: Measured> Subtree<T> {
         } else {
             mem::replace(&mut node.item, item)
         };
+        let told = exchanged(*measure, old.measure(), item.measure());
         let node = &mut **closed.open_mut(steps);
-        *measure = node.measure();
+        *measure = node.measure_told(told);
         old
     }
 

@@ -1,4 +1,5 @@
-ghost use Rattle.std.specs.Prelude.{◌≡◌, ◌+◌, ◌^◌, ◌<◌, ◌≤◌, length, ◌↔◌, IsTrue};
+//! A node: what it tells of the items below it, and its two sides.
+ghost use Rattle.std.specs.Prelude.{◌≡◌, ◌+◌, ◌^◌, ◌<◌, ◌≤◌, length, ◌↔◌, IsTrue, IfSome};
 ghost use Rattle.weighted_tree.specs.Measures.{measure_in};
 ghost use Rattle.weighted_tree.specs.Balance.{Part, no_part, weight};
 ghost use Rattle.weighted_tree.specs.Nodes.{node_items, node_count, HasBalance, IsRoot};
@@ -76,6 +77,18 @@ impl<T: Measured> Node<T> {
         ensures { result ≡ measure_in T.Measured T.Measure.Monoid (node_items self.now) }
     {
         self.around(self.left.whole(), self.right.whole())
+    }
+
+    /// The same where it may be told already.
+    pub(crate) fn measure_told(&self, told: Option<T::Measure>) -> T::Measure
+        requires fits { length (node_items self.now) < 2 ^ 32 }
+        requires told { IfSome told (λ measure. measure ≡ measure_in T.Measured T.Measure.Monoid (node_items self.now)) }
+        ensures { result ≡ measure_in T.Measured T.Measure.Monoid (node_items self.now) }
+    {
+        match told {
+            Some(measure) => measure,
+            None => self.measure(),
+        }
     }
 
     /// The measure of the item between what stands before and after it.
