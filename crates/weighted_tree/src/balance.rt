@@ -1,3 +1,4 @@
+//! The balance of a node, which rotations restore where one side gained or lost a node.
 ghost use Rattle.std.specs.Prelude.{◌≡◌, ◌+◌, ◌^◌, ◌<◌, ◌≤◌, length};
 ghost use Rattle.weighted_tree.specs.Balance.{weight, IsNearlyBalanced, IsTooHeavy};
 ghost use Rattle.weighted_tree.specs.Nodes.{node_items, node_count, items_of, nodes_of, HasBalance, IsSound, IsUnsettled};

@@ -1,3 +1,4 @@
+//! Nodes and leaves as their links hold them: closed, so that each way to open one is a visit.
 ghost use Rattle.std.specs.Prelude.{◌≡◌, ◌+◌, ◌++◌, ◌∷◌, [], length, OnOk, OnErr};
 ghost use Rattle.std.specs.Borrow.{sem};
 

@@ -1,3 +1,4 @@
+//! A copy of a subtree.
 ghost use Rattle.std.specs.Prelude.{◌≡◌, ◌+◌, ◌≤◌, length, IfOk, OnOk, OnErr};
 
 use crate::subtree::{Node, Subtree};

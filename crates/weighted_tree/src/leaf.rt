@@ -1,3 +1,4 @@
+//! The items of a leaf: what a range of them measures, where a test turns among them, and how a full leaf is divided.
 ghost use Rattle.std.specs.Prelude.{◌≡◌, ◌+◌, ◌-◌, ◌^◌, ◌<◌, ◌≤◌, ◌++◌, ◌∷◌, take, drop, length, slice_get, Some, IfOk, OnErr};
 ghost use Rattle.std.specs.List.{insert, slice_range};
 ghost use Rattle.weighted_tree.specs.Balance.{no_part};

@@ -10,7 +10,8 @@
 //! comes in: in the middle, or at an end where the item comes there, so that leaves which are filled in
 //! order stay full. The vector grows by eight items at a time, and gives room back where it was divided or has lost many, so that
 //! little of it stays empty. The link to a subtree keeps its sizes and its measure, so that a node knows them
-//! without a look at its sides.
+//! without a look at its sides. Where the monoid tells what is left without an item, and what there is with one more, a leaf's
+//! measure changes by the item that goes or comes; else its items are measured again.
 //!
 //! The last items stand outside of the root, in a tail: one more leaf. An item that comes in at the end goes there, and its
 //! measure is joined with that of the others; only where the tail is full, at each 33rd such item, does one way down the right
@@ -46,6 +47,13 @@
 //! specs/PartitionLaws.antt for what `partition_point` says of a list along which a test turns false once; `Writes` of
 //! specs/Reads.antt for what `read` writes, and specs/ReadLaws.antt for what it leaves of a list;
 //! `VisitsWithin` of `retro_base` for the cost.
+//!
+//! - `tree`: the type and its calls. `tail`: its last items.
+//! - `subtree`: the link to a node or a leaf, and what it tells. `closed`: what a link holds, which a visit opens.
+//! - `node`: a node and its sides. `balance`: rotations.
+//! - `leaf`: the items of a leaf. `leaf_edit`: one of them comes or goes. `room`: the memory that they have.
+//! - `edit`: an item of a subtree comes in, goes, or is replaced. `copy`: the same items again.
+//! - `read`: places and ranges of a subtree. `search`: where a test turns. `walk`: its items into a slice.
 #![tactic(auto)]
 
 mod balance;

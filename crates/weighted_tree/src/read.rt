@@ -1,3 +1,4 @@
+//! The item at a place of a subtree, and what a range of its items measures.
 ghost use Rattle.std.specs.Prelude.{◌≡◌, ◌+◌, ◌<◌, ◌≤◌, take, drop, length, slice_get, Some};
 ghost use Rattle.weighted_tree.specs.Measures.{measure_in};
 ghost use Rattle.std.specs.List.{slice_range};

@@ -1,3 +1,4 @@
+//! Searches of a subtree: where a test of a measure turns, and where a test of the items does.
 ghost use Rattle.std.specs.Prelude.{◌≡◌, ◌+◌, ◌-◌, ◌^◌, ◌<◌, ◌≤◌, ◌++◌, drop, length};
 ghost use Rattle.std.specs.Fn.{FnReturnsAt};
 ghost use Rattle.weighted_tree.specs.Balance.{weight};

@@ -1,3 +1,4 @@
+//! A subtree: the link to a node or to a leaf, and what it tells of the items without a visit.
 ghost use Rattle.std.specs.Prelude.{◌≡◌, ◌+◌, ◌^◌, ◌<◌, ◌≤◌, [], length, MatchOption};
 ghost use Rattle.weighted_tree.specs.Balance.{no_part, weight};
 ghost use Rattle.weighted_tree.specs.Measures.{measure_in, measure_seen};

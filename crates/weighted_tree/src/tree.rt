@@ -1,3 +1,4 @@
+//! The list whose ranges are measured, with the calls of the layers above.
 ghost use Rattle.std.specs.Prelude.{◌≡◌, ◌+◌, ◌-◌, ◌^◌, ◌<◌, ◌≤◌, [], min, length, take, drop, slice_get, slice_set, Some, IfSome, IfOk, OnOk, OnErr};
 ghost use Rattle.std.specs.List.{insert, remove, slice_range};
 ghost use Rattle.weighted_tree.specs.Measures.{measure_in, from_place, up_to_place, passing};

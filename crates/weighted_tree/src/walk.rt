@@ -1,3 +1,4 @@
+//! The items of a subtree, read one after another into a slice.
 ghost use Rattle.std.specs.Prelude.{◌≡◌, ◌+◌, ◌-◌, ◌<◌, ◌≤◌, min, take, drop, length};
 ghost use Rattle.std.specs.Fn.{FnReturnsAt};
 ghost use Rattle.weighted_tree.specs.Balance.{weight};
