@@ -5,7 +5,7 @@ ghost use Rattle.weighted_tree.specs.Measures.{measure_in};
 ghost use Rattle.weighted_tree.specs.Nodes.{full};
 
 use crate::leaf::measure_between;
-use crate::room::{give_back_much, make_room};
+use crate::room::make_room;
 use monoid_laws::{Measured, Monoid};
 use retro_base::NoMemory;
 
@@ -47,7 +47,6 @@ pub(crate) fn take_out<T: Measured>(items: &mut Vec<T>, place: usize, measure: &
     let item = items.remove(place);
     let told = measure.without(item.measure());
     *measure = measure_told(items, told);
-    give_back_much(items);
     item
 }
 

@@ -8,7 +8,7 @@
 //! A node holds an item between two subtrees, and where a subtree has no node it is a leaf: a vector of
 //! up to 32 items, or nothing at all. A leaf that is full is divided below a new node where one more item
 //! comes in: in the middle, or at an end where the item comes there, so that leaves which are filled in
-//! order stay full. The vector grows by eight items at a time, and gives room back where it was divided or has lost many, so that
+//! order stay full. The vector grows by eight items at a time, and gives room back where it is divided, so that
 //! little of it stays empty. The link to a subtree keeps its sizes and its measure, so that a node knows them
 //! without a look at its sides. Where the monoid tells what is left without an item, and what there is with one more, a leaf's
 //! measure changes by the item that goes or comes; else its items are measured again.
@@ -38,8 +38,7 @@
 //! apart, is a visit, and a step on the counter that the caller hands in, which contracts alone see. So an
 //! edit visits a node on the way down and again on the way back. `read` and `copy` count each item of a leaf as
 //! a visit. The sizes and the measure of a subtree belong to the node above it, which the link is in. `insert` and `copy` take memory from the allocator that
-//! the tree was made with, and leave the tree as it was where there is none. `remove` takes a smaller block for a leaf that has
-//! lost many items, and does without where there is none; no other call takes any.
+//! the tree was made with, and leave the tree as it was where there is none; no other call takes any.
 //!
 //! The proofs rest on the laws of the monoid alone. What the layer above may rely on: the clauses of
 //! `Tree`, in the words of lists; `measure_in` of specs/Measures.antt and std's `slice_range` for what a

@@ -36,14 +36,3 @@ pub(crate) fn give_back<T: Copy>(items: &mut Vec<T>)
     let room = room_for(items.len());
     items.shrink_to(room);
 }
-
-/// The same after a removal, where the leaf has room for two steps more than it needs: so one that gains and loses items by
-/// turns keeps its block.
-pub(crate) fn give_back_much<T: Copy>(items: &mut Vec<T>)
-    requires few { length items.old.items ≤ full }
-    ensures items { items.new.items ≡ items.old.items }
-{
-    if items.capacity() >= items.len() + 2 * STEP {
-        give_back(items);
-    }
-}
