@@ -24,7 +24,7 @@ rows_inside (Stack inner) = inner
 rows_inside (Deque inner) = inner
 rows_inside (Dict inner) = inner
 rows_inside (Pq inner) = inner.rows
-rows_inside (Fused inner) = inner
+rows_inside (Fused inner) = inner.rows
 
 -- a queue, a stack or a deque, whose past is asked in a few visits and without memory
 abbrev pub is_line : Engine → Bool

@@ -68,16 +68,16 @@ module _ (pair o : Pair) (whole : PieceParts) (sound : IsPair pair) (is : with_p
   size_is : o.size ≡ length (pair_rows o)
   size_is = ap (λ (p : Pair). p.size) is ∙ sound.size_is ∙ ap length (sym o_rows)
 
-  o_balanced : IsBalanced (length o.earlier) (length o.later)
-  o_balanced = subst (λ (p : Pair). IsBalanced (length p.earlier) (length p.later)) (sym is) sound.balanced
+  o_balanced : IsBalanced (length o.earlier.rows) (length o.later.rows)
+  o_balanced = subst (λ (p : Pair). IsBalanced (length p.earlier.rows) (length p.later.rows)) (sym is) sound.balanced
 
   o_kind : AreOfKind Pq (pair_rows o)
   o_kind = subst (AreOfKind Pq) (sym o_rows) sound.of_kind
 
-  o_sizes : length (pair_rows o) ≡ length o.earlier + length o.later
-  o_sizes = length-append o.earlier o.later
+  o_sizes : length (pair_rows o) ≡ length o.earlier.rows + length o.later.rows
+  o_sizes = length-append o.earlier.rows o.later.rows
 
-  pub some_later : 0 < length o.later
+  pub some_later : 0 < length o.later.rows
   some_later = omega (arith, o_balanced.earlier_light)
 
   -- the pair's piece has one that it may become, and becomes it
@@ -114,14 +114,14 @@ module _ (pair o : Pair) (whole : PieceParts) (sound : IsPair pair) (is : with_p
       o_bears : bears o place ≡ true
       o_bears = ap (λ (p : Pair). bears p place) is ∙ bearing
 
-      made : below.size ≡ o.size → below.earlier ++ below.later ≡ insert (pair_rows o) place row → IsBalanced (length below.earlier) (length below.later) → IsPut pair place row new x
+      made : below.size ≡ o.size → below.earlier.rows ++ below.later.rows ≡ insert (pair_rows o) place row → IsBalanced (length below.earlier.rows) (length below.later.rows) → IsPut pair place row new x
       made same rows balanced =
           let rows_are : pair_rows new ≡ insert (pair_rows o) place row = ap pair_rows new_is ∙ rows in
           record {
             sound = record {
               size_is = omega (arith, ap (λ (p : Pair). p.size) new_is, same, size_is, ap length rows_are, put_size);
               piece_is = ap (λ (p : Pair). p.piece) new_is ∙ becomes gains own x (insert (pair_rows o) place row) put_few put_passes piece sound_piece after ∙ ap tolerant (sym rows_are);
-              balanced = subst (λ (p : Pair). IsBalanced (length p.earlier) (length p.later)) (sym new_is) balanced;
+              balanced = subst (λ (p : Pair). IsBalanced (length p.earlier.rows) (length p.later.rows)) (sym new_is) balanced;
               of_kind = subst (AreOfKind Pq) (sym rows_are) (all_with (λ r. kind_of r.op ≡ Pq) (pair_rows o) place row o_kind kind);
               few = omega (arith, ap length rows_are, put_few);
             };
@@ -131,17 +131,24 @@ module _ (pair o : Pair) (whole : PieceParts) (sound : IsPair pair) (is : with_p
 
       pub put_pair : Puts o place row below → IsPut pair place row new x
       put_pair (inl earlier) =
-          let more : length below.earlier ≡ length o.earlier + 1 = ap (λ (p : Pair). length p.earlier) earlier.1 ∙ length-insert o.earlier place row earlier.0 in
-          let same : length below.later ≡ length o.later = ap (λ (p : Pair). length p.later) earlier.1 in
-          let light : length o.earlier + 1 < 3 * length o.later = bears_earlier place (length o.earlier) (length o.later) o_bears earlier.0 in
-          made (ap (λ (p : Pair). p.size) earlier.1) (ap pair_rows earlier.1 ∙ sym (insert-append_left o.earlier o.later place row earlier.0))
+          let e = o.earlier.rows in
+          let l = o.later.rows in
+          let more : length below.earlier.rows ≡ length e + 1 = ap length earlier.1 ∙ length-insert e place row earlier.0 in
+          let same : length below.later.rows ≡ length l = ap (λ (p : Pair). length p.later.rows) earlier.2 in
+          let rows : pair_rows below ≡ insert e place row ++ l = ap (λ r. r ++ below.later.rows) earlier.1 ∙ ap (λ (p : Pair). insert e place row ++ p.later.rows) earlier.2 in
+          let light : length e + 1 < 3 * length l = bears_earlier place (length e) (length l) o_bears earlier.0 in
+          made (ap (λ (p : Pair). p.size) earlier.2) (rows ∙ sym (insert-append_left e l place row earlier.0))
           (record { earlier_light = omega (arith, more, same, light); later_light = omega (arith, more, same, o_balanced.later_light) })
       put_pair (inr later) =
-          let more : length below.later ≡ length o.later + 1 =
-          ap (λ (p : Pair). length p.later) later.1 ∙ length-insert o.later (place - length o.earlier) row (omega (arith, within, ap length o_rows, o_sizes)) in
-          let same : length below.earlier ≡ length o.earlier = ap (λ (p : Pair). length p.earlier) later.1 in
-          let light : length o.later + 1 < 3 * length o.earlier = bears_later place (length o.earlier) (length o.later) o_bears later.0 in
-          made (ap (λ (p : Pair). p.size) later.1) (ap pair_rows later.1 ∙ sym (insert-append_right o.earlier o.later (length o.earlier) place row refl (omega (arith, later.0))))
+          let e = o.earlier.rows in
+          let l = o.later.rows in
+          let more : length below.later.rows ≡ length l + 1 =
+          ap length later.1 ∙ length-insert l (place - length e) row (omega (arith, within, ap length o_rows, o_sizes)) in
+          let same : length below.earlier.rows ≡ length e = ap (λ (p : Pair). length p.earlier.rows) later.2 in
+          let rows : pair_rows below ≡ e ++ insert l (place - length e) row =
+          ap (λ r. below.earlier.rows ++ r) later.1 ∙ ap (λ (p : Pair). p.earlier.rows ++ insert l (place - length e) row) later.2 in
+          let light : length l + 1 < 3 * length e = bears_later place (length e) (length l) o_bears later.0 in
+          made (ap (λ (p : Pair). p.size) later.2) (rows ∙ sym (insert-append_right e l (length e) place row refl (omega (arith, later.0))))
           (record { earlier_light = omega (arith, more, same, o_balanced.earlier_light); later_light = omega (arith, more, same, light) })
 
   -- a row that is taken out
@@ -168,14 +175,14 @@ module _ (pair o : Pair) (whole : PieceParts) (sound : IsPair pair) (is : with_p
       o_spares : spares o place ≡ true
       o_spares = ap (λ (p : Pair). spares p place) is ∙ sparing
 
-      left_over : below.size ≡ o.size → below.earlier ++ below.later ≡ remove (pair_rows o) place → IsBalanced (length below.earlier) (length below.later) → IsCut pair place row new x
+      left_over : below.size ≡ o.size → below.earlier.rows ++ below.later.rows ≡ remove (pair_rows o) place → IsBalanced (length below.earlier.rows) (length below.later.rows) → IsCut pair place row new x
       left_over same rows balanced =
           let rows_are : pair_rows new ≡ remove (pair_rows o) place = ap pair_rows new_is ∙ rows in
           record {
             sound = record {
               size_is = omega (arith, ap (λ (p : Pair). p.size) new_is, same, size_is, ap length rows_are, cut_size);
               piece_is = ap (λ (p : Pair). p.piece) new_is ∙ becomes gains own x (remove (pair_rows o) place) cut_few cut_passes piece sound_piece after ∙ ap tolerant (sym rows_are);
-              balanced = subst (λ (p : Pair). IsBalanced (length p.earlier) (length p.later)) (sym new_is) balanced;
+              balanced = subst (λ (p : Pair). IsBalanced (length p.earlier.rows) (length p.later.rows)) (sym new_is) balanced;
               of_kind = subst (AreOfKind Pq) (sym rows_are) (all_without (λ r. kind_of r.op ≡ Pq) (pair_rows o) place o_kind);
               few = omega (arith, ap length rows_are, cut_few);
             };
@@ -185,15 +192,22 @@ module _ (pair o : Pair) (whole : PieceParts) (sound : IsPair pair) (is : with_p
 
       pub cut_pair : Cuts o place below → IsCut pair place row new x
       cut_pair (inl earlier) =
-          let less : length below.earlier + 1 ≡ length o.earlier = ap (λ (p : Pair). length p.earlier + 1) earlier.1 ∙ length-remove o.earlier place earlier.0 in
-          let same : length below.later ≡ length o.later = ap (λ (p : Pair). length p.later) earlier.1 in
-          let light : length o.later + 3 < 3 * length o.earlier = spares_earlier place (length o.earlier) (length o.later) 33 o_spares earlier.0 in
-          left_over (ap (λ (p : Pair). p.size) earlier.1) (ap pair_rows earlier.1 ∙ sym (remove-append_left o.earlier o.later place earlier.0))
+          let e = o.earlier.rows in
+          let l = o.later.rows in
+          let less : length below.earlier.rows + 1 ≡ length e = ap (λ r. length r + 1) earlier.1 ∙ length-remove e place earlier.0 in
+          let same : length below.later.rows ≡ length l = ap (λ (p : Pair). length p.later.rows) earlier.2 in
+          let rows : pair_rows below ≡ remove e place ++ l = ap (λ r. r ++ below.later.rows) earlier.1 ∙ ap (λ (p : Pair). remove e place ++ p.later.rows) earlier.2 in
+          let light : length l + 3 < 3 * length e = spares_earlier place (length e) (length l) 33 o_spares earlier.0 in
+          left_over (ap (λ (p : Pair). p.size) earlier.2) (rows ∙ sym (remove-append_left e l place earlier.0))
           (record { earlier_light = omega (arith, less, same, o_balanced.earlier_light); later_light = omega (arith, less, same, light) })
       cut_pair (inr later) =
-          let less : length below.later + 1 ≡ length o.later =
-          ap (λ (p : Pair). length p.later + 1) later.1 ∙ length-remove o.later (place - length o.earlier) (omega (arith, cut_within, o_sizes, later.0)) in
-          let same : length below.earlier ≡ length o.earlier = ap (λ (p : Pair). length p.earlier) later.1 in
-          let light : length o.earlier + 3 < 3 * length o.later = spares_later place (length o.earlier) (length o.later) 33 o_spares later.0 in
-          left_over (ap (λ (p : Pair). p.size) later.1) (ap pair_rows later.1 ∙ sym (remove-append_right o.earlier o.later (length o.earlier) place refl later.0))
+          let e = o.earlier.rows in
+          let l = o.later.rows in
+          let less : length below.later.rows + 1 ≡ length l =
+          ap (λ r. length r + 1) later.1 ∙ length-remove l (place - length e) (omega (arith, cut_within, o_sizes, later.0)) in
+          let same : length below.earlier.rows ≡ length e = ap (λ (p : Pair). length p.earlier.rows) later.2 in
+          let rows : pair_rows below ≡ e ++ remove l (place - length e) =
+          ap (λ r. below.earlier.rows ++ r) later.1 ∙ ap (λ (p : Pair). p.earlier.rows ++ remove l (place - length e)) later.2 in
+          let light : length e + 3 < 3 * length l = spares_later place (length e) (length l) 33 o_spares later.0 in
+          left_over (ap (λ (p : Pair). p.size) later.2) (rows ∙ sym (remove-append_right e l (length e) place refl later.0))
           (record { earlier_light = omega (arith, less, same, light); later_light = omega (arith, less, same, o_balanced.later_light) })

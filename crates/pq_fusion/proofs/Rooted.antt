@@ -9,7 +9,7 @@ use Rattle.retro_base.specs.Timeline.{AreOfKind}
 use Rattle.pq_fusion.specs.declared.subtree.Link.{Link}
 use Rattle.pq_fusion.specs.declared.subtree.Link.TheVariants.{Empty, Leaf, Fork}
 use Rattle.pq_fusion.specs.declared.subtree.Pair.{Pair}
-use Rattle.pq_fusion.specs.Nodes.{IsBalanced, rows_of, IsPair, IsSound}
+use Rattle.pq_fusion.specs.Nodes.{IsBalanced, part_of, IsPair, IsSound}
 use Rattle.pq_fusion.specs.Pieces.{tolerant, fuse}
 use Rattle.pq_fusion.proofs.FromRows.{rows_fuse}
 
@@ -26,26 +26,26 @@ all_second P [] ys all = all
 all_second P (x ∷ xs) ys all = all_second P xs ys all.1
 
 -- the rows of a link are of the kind, and few
-pub kind_of_rows : (link : Link) → IsSound link → AreOfKind Pq (rows_of link)
+pub kind_of_rows : (link : Link) → IsSound link → AreOfKind Pq (part_of link).rows
 kind_of_rows Empty sound = tt
 kind_of_rows (Leaf run) sound = sound.of_kind
 kind_of_rows (Fork pair) sound = sound.of_kind
 
-pub few_rows : (link : Link) → IsSound link → length (rows_of link) ≤ most_rows
+pub few_rows : (link : Link) → IsSound link → length (part_of link).rows ≤ most_rows
 few_rows Empty sound = omega arith
 few_rows (Leaf run) sound = omega (arith, sound.few)
 few_rows (Fork pair) sound = sound.few
 
 -- a pair that is made of two sides
-pub made_pair : (pair : Pair) → pair.size ≡ length pair.earlier + length pair.later → pair.piece ≡ fuse (tolerant pair.earlier) (tolerant pair.later)
-    → IsBalanced (length pair.earlier) (length pair.later) → length pair.earlier + length pair.later ≤ most_rows
-    → AreOfKind Pq pair.earlier → AreOfKind Pq pair.later → IsPair pair
+pub made_pair : (pair : Pair) → pair.size ≡ length pair.earlier.rows + length pair.later.rows → pair.piece ≡ fuse (tolerant pair.earlier.rows) (tolerant pair.later.rows)
+    → IsBalanced (length pair.earlier.rows) (length pair.later.rows) → length pair.earlier.rows + length pair.later.rows ≤ most_rows
+    → AreOfKind Pq pair.earlier.rows → AreOfKind Pq pair.later.rows → IsPair pair
 made_pair pair size piece balanced few earlier later =
-    let whole = length-append pair.earlier pair.later in
+    let whole = length-append pair.earlier.rows pair.later.rows in
     record {
       size_is = omega (arith, whole, size);
-      piece_is = piece ∙ sym (rows_fuse pair.earlier pair.later);
+      piece_is = piece ∙ sym (rows_fuse pair.earlier.rows pair.later.rows);
       balanced = balanced;
-      of_kind = all_both (λ row. kind_of row.op ≡ Pq) pair.earlier pair.later earlier later;
+      of_kind = all_both (λ row. kind_of row.op ≡ Pq) pair.earlier.rows pair.later.rows earlier later;
       few = omega (arith, whole, few);
     }

@@ -124,48 +124,48 @@ piece_few rows piece is k small =
 
 -- walks at a pair
 module _ (rows : List Row) (pair : Pair) (root : IsPairOf rows pair) where
-  side_earlier : 4 * weight pair.earlier ≤ 3 * weight rows
+  side_earlier : 4 * weight pair.earlier.rows ≤ 3 * weight rows
   side_earlier = omega (arith, sizes rows pair root, root.sound.balanced.earlier_light)
 
-  side_later : 4 * weight pair.later ≤ 3 * weight rows
+  side_later : 4 * weight pair.later.rows ≤ 3 * weight rows
   side_later = omega (arith, sizes rows pair root, root.sound.balanced.later_light)
 
   pub walk_left : (d less more levels start next end : ℕ) → 1 ≤ d → less ≤ more → IsWithinLevels (weight rows) levels → next ≡ start + 1
-      → ((below : ℕ) → IsWithinLevels (weight pair.earlier) below → VisitsUpTo ((below + 1) * d + less) next end)
+      → ((below : ℕ) → IsWithinLevels (weight pair.earlier.rows) below → VisitsUpTo ((below + 1) * d + less) next end)
       → VisitsUpTo ((levels + 1) * d + more) start end
   walk_left d less more zero start next end some grows within one rest = absurd (omega (arith, within, sizes rows pair root, some_earlier rows pair root))
   walk_left d less more (suc levels) start next end some grows within one rest =
-      level_left levels d less more start next end some grows one (rest levels (within (weight pair.earlier) side_earlier))
+      level_left levels d less more start next end some grows one (rest levels (within (weight pair.earlier.rows) side_earlier))
 
   pub walk_right : (d whole less more levels start first second end : ℕ) → 1 + whole ≤ d → less ≤ more → IsWithinLevels (weight rows) levels → first ≡ start + 1
       → VisitsUpTo whole first second
-      → ((below : ℕ) → IsWithinLevels (weight pair.later) below → VisitsUpTo ((below + 1) * d + less) second end)
+      → ((below : ℕ) → IsWithinLevels (weight pair.later.rows) below → VisitsUpTo ((below + 1) * d + less) second end)
       → VisitsUpTo ((levels + 1) * d + more) start end
   walk_right d whole less more zero start first second end sum grows within one left rest = absurd (omega (arith, within, sizes rows pair root, some_later rows pair root))
   walk_right d whole less more (suc levels) start first second end sum grows within one left rest =
-      level_right levels whole d less more start first second end sum grows one left (rest levels (within (weight pair.later) side_later))
+      level_right levels whole d less more start first second end sum grows one left (rest levels (within (weight pair.later.rows) side_later))
 
-  pub earlier_shorter : (k : ℕ) → length rows < 2 ^ k → length pair.earlier < 2 ^ k
+  pub earlier_shorter : (k : ℕ) → length rows < 2 ^ k → length pair.earlier.rows < 2 ^ k
   earlier_shorter k small = omega (arith, sizes rows pair root, small)
 
-  pub later_shorter : (k : ℕ) → length rows < 2 ^ k → length pair.later < 2 ^ k
+  pub later_shorter : (k : ℕ) → length rows < 2 ^ k → length pair.later.rows < 2 ^ k
   later_shorter k small = omega (arith, sizes rows pair root, small)
 
-  pub earlier_run : run_of pair.earlier ≤ run_of rows
+  pub earlier_run : run_of pair.earlier.rows ≤ run_of rows
   earlier_run = omega (arith, sizes rows pair root)
 
-  pub later_run : run_of pair.later ≤ run_of rows
+  pub later_run : run_of pair.later.rows ≤ run_of rows
   later_run = omega (arith, sizes rows pair root)
 
   -- with no rows gone through
   pub step_left : (levels start next end : ℕ) → IsWithinLevels (weight rows) levels → next ≡ start + 1
-      → ((below : ℕ) → IsWithinLevels (weight pair.earlier) below → VisitsUpTo ((below + 1) * 2) next end) → VisitsUpTo ((levels + 1) * 2) start end
+      → ((below : ℕ) → IsWithinLevels (weight pair.earlier.rows) below → VisitsUpTo ((below + 1) * 2) next end) → VisitsUpTo ((levels + 1) * 2) start end
   step_left levels start next end within one rest =
       no_more_than ((levels + 1) * 2 + 0) ((levels + 1) * 2) start end (omega arith)
       (walk_left 2 0 0 levels start next end (omega arith) (omega arith) within one (λ below inside. no_more_than ((below + 1) * 2) ((below + 1) * 2 + 0) next end (omega arith) (rest below inside)))
 
   pub step_right : (levels start first second end : ℕ) → IsWithinLevels (weight rows) levels → first ≡ start + 1 → VisitsUpTo 1 first second
-      → ((below : ℕ) → IsWithinLevels (weight pair.later) below → VisitsUpTo ((below + 1) * 2) second end) → VisitsUpTo ((levels + 1) * 2) start end
+      → ((below : ℕ) → IsWithinLevels (weight pair.later.rows) below → VisitsUpTo ((below + 1) * 2) second end) → VisitsUpTo ((levels + 1) * 2) start end
   step_right levels start first second end within one left rest =
       no_more_than ((levels + 1) * 2 + 0) ((levels + 1) * 2) start end (omega arith)
       (walk_right 2 1 0 0 levels start first second end (omega arith) (omega arith) within one left

@@ -149,5 +149,5 @@ pub piece_less : (rows : List Row) (piece : PieceParts) → piece ≡ tolerant r
 piece_less rows piece is = omega (arith, piece_count rows piece is, added_few rows)
 
 -- what the rows of a pair add
-pub added_parts : (rows : List Row) (pair : Pair) → IsPairOf rows pair → length (added rows) ≡ length (added pair.earlier) + length (added pair.later)
-added_parts rows pair root = ap (λ l. length (added l)) root.rows_are ∙ added-append pair.earlier pair.later
+pub added_parts : (rows : List Row) (pair : Pair) → IsPairOf rows pair → length (added rows) ≡ length (added pair.earlier.rows) + length (added pair.later.rows)
+added_parts rows pair root = ap (λ l. length (added l)) root.rows_are ∙ added-append pair.earlier.rows pair.later.rows

@@ -4,6 +4,7 @@ pub mod Bounds
 pub mod Edits
 pub mod Exchanges
 pub mod Differences
+pub mod Wear
 pub mod Nodes
 pub mod Roots
 pub mod NodesFall

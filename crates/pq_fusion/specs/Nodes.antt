@@ -9,6 +9,7 @@ use Rattle.pq_fusion.specs.declared.subtree.Link.TheVariants.{Empty, Leaf, Fork}
 use Rattle.pq_fusion.specs.declared.subtree.Pair.{Pair}
 use Rattle.pq_fusion.specs.declared.subtree.Run.{Run}
 use Rattle.pq_fusion.specs.Pieces.{tolerant}
+use Rattle.pq_fusion.specs.Wear.{WornRows, joined, unworn}
 
 -- a run has so many rows at most
 abbrev pub longest_run : ℕ
@@ -25,13 +26,17 @@ pub record IsBalanced (earlier later : ℕ) : Type 0 where
 
 -- the rows below a pair, in order
 abbrev pub pair_rows : Pair → List Row
-pair_rows pair = pair.earlier ++ pair.later
+pair_rows pair = pair.earlier.rows ++ pair.later.rows
 
--- the rows that a link leads to, in order
-abbrev pub rows_of : Link → List Row
-rows_of Empty = []
-rows_of (Leaf run) = run.value.rows.items
-rows_of (Fork pair) = pair_rows pair.value
+-- and the wear of both sides, and of the pair
+abbrev pub pair_part : Pair → WornRows
+pair_part pair = joined pair.earlier pair.later
+
+-- what a link leads to: a run has no wear
+abbrev pub part_of : Link → WornRows
+part_of Empty = unworn []
+part_of (Leaf run) = unworn run.value.rows.items
+part_of (Fork pair) = pair_part pair.value
 
 -- a run has some rows and not too many, and the piece is what they come to
 pub record IsRun (run : Run) : Type 0 where
@@ -44,7 +49,7 @@ pub record IsRun (run : Run) : Type 0 where
 pub record IsPair (pair : Pair) : Type 0 where
   pub size_is : pair.size ≡ length (pair_rows pair)
   pub piece_is : pair.piece ≡ tolerant (pair_rows pair)
-  pub balanced : IsBalanced (length pair.earlier) (length pair.later)
+  pub balanced : IsBalanced (length pair.earlier.rows) (length pair.later.rows)
   pub of_kind : AreOfKind Pq (pair_rows pair)
   pub few : length (pair_rows pair) ≤ most_rows
 

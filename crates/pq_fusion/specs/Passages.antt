@@ -1,5 +1,5 @@
 -- A pair that is edited below.
-use Rattle.std.specs.Prelude.{◌≡◌, ℕ, Bool, true, false, ◌+◌, ◌-◌, ◌*◌, ◌<◌, ◌≤◌, ◌⊎◌, List, length, nat_lt, nat_le, if◌then◌else◌}
+use Rattle.std.specs.Prelude.{◌≡◌, ℕ, Bool, true, false, ◌+◌, ◌-◌, ◌*◌, ◌<◌, ◌≤◌, ◌⊎◌, length, nat_lt, nat_le, if◌then◌else◌}
 use Rattle.std.specs.List.{insert, remove}
 use Rattle.retro_base.specs.declared.row.Row.{Row}
 use Rattle.retro_base.specs.Weights.{added_by}
@@ -8,11 +8,12 @@ use Rattle.pq_fusion.specs.declared.subtree.Pair.{Pair}
 use Rattle.pq_fusion.specs.Edits.{DiffersBy, boundary_of}
 use Rattle.pq_fusion.specs.Nodes.{IsPair, pair_rows}
 use Rattle.pq_fusion.specs.Pieces.{PieceParts, tolerant}
+use Rattle.pq_fusion.specs.Wear.{WornRows}
 
 -- both sides stay in balance where a row is put in at the place: where they meet it comes to the earlier
 abbrev pub bears : Pair → ℕ → Bool
-bears pair place = if nat_le place (length pair.earlier) then nat_lt (length pair.earlier + 1) (3 * length pair.later)
-    else nat_lt (length pair.later + 1) (3 * length pair.earlier)
+bears pair place = if nat_le place (length pair.earlier.rows) then nat_lt (length pair.earlier.rows + 1) (3 * length pair.later.rows)
+    else nat_lt (length pair.later.rows + 1) (3 * length pair.earlier.rows)
 
 -- a pair of fewer rows is made a run
 abbrev pub least_pair : ℕ
@@ -20,16 +21,16 @@ least_pair = 33
 
 -- both sides stay in balance, and the rows those of a pair, where the row at the place goes
 abbrev pub spares : Pair → ℕ → Bool
-spares pair place = if nat_le (length pair.earlier + length pair.later) least_pair then false
-    else (if nat_lt place (length pair.earlier) then nat_lt (length pair.later + 3) (3 * length pair.earlier)
-    else nat_lt (length pair.earlier + 3) (3 * length pair.later))
+spares pair place = if nat_le (length pair.earlier.rows + length pair.later.rows) least_pair then false
+    else (if nat_lt place (length pair.earlier.rows) then nat_lt (length pair.later.rows + 3) (3 * length pair.earlier.rows)
+    else nat_lt (length pair.earlier.rows + 3) (3 * length pair.later.rows))
 
--- a pair with other rows on a side
-abbrev pub with_earlier : Pair → List Row → Pair
-with_earlier pair rows = record { earlier = rows; later = pair.later; size = pair.size; piece = pair.piece }
+-- a pair with another side
+abbrev pub with_earlier : Pair → WornRows → Pair
+with_earlier pair part = record { earlier = part; later = pair.later; size = pair.size; piece = pair.piece }
 
-abbrev pub with_later : Pair → List Row → Pair
-with_later pair rows = record { earlier = pair.earlier; later = rows; size = pair.size; piece = pair.piece }
+abbrev pub with_later : Pair → WornRows → Pair
+with_later pair part = record { earlier = pair.earlier; later = part; size = pair.size; piece = pair.piece }
 
 -- a pair with another piece
 abbrev pub with_piece : Pair → PieceParts → Pair
@@ -37,17 +38,19 @@ with_piece pair piece = record { earlier = pair.earlier; later = pair.later; siz
 
 -- the pair where a row comes in on the side of a place, and where the row there goes
 abbrev pub Puts : Pair → ℕ → Row → Pair → Type 0
-Puts pair place row edited = ((place ≤ length pair.earlier) × (edited ≡ with_earlier pair (insert pair.earlier place row)))
-    ⊎ ((length pair.earlier < place) × (edited ≡ with_later pair (insert pair.later (place - length pair.earlier) row)))
+Puts pair place row edited =
+    ((place ≤ length pair.earlier.rows) × (edited.earlier.rows ≡ insert pair.earlier.rows place row) × (edited ≡ with_earlier pair edited.earlier))
+    ⊎ ((length pair.earlier.rows < place) × (edited.later.rows ≡ insert pair.later.rows (place - length pair.earlier.rows) row) × (edited ≡ with_later pair edited.later))
 
 abbrev pub Cuts : Pair → ℕ → Pair → Type 0
-Cuts pair place edited = ((place < length pair.earlier) × (edited ≡ with_earlier pair (remove pair.earlier place)))
-    ⊎ ((length pair.earlier ≤ place) × (edited ≡ with_later pair (remove pair.later (place - length pair.earlier))))
+Cuts pair place edited =
+    ((place < length pair.earlier.rows) × (edited.earlier.rows ≡ remove pair.earlier.rows place) × (edited ≡ with_earlier pair edited.earlier))
+    ⊎ ((length pair.earlier.rows ≤ place) × (edited.later.rows ≡ remove pair.later.rows (place - length pair.earlier.rows)) × (edited ≡ with_later pair edited.later))
 
 -- the boundary of a pair where a row is put in; behind all others one that adds an entry passes its own, whatever stands there
 abbrev pub IsBoundaryFor : Bool → ℕ → Pair → Bound → Type 0
 IsBoundaryFor gains place pair boundary = ((gains ≡ true) × (place ≡ length (pair_rows pair)))
-    ⊎ (boundary ≡ boundary_of gains (tolerant pair.earlier) (tolerant pair.later))
+    ⊎ (boundary ≡ boundary_of gains (tolerant pair.earlier.rows) (tolerant pair.later.rows))
 
 -- a pair of the edited rows, and what passes between what they leave and what they do not
 pub record IsPut (pair : Pair) (place : ℕ) (row : Row) (edited : Pair) (passed : Bound) : Type 0 where

@@ -18,9 +18,9 @@ impl Subtree {
         question: Question,
         steps: &mut Steps<L>,
     ) -> Answer
-        requires { to ≤ length self.now }
-        ensures answer { result ≡ answer_of (entries (left_by (take to self.now))) question }
-        ensures visits { SeeksWithin self.now steps.old steps.new }
+        requires { to ≤ length self.now.rows }
+        ensures answer { result ≡ answer_of (entries (left_by (take to self.now.rows))) question }
+        ensures visits { SeeksWithin self.now.rows steps.old steps.new }
     {
         match question {
             Question::Size => Answer::Number {

@@ -7,9 +7,10 @@ ghost use Rattle.retro_base.specs.Timeline.{AreOfKind};
 ghost use Rattle.retro_base.specs.Weights.{added_by};
 ghost use Rattle.pq_fusion.specs.Bounds.{higher, lower};
 ghost use Rattle.pq_fusion.specs.Edits.{DiffersBy, boundary_of};
-ghost use Rattle.pq_fusion.specs.Nodes.{IsBalanced, IsPair, longest_run, pair_rows};
+ghost use Rattle.pq_fusion.specs.Nodes.{IsBalanced, IsPair, longest_run, pair_part, pair_rows};
 ghost use Rattle.pq_fusion.specs.Passages.{Cuts, IsBoundaryFor, IsCut, IsPut, Puts, bears, spares, with_piece};
 ghost use Rattle.pq_fusion.specs.Pieces.{tolerant};
+ghost use Rattle.pq_fusion.specs.Wear.{joined, unworn};
 
 use crate::boundary::boundary;
 use crate::difference::difference;
@@ -31,7 +32,7 @@ impl Subtree {
     fn of_few(alloc: Global, rows: &[Row]) -> Result<Subtree, NoMemory>
         requires of_kind { AreOfKind Pq rows.now }
         requires few { length rows.now ≤ longest_run }
-        ensures { IfOk result (λ subtree. subtree ≡ rows.now) }
+        ensures { IfOk result (λ subtree. subtree ≡ unworn rows.now) }
     {
         if rows.is_empty() {
             return Ok(Subtree::new());
@@ -46,9 +47,9 @@ impl Subtree {
 
     /// The subtree of two sides that are in balance.
     fn of_sides(alloc: Global, earlier: Subtree, later: Subtree) -> Result<Subtree, NoMemory>
-        requires balanced { IsBalanced (length earlier) (length later) }
-        requires few { length earlier + length later ≤ most_rows }
-        ensures { IfOk result (λ subtree. subtree ≡ earlier ++ later) }
+        requires balanced { IsBalanced (length earlier.rows) (length later.rows) }
+        requires few { length earlier.rows + length later.rows ≤ most_rows }
+        ensures { IfOk result (λ subtree. subtree ≡ joined earlier later) }
     {
         let first = earlier.whole(alloc)?;
         let second = later.whole(alloc)?;
@@ -69,7 +70,7 @@ impl Subtree {
         requires few { length rows.now ≤ most_rows }
         requires some { 1 ≤ longest }
         requires short { longest ≤ longest_run }
-        ensures { IfOk result (λ subtree. subtree ≡ rows.now) }
+        ensures { IfOk result (λ subtree. subtree ≡ unworn rows.now) }
     {
         if rows.len() <= longest {
             return Subtree::of_few(alloc, rows);
@@ -82,10 +83,10 @@ impl Subtree {
 
     /// The rows and one more at a place.
     fn rows_with(&self, alloc: Global, place: u32, row: Row) -> Result<Vec<Row>, NoMemory>
-        requires within { place ≤ length self.now }
-        requires room { length self.now < most_rows }
+        requires within { place ≤ length self.now.rows }
+        requires room { length self.now.rows < most_rows }
         requires of_kind { kind_of row.op ≡ Pq }
-        ensures rows { IfOk result (λ rows. rows.items ≡ insert self.now place row) }
+        ensures rows { IfOk result (λ rows. rows.items ≡ insert self.now.rows place row) }
         ensures of_kind { IfOk result (λ rows. AreOfKind Pq rows.items) }
         ensures few { IfOk result (λ rows. length rows.items ≤ most_rows) }
     {
@@ -97,8 +98,8 @@ impl Subtree {
 
     /// The rows but the one at a place.
     fn rows_without(&self, alloc: Global, place: u32) -> Result<Vec<Row>, NoMemory>
-        requires within { place < length self.now }
-        ensures rows { IfOk result (λ rows. rows.items ≡ remove self.now place) }
+        requires within { place < length self.now.rows }
+        ensures rows { IfOk result (λ rows. rows.items ≡ remove self.now.rows place) }
         ensures of_kind { IfOk result (λ rows. AreOfKind Pq rows.items) }
         ensures few { IfOk result (λ rows. length rows.items ≤ most_rows) }
     {
@@ -110,11 +111,11 @@ impl Subtree {
 
     /// The run of the rows here and this one behind them, which are `rows`. Its piece is the one here with a row more.
     fn with_last(&self, alloc: Global, rows: Vec<Row>, row: Row) -> Result<Subtree, NoMemory>
-        requires rows { rows.items ≡ insert self.now (length self.now) row }
+        requires rows { rows.items ≡ insert self.now.rows (length self.now.rows) row }
         requires row { kind_of row.op ≡ Pq }
         requires of_kind { AreOfKind Pq rows.items }
         requires few { length rows.items ≤ longest_run }
-        ensures { IfOk result (λ subtree. subtree ≡ rows.items) }
+        ensures { IfOk result (λ subtree. subtree ≡ unworn rows.items) }
     {
         let piece = self.whole(alloc)?.with_row(row)?.copy()?;
         let run = Run {
@@ -132,12 +133,12 @@ impl Subtree {
         row: Row,
         longest: usize,
     ) -> Result<Subtree, NoMemory>
-        requires within { place ≤ length self.now }
-        requires room { length self.now < most_rows }
+        requires within { place ≤ length self.now.rows }
+        requires room { length self.now.rows < most_rows }
         requires of_kind { kind_of row.op ≡ Pq }
         requires some { 1 ≤ longest }
         requires short { longest ≤ longest_run }
-        ensures { IfOk result (λ new. new ≡ insert self.now place row) }
+        ensures { IfOk result (λ new. new ≡ unworn (insert self.now.rows place row)) }
     {
         let rows = self.rows_with(alloc, place, row)?;
         if place == self.len() && rows.as_slice().len() <= longest {
@@ -154,14 +155,14 @@ impl Subtree {
         row: Row,
         longest: usize,
     ) -> Result<Bound, NoMemory>
-        requires within { place ≤ length self.old }
-        requires room { length self.old < most_rows }
+        requires within { place ≤ length self.old.rows }
+        requires room { length self.old.rows < most_rows }
         requires of_kind { kind_of row.op ≡ Pq }
         requires some { 1 ≤ longest }
         requires short { longest ≤ longest_run }
-        ensures ok { OnOk result (self.new ≡ insert self.old place row) }
+        ensures ok { OnOk result (self.new ≡ unworn (insert self.old.rows place row)) }
         ensures err { OnErr result (self.new ≡ self.old) }
-        ensures passed { IfOk result (λ passed. DiffersBy (added_by row) passed (tolerant self.old) (tolerant (insert self.old place row))) }
+        ensures passed { IfOk result (λ passed. DiffersBy (added_by row) passed (tolerant self.old.rows) (tolerant (insert self.old.rows place row))) }
     {
         let new = self.with_row(alloc, place, row, longest)?;
         let gains = row.added_entry().is_some();
@@ -178,12 +179,12 @@ impl Subtree {
         row: Row,
         longest: usize,
     ) -> Result<Bound, NoMemory>
-        requires there { slice_get self.old place ≡ Some row }
+        requires there { slice_get self.old.rows place ≡ Some row }
         requires some { 1 ≤ longest }
         requires short { longest ≤ longest_run }
-        ensures ok { OnOk result (self.new ≡ remove self.old place) }
+        ensures ok { OnOk result (self.new ≡ unworn (remove self.old.rows place)) }
         ensures err { OnErr result (self.new ≡ self.old) }
-        ensures passed { IfOk result (λ passed. DiffersBy (added_by row) passed (tolerant (remove self.old place)) (tolerant self.old)) }
+        ensures passed { IfOk result (λ passed. DiffersBy (added_by row) passed (tolerant (remove self.old.rows place)) (tolerant self.old.rows)) }
     {
         let rows = self.rows_without(alloc, place)?;
         let new = Subtree::of_rows(alloc, rows.as_slice(), longest)?;
@@ -196,8 +197,8 @@ impl Subtree {
     /// Puts an edited pair back, or the pair as it was where there was no memory for the edit.
     fn put_back(&mut self, edited: Result<Edited, Box<Pair>>) -> Result<Bound, NoMemory>
         requires { MatchResult edited (λ edited. IsPair edited.pair.value) (λ same. IsPair same.value) }
-        ensures { MatchResult edited (λ edited. (result ≡ Ok edited.passed) × (self.new ≡ pair_rows edited.pair.value))
-            (λ same. (is_ok result ≡ false) × (self.new ≡ pair_rows same.value)) }
+        ensures { MatchResult edited (λ edited. (result ≡ Ok edited.passed) × (self.new ≡ pair_part edited.pair.value))
+            (λ same. (is_ok result ≡ false) × (self.new ≡ pair_part same.value)) }
     {
         match edited {
             Ok(Edited { pair, passed }) => {
@@ -215,12 +216,12 @@ impl Subtree {
     /// It says what passes between what the rows leave and what they do not.
     #[cycle(put)]
     pub(crate) fn insert(&mut self, alloc: Global, place: u32, row: Row) -> Result<Bound, NoMemory>
-        requires within { place ≤ length self.old }
-        requires room { length self.old < most_rows }
+        requires within { place ≤ length self.old.rows }
+        requires room { length self.old.rows < most_rows }
         requires of_kind { kind_of row.op ≡ Pq }
-        ensures ok { OnOk result (self.new ≡ insert self.old place row) }
+        ensures ok { OnOk result (self.new.rows ≡ insert self.old.rows place row) }
         ensures err { OnErr result (self.new ≡ self.old) }
-        ensures passed { IfOk result (λ passed. DiffersBy (added_by row) passed (tolerant self.old) (tolerant (insert self.old place row))) }
+        ensures passed { IfOk result (λ passed. DiffersBy (added_by row) passed (tolerant self.old.rows) (tolerant (insert self.old.rows place row))) }
     {
         let pair = match mem::replace(&mut self.link, Link::Empty) {
             Link::Fork(pair) => pair,
@@ -241,10 +242,10 @@ impl Subtree {
     /// all is as before. It says what passes between what the rows leave and what they do not.
     #[cycle(cut)]
     pub(crate) fn remove(&mut self, alloc: Global, place: u32, row: Row) -> Result<Bound, NoMemory>
-        requires there { slice_get self.old place ≡ Some row }
-        ensures ok { OnOk result (self.new ≡ remove self.old place) }
+        requires there { slice_get self.old.rows place ≡ Some row }
+        ensures ok { OnOk result (self.new.rows ≡ remove self.old.rows place) }
         ensures err { OnErr result (self.new ≡ self.old) }
-        ensures passed { IfOk result (λ passed. DiffersBy (added_by row) passed (tolerant (remove self.old place)) (tolerant self.old)) }
+        ensures passed { IfOk result (λ passed. DiffersBy (added_by row) passed (tolerant (remove self.old.rows place)) (tolerant self.old.rows)) }
     {
         let pair = match mem::replace(&mut self.link, Link::Empty) {
             Link::Fork(pair) => pair,
@@ -293,7 +294,7 @@ impl Pair {
     /// What stands at the boundary of what the later side takes of the earlier one, seen from before an edit that gains or loses.
     fn boundary(&self, gains: bool) -> Bound
         requires { IsPair self.now }
-        ensures { result ≡ boundary_of gains (tolerant self.now.earlier) (tolerant self.now.later) }
+        ensures { result ≡ boundary_of gains (tolerant self.now.earlier.rows) (tolerant self.now.later.rows) }
     {
         let (Some(first), Some(second)) = (self.earlier.node_piece(), self.later.node_piece())
         else {
@@ -325,7 +326,7 @@ impl Pair {
         requires within { place ≤ length (pair_rows self.old) }
         requires room { length (pair_rows self.old) < most_rows }
         requires of_kind { kind_of row.op ≡ Pq }
-        requires some { 0 < length self.old.later }
+        requires some { 0 < length self.old.later.rows }
         requires boundary { IsBoundaryFor (is_some (added_by row)) place self.old boundary }
         ensures ok { OnOk result (Puts self.old place row self.new) }
         ensures err { OnErr result (self.new ≡ self.old) }
@@ -350,7 +351,7 @@ impl Pair {
         boundary: Bound,
     ) -> Result<Bound, NoMemory>
         requires there { slice_get (pair_rows self.old) place ≡ Some row }
-        requires boundary { boundary ≡ boundary_of (not (is_some (added_by row))) (tolerant self.old.earlier) (tolerant self.old.later) }
+        requires boundary { boundary ≡ boundary_of (not (is_some (added_by row))) (tolerant self.old.earlier.rows) (tolerant self.old.later.rows) }
         ensures ok { OnOk result (Cuts self.old place self.new) }
         ensures err { OnErr result (self.new ≡ self.old) }
         ensures passed { IfOk result (λ passed. DiffersBy (added_by row) passed (tolerant (remove (pair_rows self.old) place)) (tolerant (pair_rows self.old))) }

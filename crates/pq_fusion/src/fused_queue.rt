@@ -14,6 +14,7 @@ ghost use Rattle.retro_base.specs.Timeline.{IsReplayable};
 ghost use Rattle.retro_base.specs.Visits.{OpensCounter};
 ghost use Rattle.pq_fusion.specs.Pieces.{tolerant};
 ghost use Rattle.pq_fusion.specs.Searches.{VisitsUpTo};
+ghost use Rattle.pq_fusion.specs.Wear.{unworn};
 
 use crate::Piece;
 use crate::answer::keys_of;
@@ -27,7 +28,7 @@ use std::alloc::Global;
 use std::marker::{Brand, Model};
 use std::sync::ledger::{Blank, Ledger};
 
-/// A priority queue whose whole past is one product of pieces, which contracts see as its rows.
+/// A priority queue whose whole past is one product of pieces. Contracts see its rows, and the wear of the tree of these.
 #[derive(Drop)]
 pub struct FusedQueue {
     alloc: Global,
@@ -36,20 +37,20 @@ pub struct FusedQueue {
 }
 
 impl Model for FusedQueue {
-    ghost use Rattle.std.specs.Prelude.{◌≡◌, List};
-    ghost use Rattle.retro_base.specs.declared.row.Row.{Row};
+    ghost use Rattle.std.specs.Prelude.{◌≡◌};
+    ghost use Rattle.pq_fusion.specs.Wear.{WornRows};
 
-    ghost Value = { List Row };
+    ghost Value = { WornRows };
 
-    ghost view = { λ fused. fused.queue };
+    ghost view = { λ fused. record { rows = fused.queue; wear = fused.rows.wear } };
 
-    ghost invariant = { λ fused. fused.rows ≡ fused.queue };
+    ghost invariant = { λ fused. fused.rows.rows ≡ fused.queue };
 }
 
 impl FusedQueue {
     /// A queue with no rows; their memory will be that of `alloc`.
     pub fn new(alloc: Global) -> FusedQueue
-        ensures { result ≡ [] }
+        ensures { result ≡ unworn [] }
     {
         FusedQueue {
             alloc,
@@ -61,8 +62,8 @@ impl FusedQueue {
     /// What the rows from `from` to before `to` come to.
     pub fn piece(&self, from: u32, to: u32) -> Result<Piece, NoMemory>
         requires order { from ≤ to }
-        requires within { to ≤ length self.now }
-        ensures { IfOk result (λ piece. piece ≡ tolerant (slice_range self.now from to)) }
+        requires within { to ≤ length self.now.rows }
+        ensures { IfOk result (λ piece. piece ≡ tolerant (slice_range self.now.rows from to)) }
     {
         self.rows.piece(self.alloc, from, to)
     }
@@ -71,10 +72,10 @@ impl FusedQueue {
     /// run has no more than 64 rows, so the tree has many levels: whatever number of them is named, each row that adds counts as often, but
     /// for at most 16 entries times 2 to the power of that number.
     pub fn stored(&self) -> u64
-        ensures least { length (added self.now) ≤ result }
-        ensures most { result ≤ 3 * length self.now * digits (length self.now + 1) }
-        ensures levels { (levels : ℕ) → levels * length (added self.now) ≤ result + 16 * 2 ^ levels }
-        ensures entries { result ≤ 3 * length (added self.now) * digits (length self.now + 1) }
+        ensures least { length (added self.now.rows) ≤ result }
+        ensures most { result ≤ 3 * length self.now.rows * digits (length self.now.rows + 1) }
+        ensures levels { (levels : ℕ) → levels * length (added self.now.rows) ≤ result + 16 * 2 ^ levels }
+        ensures entries { result ≤ 3 * length (added self.now.rows) * digits (length self.now.rows + 1) }
     {
         self.rows.stored()
     }
@@ -87,10 +88,10 @@ impl FusedQueue {
         question: Question,
         steps: &mut Steps<L>,
     ) -> Answer
-        requires within { place ≤ length self.now }
+        requires within { place ≤ length self.now.rows }
         requires suited { suits question Pq ≡ true }
-        ensures answer { result ≡ answer_of (state_at Pq self.now place) question }
-        ensures visits { VisitsUpTo (25 * 64 * digits (length self.now + 1) * digits (length self.now + 1)) steps.old steps.new }
+        ensures answer { result ≡ answer_of (state_at Pq self.now.rows place) question }
+        ensures visits { VisitsUpTo (25 * 64 * digits (length self.now.rows + 1) * digits (length self.now.rows + 1)) steps.old steps.new }
     {
         let _replayable = self.queue.kind();
         self.rows.answer(place, question, steps)
@@ -98,18 +99,18 @@ impl FusedQueue {
 
     /// The answer to a question about the state at a place, for a caller that counts nothing.
     pub fn answer_at(&self, place: u32, question: Question) -> Answer
-        requires within { place ≤ length self.now }
+        requires within { place ≤ length self.now.rows }
         requires suited { suits question Pq ≡ true }
-        ensures { result ≡ answer_of (state_at Pq self.now place) question }
+        ensures { result ≡ answer_of (state_at Pq self.now.rows place) question }
     {
         self.answer_with::<Brand>(place, question, Blank::new(1))
     }
 
     fn answer_with<L: Ledger>(&self, place: u32, question: Question, blank: Blank) -> Answer
-        requires within { place ≤ length self.now }
+        requires within { place ≤ length self.now.rows }
         requires suited { suits question Pq ≡ true }
         requires counter { OpensCounter blank.name L.name blank.parts L.parts }
-        ensures { result ≡ answer_of (state_at Pq self.now place) question }
+        ensures { result ≡ answer_of (state_at Pq self.now.rows place) question }
     {
         let mut steps = Steps::<L>::new(blank);
         self.ask_past(place, question, &mut steps)
@@ -117,8 +118,8 @@ impl FusedQueue {
 
     /// The entries that the first rows leave, which are the state after them.
     fn remaining(&self, place: u32) -> Result<Vec<Entry>, NoMemory>
-        requires { place ≤ length self.now }
-        ensures state { IfOk result (λ left. state_at Pq self.now place ≡ entries left.items) }
+        requires { place ≤ length self.now.rows }
+        ensures state { IfOk result (λ left. state_at Pq self.now.rows place ≡ entries left.items) }
         ensures few { IfOk result (λ left. length left.items ≤ most_rows) }
     {
         let _replayable = self.queue.kind();
@@ -129,7 +130,7 @@ impl FusedQueue {
 impl Retro for FusedQueue {
     ghost kind = { λ _. Pq };
 
-    ghost rows = { λ fused. fused };
+    ghost rows = { λ fused. fused.rows };
 
     fn kind(&self) -> Kind {
         self.queue.kind()
@@ -181,14 +182,14 @@ fn insert_into_both(
     place: u32,
     row: Row,
 ) -> Result<Change, NoMemory>
-    requires same { rows.old ≡ queue.old }
+    requires same { rows.old.rows ≡ queue.old }
     requires within { place ≤ length queue.old }
     requires replayable { IsReplayable Pq (insert queue.old place row) }
     ensures rows { OnOk result (queue.new ≡ insert queue.old place row) }
     ensures replayable { OnOk result (IsReplayable Pq queue.new) }
     ensures change { IfOk result (IsChange Pq queue.old (add place row)) }
     ensures err { OnErr result (queue.new ≡ queue.old) }
-    ensures same { rows.new ≡ queue.new }
+    ensures same { rows.new.rows ≡ queue.new }
 {
     let _replayable = queue.kind();
     let change = uncounted::insert(queue, place, row)?;

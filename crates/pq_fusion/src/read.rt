@@ -16,8 +16,8 @@ use std::alloc::Global;
 impl Subtree {
     /// The row at a place.
     pub(crate) fn row_at(&self, place: u32) -> Row
-        requires { place < length self.now }
-        ensures { slice_get self.now place ≡ Some result }
+        requires { place < length self.now.rows }
+        ensures { slice_get self.now.rows place ≡ Some result }
     {
         match self.root() {
             Root::Nothing => unreachable!(),
@@ -34,8 +34,8 @@ impl Subtree {
 
     /// What the first rows come to.
     pub(crate) fn prefix(&self, alloc: Global, to: u32) -> Result<Piece, NoMemory>
-        requires { to ≤ length self.now }
-        ensures { IfOk result (λ piece. piece ≡ tolerant (take to self.now)) }
+        requires { to ≤ length self.now.rows }
+        ensures { IfOk result (λ piece. piece ≡ tolerant (take to self.now.rows)) }
     {
         if to == self.len() {
             return self.whole(alloc);
@@ -56,8 +56,8 @@ impl Subtree {
 
     /// What the rows from a place on come to.
     pub(crate) fn suffix(&self, alloc: Global, from: u32) -> Result<Piece, NoMemory>
-        requires { from ≤ length self.now }
-        ensures { IfOk result (λ piece. piece ≡ tolerant (drop from self.now)) }
+        requires { from ≤ length self.now.rows }
+        ensures { IfOk result (λ piece. piece ≡ tolerant (drop from self.now.rows)) }
     {
         if from == 0 {
             return self.whole(alloc);
@@ -79,8 +79,8 @@ impl Subtree {
     /// What the rows from `from` to before `to` come to.
     pub(crate) fn piece(&self, alloc: Global, from: u32, to: u32) -> Result<Piece, NoMemory>
         requires order { from ≤ to }
-        requires within { to ≤ length self.now }
-        ensures { IfOk result (λ piece. piece ≡ tolerant (slice_range self.now from to)) }
+        requires within { to ≤ length self.now.rows }
+        ensures { IfOk result (λ piece. piece ≡ tolerant (slice_range self.now.rows from to)) }
     {
         if from == 0 {
             return self.prefix(alloc, to);
@@ -104,10 +104,10 @@ impl Subtree {
 
     /// How many entries there are in the pieces of all runs and pairs.
     pub(crate) fn stored(&self) -> u64
-        ensures least { length (added self.now) ≤ result }
-        ensures levels { (levels : ℕ) → levels * length (added self.now) ≤ result + 16 * 2 ^ levels }
-        ensures most { (levels : ℕ) → IsWithinLevels (weight self.now) levels → result ≤ length (added self.now) * levels }
-        ensures fits { result ≤ length self.now * length self.now }
+        ensures least { length (added self.now.rows) ≤ result }
+        ensures levels { (levels : ℕ) → levels * length (added self.now.rows) ≤ result + 16 * 2 ^ levels }
+        ensures most { (levels : ℕ) → IsWithinLevels (weight self.now.rows) levels → result ≤ length (added self.now.rows) * levels }
+        ensures fits { result ≤ length self.now.rows * length self.now.rows }
     {
         match self.root() {
             Root::Nothing => 0,
@@ -118,9 +118,9 @@ impl Subtree {
 
     /// Appends the rows to others.
     pub(crate) fn append_to(&self, rows: &mut Vec<Row>) -> Result<(), NoMemory>
-        ensures items { OnOk result (rows.new.items ≡ rows.old.items ++ self.now) }
-        ensures of_kind { AreOfKind Pq self.now }
-        ensures few { length self.now ≤ most_rows }
+        ensures items { OnOk result (rows.new.items ≡ rows.old.items ++ self.now.rows) }
+        ensures of_kind { AreOfKind Pq self.now.rows }
+        ensures few { length self.now.rows ≤ most_rows }
     {
         match self.root() {
             Root::Nothing => Ok(()),

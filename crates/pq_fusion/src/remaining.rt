@@ -40,8 +40,8 @@ impl NodePiece {
 impl Subtree {
     /// The entries that the first rows leave. Of the first piece on the path, which is the greatest, only what is left is copied.
     pub(crate) fn remaining(&self, alloc: Global, to: u32) -> Result<Vec<Entry>, NoMemory>
-        requires { to ≤ length self.now }
-        ensures { IfOk result (λ left. left.items ≡ left_by (take to self.now)) }
+        requires { to ≤ length self.now.rows }
+        ensures { IfOk result (λ left. left.items ≡ left_by (take to self.now.rows)) }
     {
         if to == self.len() {
             return match self.node_piece() {

@@ -1,8 +1,9 @@
 ghost use Rattle.std.specs.Prelude.{◌≡◌, ◌≤◌, [], length, IfOk, MatchOption};
 ghost use Rattle.retro_base.specs.Limits.{most_rows};
-ghost use Rattle.pq_fusion.specs.Nodes.{weight, pair_rows, IsPair, IsRun};
+ghost use Rattle.pq_fusion.specs.Nodes.{weight, pair_part, IsPair, IsRun};
 ghost use Rattle.pq_fusion.specs.Pieces.{tolerant};
 ghost use Rattle.pq_fusion.specs.Roots.{IsRoot};
+ghost use Rattle.pq_fusion.specs.Wear.{unworn};
 
 use crate::Piece;
 use crate::node_piece::NodePiece;
@@ -20,7 +21,7 @@ pub(crate) enum Root<'a> {
 impl Subtree {
     /// No rows.
     pub(crate) fn new() -> Subtree
-        ensures { result ≡ [] }
+        ensures { result ≡ unworn [] }
     {
         Subtree { link: Link::Empty }
     }
@@ -28,7 +29,7 @@ impl Subtree {
     /// The subtree of a run.
     pub(crate) fn of_run(run: Box<subtree::Run>) -> Subtree
         requires { IsRun run.value }
-        ensures { result ≡ run.value.rows.items }
+        ensures { result ≡ unworn run.value.rows.items }
     {
         Subtree {
             link: Link::Leaf(run),
@@ -38,7 +39,7 @@ impl Subtree {
     /// The subtree of a pair.
     pub(crate) fn of_pair(pair: Box<subtree::Pair>) -> Subtree
         requires { IsPair pair.value }
-        ensures { result ≡ pair_rows pair.value }
+        ensures { result ≡ pair_part pair.value }
     {
         Subtree {
             link: Link::Fork(pair),
@@ -47,7 +48,7 @@ impl Subtree {
 
     /// What stands at the root.
     pub(crate) fn root(&self) -> Root<'_>
-        ensures { IsRoot self.now result }
+        ensures { IsRoot self.now.rows result }
     {
         match &self.link {
             Link::Empty => Root::Nothing,
@@ -58,7 +59,7 @@ impl Subtree {
 
     /// How many rows there are.
     pub(crate) fn len(&self) -> u32
-        ensures count { result ≡ length self.now }
+        ensures count { result ≡ length self.now.rows }
         ensures few { result ≤ most_rows }
     {
         match self.root() {
@@ -70,7 +71,7 @@ impl Subtree {
 
     /// What all rows come to, where there are rows.
     pub(crate) fn node_piece(&self) -> Option<&NodePiece>
-        ensures { MatchOption result (self.now ≡ []) (λ piece. piece.now ≡ tolerant self.now) }
+        ensures { MatchOption result (self.now.rows ≡ []) (λ piece. piece.now ≡ tolerant self.now.rows) }
     {
         match self.root() {
             Root::Nothing => None,
@@ -81,7 +82,7 @@ impl Subtree {
 
     /// What all rows come to.
     pub(crate) fn whole(&self, alloc: Global) -> Result<Piece, NoMemory>
-        ensures { IfOk result (λ piece. piece ≡ tolerant self.now) }
+        ensures { IfOk result (λ piece. piece ≡ tolerant self.now.rows) }
     {
         match self.node_piece() {
             None => Ok(Piece::empty(alloc)),

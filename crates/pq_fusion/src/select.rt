@@ -15,12 +15,12 @@ use std::sync::ledger::Ledger;
 impl Subtree {
     /// The tally of what is left after the first rows, where `before` is that of what is left before them.
     fn tally<L: Ledger>(&self, to: u32, bound: Entry, before: Tally, steps: &mut Steps<L>) -> Tally
-        requires within { to ≤ length self.now }
-        requires few { before.left + length self.now ≤ most_rows }
-        ensures tally { LeadsTally bound before (take to self.now) result }
+        requires within { to ≤ length self.now.rows }
+        requires few { before.left + length self.now.rows ≤ most_rows }
+        ensures tally { LeadsTally bound before (take to self.now.rows) result }
         ensures few { result.left ≤ before.left + to }
-        ensures whole { to ≡ length self.now → OpensWithin (length self.now) steps.old steps.new }
-        ensures visits { WalksWithin self.now steps.old steps.new }
+        ensures whole { to ≡ length self.now.rows → OpensWithin (length self.now.rows) steps.old steps.new }
+        ensures visits { WalksWithin self.now.rows steps.old steps.new }
     {
         steps.tick();
         if to == self.len() {
@@ -48,10 +48,10 @@ impl Subtree {
 
     /// The span of what is left after the first rows, where `before` is that of what is left before them. A run it takes whole.
     fn span<L: Ledger>(&self, to: u32, before: Span, steps: &mut Steps<L>) -> Span
-        requires { to ≤ length self.now }
-        ensures span { LeadsSpan before (take to self.now) result }
-        ensures whole { to ≡ length self.now → VisitsUpTo 1 steps.old steps.new }
-        ensures visits { StepsWithin self.now steps.old steps.new }
+        requires { to ≤ length self.now.rows }
+        ensures span { LeadsSpan before (take to self.now.rows) result }
+        ensures whole { to ≡ length self.now.rows → VisitsUpTo 1 steps.old steps.new }
+        ensures visits { StepsWithin self.now.rows steps.old steps.new }
     {
         steps.tick();
         match self.root() {
@@ -73,9 +73,9 @@ impl Subtree {
 
     /// How many of the entries that the first rows leave have a key that is no less than this one.
     fn reaching<L: Ledger>(&self, to: u32, key: i64, steps: &mut Steps<L>) -> u32
-        requires { to ≤ length self.now }
-        ensures count { result ≡ reaching (record { key = key; number = 0 }) (left_by (take to self.now)) }
-        ensures visits { WalksWithin self.now steps.old steps.new }
+        requires { to ≤ length self.now.rows }
+        ensures count { result ≡ reaching (record { key = key; number = 0 }) (left_by (take to self.now.rows)) }
+        ensures visits { WalksWithin self.now.rows steps.old steps.new }
     {
         let _few = self.len();
         let none = Tally {
@@ -88,10 +88,10 @@ impl Subtree {
 
     /// How many entries the first rows leave.
     pub(crate) fn left_len<L: Ledger>(&self, to: u32, steps: &mut Steps<L>) -> u32
-        requires { to ≤ length self.now }
-        ensures count { result ≡ length (left_by (take to self.now)) }
+        requires { to ≤ length self.now.rows }
+        ensures count { result ≡ length (left_by (take to self.now.rows)) }
         ensures few { result ≤ most_rows }
-        ensures visits { WalksWithin self.now steps.old steps.new }
+        ensures visits { WalksWithin self.now.rows steps.old steps.new }
     {
         let _few = self.len();
         let none = Tally {
@@ -105,9 +105,9 @@ impl Subtree {
     /// The key of the entry at an index of what the first rows leave, where there is one. It is the greatest key that as many
     /// entries reach as stand at the index and above, and is sought by halves between the least key on the path and the greatest.
     pub(crate) fn key_at<L: Ledger>(&self, to: u32, index: u64, steps: &mut Steps<L>) -> Option<i64>
-        requires { to ≤ length self.now }
-        ensures key { result ≡ option_map key_of (slice_get (left_by (take to self.now)) index) }
-        ensures visits { SeeksWithin self.now steps.old steps.new }
+        requires { to ≤ length self.now.rows }
+        ensures key { result ≡ option_map key_of (slice_get (left_by (take to self.now.rows)) index) }
+        ensures visits { SeeksWithin self.now.rows steps.old steps.new }
     {
         let left = self.left_len(to, steps);
         if index >= u64::from(left) {

@@ -39,18 +39,18 @@ pub(crate) struct Pair {
 }
 
 impl Model for Subtree {
-    ghost use Rattle.std.specs.Prelude.{List, length};
-    ghost use Rattle.retro_base.specs.declared.row.Row.{Row};
+    ghost use Rattle.std.specs.Prelude.{length};
+    ghost use Rattle.pq_fusion.specs.Wear.{WornRows};
 
-    ghost Value = { List Row };
+    ghost Value = { WornRows };
 
-    ghost use Rattle.pq_fusion.specs.Nodes.{rows_of, IsSound};
+    ghost use Rattle.pq_fusion.specs.Nodes.{part_of, IsSound};
 
-    ghost view = { λ t. rows_of t.link };
+    ghost view = { λ t. part_of t.link };
 
     ghost invariant = { λ t. IsSound t.link };
 
-    ghost size = { length };
+    ghost size = { λ part. length part.rows };
 
     ghost use Rattle.pq_fusion.specs.NodesFall.{depth_le-length-rows};
 

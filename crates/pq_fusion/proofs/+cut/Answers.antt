@@ -37,15 +37,15 @@ subtree::Pair::remove_below-returns-then-place-before-clause-passed t c =
     let pair = c.args.self.now in
     let row = c.args.row in
     subst (λ y. DiffersBy (added_by row) y (tolerant (remove (pair_rows pair) c.args.place)) (tolerant (pair_rows pair))) (sym c.higher.ensures)
-    (cut_earlier row pair.earlier pair.later c.args.place c.in_ok-passed.passed c.args.boundary c.requires.boundary
+    (cut_earlier row pair.earlier.rows pair.later.rows c.args.place c.in_ok-passed.passed c.args.boundary c.requires.boundary
     (omega (arith, c.if-place-before.true, c.len-before.ensures.count)) c.in_ok-passed.ensures.passed)
 
 pub subtree::Pair::remove_below-remove-requires-2 : goal.subtree::Pair::remove_below-remove-requires-2
 subtree::Pair::remove_below-remove-requires-2 t c =
     let pair = c.args.self.now in
-    let there : slice_get pair.later (c.args.place - c.len-before.result) ≡ Some c.args.row =
-    ap (λ k. slice_get pair.later (c.args.place - k)) c.len-before.ensures.count
-    ∙ there_later pair.earlier pair.later c.args.place c.args.row (omega (arith, c.if-place-before.false, c.len-before.ensures.count)) c.requires.there in
+    let there : slice_get pair.later.rows (c.args.place - c.len-before.result) ≡ Some c.args.row =
+    ap (λ k. slice_get pair.later.rows (c.args.place - k)) c.len-before.ensures.count
+    ∙ there_later pair.earlier.rows pair.later.rows c.args.place c.args.row (omega (arith, c.if-place-before.false, c.len-before.ensures.count)) c.requires.there in
     search rules
 
 pub subtree::Pair::remove_below-returns-clause-passed : goal.subtree::Pair::remove_below-returns-clause-passed
@@ -55,6 +55,6 @@ subtree::Pair::remove_below-returns-clause-passed t c =
     let x = c.in_ok-passed-2.passed in
     subst (λ y. DiffersBy (added_by row) y (tolerant (remove (pair_rows pair) c.args.place)) (tolerant (pair_rows pair)))
     (sym (c.from_later.ensures ∙ ap (λ o. higher o (lower x c.args.boundary)) c.of_row.ensures))
-    (cut_later row pair.earlier pair.later c.args.place x c.args.boundary c.requires.boundary
+    (cut_later row pair.earlier.rows pair.later.rows c.args.place x c.args.boundary c.requires.boundary
     (omega (arith, c.if-place-before.false, c.len-before.ensures.count))
-    (subst (λ k. DiffersBy (added_by row) x (tolerant (remove pair.later (c.args.place - k))) (tolerant pair.later)) c.len-before.ensures.count c.in_ok-passed-2.ensures.passed))
+    (subst (λ k. DiffersBy (added_by row) x (tolerant (remove pair.later.rows (c.args.place - k))) (tolerant pair.later.rows)) c.len-before.ensures.count c.in_ok-passed-2.ensures.passed))

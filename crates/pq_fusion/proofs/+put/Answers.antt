@@ -37,8 +37,8 @@ subtree::Pair::insert_below-returns-then-place-before-clause-passed t c =
     let row = c.args.row in
     subst (λ y. DiffersBy (added_by row) y (tolerant (pair_rows pair)) (tolerant (insert (pair_rows pair) c.args.place row))) (sym c.higher.ensures)
     (elim c.requires.boundary [
-      | inl last ↦ absurd (omega (arith, last.1, c.requires.some, c.if-place-before.true, c.len-before.ensures.count, length-append pair.earlier pair.later))
-      | inr is ↦ put_earlier row pair.earlier pair.later c.args.place c.in_ok-passed.passed c.args.boundary is
+      | inl last ↦ absurd (omega (arith, last.1, c.requires.some, c.if-place-before.true, c.len-before.ensures.count, length-append pair.earlier.rows pair.later.rows))
+      | inr is ↦ put_earlier row pair.earlier.rows pair.later.rows c.args.place c.in_ok-passed.passed c.args.boundary is
           (omega (arith, c.if-place-before.true, c.len-before.ensures.count)) c.in_ok-passed.ensures.passed
     ])
 
@@ -49,8 +49,8 @@ subtree::Pair::insert_below-returns-clause-passed t c =
     let x = c.in_ok-passed-2.passed in
     subst (λ y. DiffersBy (added_by row) y (tolerant (pair_rows pair)) (tolerant (insert (pair_rows pair) c.args.place row)))
     (sym (c.from_later.ensures ∙ ap (λ o. higher o (lower x c.args.boundary)) c.of_row.ensures))
-    (let below = subst (λ k. DiffersBy (added_by row) x (tolerant pair.later) (tolerant (insert pair.later (c.args.place - k) row))) c.len-before.ensures.count c.in_ok-passed-2.ensures.passed in
+    (let below = subst (λ k. DiffersBy (added_by row) x (tolerant pair.later.rows) (tolerant (insert pair.later.rows (c.args.place - k) row))) c.len-before.ensures.count c.in_ok-passed-2.ensures.passed in
     elim c.requires.boundary [
-      | inl last ↦ put_behind row pair.earlier pair.later c.args.place x c.args.boundary c.requires.of_kind last.0 last.1 below
-      | inr is ↦ put_later row pair.earlier pair.later c.args.place x c.args.boundary is (omega (arith, c.if-place-before.false, c.len-before.ensures.count)) below
+      | inl last ↦ put_behind row pair.earlier.rows pair.later.rows c.args.place x c.args.boundary c.requires.of_kind last.0 last.1 below
+      | inr is ↦ put_later row pair.earlier.rows pair.later.rows c.args.place x c.args.boundary is (omega (arith, c.if-place-before.false, c.len-before.ensures.count)) below
     ])

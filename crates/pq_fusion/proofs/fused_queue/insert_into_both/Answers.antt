@@ -4,6 +4,7 @@ use Rattle.retro_base.specs.declared.kind.Kind.TheVariants.{Pq}
 use Rattle.retro_base.specs.EditedLists.{remove-insert}
 use Rattle.retro_base.specs.InsertedLaws.{kind_for}
 use Rattle.retro_base.specs.Replay.{IsValid}
+use Rattle.pq_fusion.specs.Wear.{WornRows}
 use Rattle.pq_fusion.proofs.fused_queue.insert_into_both.Goals as goal
 
 pub insert-requires-2-clause-of_kind : goal.insert-requires-2-clause-of_kind
@@ -23,4 +24,4 @@ pub returns-in-Err-clause-same : goal.returns-in-Err-clause-same
 returns-in-Err-clause-same c =
     let back : c.remove.new.structure ≡ c.args.queue.now =
     c.remove.ensures.rows ∙ ap (λ rows. remove rows c.args.place) c.in_ok-change.ensures.rows ∙ remove-insert c.args.queue.now c.args.place c.args.row c.requires.within in
-    c.in-Err.ensures.err ∙ c.requires.same ∙ sym back
+    ap (λ (part : WornRows). part.rows) c.in-Err.ensures.err ∙ c.requires.same ∙ sym back

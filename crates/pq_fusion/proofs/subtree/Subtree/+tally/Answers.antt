@@ -9,31 +9,31 @@ use Rattle.pq_fusion.proofs.Sizes.{left_size}
 use Rattle.pq_fusion.proofs.subtree.Subtree.+tally.Goals as goal
 
 pub returns-in-None-clause-tally : goal.returns-in-None-clause-tally
-returns-in-None-clause-tally g t c = carries_none (λ entries. c.args.before ≡ tally_of c.args.bound entries) c.args.self.now c.args.to c.in-None.ensures
+returns-in-None-clause-tally g t c = carries_none (λ entries. c.args.before ≡ tally_of c.args.bound entries) c.args.self.now.rows c.args.to c.in-None.ensures
 
 pub after_piece-requires : goal.after_piece-requires
-after_piece-requires g t c = record { few = omega (arith, left_size c.args.self.now c.in-Some.piece.now c.in-Some.ensures, c.requires.few) }
+after_piece-requires g t c = record { few = omega (arith, left_size c.args.self.now.rows c.in-Some.piece.now c.in-Some.ensures, c.requires.few) }
 
 pub returns-in-Some-clause-tally : goal.returns-in-Some-clause-tally
 returns-in-Some-clause-tally g t c =
     carries_whole (λ entries. c.args.before ≡ tally_of c.args.bound entries) (λ entries. c.after_piece.result ≡ tally_of c.args.bound entries)
-    c.args.self.now c.args.to c.in-Some.piece.now (c.if-to-len.true ∙ c.len.ensures.count) c.in-Some.ensures c.after_piece.ensures.tally
+    c.args.self.now.rows c.args.to c.in-Some.piece.now (c.if-to-len.true ∙ c.len.ensures.count) c.in-Some.ensures c.after_piece.ensures.tally
 
 pub returns-in-Some-clause-few : goal.returns-in-Some-clause-few
-returns-in-Some-clause-few g t c = omega (arith, left_size c.args.self.now c.in-Some.piece.now c.in-Some.ensures, c.if-to-len.true, c.len.ensures.count, c.after_piece.ensures.few)
+returns-in-Some-clause-few g t c = omega (arith, left_size c.args.self.now.rows c.in-Some.piece.now c.in-Some.ensures, c.if-to-len.true, c.len.ensures.count, c.after_piece.ensures.few)
 
 pub returns-in-Some-clause-whole : goal.returns-in-Some-clause-whole
 returns-in-Some-clause-whole g t c = λ all k small.
-    let few = piece_few c.args.self.now c.in-Some.piece.now c.in-Some.ensures k small in
+    let few = piece_few c.args.self.now.rows c.in-Some.piece.now c.in-Some.ensures k small in
     no_more_than (1 + 4 * k) (4 * k + 1) _ _ (omega arith) (after_one (4 * k) _ _ _ c.tick.ensures (c.after_piece.ensures.visits k few.0 few.1))
 
 pub returns-in-Some-clause-visits : goal.returns-in-Some-clause-visits
 returns-in-Some-clause-visits g t c = λ levels k within small.
-    let few = piece_few c.args.self.now c.in-Some.piece.now c.in-Some.ensures k small in
-    whole_walk levels k (run_of c.args.self.now) _ _ (after_one (4 * k) _ _ _ c.tick.ensures (c.after_piece.ensures.visits k few.0 few.1))
+    let few = piece_few c.args.self.now.rows c.in-Some.piece.now c.in-Some.ensures k small in
+    whole_walk levels k (run_of c.args.self.now.rows) _ _ (after_one (4 * k) _ _ _ c.tick.ensures (c.after_piece.ensures.visits k few.0 few.1))
 
 pub returns-in-Nothing-clause-tally : goal.returns-in-Nothing-clause-tally
-returns-in-Nothing-clause-tally g t c = carries_none (λ entries. c.args.before ≡ tally_of c.args.bound entries) c.args.self.now c.args.to c.in-Nothing.ensures
+returns-in-Nothing-clause-tally g t c = carries_none (λ entries. c.args.before ≡ tally_of c.args.bound entries) c.args.self.now.rows c.args.to c.in-Nothing.ensures
 
 pub returns-in-Run-clause-tally : goal.returns-in-Run-clause-tally
 returns-in-Run-clause-tally g t c =
@@ -42,31 +42,31 @@ returns-in-Run-clause-tally g t c =
 
 pub returns-in-Run-clause-visits : goal.returns-in-Run-clause-visits
 returns-in-Run-clause-visits g t c = λ levels k within small.
-    let rows = c.args.self.now in
+    let rows = c.args.self.now.rows in
     run_walk levels k (length c.split_at.result.0.now) (run_of rows) _ _
     (omega (arith, ap length c.split_at.ensures.front, ap length c.as_slice.ensures.value, ap length c.in-Run.ensures.rows_are, length-take c.args.to c.as_slice.result.now, run_few rows c.in-Run.run'.now c.in-Run.ensures))
     (after_one _ _ _ _ c.tick.ensures c.after_rows.ensures.visits)
 
 pub returns-then-to-own-clause-visits : goal.returns-then-to-own-clause-visits
 returns-then-to-own-clause-visits g t c = λ levels k within small.
-    let rows = c.args.self.now in
+    let rows = c.args.self.now.rows in
     let pair = c.in-Pair.pair.now in
     let root = c.in-Pair.ensures in
-    walk_left rows pair root (4 * k + 2) (run_of pair.earlier) (run_of rows) levels _ _ _ (omega arith) (earlier_run rows pair root) within c.tick.ensures
+    walk_left rows pair root (4 * k + 2) (run_of pair.earlier.rows) (run_of rows) levels _ _ _ (omega arith) (earlier_run rows pair root) within c.tick.ensures
     (λ below inside. c.tally.ensures.visits below k inside (earlier_shorter rows pair root k small))
 
 pub returns-else-to-own-clause-tally : goal.returns-else-to-own-clause-tally
 returns-else-to-own-clause-tally g t c =
     let pair = c.in-Pair.pair.now in
     carries_sides (λ entries. c.args.before ≡ tally_of c.args.bound entries) (λ entries. c.tally-first.result ≡ tally_of c.args.bound entries)
-    (λ entries. c.tally-in-Pair.result ≡ tally_of c.args.bound entries) c.args.self.now pair.earlier pair.later c.args.to c.len-own.result
+    (λ entries. c.tally-in-Pair.result ≡ tally_of c.args.bound entries) c.args.self.now.rows pair.earlier.rows pair.later.rows c.args.to c.len-own.result
     c.in-Pair.ensures.rows_are c.len-own.ensures.count (omega (arith, c.if-to-own.false)) c.tally-first.ensures.tally c.tally-in-Pair.ensures.tally
 
 pub returns-else-to-own-clause-visits : goal.returns-else-to-own-clause-visits
 returns-else-to-own-clause-visits g t c = λ levels k within small.
-    let rows = c.args.self.now in
+    let rows = c.args.self.now.rows in
     let pair = c.in-Pair.pair.now in
     let root = c.in-Pair.ensures in
-    walk_right rows pair root (4 * k + 2) (4 * k + 1) (run_of pair.later) (run_of rows) levels _ _ _ _ (omega arith) (later_run rows pair root) within c.tick.ensures
+    walk_right rows pair root (4 * k + 2) (4 * k + 1) (run_of pair.later.rows) (run_of rows) levels _ _ _ _ (omega arith) (later_run rows pair root) within c.tick.ensures
     (c.tally-first.ensures.whole c.len-own.ensures.count k (earlier_shorter rows pair root k small))
     (λ below inside. c.tally-in-Pair.ensures.visits below k inside (later_shorter rows pair root k small))

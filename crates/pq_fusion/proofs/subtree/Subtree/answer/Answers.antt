@@ -23,4 +23,4 @@ pub returns-in_default-clause-answer : goal.returns-in_default-clause-answer
 returns-in_default-clause-answer g c = sym (no_other_question _ _ c.in_default.not-Size c.in_default.not-Min c.in_default.not-Nth)
 
 pub returns-in-Size-clause-visits : goal.returns-in-Size-clause-visits
-returns-in-Size-clause-visits g c = λ levels k inside small. seek_none levels k (run_of c.args.self.now) _ _ (c.left_len.ensures.visits levels k inside small)
+returns-in-Size-clause-visits g c = λ levels k inside small. seek_none levels k (run_of c.args.self.now.rows) _ _ (c.left_len.ensures.visits levels k inside small)

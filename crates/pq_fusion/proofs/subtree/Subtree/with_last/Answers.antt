@@ -7,23 +7,23 @@ use Rattle.pq_fusion.proofs.subtree.Subtree.with_last.Goals as goal
 
 pub with_row-requires-clause-few : goal.with_row-requires-clause-few
 with_row-requires-clause-few c =
-    let rows_are = c.requires.rows ∙ behind_all c.args.self.now c.args.row in
+    let rows_are = c.requires.rows ∙ behind_all c.args.self.now.rows c.args.row in
     omega (
       arith,
       ap size_of c.in_ok-whole.ensures,
-      rows_size c.args.self.now,
+      rows_size c.args.self.now.rows,
       c.requires.few,
       ap length rows_are,
-      length-append c.args.self.now (c.args.row ∷ []),
+      length-append c.args.self.now.rows (c.args.row ∷ []),
     )
 
 pub of_run-requires : goal.of_run-requires
 of_run-requires c =
-    let rows_are = c.requires.rows ∙ behind_all c.args.self.now c.args.row in
+    let rows_are = c.requires.rows ∙ behind_all c.args.self.now.rows c.args.row in
     subst IsRun (sym c.in_ok-new.ensures.ok) (record {
-      some = omega (arith, ap length rows_are, length-append c.args.self.now (c.args.row ∷ []));
+      some = omega (arith, ap length rows_are, length-append c.args.self.now.rows (c.args.row ∷ []));
       few = c.requires.few;
       piece_is = c.in_ok-of_piece.ensures ∙ c.in_ok-piece.ensures ∙ c.in_ok-with_row.ensures ∙ ap (after_row c.args.row.op c.args.row.number) c.in_ok-whole.ensures
-          ∙ sym (last_more c.args.self.now c.args.row) ∙ ap tolerant (sym rows_are);
+          ∙ sym (last_more c.args.self.now.rows c.args.row) ∙ ap tolerant (sym rows_are);
       of_kind = c.requires.of_kind;
     })
