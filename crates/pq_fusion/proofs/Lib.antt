@@ -27,6 +27,7 @@ pub mod Compared
 pub mod Edged
 pub mod Edited
 pub mod Parts
+pub mod Worn
 pub mod Searched
 pub mod Begun
 pub mod RowByRow

@@ -6,6 +6,7 @@ pub mod Exchanges
 pub mod Differences
 pub mod Wear
 pub mod Nodes
+pub mod WearLevels
 pub mod Roots
 pub mod NodesFall
 pub mod Passages

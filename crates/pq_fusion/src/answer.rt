@@ -1,3 +1,5 @@
+//! The answers to questions about what the first rows leave.
+
 ghost use Rattle.std.specs.Prelude.{◌≡◌, ◌^◌, ◌<◌, ◌≤◌, length, take, IfOk};
 ghost use Rattle.retro_base.specs.declared.question.Item.TheVariants.{Single};
 ghost use Rattle.retro_base.specs.Answers.{answer_of, content, number_of};

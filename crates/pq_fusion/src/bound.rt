@@ -1,3 +1,5 @@
+//! An entry, or what is less or greater than each.
+
 ghost use Rattle.std.specs.Prelude.{◌≡◌, ◌≤◌};
 ghost use Rattle.retro_base.specs.Weights.{added_by};
 ghost use Rattle.pq_fusion.specs.Bounds.{is_below, higher, lower, tops};

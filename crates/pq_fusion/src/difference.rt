@@ -1,3 +1,5 @@
+//! What an edit passes, found by comparing.
+
 ghost use Rattle.std.specs.Prelude.{◌≡◌, true, false};
 ghost use Rattle.pq_fusion.specs.declared.bound.Bound.{Bound};
 ghost use Rattle.pq_fusion.specs.Differences.{besides};

@@ -1,24 +1,27 @@
-ghost use Rattle.std.specs.Prelude.{◌≡◌, ℕ, ◌+◌, ◌*◌, ◌^◌, ◌<◌, ◌≤◌, [], length, true, IfOk, OnOk, OnErr};
-ghost use Rattle.std.specs.List.{insert, slice_range};
+//! The queue: the tree of rows, and a `BridgeQueue` of the same rows beside it.
+
+ghost use Rattle.std.specs.Prelude.{◌≡◌, ℕ, ◌+◌, ◌*◌, ◌^◌, ◌<◌, ◌≤◌, [], length, slice_get, true, Some, IfOk, OnOk, OnErr};
+ghost use Rattle.std.specs.List.{insert, remove, slice_range};
 ghost use Rattle.retro_base.specs.declared.kind.Kind.TheVariants.{Pq};
 ghost use Rattle.retro_base.specs.Answers.{answer_of};
 ghost use Rattle.retro_base.specs.BridgeTable.{added};
 ghost use Rattle.retro_base.specs.Changes.{IsChange};
 ghost use Rattle.retro_base.specs.Digits.{digits};
-ghost use Rattle.retro_base.specs.Edits.{add};
+ghost use Rattle.retro_base.specs.Edits.{add, cut};
 ghost use Rattle.retro_base.specs.Limits.{most_rows};
 ghost use Rattle.retro_base.specs.Questions.{suits};
-ghost use Rattle.retro_base.specs.Replay.{state_at};
+ghost use Rattle.retro_base.specs.Replay.{IsValid, state_at};
 ghost use Rattle.retro_base.specs.State.{entries};
 ghost use Rattle.retro_base.specs.Timeline.{IsReplayable};
 ghost use Rattle.retro_base.specs.Visits.{OpensCounter};
 ghost use Rattle.pq_fusion.specs.Pieces.{tolerant};
 ghost use Rattle.pq_fusion.specs.Searches.{VisitsUpTo};
 ghost use Rattle.pq_fusion.specs.Wear.{unworn};
+ghost use Rattle.pq_fusion.specs.WearLevels.{AnewOnLevels, AnewWithin};
 
-use crate::Piece;
 use crate::answer::keys_of;
 use crate::subtree::Subtree;
+use crate::{Anew, Piece};
 use bridge_pq::BridgeQueue;
 use retro_base::{
     Answer, Change, Entry, Kind, Listing, NoMemory, Op, Partial, Question, Retro, Row, Steps,
@@ -116,6 +119,94 @@ impl FusedQueue {
         self.ask_past(place, question, &mut steps)
     }
 
+    /// Puts the row in, as `insert` of `Retro`, and counts the rows that come into a run that is made anew. After `NoMemory` all is as
+    /// before.
+    pub fn insert_counted<M: Ledger>(
+        &mut self,
+        place: u32,
+        row: Row,
+        anew: &mut Anew<M>,
+    ) -> Result<Change, NoMemory>
+        requires within { place ≤ length self.old.rows }
+        requires replayable { IsReplayable Pq (insert self.old.rows place row) }
+        ensures rows { OnOk result (self.new.rows ≡ insert self.old.rows place row) }
+        ensures replayable { OnOk result (IsReplayable Pq self.new.rows) }
+        ensures change { IfOk result (IsChange Pq self.old.rows (add place row)) }
+        ensures err { OnErr result (self.new ≡ self.old) }
+        ensures rare { OnOk result (AnewWithin self.old self.new anew.old anew.new) }
+        ensures none_lost { anew.old ≤ anew.new }
+    {
+        insert_into_both(
+            self.alloc,
+            &mut self.queue,
+            &mut self.rows,
+            place,
+            row,
+            anew,
+        )
+    }
+
+    /// Takes the row at the place out, as `remove` of `Retro`, and counts the rows that come into a run that is made anew. After
+    /// `NoMemory` all is as before.
+    pub fn remove_counted<M: Ledger>(
+        &mut self,
+        place: u32,
+        anew: &mut Anew<M>,
+    ) -> Result<(Row, Change), NoMemory>
+        requires within { place < length self.old.rows }
+        requires replays { IsValid Pq (remove self.old.rows place) }
+        ensures row { IfOk result (λ taken. slice_get self.old.rows place ≡ Some taken.0) }
+        ensures rows { OnOk result (self.new.rows ≡ remove self.old.rows place) }
+        ensures replayable { OnOk result (IsReplayable Pq self.new.rows) }
+        ensures change { IfOk result (λ taken. IsChange Pq self.old.rows (cut place taken.0) taken.1) }
+        ensures err { OnErr result (self.new ≡ self.old) }
+        ensures rare { OnOk result (AnewWithin self.old self.new anew.old anew.new) }
+        ensures none_lost { anew.old ≤ anew.new }
+    {
+        let _few = self.queue.len();
+        let row = self.rows.row_at(place);
+        self.rows.remove(self.alloc, place, row, anew)?;
+        Ok(uncounted::remove(&mut self.queue, place))
+    }
+
+    /// `insert_counted` with a counter of its own.
+    fn insert_uncounted<M: Ledger>(
+        &mut self,
+        place: u32,
+        row: Row,
+        blank: Blank,
+    ) -> Result<Change, NoMemory>
+        requires within { place ≤ length self.old.rows }
+        requires replayable { IsReplayable Pq (insert self.old.rows place row) }
+        requires counter { OpensCounter blank.name M.name blank.parts M.parts }
+        ensures rows { OnOk result (self.new.rows ≡ insert self.old.rows place row) }
+        ensures replayable { OnOk result (IsReplayable Pq self.new.rows) }
+        ensures change { IfOk result (IsChange Pq self.old.rows (add place row)) }
+        ensures err { OnErr result (self.new ≡ self.old) }
+    {
+        let mut anew = Anew::<M>::new(blank);
+        self.insert_counted(place, row, &mut anew)
+    }
+
+    /// `remove_counted` with a counter of its own.
+    fn remove_uncounted<M: Ledger>(
+        &mut self,
+        place: u32,
+        blank: Blank,
+    ) -> Result<(Row, Change), NoMemory>
+        requires within { place < length self.old.rows }
+        requires replays { IsValid Pq (remove self.old.rows place) }
+        requires counter { OpensCounter blank.name M.name blank.parts M.parts }
+        ensures row { IfOk result (λ taken. slice_get self.old.rows place ≡ Some taken.0) }
+        ensures rows { OnOk result (self.new.rows ≡ remove self.old.rows place) }
+        ensures replayable { OnOk result (IsReplayable Pq self.new.rows) }
+        ensures change { IfOk result (λ taken. IsChange Pq self.old.rows (cut place taken.0) taken.1) }
+        ensures err { OnErr result (self.new ≡ self.old) }
+    {
+        let mut anew = Anew::<M>::new(blank);
+        self.remove_counted(place, &mut anew)
+    }
+
     /// The entries that the first rows leave, which are the state after them.
     fn remaining(&self, place: u32) -> Result<Vec<Entry>, NoMemory>
         requires { place ≤ length self.now.rows }
@@ -149,14 +240,11 @@ impl Retro for FusedQueue {
     }
 
     fn insert(&mut self, place: u32, row: Row) -> Result<Change, NoMemory> {
-        insert_into_both(self.alloc, &mut self.queue, &mut self.rows, place, row)
+        self.insert_uncounted::<Brand>(place, row, Blank::new(1))
     }
 
     fn remove(&mut self, place: u32) -> Result<(Row, Change), NoMemory> {
-        let _few = self.queue.len();
-        let row = self.rows.row_at(place);
-        self.rows.remove(self.alloc, place, row)?;
-        Ok(uncounted::remove(&mut self.queue, place))
+        self.remove_uncounted::<Brand>(place, Blank::new(1))
     }
 
     fn ask_now(&self, question: Question) -> Answer {
@@ -175,12 +263,13 @@ impl Retro for FusedQueue {
 
 /// Puts a row into a queue and into the tree of its rows. Where the tree has no memory for it, it is taken out of the queue
 /// again, which takes none.
-fn insert_into_both(
+fn insert_into_both<M: Ledger>(
     alloc: Global,
     queue: &mut BridgeQueue,
     rows: &mut Subtree,
     place: u32,
     row: Row,
+    anew: &mut Anew<M>,
 ) -> Result<Change, NoMemory>
     requires same { rows.old.rows ≡ queue.old }
     requires within { place ≤ length queue.old }
@@ -189,11 +278,14 @@ fn insert_into_both(
     ensures replayable { OnOk result (IsReplayable Pq queue.new) }
     ensures change { IfOk result (IsChange Pq queue.old (add place row)) }
     ensures err { OnErr result (queue.new ≡ queue.old) }
+    ensures tree { OnErr result (rows.new ≡ rows.old) }
     ensures same { rows.new.rows ≡ queue.new }
+    ensures rare { OnOk result (AnewOnLevels rows.old rows.new anew.old anew.new) }
+    ensures none_lost { anew.old ≤ anew.new }
 {
     let _replayable = queue.kind();
     let change = uncounted::insert(queue, place, row)?;
-    if let Err(error) = rows.insert(alloc, place, row) {
+    if let Err(error) = rows.insert(alloc, place, row, anew) {
         uncounted::remove(queue, place);
         return Err(error);
     }

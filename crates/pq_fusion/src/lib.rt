@@ -20,8 +20,13 @@
 //! place of another. So it takes a search of two lists a level by halves, and moves some entries of up to two chunks in each: a list of
 //! more than 256 entries is in chunks of at most so many, and counts anew how many stand before each.
 //! A run that is full is made two, a pair that comes to few rows is made a run, and where a side would have 3 times as many rows as the
-//! other the whole pair is made anew, halved until its runs have no more than 48 rows; a share of its rows have come or gone before
-//! that is so again.
+//! other the whole pair is made anew, halved until its runs have no more than 48 rows.
+//!
+//! How rarely that is so, contracts say by the wear of the tree, which they see beside its rows (`specs/Wear.antt`): by how many rows more
+//! than one the sides of each pair differ. The empty queue has none. An edit that the pairs on its path bear adds one for each of them at
+//! most, and a part that is made anew has none left, and had so much that twice of it pays for its rows. So over any history the rows that
+//! come into a run that is made anew, which `insert_counted` and `remove_counted` count (`Anew`), are at most 6 for each digit of m + 1
+//! and 65 for each edit. A body that makes parts anew more often, or halves them unevenly, is not proved.
 //!
 //! | Call | Cost, with m rows | Memory |
 //! |---|---|---|
@@ -31,7 +36,7 @@
 //! | `ask_now`, `failure_after_insert`, `failure_after_remove` | those of `BridgeQueue`, log m | none |
 //! | `ask_past`, `answer_at`, `ask` | one walk of the path, log² m, for each binary digit of the difference of the keys on it | none |
 //! | `all`, `piece` | in proportion to the rows asked about | as many entries |
-//! | `insert`, `remove` | log² m comparisons; moves in two chunks a list, a count of all; m log m for a part anew | a run, room in lists |
+//! | `insert`, `remove`, `insert_counted`, `remove_counted` | log² m comparisons; moves in two chunks a list, a count of all; 6 log m + 65 rows anew, each log m, spread over all edits | a run, room in lists |
 //! | `stored` | each run and pair once | none |
 //!
 //! An edit takes all memory of a pair before anything of it changes, and the edit of its side is done or leaves all as before; so after
@@ -53,7 +58,7 @@
 //! - `piece`, `merge`, `of_rows`: a piece, two rising lists together, and the piece of rows one after another. `bound`: an entry, or what
 //!   is less or greater than each.
 //! - `subtree`, `root`: the tree of rows, and what stands at its root. `read`: its products. `remaining`: what a product leaves. `edit`: a
-//!   row more or less.
+//!   row more or less. `rebuild`: a part that is made anew. `anew`: the counter of its rows.
 //! - `entry_list`, `chunks`, `chunk_edits`: entries in rising order with room for an edit, a long list of them in chunks, and an entry that
 //!   comes into one of these or goes. `node_piece`: a piece in two such lists. `exchange`: one entry of a list in the
 //!   place of another. `boundary`: the entry at a rank of two lists together. `difference`: what passed, by comparing.
@@ -61,6 +66,7 @@
 //!   `select`: the key at an index of what the first rows leave. `answer`: the answers of that. `fused_queue`.
 #![tactic(auto)]
 
+mod anew;
 mod answer;
 mod bound;
 mod boundary;
@@ -77,6 +83,7 @@ mod node_piece;
 mod of_rows;
 mod piece;
 mod read;
+mod rebuild;
 mod remaining;
 mod root;
 mod select;
@@ -84,6 +91,7 @@ mod span;
 mod subtree;
 mod tally;
 
+pub use anew::Anew;
 pub use bound::Bound;
 pub use fused_queue::FusedQueue;
 pub use piece::Piece;

@@ -1,3 +1,5 @@
+//! Two rising lists together.
+
 ghost use Rattle.std.specs.Prelude.{◌≡◌, ◌+◌, ◌^◌, ◌<◌, length, IfOk};
 ghost use Rattle.retro_base.specs.EntriesInOrder.{AreInOrder};
 ghost use Rattle.pq_fusion.specs.Pieces.{together};

@@ -1,3 +1,5 @@
+//! What some neighbouring rows come to, whatever stands before them.
+
 ghost use Rattle.std.specs.Prelude.{◌≡◌, ◌+◌, ◌≤◌, [], ◌∷◌, length, slice_get, IfOk};
 ghost use Rattle.retro_base.specs.declared.kind.Kind.TheVariants.{Pq};
 ghost use Rattle.retro_base.specs.EntriesInOrder.{AreInOrder};

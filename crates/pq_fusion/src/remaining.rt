@@ -1,3 +1,5 @@
+//! What the first rows leave, of which the greatest product on the path is not made.
+
 ghost use Rattle.std.specs.Prelude.{◌≡◌, ◌+◌, ◌≤◌, length, take, IfOk};
 ghost use Rattle.retro_base.specs.EntriesInOrder.{AreInOrder};
 ghost use Rattle.retro_base.specs.Limits.{most_rows};

@@ -1,3 +1,5 @@
+//! What stands at the root of a tree of rows, and a tree of one root.
+
 ghost use Rattle.std.specs.Prelude.{◌≡◌, ◌≤◌, [], length, IfOk, MatchOption};
 ghost use Rattle.retro_base.specs.Limits.{most_rows};
 ghost use Rattle.pq_fusion.specs.Nodes.{weight, pair_part, IsPair, IsRun};

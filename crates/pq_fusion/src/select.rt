@@ -1,3 +1,5 @@
+//! The key at an index of what the first rows leave, by walks that make no product.
+
 ghost use Rattle.std.specs.Prelude.{◌≡◌, ◌+◌, ◌≤◌, length, slice_get, take};
 ghost use Rattle.std.specs.Option.{option_map};
 ghost use Rattle.retro_base.specs.Answers.{key_of};

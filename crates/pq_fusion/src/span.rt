@@ -1,3 +1,5 @@
+//! Between which keys the entries of some pieces lie.
+
 ghost use Rattle.std.specs.List.{AllByRecursion};
 ghost use Rattle.retro_base.specs.declared.row.Entry.{Entry};
 ghost use Rattle.retro_base.specs.EntriesInOrder.{AreInOrder};

@@ -1,3 +1,5 @@
+//! The tree of rows: runs of neighbouring rows, and pairs of these and of pairs. Contracts see its rows and its wear.
+
 use crate::node_piece::NodePiece;
 use retro_base::Row;
 use std::marker::Model;

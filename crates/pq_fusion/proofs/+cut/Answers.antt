@@ -1,4 +1,4 @@
-use Rattle.std.proofs.Common.{◌≡◌, ◌-◌, ap, arith, rules, subst, sym, ◌∙◌, Some}
+use Rattle.std.proofs.Common.{◌≡◌, ◌+◌, ◌-◌, length, length-append, ap, arith, rules, subst, sym, ◌∙◌, Some}
 use Rattle.std.specs.Prelude.{is_some, slice_get}
 use Rattle.std.specs.List.{remove}
 use Rattle.retro_base.specs.Weights.{added_by}
@@ -9,19 +9,20 @@ use Rattle.pq_fusion.specs.Nodes.{pair_rows}
 use Rattle.pq_fusion.specs.Passages.{with_piece}
 use Rattle.pq_fusion.specs.Pieces.{tolerant}
 use Rattle.pq_fusion.proofs.Edged.{cut_earlier, cut_later, turned}
-use Rattle.pq_fusion.proofs.Edited.{cut_after, cut_pair}
-use Rattle.pq_fusion.proofs.Parts.{there_later}
+use Rattle.pq_fusion.proofs.Edited.{cut_after, cut_pair, length-remove}
+use Rattle.pq_fusion.proofs.Parts.{there_later, there_within}
+use Rattle.pq_fusion.proofs.Worn.{rare_earlier, rare_later}
 use Rattle.pq_fusion.proofs.+cut.Goals as goal
 
 pub edit::cut_row-after-requires : goal.edit::cut_row-after-requires
-edit::cut_row-after-requires t c =
+edit::cut_row-after-requires g t c =
     cut_after c.args.pair.value c.deref_mut.result.now c.in_ok-pair.field-0.piece c.requires.sound
     (ap (λ (p : Pair). with_piece p c.in_ok-pair.field-0.piece) c.deref_mut.ensures.value ∙ c.in_ok-pair.ensures)
     c.args.place c.args.row c.requires.there c.is_none-gains.result c.of_row.result c.in-Ok.passed
     (turned c.is_none-gains.result (is_some (added_by c.args.row)) (sym c.is_none-gains.ensures ∙ ap is_some c.added_entry.ensures)) c.of_row.ensures c.in-Ok.ensures.passed
 
-pub edit::cut_row-returns-in-Ok : goal.edit::cut_row-returns-in-Ok
-edit::cut_row-returns-in-Ok t c =
+pub edit::cut_row-returns-in-Ok-clause-cut : goal.edit::cut_row-returns-in-Ok-clause-cut
+edit::cut_row-returns-in-Ok-clause-cut g t c =
     let below = c.remove_below.new.self in
     let made : c.deref_mut-in-Ok-2.result.now ≡ record { earlier = below.earlier; later = below.later; size = below.size - 1; piece = below.piece } =
     c.deref_mut-in-Ok-2.ensures.value ∙ ap (λ (p : Pair). record { earlier = p.earlier; later = p.later; size = p.size - 1; piece = p.piece }) c.deref_mut-in-Ok.ensures.value in
@@ -33,7 +34,7 @@ edit::cut_row-returns-in-Ok t c =
     (ap (λ (p : Pair). with_piece p c.after.result) made) c.in-Ok.ensures.ok
 
 pub subtree::Pair::remove_below-returns-then-place-before-clause-passed : goal.subtree::Pair::remove_below-returns-then-place-before-clause-passed
-subtree::Pair::remove_below-returns-then-place-before-clause-passed t c =
+subtree::Pair::remove_below-returns-then-place-before-clause-passed g t c =
     let pair = c.args.self.now in
     let row = c.args.row in
     subst (λ y. DiffersBy (added_by row) y (tolerant (remove (pair_rows pair) c.args.place)) (tolerant (pair_rows pair))) (sym c.higher.ensures)
@@ -41,7 +42,7 @@ subtree::Pair::remove_below-returns-then-place-before-clause-passed t c =
     (omega (arith, c.if-place-before.true, c.len-before.ensures.count)) c.in_ok-passed.ensures.passed)
 
 pub subtree::Pair::remove_below-remove-requires-2 : goal.subtree::Pair::remove_below-remove-requires-2
-subtree::Pair::remove_below-remove-requires-2 t c =
+subtree::Pair::remove_below-remove-requires-2 g t c =
     let pair = c.args.self.now in
     let there : slice_get pair.later.rows (c.args.place - c.len-before.result) ≡ Some c.args.row =
     ap (λ k. slice_get pair.later.rows (c.args.place - k)) c.len-before.ensures.count
@@ -49,7 +50,7 @@ subtree::Pair::remove_below-remove-requires-2 t c =
     search rules
 
 pub subtree::Pair::remove_below-returns-clause-passed : goal.subtree::Pair::remove_below-returns-clause-passed
-subtree::Pair::remove_below-returns-clause-passed t c =
+subtree::Pair::remove_below-returns-clause-passed g t c =
     let pair = c.args.self.now in
     let row = c.args.row in
     let x = c.in_ok-passed-2.passed in
@@ -58,3 +59,26 @@ subtree::Pair::remove_below-returns-clause-passed t c =
     (cut_later row pair.earlier.rows pair.later.rows c.args.place x c.args.boundary c.requires.boundary
     (omega (arith, c.if-place-before.false, c.len-before.ensures.count))
     (subst (λ k. DiffersBy (added_by row) x (tolerant (remove pair.later.rows (c.args.place - k))) (tolerant pair.later.rows)) c.len-before.ensures.count c.in_ok-passed-2.ensures.passed))
+
+pub subtree::Pair::remove_below-returns-then-place-before-clause-rare : goal.subtree::Pair::remove_below-returns-then-place-before-clause-rare
+subtree::Pair::remove_below-returns-then-place-before-clause-rare g t c =
+    let pair = c.args.self.now in
+    let edited = c.remove.new.self in
+    let size : length edited.rows + 1 ≡ length pair.earlier.rows =
+    ap (λ r. length r + 1) c.in_ok-passed.ensures.rows ∙ length-remove pair.earlier.rows c.args.place (omega (arith, c.if-place-before.true, c.len-before.ensures.count)) in
+    rare_earlier pair.earlier pair.later edited c.requires.balanced _ _ (omega (arith, size)) (omega (arith, size)) c.in_ok-passed.ensures.rare
+
+pub subtree::Pair::remove_below-returns-clause-rare : goal.subtree::Pair::remove_below-returns-clause-rare
+subtree::Pair::remove_below-returns-clause-rare g t c =
+    let pair = c.args.self.now in
+    let edited = c.remove-2.new.self in
+    let size : length edited.rows + 1 ≡ length pair.later.rows =
+    ap (λ r. length r + 1) c.in_ok-passed-2.ensures.rows ∙ length-remove pair.later.rows (c.args.place - c.len-before.result)
+    (omega (
+      arith,
+      there_within (pair_rows pair) c.args.place c.args.row c.requires.there,
+      c.if-place-before.false,
+      c.len-before.ensures.count,
+      length-append pair.earlier.rows pair.later.rows,
+    )) in
+    rare_later pair.earlier pair.later edited c.requires.balanced _ _ (omega (arith, size)) (omega (arith, size)) c.in_ok-passed-2.ensures.rare

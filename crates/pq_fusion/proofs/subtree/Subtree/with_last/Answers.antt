@@ -6,7 +6,7 @@ use Rattle.pq_fusion.proofs.Sizes.{rows_size}
 use Rattle.pq_fusion.proofs.subtree.Subtree.with_last.Goals as goal
 
 pub with_row-requires-clause-few : goal.with_row-requires-clause-few
-with_row-requires-clause-few c =
+with_row-requires-clause-few g c =
     let rows_are = c.requires.rows ∙ behind_all c.args.self.now.rows c.args.row in
     omega (
       arith,
@@ -17,8 +17,8 @@ with_row-requires-clause-few c =
       length-append c.args.self.now.rows (c.args.row ∷ []),
     )
 
-pub of_run-requires : goal.of_run-requires
-of_run-requires c =
+pub of_run-subtree-requires : goal.of_run-subtree-requires
+of_run-subtree-requires g c =
     let rows_are = c.requires.rows ∙ behind_all c.args.self.now.rows c.args.row in
     subst IsRun (sym c.in_ok-new.ensures.ok) (record {
       some = omega (arith, ap length rows_are, length-append c.args.self.now.rows (c.args.row ∷ []));

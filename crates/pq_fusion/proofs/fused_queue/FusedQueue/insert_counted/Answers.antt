@@ -1,0 +1,11 @@
+use Rattle.std.proofs.Common.{ap, ◌∙◌, sym}
+use Rattle.pq_fusion.specs.Wear.{WornRows}
+use Rattle.pq_fusion.proofs.Worn.{on_ok, rare_seen}
+use Rattle.pq_fusion.proofs.fused_queue.FusedQueue.insert_counted.Goals as goal
+
+pub returns-clause-rare : goal.returns-clause-rare
+returns-clause-rare g c =
+    let seen = sym c.self.view_is in
+    on_ok _ _ c.insert_into_both.result
+    (rare_seen c.self.inside.rows c.insert_into_both.new.rows c.args.self.now c.insert_into_both.new.queue _ _ (ap (λ (s : WornRows). s.rows) seen ∙ sym c.self.invariant) (ap (λ (s : WornRows). s.wear) seen))
+    c.insert_into_both.ensures.rare
