@@ -15,7 +15,6 @@ ghost use Rattle.pq_fusion.specs.WearLevels.{AnewOnLevels};
 
 use crate::Bound;
 use crate::anew::Anew;
-use crate::boundary::boundary;
 use crate::node_piece::{NodePiece, RoomyPiece};
 use crate::subtree::{LONGEST_RUN, Link, Pair, Subtree};
 use retro_base::{NoMemory, Row};
@@ -25,9 +24,6 @@ use std::sync::ledger::Ledger;
 
 /// The runs of a part that is made anew have so many rows at most, so that each has room.
 const LONGEST_ANEW: usize = 48;
-
-/// A pair that would have fewer rows than this is made a run.
-const LEAST_PAIR: u32 = 33;
 
 impl Subtree {
     /// Puts an edited pair back, or the pair as it was where there was no memory for the edit.
@@ -116,56 +112,6 @@ impl Subtree {
 }
 
 impl Pair {
-    /// Whether the sides stay in balance where a row is put in at a place.
-    fn bears(&self, place: u32) -> bool
-        ensures { result ≡ bears self.now place }
-    {
-        let (earlier, later) = (self.earlier.len(), self.later.len());
-        if place <= earlier {
-            earlier + 1 < 3 * later
-        } else {
-            later + 1 < 3 * earlier
-        }
-    }
-
-    /// Whether they do, and the rows stay those of a pair, where the row at a place goes.
-    fn spares(&self, place: u32) -> bool
-        ensures { result ≡ spares self.now place }
-    {
-        let (earlier, later) = (self.earlier.len(), self.later.len());
-        if earlier + later <= LEAST_PAIR {
-            return false;
-        }
-        if place < earlier {
-            later + 3 < 3 * earlier
-        } else {
-            earlier + 3 < 3 * later
-        }
-    }
-
-    /// What stands at the boundary of what the later side takes of the earlier one, seen from before an edit that gains or loses.
-    fn boundary(&self, gains: bool) -> Bound
-        requires { IsPair self.now }
-        ensures { result ≡ boundary_of gains (tolerant self.now.earlier.rows) (tolerant self.now.later.rows) }
-    {
-        let (Some(first), Some(second)) = (self.earlier.node_piece(), self.later.node_piece())
-        else {
-            unreachable!()
-        };
-        boundary(first.left(), second.removed(), second.takings(), gains)
-    }
-
-    /// The boundary where a row is put in at a place. Behind all others a row that adds an entry passes its own, and needs none.
-    fn boundary_for(&self, place: u32, gains: bool) -> Bound
-        requires { IsPair self.now }
-        ensures { IsBoundaryFor gains place self.now result }
-    {
-        if gains && place == self.size {
-            return Bound::Low;
-        }
-        self.boundary(gains)
-    }
-
     /// Puts a row in on its side, and says what passes in the pair, whose boundary this is.
     #[cycle(put)]
     fn insert_below<M: Ledger>(

@@ -58,7 +58,7 @@
 //! - `piece`, `merge`, `of_rows`: a piece, two rising lists together, and the piece of rows one after another. `bound`: an entry, or what
 //!   is less or greater than each.
 //! - `subtree`, `root`: the tree of rows, and what stands at its root. `read`: its products. `remaining`: what a product leaves. `edit`: a
-//!   row more or less. `rebuild`: a part that is made anew. `anew`: the counter of its rows.
+//!   row more or less. `sides`: the balance of a pair, and its boundary. `rebuild`: a part that is made anew. `anew`: the counter of its rows.
 //! - `entry_list`, `chunks`, `chunk_edits`: entries in rising order with room for an edit, a long list of them in chunks, and an entry that
 //!   comes into one of these or goes. `node_piece`: a piece in two such lists. `exchange`: one entry of a list in the
 //!   place of another. `boundary`: the entry at a rank of two lists together. `difference`: what passed, by comparing.
@@ -87,6 +87,7 @@ mod rebuild;
 mod remaining;
 mod root;
 mod select;
+mod sides;
 mod span;
 mod subtree;
 mod tally;
