@@ -105,12 +105,12 @@ module _ {A : Type 0} where
       record { none_lost = sought.none_lost; few = omega (arith, left.few) }
 
   -- no more chunks than entries
-  chunks_few : (chunks : List (Vec Entry A)) → AreChunks chunks → length chunks ≤ length (entries_of chunks)
+  pub chunks_few : (chunks : List (Vec Entry A)) → AreChunks chunks → length chunks ≤ length (entries_of chunks)
   chunks_few [] all = omega arith
   chunks_few (first ∷ others) all = omega (arith, chunks_few others all.1, all.0.0, length-append first.items (entries_of others))
 
   -- how many entries stand before a chunk
-  start_at : (chunks : List (Vec Entry A)) (before place : ℕ) → place < length chunks → get_or (starts_of before chunks) place 0 ≡ before + length (entries_of (take place chunks))
+  pub start_at : (chunks : List (Vec Entry A)) (before place : ℕ) → place < length chunks → get_or (starts_of before chunks) place 0 ≡ before + length (entries_of (take place chunks))
   start_at [] before place within = absurd (omega (arith, within))
   start_at (first ∷ others) before zero within = omega arith
   start_at (first ∷ others) before (suc place) within = omega (

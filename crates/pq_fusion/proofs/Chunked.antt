@@ -318,6 +318,14 @@ module _ {A : Type 0} where
     pub home_chunk : IsChunk chunk
     home_chunk = chunk_at IsChunk chunks place chunk there all
 
+    pub home_few : length chunk.items ≤ length (entries_of chunks)
+    home_few = omega (
+      arith,
+      ap length (around chunks place chunk there),
+      length-append (entries_of (take place chunks)) (chunk.items ++ entries_of (drop (suc place) chunks)),
+      length-append chunk.items (entries_of (drop (suc place) chunks)),
+    )
+
     rises : AreInOrder (entries_of (take place chunks) ++ (chunk.items ++ entries_of (drop (suc place) chunks)))
     rises = subst AreInOrder (around chunks place chunk there) order
 

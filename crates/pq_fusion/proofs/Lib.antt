@@ -19,7 +19,6 @@ pub mod Bounded
 pub mod Parted
 pub mod Passed
 pub mod Ranked
-pub mod Cuts
 pub mod Exchanged
 pub mod Chunked
 pub mod Swapped
@@ -31,3 +30,6 @@ pub mod Worn
 pub mod Searched
 pub mod Begun
 pub mod RowByRow
+pub mod Windowed
+pub mod Sought
+pub mod Turns

@@ -1,7 +1,5 @@
 -- The entry at a rank of two rising lists together, where so many of the least ones are of the first and so many of the second.
-use Rattle.std.proofs.Common.{◌≡◌, ℕ, zero, suc, ◌+◌, ◌-◌, ◌<◌, ◌≤◌, true, false, cond, List, [], ◌∷◌, length, Some, None, slice_get, refl, ap, sym, ◌∙◌, arith, min}
-use Rattle.std.specs.Prelude.{nat_lt}
-use Rattle.std.proofs.lemmas.Bool.Decides.{nat_tests}
+use Rattle.std.proofs.Common.{◌≡◌, ℕ, zero, suc, ◌+◌, ◌≤◌, true, false, cond, List, [], ◌∷◌, length, Some, None, slice_get, refl, ap, sym, ◌∙◌, arith}
 use Rattle.retro_base.specs.declared.row.Entry.{Entry}
 use Rattle.retro_base.specs.EntriesInOrder.{AreInOrder}
 use Rattle.retro_base.specs.State.{comes_before}
@@ -15,7 +13,7 @@ use Rattle.pq_fusion.proofs.Merged.{second_first, first_first}
 use Rattle.pq_fusion.proofs.Bounded.{further, higher_first, higher_second, higher_low, higher_joined, higher_turned, lower_first}
 use Rattle.pq_fusion.proofs.Parted.{rank_above, rank_in, rank_some}
 
-never_low : (b : Bound) → is_below b Low ≡ false
+pub never_low : (b : Bound) → is_below b Low ≡ false
 never_low Low = refl
 never_low (At e) = refl
 never_low Top = refl
@@ -223,38 +221,3 @@ last_of_cut (suc r) (x ∷ xs) (y ∷ ys) (suc i) (suc j) sum first second parts
             greater = parts.greater;
           }))
     ] refl
-
--- a search by halves for the parts: those up to the lower place are of the first, and those from the upper one on are not
-pub record IsBetween (xs ys : List Entry) (rank low high : ℕ) : Type 0 where
-  pub order : low ≤ high
-  pub first : high ≤ length xs
-  pub second : rank - low ≤ length ys
-  pub within : high ≤ rank
-  pub lesser : is_below (at_rank ys (rank - low)) (last_of xs low) ≡ false
-  pub greater : is_below (last_of ys (rank - high)) (at_rank xs high) ≡ true
-
-lowest : (xs ys : List Entry) (rank low : ℕ) → low ≡ rank - length ys → is_below (at_rank ys (rank - low)) (last_of xs low) ≡ false
-lowest xs ys rank zero is = never_low (at_rank ys (rank - zero))
-lowest xs ys rank (suc low) is = ap (λ b. is_below b (at_rank xs low)) (at_end ys (rank - suc low) (omega (arith, is)))
-
-highest : (xs ys : List Entry) (rank high : ℕ) → rank ≤ length xs + length ys → high ≡ min rank (length xs) → is_below (last_of ys (rank - high)) (at_rank xs high) ≡ true
-highest xs ys rank high within is = elim (nat_lt rank (length xs)) as (λ t. nat_lt rank (length xs) ≡ t → is_below (last_of ys (rank - high)) (at_rank xs high) ≡ true) [
-  | true ↦ λ less.
-      let under : rank < length xs = grind (arith, nat_tests) in
-      let none : rank - high ≡ 0 = omega (arith, is) in
-      ap (λ n. is_below (last_of ys n) (at_rank xs high)) none ∙ rank_some xs high
-  | false ↦ λ more.
-      let over : length xs ≤ rank = grind (arith, nat_tests) in
-      ap (is_below (last_of ys (rank - high))) (at_end xs high (omega (arith, is))) ∙ last_less ys (rank - high) (omega (arith, is))
-] refl
-
-pub between_starts : (xs ys : List Entry) (rank low high : ℕ) → rank ≤ length xs + length ys → low ≡ rank - length ys → high ≡ min rank (length xs)
-    → IsBetween xs ys rank low high
-between_starts xs ys rank low high within low_is high_is = record {
-  order = omega (arith, low_is, high_is);
-  first = omega (arith, high_is);
-  second = omega (arith, low_is);
-  within = omega (arith, high_is);
-  lesser = lowest xs ys rank low low_is;
-  greater = highest xs ys rank high within high_is;
-}

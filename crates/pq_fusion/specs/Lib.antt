@@ -14,3 +14,4 @@ pub mod Tallies
 pub mod Searches
 pub mod Chunks
 pub mod Bodies
+pub mod Windows

@@ -1,7 +1,9 @@
 -- How many visits a question about the past may make: a node that is opened is one, and so is each turn of a search in one of its lists,
 -- and each row of a run that is gone through.
 use Rattle.std.specs.Prelude.{ℕ, min, ◌+◌, ◌*◌, ◌^◌, ◌<◌, ◌≤◌, List, length}
+use Rattle.retro_base.specs.declared.row.Entry.{Entry}
 use Rattle.retro_base.specs.declared.row.Row.{Row}
+use Rattle.pq_fusion.specs.Pieces.{PieceParts}
 use Rattle.pq_fusion.specs.Nodes.{weight, longest_run, IsWithinLevels}
 
 -- so many visits more, at most
@@ -12,6 +14,14 @@ pub record VisitsUpTo (most before after : ℕ) : Type 0 where
 -- so many searches of lists with no more entries than this
 abbrev pub SearchesWithin : ℕ → ℕ → ℕ → ℕ → Type 0
 SearchesWithin times entries before after = (k : ℕ) → entries < 2 ^ k → VisitsUpTo (times * k) before after
+
+-- so many searches, each of one of two lists
+abbrev pub SearchesBoth : ℕ → List Entry → List Entry → ℕ → ℕ → Type 0
+SearchesBoth times first second before after = (k : ℕ) → length first < 2 ^ k → length second < 2 ^ k → VisitsUpTo (times * k) before after
+
+-- the searches of an edit of a piece: in both lists one entry comes in and another goes, and each is sought among chunks and within one
+abbrev pub EditsWithin : PieceParts → ℕ → ℕ → Type 0
+EditsWithin piece before after = (k : ℕ) → length piece.left + 1 < 2 ^ k → length piece.removed + 1 < 2 ^ k → VisitsUpTo (8 * k) before after
 
 -- a node and the searches of its two lists, of which each is one among chunks and one within a chunk
 abbrev pub OpensWithin : ℕ → ℕ → ℕ → Type 0

@@ -1,64 +1,120 @@
 ghost use Rattle.std.specs.Prelude.{◌≡◌, ◌+◌, ◌-◌, ◌≤◌, false, true, length};
+ghost use Rattle.retro_base.specs.Visits.{OpensCounter};
 ghost use Rattle.pq_fusion.specs.Bounds.{at_rank, is_below, last_of};
 ghost use Rattle.pq_fusion.specs.Edits.{boundary_at};
 ghost use Rattle.pq_fusion.specs.Pieces.{together};
+ghost use Rattle.pq_fusion.specs.Searches.{SearchesBoth, SearchesWithin};
 
 use crate::Bound;
 use crate::entry_list::EntryList;
+use crate::window::Window;
+use retro_base::Steps;
+use std::marker::Brand;
+use std::sync::ledger::{Blank, Ledger};
 
 /// The entry at a rank of a list.
-fn bound_at(entries: &EntryList, rank: u32) -> Bound
-    ensures { result ≡ at_rank entries.now rank }
+fn bound_at<L: Ledger>(entries: &EntryList, rank: u32, steps: &mut Steps<L>) -> Bound
+    ensures entry { result ≡ at_rank entries.now rank }
+    ensures visits { SearchesWithin 1 (length entries.now) steps.old steps.new }
 {
-    match entries.get(rank) {
+    match entries.entry(rank, steps) {
         Some(entry) => Bound::At(entry),
         None => Bound::Top,
     }
 }
 
 /// How many of the least `rank` entries of two rising lists together are those of the first, where of equal ones those of the first
-/// come first. Sought by halves.
-fn cut(first: &EntryList, second: &EntryList, rank: u32) -> u32
+/// come first. Sought in both lists at once: of the entries in the middle of what is left of each, the greater one and all behind it are
+/// too many where both places together are not below the rank, and the lesser one and all before it are among the least where they are.
+fn cut<L: Ledger>(first: &EntryList, second: &EntryList, rank: u32, steps: &mut Steps<L>) -> u32
     requires within { rank ≤ length first.now + length second.now }
     ensures within { result ≤ rank }
     ensures first { result ≤ length first.now }
     ensures second { rank - result ≤ length second.now }
     ensures lesser { is_below (at_rank second.now (rank - result)) (last_of first.now result) ≡ false }
     ensures greater { is_below (last_of second.now (rank - result)) (at_rank first.now result) ≡ true }
+    ensures visits { SearchesBoth 4 first.now second.now steps.old steps.new }
 {
-    let mut low = rank.saturating_sub(second.len());
-    let mut high = rank.min(first.len());
-    'halve: while low < high {
-        let middle = low + (high - low) / 2;
-        if bound_at(second, rank - middle - 1).is_below(bound_at(first, middle)) {
-            high = middle;
+    let (own_len, other_len) = (first.len(), second.len());
+    let (first, second) = (first.lent(), second.lent());
+    let mut own = Window::between(&first, rank.saturating_sub(other_len), rank.min(own_len));
+    let mut other = Window::between(&second, rank.saturating_sub(own_len), rank.min(other_len));
+    'halve: while own.is_open() && other.is_open() {
+        steps.tick();
+        let (one, two) = (own.middle(&first), other.middle(&second));
+        if two.entry.comes_before(one.entry) {
+            if one.place + two.place >= rank {
+                own = own.before(one);
+            } else {
+                other = other.behind(two);
+            }
+        } else if one.place + two.place >= rank {
+            other = other.before(two);
         } else {
-            low = middle + 1;
+            own = own.behind(one);
         }
     }
-    low
+    if own.is_open() {
+        rank - other.low
+    } else {
+        own.low
+    }
 }
 
 /// The entry at a rank of two rising lists together.
-fn at_rank(first: &EntryList, second: &EntryList, rank: u32) -> Bound
-    ensures { result ≡ at_rank (together first.now second.now) rank }
+fn at_rank<L: Ledger>(
+    first: &EntryList,
+    second: &EntryList,
+    rank: u32,
+    steps: &mut Steps<L>,
+) -> Bound
+    ensures entry { result ≡ at_rank (together first.now second.now) rank }
+    ensures visits { SearchesBoth 6 first.now second.now steps.old steps.new }
 {
     if rank >= first.len() + second.len() {
         return Bound::Top;
     }
-    let own = cut(first, second, rank);
-    bound_at(first, own).lower(bound_at(second, rank - own))
+    let own = cut(first, second, rank, steps);
+    bound_at(first, own, steps).lower(bound_at(second, rank - own, steps))
 }
 
 /// What stands at the boundary of so many takings from two rising lists together.
-pub(crate) fn boundary(first: &EntryList, second: &EntryList, takings: u32, gains: bool) -> Bound
-    ensures { result ≡ boundary_at gains (together first.now second.now) takings }
+pub(crate) fn boundary_counted<L: Ledger>(
+    first: &EntryList,
+    second: &EntryList,
+    takings: u32,
+    gains: bool,
+    steps: &mut Steps<L>,
+) -> Bound
+    ensures entry { result ≡ boundary_at gains (together first.now second.now) takings }
+    ensures visits { SearchesBoth 6 first.now second.now steps.old steps.new }
 {
     if !gains {
-        return at_rank(first, second, takings);
+        return at_rank(first, second, takings, steps);
     }
     if takings == 0 {
         return Bound::Low;
     }
-    at_rank(first, second, takings - 1)
+    at_rank(first, second, takings - 1, steps)
+}
+
+/// The same for a caller that counts nothing.
+pub(crate) fn boundary(first: &EntryList, second: &EntryList, takings: u32, gains: bool) -> Bound
+    ensures { result ≡ boundary_at gains (together first.now second.now) takings }
+{
+    boundary_with::<Brand>(first, second, takings, gains, Blank::new(1))
+}
+
+fn boundary_with<L: Ledger>(
+    first: &EntryList,
+    second: &EntryList,
+    takings: u32,
+    gains: bool,
+    blank: Blank,
+) -> Bound
+    requires counter { OpensCounter blank.name L.name blank.parts L.parts }
+    ensures { result ≡ boundary_at gains (together first.now second.now) takings }
+{
+    let mut steps = Steps::<L>::new(blank);
+    boundary_counted(first, second, takings, gains, &mut steps)
 }

@@ -7,22 +7,26 @@ ghost use Rattle.retro_base.specs.State.{with_entry};
 ghost use Rattle.pq_fusion.specs.Bounds.{with_bound};
 ghost use Rattle.pq_fusion.specs.Chunks.{AreChunks, IsChunk, IsHome, IsOneMoreAtMost, entries_of, most_in_chunk};
 ghost use Rattle.pq_fusion.specs.Exchanges.{Has, HasBound, IsExchange};
+ghost use Rattle.pq_fusion.specs.Searches.{SearchesWithin};
 
 use crate::Bound;
 use crate::exchange::{make_room, put_in, take_out};
-use retro_base::Entry;
+use retro_base::{Entry, Steps};
+use std::sync::ledger::Ledger;
 
 /// So many entries fill a chunk.
 pub(crate) const FULL: usize = 256;
 
 /// The chunk that an entry belongs to: the last one that begins no later, or the first. Sought by halves.
-fn home(chunks: &[Vec<Entry>], entry: Entry) -> usize
+fn home<L: Ledger>(chunks: &[Vec<Entry>], entry: Entry, steps: &mut Steps<L>) -> usize
     requires some { 0 < length chunks.now }
     requires chunks { AreChunks chunks.now }
-    ensures { IsHome entry chunks.now result }
+    ensures home { IsHome entry chunks.now result }
+    ensures visits { SearchesWithin 1 (length chunks.now) steps.old steps.new }
 {
     let (mut low, mut high) = (1, chunks.len());
     'halve: while low < high {
+        steps.tick();
         let middle = low + (high - low) / 2;
         if entry.comes_before(chunks[middle][0]) {
             high = middle;
@@ -44,26 +48,37 @@ fn trim(chunk: &mut Vec<Entry>)
 }
 
 /// Puts an entry into a chunk. Where there is no memory for more room, all of it goes into the spare one.
-fn grow_into(chunk: &mut Vec<Entry>, mut spare: Vec<Entry>, entry: Entry)
+fn grow_into<L: Ledger>(
+    chunk: &mut Vec<Entry>,
+    mut spare: Vec<Entry>,
+    entry: Entry,
+    steps: &mut Steps<L>,
+)
     requires order { AreInOrder chunk.old.items }
     requires few { length chunk.old.items < most_in_chunk }
     requires none { spare.items ≡ [] }
     requires room { most_in_chunk < vec_capacity spare }
-    ensures { chunk.new.items ≡ with_entry entry chunk.old.items }
+    ensures items { chunk.new.items ≡ with_entry entry chunk.old.items }
+    ensures visits { SearchesWithin 1 (length chunk.old.items) steps.old steps.new }
 {
     if make_room(chunk).is_ok() {
-        put_in(chunk, entry);
+        put_in(chunk, entry, steps);
         return;
     }
     if spare.extend_from_slice(chunk.as_slice()).is_err() {
         unreachable!()
     }
-    put_in(&mut spare, entry);
+    put_in(&mut spare, entry, steps);
     *chunk = spare;
 }
 
 /// Puts an entry into one of two chunks, of which the second stands behind the first.
-fn put_in_either(earlier: &mut Vec<Entry>, later: &mut Vec<Entry>, entry: Entry)
+fn put_in_either<L: Ledger>(
+    earlier: &mut Vec<Entry>,
+    later: &mut Vec<Entry>,
+    entry: Entry,
+    steps: &mut Steps<L>,
+)
     requires order { AreInOrder (earlier.old.items ++ later.old.items) }
     requires some { 0 < length later.old.items }
     requires room_earlier { vec_len earlier.old < vec_capacity earlier.old }
@@ -71,16 +86,22 @@ fn put_in_either(earlier: &mut Vec<Entry>, later: &mut Vec<Entry>, entry: Entry)
     ensures items { earlier.new.items ++ later.new.items ≡ with_entry entry (earlier.old.items ++ later.old.items) }
     ensures earlier { IsOneMoreAtMost earlier.old.items earlier.new.items }
     ensures later { IsOneMoreAtMost later.old.items later.new.items }
+    ensures visits { SearchesWithin 1 (length (earlier.old.items ++ later.old.items)) steps.old steps.new }
 {
     if entry.comes_before(later[0]) {
-        put_in(earlier, entry);
+        put_in(earlier, entry, steps);
     } else {
-        put_in(later, entry);
+        put_in(later, entry, steps);
     }
 }
 
 /// Divides a full chunk in halves, and puts an entry into its half. The later half comes back.
-fn divide(chunk: &mut Vec<Entry>, mut later: Vec<Entry>, entry: Entry) -> Vec<Entry>
+fn divide<L: Ledger>(
+    chunk: &mut Vec<Entry>,
+    mut later: Vec<Entry>,
+    entry: Entry,
+    steps: &mut Steps<L>,
+) -> Vec<Entry>
     requires order { AreInOrder chunk.old.items }
     requires full { length chunk.old.items ≡ most_in_chunk }
     requires none { later.items ≡ [] }
@@ -88,6 +109,7 @@ fn divide(chunk: &mut Vec<Entry>, mut later: Vec<Entry>, entry: Entry) -> Vec<En
     ensures items { chunk.new.items ++ result.items ≡ with_entry entry chunk.old.items }
     ensures earlier { IsChunk chunk.new }
     ensures later { IsChunk result }
+    ensures visits { SearchesWithin 1 (length chunk.old.items) steps.old steps.new }
 {
     if later
         .extend_from_slice(chunk.as_slice().split_at(FULL / 2).1)
@@ -96,14 +118,19 @@ fn divide(chunk: &mut Vec<Entry>, mut later: Vec<Entry>, entry: Entry) -> Vec<En
         unreachable!()
     }
     chunk.truncate(FULL / 2);
-    put_in_either(chunk, &mut later, entry);
+    put_in_either(chunk, &mut later, entry, steps);
     trim(chunk);
     trim(&mut later);
     later
 }
 
 /// Puts an entry into a chunk. Where the chunk was full, its later half comes back.
-fn put_into(chunk: &mut Vec<Entry>, spare: Vec<Entry>, entry: Entry) -> Option<Vec<Entry>>
+fn put_into<L: Ledger>(
+    chunk: &mut Vec<Entry>,
+    spare: Vec<Entry>,
+    entry: Entry,
+    steps: &mut Steps<L>,
+) -> Option<Vec<Entry>>
     requires order { AreInOrder chunk.old.items }
     requires chunk { IsChunk chunk.old }
     requires none { spare.items ≡ [] }
@@ -111,16 +138,22 @@ fn put_into(chunk: &mut Vec<Entry>, spare: Vec<Entry>, entry: Entry) -> Option<V
     ensures items { MatchOption result (chunk.new.items ≡ with_entry entry chunk.old.items)
         (λ later. (chunk.new.items ++ later.items ≡ with_entry entry chunk.old.items) × IsChunk later) }
     ensures chunk { IsChunk chunk.new }
+    ensures visits { SearchesWithin 1 (length chunk.old.items) steps.old steps.new }
 {
     if chunk.as_slice().len() >= FULL {
-        return Some(divide(chunk, spare, entry));
+        return Some(divide(chunk, spare, entry, steps));
     }
-    grow_into(chunk, spare, entry);
+    grow_into(chunk, spare, entry, steps);
     None
 }
 
 /// Puts an entry into its chunk.
-fn put_among(chunks: &mut Vec<Vec<Entry>>, mut spare: Vec<Entry>, entry: Entry)
+fn put_among<L: Ledger>(
+    chunks: &mut Vec<Vec<Entry>>,
+    mut spare: Vec<Entry>,
+    entry: Entry,
+    steps: &mut Steps<L>,
+)
     requires order { AreInOrder (entries_of chunks.old.items) }
     requires chunks { AreChunks chunks.old.items }
     requires place { vec_len chunks.old < vec_capacity chunks.old }
@@ -129,15 +162,16 @@ fn put_among(chunks: &mut Vec<Vec<Entry>>, mut spare: Vec<Entry>, entry: Entry)
     ensures items { entries_of chunks.new.items ≡ with_entry entry (entries_of chunks.old.items) }
     ensures chunks { AreChunks chunks.new.items }
     ensures few { vec_len chunks.new ≤ vec_len chunks.old + 1 }
+    ensures visits { SearchesWithin 2 (length (entries_of chunks.old.items)) steps.old steps.new }
 {
     if chunks.as_slice().len() == 0 {
-        put_in(&mut spare, entry);
+        put_in(&mut spare, entry, steps);
         chunks.push_reserved(spare);
         return;
     }
-    let place = home(chunks, entry);
+    let place = home(chunks, entry, steps);
     let chunk = &mut chunks[place];
-    let Some(later) = put_into(chunk, spare, entry) else {
+    let Some(later) = put_into(chunk, spare, entry, steps) else {
         return;
     };
     if chunks.insert(place + 1, later).is_err() {
@@ -146,17 +180,18 @@ fn put_among(chunks: &mut Vec<Vec<Entry>>, mut spare: Vec<Entry>, entry: Entry)
 }
 
 /// Takes an entry out of its chunk. A chunk of this entry alone goes whole.
-fn take_among(chunks: &mut Vec<Vec<Entry>>, entry: Entry)
+fn take_among<L: Ledger>(chunks: &mut Vec<Vec<Entry>>, entry: Entry, steps: &mut Steps<L>)
     requires order { AreInOrder (entries_of chunks.old.items) }
     requires chunks { AreChunks chunks.old.items }
     requires there { Has entry (entries_of chunks.old.items) }
     ensures items { with_entry entry (entries_of chunks.new.items) ≡ entries_of chunks.old.items }
     ensures chunks { AreChunks chunks.new.items }
     ensures few { vec_len chunks.new ≤ vec_len chunks.old }
+    ensures visits { SearchesWithin 2 (length (entries_of chunks.old.items)) steps.old steps.new }
 {
-    let place = home(chunks, entry);
+    let place = home(chunks, entry, steps);
     let chunk = &mut chunks[place];
-    take_out(chunk, entry);
+    take_out(chunk, entry, steps);
     if chunk.as_slice().len() == 0 {
         let _ = chunks.remove(place);
     } else {
@@ -165,7 +200,12 @@ fn take_among(chunks: &mut Vec<Vec<Entry>>, entry: Entry)
 }
 
 /// Puts in what the bound is, where that is an entry.
-fn put_bound_among(chunks: &mut Vec<Vec<Entry>>, spare: Vec<Entry>, put: Bound)
+fn put_bound_among<L: Ledger>(
+    chunks: &mut Vec<Vec<Entry>>,
+    spare: Vec<Entry>,
+    put: Bound,
+    steps: &mut Steps<L>,
+)
     requires order { AreInOrder (entries_of chunks.old.items) }
     requires chunks { AreChunks chunks.old.items }
     requires place { vec_len chunks.old < vec_capacity chunks.old }
@@ -174,32 +214,35 @@ fn put_bound_among(chunks: &mut Vec<Vec<Entry>>, spare: Vec<Entry>, put: Bound)
     ensures items { entries_of chunks.new.items ≡ with_bound put (entries_of chunks.old.items) }
     ensures chunks { AreChunks chunks.new.items }
     ensures few { vec_len chunks.new ≤ vec_len chunks.old + 1 }
+    ensures visits { SearchesWithin 2 (length (entries_of chunks.old.items)) steps.old steps.new }
 {
     if let Bound::At(entry) = put {
-        put_among(chunks, spare, entry);
+        put_among(chunks, spare, entry, steps);
     }
 }
 
 /// Takes out what the bound is, where that is an entry.
-fn take_bound_among(chunks: &mut Vec<Vec<Entry>>, take: Bound)
+fn take_bound_among<L: Ledger>(chunks: &mut Vec<Vec<Entry>>, take: Bound, steps: &mut Steps<L>)
     requires order { AreInOrder (entries_of chunks.old.items) }
     requires chunks { AreChunks chunks.old.items }
     requires there { HasBound take (entries_of chunks.old.items) }
     ensures items { with_bound take (entries_of chunks.new.items) ≡ entries_of chunks.old.items }
     ensures chunks { AreChunks chunks.new.items }
     ensures few { vec_len chunks.new ≤ vec_len chunks.old }
+    ensures visits { SearchesWithin 2 (length (entries_of chunks.old.items)) steps.old steps.new }
 {
     if let Bound::At(entry) = take {
-        take_among(chunks, entry);
+        take_among(chunks, entry, steps);
     }
 }
 
 /// Puts one entry into its chunk and takes another out of its own. A full chunk is divided into the spare one.
-pub(crate) fn exchange_among(
+pub(crate) fn exchange_among<L: Ledger>(
     chunks: &mut Vec<Vec<Entry>>,
     spare: Vec<Entry>,
     put: Bound,
     take: Bound,
+    steps: &mut Steps<L>,
 )
     requires order { AreInOrder (entries_of chunks.old.items) }
     requires chunks { AreChunks chunks.old.items }
@@ -210,7 +253,8 @@ pub(crate) fn exchange_among(
     ensures items { IsExchange put take (entries_of chunks.old.items) (entries_of chunks.new.items) }
     ensures chunks { AreChunks chunks.new.items }
     ensures few { vec_len chunks.new ≤ vec_len chunks.old + 1 }
+    ensures visits { SearchesWithin 4 (length (entries_of chunks.old.items) + 1) steps.old steps.new }
 {
-    put_bound_among(chunks, spare, put);
-    take_bound_among(chunks, take);
+    put_bound_among(chunks, spare, put, steps);
+    take_bound_among(chunks, take, steps);
 }

@@ -8,11 +8,13 @@ ghost use Rattle.pq_fusion.specs.Chunks.{AreChunks, BeginBefore, HoldsRank, entr
 ghost use Rattle.pq_fusion.specs.Exchanges.{IsExchange};
 ghost use Rattle.pq_fusion.specs.Searches.{SearchesWithin};
 ghost use Rattle.pq_fusion.specs.Tallies.{reaching};
+ghost use Rattle.pq_fusion.specs.Windows.{AreLent};
 
 use crate::Bound;
 use crate::chunk_edits::{FULL, exchange_among};
 use crate::exchange::make_room;
 use crate::tally::reaching;
+use crate::window::Lent;
 use retro_base::{Entry, NoMemory, Steps};
 use std::alloc::Global;
 use std::marker::Model;
@@ -97,13 +99,15 @@ fn count_anew(starts: &mut Vec<u32>, chunks: &[Vec<Entry>]) -> u32
 }
 
 /// The chunk in which a rank lies: the last one before which no more entries stand. Sought by halves.
-fn holding(starts: &[u32], rank: u32) -> usize
+fn holding<L: Ledger>(starts: &[u32], rank: u32, steps: &mut Steps<L>) -> usize
     requires some { 0 < length starts.now }
     requires first { get_or starts.now 0 0 ≡ 0 }
-    ensures { HoldsRank starts.now rank result }
+    ensures holds { HoldsRank starts.now rank result }
+    ensures visits { SearchesWithin 1 (length starts.now) steps.old steps.new }
 {
     let (mut low, mut high) = (1, starts.len());
     'halve: while low < high {
+        steps.tick();
         let middle = low + (high - low) / 2;
         if rank < starts[middle] {
             high = middle;
@@ -188,14 +192,26 @@ impl Chunks {
         self.count
     }
 
-    /// The entry at a rank, where there is one.
-    pub(crate) fn get(&self, rank: u32) -> Option<Entry>
-        ensures { result ≡ slice_get self.now rank }
+    /// The chunks, lent.
+    pub(crate) fn lent(&self) -> Lent
+        ensures entries { entries_of result.chunks.now ≡ self.now }
+        ensures lent { AreLent result.chunks.now result.starts.now }
+    {
+        Lent {
+            chunks: &self.chunks,
+            starts: &self.starts,
+        }
+    }
+
+    /// The entry at a rank, where there is one. Its chunk is sought by halves.
+    pub(crate) fn entry<L: Ledger>(&self, rank: u32, steps: &mut Steps<L>) -> Option<Entry>
+        ensures entry { result ≡ slice_get self.now rank }
+        ensures visits { SearchesWithin 1 (length self.now) steps.old steps.new }
     {
         if self.starts.as_slice().len() == 0 {
             return None;
         }
-        let place = holding(&self.starts, rank);
+        let place = holding(&self.starts, rank, steps);
         entry_at(&self.chunks[place], rank - self.starts[place])
     }
 
@@ -260,9 +276,10 @@ impl RoomyChunks {
     }
 
     /// Puts one entry in and takes another out. Where these are the same, all stays, and nothing is counted anew.
-    pub(crate) fn exchange(self, put: Bound, take: Bound) -> Chunks
+    pub(crate) fn exchange<L: Ledger>(self, put: Bound, take: Bound, steps: &mut Steps<L>) -> Chunks
         requires there { (new : List Entry) × (IsExchange put take self new × (length new ≤ most_rows)) }
-        ensures { IsExchange put take self result }
+        ensures exchange { IsExchange put take self result }
+        ensures visits { SearchesWithin 4 (length self + 1) steps.old steps.new }
     {
         if !put.is_below(take) && !take.is_below(put) {
             return self.into_list();
@@ -274,7 +291,7 @@ impl RoomyChunks {
             spare,
             ..
         } = self;
-        exchange_among(&mut chunks, spare, put, take);
+        exchange_among(&mut chunks, spare, put, take, steps);
         let count = count_anew(&mut starts, &chunks);
         Chunks {
             alloc,

@@ -1,20 +1,25 @@
-ghost use Rattle.std.specs.Prelude.{◌≡◌, ◌++◌, ◌-◌, ◌<◌, ◌≤◌, [], List, length, slice_get, IfOk, OnOk, MatchResult, vec_capacity, vec_len};
+ghost use Rattle.std.specs.Prelude.{◌≡◌, ◌+◌, ◌++◌, ◌-◌, ◌<◌, ◌≤◌, [], List, length, slice_get, IfOk, OnOk, MatchResult, vec_capacity, vec_len};
 ghost use Rattle.retro_base.specs.declared.row.Entry.{Entry};
 ghost use Rattle.retro_base.specs.EntriesInOrder.{AreInOrder};
 ghost use Rattle.retro_base.specs.Limits.{most_rows};
+ghost use Rattle.retro_base.specs.Visits.{OpensCounter};
+ghost use Rattle.pq_fusion.specs.Chunks.{entries_of};
 ghost use Rattle.pq_fusion.specs.Exchanges.{IsExchange};
 ghost use Rattle.pq_fusion.specs.Searches.{SearchesWithin};
 ghost use Rattle.pq_fusion.specs.Tallies.{reaching};
+ghost use Rattle.pq_fusion.specs.Windows.{AreLent};
 
 use crate::Bound;
 use crate::chunk_edits::FULL;
 use crate::chunks::{Chunks, RoomyChunks, entry_at, reaching_in_chunks};
 use crate::exchange::{exchange, make_room};
 use crate::tally::reaching;
+use crate::window::Lent;
 use retro_base::{Entry, NoMemory, Steps};
 use std::alloc::Global;
-use std::marker::Model;
-use std::sync::ledger::Ledger;
+use std::marker::{Brand, Model};
+use std::slice::from_ref;
+use std::sync::ledger::{Blank, Ledger};
 
 /// Entries in rising order. A short list is one vector, a longer one is in chunks, so that putting one in or taking one out moves few.
 #[derive(Drop)]
@@ -103,14 +108,44 @@ impl EntryList {
         }
     }
 
+    /// The entries in chunks, lent. A list of one vector is one chunk.
+    pub(crate) fn lent(&self) -> Lent
+        ensures entries { entries_of result.chunks.now ≡ self.now }
+        ensures lent { AreLent result.chunks.now result.starts.now }
+    {
+        match &self.body {
+            Body::Whole(entries) => Lent {
+                chunks: from_ref(entries),
+                starts: &[],
+            },
+            Body::Parted(chunks) => chunks.lent(),
+        }
+    }
+
     /// The entry at a rank, where there is one.
-    pub(crate) fn get(&self, rank: u32) -> Option<Entry>
-        ensures { result ≡ slice_get self.now rank }
+    pub(crate) fn entry<L: Ledger>(&self, rank: u32, steps: &mut Steps<L>) -> Option<Entry>
+        ensures entry { result ≡ slice_get self.now rank }
+        ensures visits { SearchesWithin 1 (length self.now) steps.old steps.new }
     {
         match &self.body {
             Body::Whole(entries) => entry_at(entries, rank),
-            Body::Parted(chunks) => chunks.get(rank),
+            Body::Parted(chunks) => chunks.entry(rank, steps),
         }
+    }
+
+    /// The same for a caller that counts nothing.
+    pub(crate) fn get(&self, rank: u32) -> Option<Entry>
+        ensures { result ≡ slice_get self.now rank }
+    {
+        self.get_with::<Brand>(rank, Blank::new(1))
+    }
+
+    fn get_with<L: Ledger>(&self, rank: u32, blank: Blank) -> Option<Entry>
+        requires counter { OpensCounter blank.name L.name blank.parts L.parts }
+        ensures { result ≡ slice_get self.now rank }
+    {
+        let mut steps = Steps::<L>::new(blank);
+        self.entry(rank, &mut steps)
     }
 
     /// The greatest entry, where there is one.
@@ -212,28 +247,40 @@ impl RoomyList {
     }
 
     /// Puts one entry in and takes another out.
-    pub(crate) fn exchange(self, put: Bound, take: Bound) -> EntryList
+    pub(crate) fn exchange<L: Ledger>(
+        self,
+        put: Bound,
+        take: Bound,
+        steps: &mut Steps<L>,
+    ) -> EntryList
         requires there { (new : List Entry) × (IsExchange put take self new × (length new ≤ most_rows)) }
-        ensures { IsExchange put take self result }
+        ensures exchange { IsExchange put take self result }
+        ensures visits { SearchesWithin 4 (length self + 1) steps.old steps.new }
     {
         let RoomyList { body } = self;
         match body {
-            RoomyBody::Whole(entries) => exchanged(entries, put, take),
+            RoomyBody::Whole(entries) => exchanged(entries, put, take, steps),
             RoomyBody::Parted(chunks) => EntryList {
-                body: Body::Parted(chunks.exchange(put, take)),
+                body: Body::Parted(chunks.exchange(put, take, steps)),
             },
         }
     }
 }
 
 /// The entries of one vector with one more and without another.
-fn exchanged(mut entries: Vec<Entry>, put: Bound, take: Bound) -> EntryList
+fn exchanged<L: Ledger>(
+    mut entries: Vec<Entry>,
+    put: Bound,
+    take: Bound,
+    steps: &mut Steps<L>,
+) -> EntryList
     requires room { vec_len entries < vec_capacity entries }
     requires order { AreInOrder entries.items }
     requires there { (new : List Entry) × (IsExchange put take entries.items new × (length new ≤ most_rows)) }
-    ensures { IsExchange put take entries.items result }
+    ensures exchange { IsExchange put take entries.items result }
+    ensures visits { SearchesWithin 2 (length entries.items + 1) steps.old steps.new }
 {
-    exchange(&mut entries, put, take);
+    exchange(&mut entries, put, take, steps);
     EntryList {
         body: Body::Whole(entries),
     }

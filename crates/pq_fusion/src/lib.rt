@@ -91,6 +91,7 @@ mod sides;
 mod span;
 mod subtree;
 mod tally;
+mod window;
 
 pub use anew::Anew;
 pub use bound::Bound;

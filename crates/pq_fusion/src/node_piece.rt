@@ -1,14 +1,17 @@
 ghost use Rattle.std.specs.Prelude.{◌≡◌, ◌+◌, ◌≤◌, length, IfOk, MatchResult};
 ghost use Rattle.retro_base.specs.EntriesInOrder.{AreInOrder};
 ghost use Rattle.retro_base.specs.Limits.{most_rows};
+ghost use Rattle.retro_base.specs.Visits.{OpensCounter};
 ghost use Rattle.pq_fusion.specs.Edits.{Passes, takings};
 ghost use Rattle.pq_fusion.specs.Pieces.{IsPiece, PieceParts, no_parts};
+ghost use Rattle.pq_fusion.specs.Searches.{EditsWithin};
 
 use crate::entry_list::{EntryList, RoomyList};
 use crate::{Bound, Piece};
-use retro_base::NoMemory;
+use retro_base::{NoMemory, Steps};
 use std::alloc::Global;
-use std::marker::Model;
+use std::marker::{Brand, Model};
+use std::sync::ledger::{Blank, Ledger};
 
 /// What the rows of a node come to, in lists that an edit changes by one entry.
 #[derive(Drop)]
@@ -196,10 +199,17 @@ impl RoomyPiece {
     }
 
     /// The piece after an edit that passes this entry: `own` is that of the edited row.
-    pub(crate) fn after(self, gains: bool, own: Bound, passed: Bound) -> NodePiece
+    pub(crate) fn after_counted<L: Ledger>(
+        self,
+        gains: bool,
+        own: Bound,
+        passed: Bound,
+        steps: &mut Steps<L>,
+    ) -> NodePiece
         requires { (after : PieceParts) × (IsPiece after × Passes gains own passed self after) }
         ensures passes { Passes gains own passed self result }
         ensures piece { IsPiece result }
+        ensures visits { EditsWithin self steps.old steps.new }
     {
         let RoomyPiece {
             left,
@@ -208,16 +218,41 @@ impl RoomyPiece {
         } = self;
         if gains {
             NodePiece {
-                left: left.exchange(passed, Bound::Low),
-                removed: removed.exchange(own, passed),
+                left: left.exchange(passed, Bound::Low, steps),
+                removed: removed.exchange(own, passed, steps),
                 unmet: unmet - passed.tops(),
             }
         } else {
             NodePiece {
-                left: left.exchange(Bound::Low, passed),
-                removed: removed.exchange(passed, own),
+                left: left.exchange(Bound::Low, passed, steps),
+                removed: removed.exchange(passed, own, steps),
                 unmet: unmet + passed.tops(),
             }
         }
+    }
+
+    /// The same for a caller that counts nothing.
+    pub(crate) fn after(self, gains: bool, own: Bound, passed: Bound) -> NodePiece
+        requires { (after : PieceParts) × (IsPiece after × Passes gains own passed self after) }
+        ensures passes { Passes gains own passed self result }
+        ensures piece { IsPiece result }
+    {
+        self.after_with::<Brand>(gains, own, passed, Blank::new(1))
+    }
+
+    fn after_with<L: Ledger>(
+        self,
+        gains: bool,
+        own: Bound,
+        passed: Bound,
+        blank: Blank,
+    ) -> NodePiece
+        requires passes { (after : PieceParts) × (IsPiece after × Passes gains own passed self after) }
+        requires counter { OpensCounter blank.name L.name blank.parts L.parts }
+        ensures passes { Passes gains own passed self result }
+        ensures piece { IsPiece result }
+    {
+        let mut steps = Steps::<L>::new(blank);
+        self.after_counted(gains, own, passed, &mut steps)
     }
 }

@@ -9,7 +9,7 @@ ghost use Rattle.retro_base.specs.State.{with_entry};
 ghost use Rattle.pq_fusion.specs.Pieces.{after_row, after_take, no_parts, size_of, tolerant};
 
 use crate::Piece;
-use crate::exchange::{make_room, put_in};
+use crate::exchange::{make_room, put_uncounted};
 use retro_base::{Entry, NoMemory, Row};
 use std::alloc::Global;
 
@@ -65,7 +65,7 @@ impl Piece {
             unmet,
         } = self;
         make_room(&mut left)?;
-        put_in(&mut left, entry);
+        put_uncounted(&mut left, entry);
         Ok(Piece {
             alloc,
             left,
@@ -94,7 +94,7 @@ impl Piece {
             });
         }
         make_room(&mut removed)?;
-        put_in(&mut removed, left.remove(0));
+        put_uncounted(&mut removed, left.remove(0));
         Ok(Piece {
             alloc,
             left,

@@ -5,13 +5,13 @@ use Rattle.pq_fusion.proofs.Order.{length_together}
 use Rattle.pq_fusion.proofs.Ranked.{AreCut, at_end, rank_of_cut}
 use Rattle.pq_fusion.proofs.boundary.at_rank.Goals as goal
 
-pub returns-then-rank-len : goal.returns-then-rank-len
-returns-then-rank-len c =
+pub returns-then-rank-len-clause-entry : goal.returns-then-rank-len-clause-entry
+returns-then-rank-len-clause-entry g c =
     sym (at_end (together c.args.first.now c.args.second.now) c.args.rank
     (omega (arith, length_together c.args.first.now c.args.second.now, c.len.ensures.count, c.len-2.ensures.count)))
 
-pub returns : goal.returns
-returns c =
+pub returns-clause-entry : goal.returns-clause-entry
+returns-clause-entry g c =
     let own = c.cut-own.result in
     let parts : AreCut c.args.first.now c.args.second.now own (c.args.rank - own) = record {
       first = c.cut-own.ensures.first;
@@ -19,5 +19,5 @@ returns c =
       lesser = c.cut-own.ensures.lesser;
       greater = c.cut-own.ensures.greater;
     } in
-    c.lower.ensures ∙ ap (λ b. lower b c.bound_at-2.result) c.bound_at.ensures ∙ ap (lower (at_rank c.args.first.now own)) c.bound_at-2.ensures
+    c.lower.ensures ∙ ap (λ b. lower b c.bound_at-2.result) c.bound_at.ensures.entry ∙ ap (lower (at_rank c.args.first.now own)) c.bound_at-2.ensures.entry
     ∙ sym (rank_of_cut c.args.rank c.args.first.now c.args.second.now own (c.args.rank - own) (omega (arith, c.cut-own.ensures.within)) c.len.ensures.order c.len-2.ensures.order parts)

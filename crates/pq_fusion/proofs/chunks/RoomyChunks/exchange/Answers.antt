@@ -7,7 +7,7 @@ use Rattle.pq_fusion.proofs.Exchanged.{exchanged_few}
 use Rattle.pq_fusion.proofs.chunks.RoomyChunks.exchange.Goals as goal
 
 pub count_anew-count-requires-clause-few : goal.count_anew-count-requires-clause-few
-count_anew-count-requires-clause-few c =
+count_anew-count-requires-clause-few g c =
     let wanted = c.requires.there.0 in
     let old = entries_of c.self.inside.chunks.items in
     let inside : IsExchange c.args.put c.args.take old wanted = subst (λ xs. IsExchange c.args.put c.args.take xs wanted) (sym c.self.view_is) c.requires.there.1.0 in
@@ -15,7 +15,7 @@ count_anew-count-requires-clause-few c =
     (exchanged_few c.args.put c.args.take old wanted (entries_of c.exchange_among.new.chunks.items) c.exchange_among.ensures.items inside c.requires.there.1.1)
 
 pub count_anew-count-requires-clause-room : goal.count_anew-count-requires-clause-room
-count_anew-count-requires-clause-room c =
+count_anew-count-requires-clause-room g c =
     omega (
       arith,
       c.exchange_among.ensures.few,
@@ -28,7 +28,7 @@ count_anew-count-requires-clause-room c =
     )
 
 pub invariant_of-result : goal.invariant_of-result
-invariant_of-result c =
+invariant_of-result g c =
     let wanted = c.requires.there.0 in
     let old = entries_of c.self.inside.chunks.items in
     let inside : IsExchange c.args.put c.args.take old wanted = subst (λ xs. IsExchange c.args.put c.args.take xs wanted) (sym c.self.view_is) c.requires.there.1.0 in
