@@ -33,3 +33,4 @@ pub mod RowByRow
 pub mod Windowed
 pub mod Sought
 pub mod Turns
+pub mod Walked

@@ -1,5 +1,5 @@
 -- A search of a rising list by halves, with its turns counted, and the visits of a walk down the tree.
-use Rattle.std.proofs.Common.{◌≡◌, ℕ, zero, suc, ◌+◌, ◌-◌, ◌*◌, ◌/◌, ◌^◌, ◌<◌, ◌≤◌, true, false, List, [], ◌∷◌, length, get_or, refl, ap, sym, ◌∙◌, arith, subst}
+use Rattle.std.proofs.Common.{◌≡◌, ℕ, zero, suc, ◌+◌, ◌-◌, ◌*◌, ◌/◌, ◌^◌, ◌<◌, ◌≤◌, true, false, List, [], ◌∷◌, length, get_or, refl, ap, sym, ◌∙◌, arith}
 use Rattle.std.specs.List.{AllWithin}
 use Rattle.std.proofs.lemmas.Nat.{pow-add}
 use Rattle.retro_base.specs.declared.row.Entry.{Entry}
@@ -13,8 +13,6 @@ use Rattle.pq_fusion.specs.Pieces.{PieceParts, size_of, tolerant}
 use Rattle.pq_fusion.specs.Searches.{VisitsUpTo, run_of}
 use Rattle.pq_fusion.proofs.Pairs.{sizes, some_earlier, some_later}
 use Rattle.pq_fusion.proofs.Sizes.{rows_size}
-use Rattle.pq_fusion.specs.Tallies.{reaching}
-use Rattle.pq_fusion.proofs.Tallied.{reaching_counts}
 
 -- what is left of a search, and the turns that it may still take
 pub record IsLeft (width start steps k : ℕ) : Type 0 where
@@ -83,11 +81,6 @@ module _ (bound : Entry) (xs : List Entry) (low high start steps middle : ℕ) (
     none_lost = omega (arith, narrowed.none_lost);
     visits = λ k small. half_left (high - low) start steps k (omega arith) (narrowed.visits k small) (middle - low) (omega (arith, middle_is));
   }
-
-pub narrowed_ends : (bound : Entry) (xs : List Entry) (low high start steps : ℕ) → IsNarrowed bound xs low high start steps → high ≤ low → length xs - low ≡ reaching bound xs
-narrowed_ends bound xs low high start steps narrowed over =
-    let same : high ≡ low = omega (arith, narrowed.order) in
-    reaching_counts bound xs low (omega (arith, narrowed.within)) narrowed.before (subst (λ n. AllWithin (λ y. comes_before y bound ≡ false) xs n (length xs)) same narrowed.after)
 
 pub narrowed_visits : (bound : Entry) (xs : List Entry) (low high start steps : ℕ) → IsNarrowed bound xs low high start steps → (k : ℕ) → length xs < 2 ^ k → VisitsUpTo (1 * k) start steps
 narrowed_visits bound xs low high start steps narrowed k small =

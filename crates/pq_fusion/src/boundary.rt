@@ -1,5 +1,4 @@
 ghost use Rattle.std.specs.Prelude.{◌≡◌, ◌+◌, ◌-◌, ◌≤◌, false, true, length};
-ghost use Rattle.retro_base.specs.Visits.{OpensCounter};
 ghost use Rattle.pq_fusion.specs.Bounds.{at_rank, is_below, last_of};
 ghost use Rattle.pq_fusion.specs.Edits.{boundary_at};
 ghost use Rattle.pq_fusion.specs.Pieces.{together};
@@ -9,8 +8,7 @@ use crate::Bound;
 use crate::entry_list::EntryList;
 use crate::window::Window;
 use retro_base::Steps;
-use std::marker::Brand;
-use std::sync::ledger::{Blank, Ledger};
+use std::sync::ledger::Ledger;
 
 /// The entry at a rank of a list.
 fn bound_at<L: Ledger>(entries: &EntryList, rank: u32, steps: &mut Steps<L>) -> Bound
@@ -79,7 +77,7 @@ fn at_rank<L: Ledger>(
 }
 
 /// What stands at the boundary of so many takings from two rising lists together.
-pub(crate) fn boundary_counted<L: Ledger>(
+pub(crate) fn boundary<L: Ledger>(
     first: &EntryList,
     second: &EntryList,
     takings: u32,
@@ -96,25 +94,4 @@ pub(crate) fn boundary_counted<L: Ledger>(
         return Bound::Low;
     }
     at_rank(first, second, takings - 1, steps)
-}
-
-/// The same for a caller that counts nothing.
-pub(crate) fn boundary(first: &EntryList, second: &EntryList, takings: u32, gains: bool) -> Bound
-    ensures { result ≡ boundary_at gains (together first.now second.now) takings }
-{
-    boundary_with::<Brand>(first, second, takings, gains, Blank::new(1))
-}
-
-fn boundary_with<L: Ledger>(
-    first: &EntryList,
-    second: &EntryList,
-    takings: u32,
-    gains: bool,
-    blank: Blank,
-) -> Bound
-    requires counter { OpensCounter blank.name L.name blank.parts L.parts }
-    ensures { result ≡ boundary_at gains (together first.now second.now) takings }
-{
-    let mut steps = Steps::<L>::new(blank);
-    boundary_counted(first, second, takings, gains, &mut steps)
 }

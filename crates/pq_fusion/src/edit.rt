@@ -11,13 +11,14 @@ ghost use Rattle.pq_fusion.specs.Edits.{DiffersBy, boundary_of};
 ghost use Rattle.pq_fusion.specs.Nodes.{IsBalanced, IsPair, pair_part, pair_rows};
 ghost use Rattle.pq_fusion.specs.Passages.{Cuts, IsBoundaryFor, IsCut, IsPut, Puts, bears, spares, with_piece};
 ghost use Rattle.pq_fusion.specs.Pieces.{tolerant};
+ghost use Rattle.pq_fusion.specs.Searches.{EditVisits};
 ghost use Rattle.pq_fusion.specs.WearLevels.{AnewOnLevels};
 
 use crate::Bound;
 use crate::anew::Anew;
 use crate::node_piece::{NodePiece, RoomyPiece};
 use crate::subtree::{LONGEST_RUN, Link, Pair, Subtree};
-use retro_base::{NoMemory, Row};
+use retro_base::{NoMemory, Row, Steps};
 use std::alloc::Global;
 use std::mem;
 use std::sync::ledger::Ledger;
@@ -47,11 +48,12 @@ impl Subtree {
     /// Puts a row in at a place. All memory of a pair is taken before anything of it changes, so after `NoMemory` all is as before.
     /// It says what passes between what the rows leave and what they do not.
     #[cycle(put)]
-    pub(crate) fn insert<M: Ledger>(
+    pub(crate) fn insert<L: Ledger, M: Ledger>(
         &mut self,
         alloc: Global,
         place: u32,
         row: Row,
+        steps: &mut Steps<L>,
         anew: &mut Anew<M>,
     ) -> Result<Bound, NoMemory>
         requires within { place ≤ length self.old.rows }
@@ -61,8 +63,10 @@ impl Subtree {
         ensures err { OnErr result (self.new ≡ self.old) }
         ensures rare { OnOk result (AnewOnLevels self.old self.new anew.old anew.new) }
         ensures none_lost { anew.old ≤ anew.new }
+        ensures visits { EditVisits 14 1 self.old.rows steps.old steps.new }
         ensures passed { IfOk result (λ passed. DiffersBy (added_by row) passed (tolerant self.old.rows) (tolerant (insert self.old.rows place row))) }
     {
+        steps.tick();
         let pair = match mem::replace(&mut self.link, Link::Empty) {
             Link::Fork(pair) => pair,
             link => {
@@ -74,18 +78,19 @@ impl Subtree {
             *self = Subtree::of_pair(pair);
             return self.insert_anew(alloc, place, row, LONGEST_ANEW, anew);
         }
-        let edited = put_row(alloc, pair, place, row, anew);
+        let edited = put_row(alloc, pair, place, row, steps, anew);
         self.put_back(edited)
     }
 
     /// Takes the row at a place out, which is this one. All memory of a pair is taken before anything of it changes, so after `NoMemory`
     /// all is as before. It says what passes between what the rows leave and what they do not.
     #[cycle(cut)]
-    pub(crate) fn remove<M: Ledger>(
+    pub(crate) fn remove<L: Ledger, M: Ledger>(
         &mut self,
         alloc: Global,
         place: u32,
         row: Row,
+        steps: &mut Steps<L>,
         anew: &mut Anew<M>,
     ) -> Result<Bound, NoMemory>
         requires there { slice_get self.old.rows place ≡ Some row }
@@ -93,8 +98,10 @@ impl Subtree {
         ensures err { OnErr result (self.new ≡ self.old) }
         ensures rare { OnOk result (AnewOnLevels self.old self.new anew.old anew.new) }
         ensures none_lost { anew.old ≤ anew.new }
+        ensures visits { EditVisits 14 1 self.old.rows steps.old steps.new }
         ensures passed { IfOk result (λ passed. DiffersBy (added_by row) passed (tolerant (remove self.old.rows place)) (tolerant self.old.rows)) }
     {
+        steps.tick();
         let pair = match mem::replace(&mut self.link, Link::Empty) {
             Link::Fork(pair) => pair,
             link => {
@@ -106,7 +113,7 @@ impl Subtree {
             *self = Subtree::of_pair(pair);
             return self.remove_anew(alloc, place, row, LONGEST_ANEW, anew);
         }
-        let edited = cut_row(alloc, pair, place, row, anew);
+        let edited = cut_row(alloc, pair, place, row, steps, anew);
         self.put_back(edited)
     }
 }
@@ -114,12 +121,13 @@ impl Subtree {
 impl Pair {
     /// Puts a row in on its side, and says what passes in the pair, whose boundary this is.
     #[cycle(put)]
-    fn insert_below<M: Ledger>(
+    fn insert_below<L: Ledger, M: Ledger>(
         &mut self,
         alloc: Global,
         place: u32,
         row: Row,
         boundary: Bound,
+        steps: &mut Steps<L>,
         anew: &mut Anew<M>,
     ) -> Result<Bound, NoMemory>
         requires within { place ≤ length (pair_rows self.old) }
@@ -131,25 +139,27 @@ impl Pair {
         ensures err { OnErr result (self.new ≡ self.old) }
         ensures rare { OnOk result (AnewOnLevels (pair_part self.old) (pair_part self.new) anew.old anew.new) }
         ensures none_lost { anew.old ≤ anew.new }
+        ensures visits { EditVisits 0 0 (pair_rows self.old) steps.old steps.new }
         ensures passed { IfOk result (λ passed. DiffersBy (added_by row) passed (tolerant (pair_rows self.old)) (tolerant (insert (pair_rows self.old) place row))) }
     {
         let before = self.earlier.len();
         if place <= before {
-            let passed = self.earlier.insert(alloc, place, row, anew)?;
+            let passed = self.earlier.insert(alloc, place, row, steps, anew)?;
             return Ok(passed.higher(boundary));
         }
-        let passed = self.later.insert(alloc, place - before, row, anew)?;
+        let passed = self.later.insert(alloc, place - before, row, steps, anew)?;
         Ok(from_later(Bound::of_row(row), passed, boundary))
     }
 
     /// Takes the row at a place out of its side, and says what passes in the pair, whose boundary this is.
     #[cycle(cut)]
-    fn remove_below<M: Ledger>(
+    fn remove_below<L: Ledger, M: Ledger>(
         &mut self,
         alloc: Global,
         place: u32,
         row: Row,
         boundary: Bound,
+        steps: &mut Steps<L>,
         anew: &mut Anew<M>,
     ) -> Result<Bound, NoMemory>
         requires there { slice_get (pair_rows self.old) place ≡ Some row }
@@ -159,14 +169,15 @@ impl Pair {
         ensures err { OnErr result (self.new ≡ self.old) }
         ensures rare { OnOk result (AnewOnLevels (pair_part self.old) (pair_part self.new) anew.old anew.new) }
         ensures none_lost { anew.old ≤ anew.new }
+        ensures visits { EditVisits 0 0 (pair_rows self.old) steps.old steps.new }
         ensures passed { IfOk result (λ passed. DiffersBy (added_by row) passed (tolerant (remove (pair_rows self.old) place)) (tolerant (pair_rows self.old))) }
     {
         let before = self.earlier.len();
         if place < before {
-            let passed = self.earlier.remove(alloc, place, row, anew)?;
+            let passed = self.earlier.remove(alloc, place, row, steps, anew)?;
             return Ok(passed.higher(boundary));
         }
-        let passed = self.later.remove(alloc, place - before, row, anew)?;
+        let passed = self.later.remove(alloc, place - before, row, steps, anew)?;
         Ok(from_later(Bound::of_row(row), passed, boundary))
     }
 }
@@ -180,11 +191,12 @@ struct Edited {
 
 /// Puts a row in below a pair, which bears it. Where there is no memory for it, the pair comes back as it was.
 #[cycle(put)]
-fn put_row<M: Ledger>(
+fn put_row<L: Ledger, M: Ledger>(
     alloc: Global,
     pair: Box<Pair>,
     place: u32,
     row: Row,
+    steps: &mut Steps<L>,
     anew: &mut Anew<M>,
 ) -> Result<Edited, Box<Pair>>
     requires sound { IsPair pair.value }
@@ -195,14 +207,15 @@ fn put_row<M: Ledger>(
     ensures put { MatchResult result (λ edited. IsPut pair.value place row edited.pair.value edited.passed) (λ same. same.value ≡ pair.value) }
     ensures rare { IfOk result (λ edited. AnewOnLevels (pair_part pair.value) (pair_part edited.pair.value) anew.old anew.new) }
     ensures none_lost { anew.old ≤ anew.new }
+    ensures visits { EditVisits 14 0 (pair_rows pair.value) steps.old steps.new }
 {
     let gains = row.added_entry().is_some();
-    let boundary = pair.boundary_for(place, gains);
+    let boundary = pair.boundary_for(place, gains, steps);
     let Opened { mut pair, piece } = take_apart(alloc, pair)?;
-    match pair.insert_below(alloc, place, row, boundary, anew) {
+    match pair.insert_below(alloc, place, row, boundary, steps, anew) {
         Ok(passed) => {
             pair.size += 1;
-            pair.piece = piece.after(gains, Bound::of_row(row), passed);
+            pair.piece = piece.after(gains, Bound::of_row(row), passed, steps);
             Ok(Edited { pair, passed })
         }
         Err(_) => {
@@ -214,11 +227,12 @@ fn put_row<M: Ledger>(
 
 /// Takes the row at a place out below a pair, which spares it. Where there is no memory for it, the pair comes back as it was.
 #[cycle(cut)]
-fn cut_row<M: Ledger>(
+fn cut_row<L: Ledger, M: Ledger>(
     alloc: Global,
     pair: Box<Pair>,
     place: u32,
     row: Row,
+    steps: &mut Steps<L>,
     anew: &mut Anew<M>,
 ) -> Result<Edited, Box<Pair>>
     requires sound { IsPair pair.value }
@@ -227,14 +241,15 @@ fn cut_row<M: Ledger>(
     ensures cut { MatchResult result (λ edited. IsCut pair.value place row edited.pair.value edited.passed) (λ same. same.value ≡ pair.value) }
     ensures rare { IfOk result (λ edited. AnewOnLevels (pair_part pair.value) (pair_part edited.pair.value) anew.old anew.new) }
     ensures none_lost { anew.old ≤ anew.new }
+    ensures visits { EditVisits 14 0 (pair_rows pair.value) steps.old steps.new }
 {
     let gains = row.added_entry().is_none();
-    let boundary = pair.boundary(gains);
+    let boundary = pair.boundary(gains, steps);
     let Opened { mut pair, piece } = take_apart(alloc, pair)?;
-    match pair.remove_below(alloc, place, row, boundary, anew) {
+    match pair.remove_below(alloc, place, row, boundary, steps, anew) {
         Ok(passed) => {
             pair.size -= 1;
-            pair.piece = piece.after(gains, Bound::of_row(row), passed);
+            pair.piece = piece.after(gains, Bound::of_row(row), passed, steps);
             Ok(Edited { pair, passed })
         }
         Err(_) => {

@@ -2,7 +2,6 @@ ghost use Rattle.std.specs.Prelude.{◌≡◌, ◌+◌, ◌++◌, ◌-◌, ◌<�
 ghost use Rattle.retro_base.specs.declared.row.Entry.{Entry};
 ghost use Rattle.retro_base.specs.EntriesInOrder.{AreInOrder};
 ghost use Rattle.retro_base.specs.Limits.{most_rows};
-ghost use Rattle.retro_base.specs.Visits.{OpensCounter};
 ghost use Rattle.pq_fusion.specs.Chunks.{entries_of};
 ghost use Rattle.pq_fusion.specs.Exchanges.{IsExchange};
 ghost use Rattle.pq_fusion.specs.Searches.{SearchesWithin};
@@ -11,15 +10,15 @@ ghost use Rattle.pq_fusion.specs.Windows.{AreLent};
 
 use crate::Bound;
 use crate::chunk_edits::FULL;
-use crate::chunks::{Chunks, RoomyChunks, entry_at, reaching_in_chunks};
+use crate::chunks::{Chunks, RoomyChunks, entry_at, last_of, reaching_in_chunks};
 use crate::exchange::{exchange, make_room};
 use crate::tally::reaching;
 use crate::window::Lent;
 use retro_base::{Entry, NoMemory, Steps};
 use std::alloc::Global;
-use std::marker::{Brand, Model};
+use std::marker::Model;
 use std::slice::from_ref;
-use std::sync::ledger::{Blank, Ledger};
+use std::sync::ledger::Ledger;
 
 /// Entries in rising order. A short list is one vector, a longer one is in chunks, so that putting one in or taking one out moves few.
 #[derive(Drop)]
@@ -133,26 +132,24 @@ impl EntryList {
         }
     }
 
-    /// The same for a caller that counts nothing.
-    pub(crate) fn get(&self, rank: u32) -> Option<Entry>
-        ensures { result ≡ slice_get self.now rank }
+    /// The least entry, where there is one.
+    pub(crate) fn first(&self) -> Option<Entry>
+        ensures { result ≡ slice_get self.now 0 }
     {
-        self.get_with::<Brand>(rank, Blank::new(1))
-    }
-
-    fn get_with<L: Ledger>(&self, rank: u32, blank: Blank) -> Option<Entry>
-        requires counter { OpensCounter blank.name L.name blank.parts L.parts }
-        ensures { result ≡ slice_get self.now rank }
-    {
-        let mut steps = Steps::<L>::new(blank);
-        self.entry(rank, &mut steps)
+        match &self.body {
+            Body::Whole(entries) => entry_at(entries, 0),
+            Body::Parted(chunks) => chunks.first(),
+        }
     }
 
     /// The greatest entry, where there is one.
     pub(crate) fn last(&self) -> Option<Entry>
         ensures { result ≡ slice_get self.now (length self.now - 1) }
     {
-        self.get(self.len().saturating_sub(1))
+        match &self.body {
+            Body::Whole(entries) => last_of(entries),
+            Body::Parted(chunks) => chunks.last(),
+        }
     }
 
     /// How many entries do not come before this one, by halves.

@@ -26,7 +26,7 @@ pub(crate) fn make_room<T>(list: &mut Vec<T>) -> Result<(), NoMemory>
 }
 
 /// The place of an entry in a rising list. Sought by halves.
-fn place_of<L: Ledger>(list: &[Entry], entry: Entry, steps: &mut Steps<L>) -> usize
+pub(crate) fn place_of<L: Ledger>(list: &[Entry], entry: Entry, steps: &mut Steps<L>) -> usize
     requires order { AreInOrder list.now }
     ensures place { IsPlaceOf entry list.now result }
     ensures visits { SearchesWithin 1 (length list.now) steps.old steps.new }

@@ -15,7 +15,7 @@ ghost use Rattle.retro_base.specs.State.{entries};
 ghost use Rattle.retro_base.specs.Timeline.{IsReplayable};
 ghost use Rattle.retro_base.specs.Visits.{OpensCounter};
 ghost use Rattle.pq_fusion.specs.Pieces.{tolerant};
-ghost use Rattle.pq_fusion.specs.Searches.{VisitsUpTo};
+ghost use Rattle.pq_fusion.specs.Searches.{EditedWithin, VisitsUpTo};
 ghost use Rattle.pq_fusion.specs.Wear.{unworn};
 ghost use Rattle.pq_fusion.specs.WearLevels.{AnewOnLevels, AnewWithin};
 
@@ -119,12 +119,13 @@ impl FusedQueue {
         self.ask_past(place, question, &mut steps)
     }
 
-    /// Puts the row in, as `insert` of `Retro`, and counts the rows that come into a run that is made anew. After `NoMemory` all is as
-    /// before.
-    pub fn insert_counted<M: Ledger>(
+    /// Puts the row in, as `insert` of `Retro`, and counts its visits and the rows that come into a run that is made anew. After
+    /// `NoMemory` all is as before.
+    pub fn insert_counted<L: Ledger, M: Ledger>(
         &mut self,
         place: u32,
         row: Row,
+        steps: &mut Steps<L>,
         anew: &mut Anew<M>,
     ) -> Result<Change, NoMemory>
         requires within { place ≤ length self.old.rows }
@@ -135,6 +136,7 @@ impl FusedQueue {
         ensures err { OnErr result (self.new ≡ self.old) }
         ensures rare { OnOk result (AnewWithin self.old self.new anew.old anew.new) }
         ensures none_lost { anew.old ≤ anew.new }
+        ensures visits { EditedWithin (length self.old.rows + 1) steps.old steps.new }
     {
         insert_into_both(
             self.alloc,
@@ -142,15 +144,17 @@ impl FusedQueue {
             &mut self.rows,
             place,
             row,
+            steps,
             anew,
         )
     }
 
-    /// Takes the row at the place out, as `remove` of `Retro`, and counts the rows that come into a run that is made anew. After
-    /// `NoMemory` all is as before.
-    pub fn remove_counted<M: Ledger>(
+    /// Takes the row at the place out, as `remove` of `Retro`, and counts its visits and the rows that come into a run that is made anew.
+    /// After `NoMemory` all is as before.
+    pub fn remove_counted<L: Ledger, M: Ledger>(
         &mut self,
         place: u32,
+        steps: &mut Steps<L>,
         anew: &mut Anew<M>,
     ) -> Result<(Row, Change), NoMemory>
         requires within { place < length self.old.rows }
@@ -162,49 +166,56 @@ impl FusedQueue {
         ensures err { OnErr result (self.new ≡ self.old) }
         ensures rare { OnOk result (AnewWithin self.old self.new anew.old anew.new) }
         ensures none_lost { anew.old ≤ anew.new }
+        ensures visits { EditedWithin (length self.old.rows) steps.old steps.new }
     {
         let _few = self.queue.len();
-        let row = self.rows.row_at(place);
-        self.rows.remove(self.alloc, place, row, anew)?;
-        Ok(uncounted::remove(&mut self.queue, place))
+        let row = self.rows.row_at(place, steps);
+        self.rows.remove(self.alloc, place, row, steps, anew)?;
+        Ok(self.queue.remove(place, steps))
     }
 
-    /// `insert_counted` with a counter of its own.
-    fn insert_uncounted<M: Ledger>(
+    /// `insert_counted` with counters of its own.
+    fn insert_uncounted<L: Ledger, M: Ledger>(
         &mut self,
         place: u32,
         row: Row,
-        blank: Blank,
+        visits: Blank,
+        anew: Blank,
     ) -> Result<Change, NoMemory>
         requires within { place ≤ length self.old.rows }
         requires replayable { IsReplayable Pq (insert self.old.rows place row) }
-        requires counter { OpensCounter blank.name M.name blank.parts M.parts }
+        requires visits { OpensCounter visits.name L.name visits.parts L.parts }
+        requires anew { OpensCounter anew.name M.name anew.parts M.parts }
         ensures rows { OnOk result (self.new.rows ≡ insert self.old.rows place row) }
         ensures replayable { OnOk result (IsReplayable Pq self.new.rows) }
         ensures change { IfOk result (IsChange Pq self.old.rows (add place row)) }
         ensures err { OnErr result (self.new ≡ self.old) }
     {
-        let mut anew = Anew::<M>::new(blank);
-        self.insert_counted(place, row, &mut anew)
+        let mut steps = Steps::<L>::new(visits);
+        let mut anew = Anew::<M>::new(anew);
+        self.insert_counted(place, row, &mut steps, &mut anew)
     }
 
-    /// `remove_counted` with a counter of its own.
-    fn remove_uncounted<M: Ledger>(
+    /// `remove_counted` with counters of its own.
+    fn remove_uncounted<L: Ledger, M: Ledger>(
         &mut self,
         place: u32,
-        blank: Blank,
+        visits: Blank,
+        anew: Blank,
     ) -> Result<(Row, Change), NoMemory>
         requires within { place < length self.old.rows }
         requires replays { IsValid Pq (remove self.old.rows place) }
-        requires counter { OpensCounter blank.name M.name blank.parts M.parts }
+        requires visits { OpensCounter visits.name L.name visits.parts L.parts }
+        requires anew { OpensCounter anew.name M.name anew.parts M.parts }
         ensures row { IfOk result (λ taken. slice_get self.old.rows place ≡ Some taken.0) }
         ensures rows { OnOk result (self.new.rows ≡ remove self.old.rows place) }
         ensures replayable { OnOk result (IsReplayable Pq self.new.rows) }
         ensures change { IfOk result (λ taken. IsChange Pq self.old.rows (cut place taken.0) taken.1) }
         ensures err { OnErr result (self.new ≡ self.old) }
     {
-        let mut anew = Anew::<M>::new(blank);
-        self.remove_counted(place, &mut anew)
+        let mut steps = Steps::<L>::new(visits);
+        let mut anew = Anew::<M>::new(anew);
+        self.remove_counted(place, &mut steps, &mut anew)
     }
 
     /// The entries that the first rows leave, which are the state after them.
@@ -240,11 +251,11 @@ impl Retro for FusedQueue {
     }
 
     fn insert(&mut self, place: u32, row: Row) -> Result<Change, NoMemory> {
-        self.insert_uncounted::<Brand>(place, row, Blank::new(1))
+        self.insert_uncounted::<Brand, Brand>(place, row, Blank::new(1), Blank::new(1))
     }
 
     fn remove(&mut self, place: u32) -> Result<(Row, Change), NoMemory> {
-        self.remove_uncounted::<Brand>(place, Blank::new(1))
+        self.remove_uncounted::<Brand, Brand>(place, Blank::new(1), Blank::new(1))
     }
 
     fn ask_now(&self, question: Question) -> Answer {
@@ -263,12 +274,13 @@ impl Retro for FusedQueue {
 
 /// Puts a row into a queue and into the tree of its rows. Where the tree has no memory for it, it is taken out of the queue
 /// again, which takes none.
-fn insert_into_both<M: Ledger>(
+fn insert_into_both<L: Ledger, M: Ledger>(
     alloc: Global,
     queue: &mut BridgeQueue,
     rows: &mut Subtree,
     place: u32,
     row: Row,
+    steps: &mut Steps<L>,
     anew: &mut Anew<M>,
 ) -> Result<Change, NoMemory>
     requires same { rows.old.rows ≡ queue.old }
@@ -282,11 +294,12 @@ fn insert_into_both<M: Ledger>(
     ensures same { rows.new.rows ≡ queue.new }
     ensures rare { OnOk result (AnewOnLevels rows.old rows.new anew.old anew.new) }
     ensures none_lost { anew.old ≤ anew.new }
+    ensures visits { EditedWithin (length queue.old + 1) steps.old steps.new }
 {
     let _replayable = queue.kind();
-    let change = uncounted::insert(queue, place, row)?;
-    if let Err(error) = rows.insert(alloc, place, row, anew) {
-        uncounted::remove(queue, place);
+    let change = queue.insert(place, row, steps)?;
+    if let Err(error) = rows.insert(alloc, place, row, steps, anew) {
+        queue.remove(place, steps);
         return Err(error);
     }
     Ok(change)

@@ -52,6 +52,13 @@
 //! `ask_past` counts its visits, a run or a pair that is opened, each row of a run that is gone through and each turn of a search in a
 //! list, be it among its chunks or within one: at most 25 for each of the 64 digits of a key and each pair of digits of m + 1.
 //!
+//! `insert_counted` and `remove_counted` count theirs, a run or a pair that is opened and each turn of a search in a list: with m rows, the
+//! edited one among them, at most 60 for each pair of digits of m + 1 in the tree, and 288 for each digit in the `BridgeQueue` beside it.
+//! For on each level of the tree the boundary of a pair is one search in both lists at once, of which each turn halves the chunks or the
+//! places that are left of one, and the pair's own lists are searched for an entry that comes in and one that goes. The walk ends where a
+//! part is made anew, whose rows `Anew` counts. Not counted are the entries that move within a chunk, and the chunks of a list, whose
+//! entries are summed anew.
+//!
 //! What the layer above may rely on: the clauses of `Piece` and `FusedQueue`, the definitions of specs/Pieces.antt, and the laws of
 //! specs/PieceLaws.antt and specs/Edits.antt, which are the contracts of `laws`.
 //!
@@ -61,7 +68,8 @@
 //!   row more or less. `sides`: the balance of a pair, and its boundary. `rebuild`: a part that is made anew. `anew`: the counter of its rows.
 //! - `entry_list`, `chunks`, `chunk_edits`: entries in rising order with room for an edit, a long list of them in chunks, and an entry that
 //!   comes into one of these or goes. `node_piece`: a piece in two such lists. `exchange`: one entry of a list in the
-//!   place of another. `boundary`: the entry at a rank of two lists together. `difference`: what passed, by comparing.
+//!   place of another. `window`: where in a list a place may lie, while it is sought. `boundary`: the entry at a rank of two lists
+//!   together. `difference`: what passed, by comparing.
 //! - `tally`, `span`: how many entries are left after a path, how many of them reach a key, and between which keys they lie.
 //!   `select`: the key at an index of what the first rows leave. `answer`: the answers of that. `fused_queue`.
 #![tactic(auto)]

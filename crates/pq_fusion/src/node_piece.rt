@@ -1,7 +1,6 @@
 ghost use Rattle.std.specs.Prelude.{◌≡◌, ◌+◌, ◌≤◌, length, IfOk, MatchResult};
 ghost use Rattle.retro_base.specs.EntriesInOrder.{AreInOrder};
 ghost use Rattle.retro_base.specs.Limits.{most_rows};
-ghost use Rattle.retro_base.specs.Visits.{OpensCounter};
 ghost use Rattle.pq_fusion.specs.Edits.{Passes, takings};
 ghost use Rattle.pq_fusion.specs.Pieces.{IsPiece, PieceParts, no_parts};
 ghost use Rattle.pq_fusion.specs.Searches.{EditsWithin};
@@ -10,8 +9,8 @@ use crate::entry_list::{EntryList, RoomyList};
 use crate::{Bound, Piece};
 use retro_base::{NoMemory, Steps};
 use std::alloc::Global;
-use std::marker::{Brand, Model};
-use std::sync::ledger::{Blank, Ledger};
+use std::marker::Model;
+use std::sync::ledger::Ledger;
 
 /// What the rows of a node come to, in lists that an edit changes by one entry.
 #[derive(Drop)]
@@ -199,7 +198,7 @@ impl RoomyPiece {
     }
 
     /// The piece after an edit that passes this entry: `own` is that of the edited row.
-    pub(crate) fn after_counted<L: Ledger>(
+    pub(crate) fn after<L: Ledger>(
         self,
         gains: bool,
         own: Bound,
@@ -229,30 +228,5 @@ impl RoomyPiece {
                 unmet: unmet + passed.tops(),
             }
         }
-    }
-
-    /// The same for a caller that counts nothing.
-    pub(crate) fn after(self, gains: bool, own: Bound, passed: Bound) -> NodePiece
-        requires { (after : PieceParts) × (IsPiece after × Passes gains own passed self after) }
-        ensures passes { Passes gains own passed self result }
-        ensures piece { IsPiece result }
-    {
-        self.after_with::<Brand>(gains, own, passed, Blank::new(1))
-    }
-
-    fn after_with<L: Ledger>(
-        self,
-        gains: bool,
-        own: Bound,
-        passed: Bound,
-        blank: Blank,
-    ) -> NodePiece
-        requires passes { (after : PieceParts) × (IsPiece after × Passes gains own passed self after) }
-        requires counter { OpensCounter blank.name L.name blank.parts L.parts }
-        ensures passes { Passes gains own passed self result }
-        ensures piece { IsPiece result }
-    {
-        let mut steps = Steps::<L>::new(blank);
-        self.after_counted(gains, own, passed, &mut steps)
     }
 }

@@ -7,29 +7,33 @@ ghost use Rattle.retro_base.specs.BridgeTable.{added};
 ghost use Rattle.retro_base.specs.Limits.{most_rows};
 ghost use Rattle.retro_base.specs.Timeline.{AreOfKind};
 ghost use Rattle.pq_fusion.specs.Pieces.{tolerant};
+ghost use Rattle.pq_fusion.specs.Searches.{StepsWithin};
 ghost use Rattle.pq_fusion.specs.Nodes.{weight, IsRun, IsWithinLevels};
 
 use crate::Piece;
 use crate::root::Root;
 use crate::subtree::{Run, Subtree};
-use retro_base::{NoMemory, Row};
+use retro_base::{NoMemory, Row, Steps};
 use std::alloc::Global;
+use std::sync::ledger::Ledger;
 
 impl Subtree {
     /// The row at a place.
-    pub(crate) fn row_at(&self, place: u32) -> Row
+    pub(crate) fn row_at<L: Ledger>(&self, place: u32, steps: &mut Steps<L>) -> Row
         requires { place < length self.now.rows }
-        ensures { slice_get self.now.rows place ≡ Some result }
+        ensures row { slice_get self.now.rows place ≡ Some result }
+        ensures visits { StepsWithin self.now.rows steps.old steps.new }
     {
+        steps.tick();
         match self.root() {
             Root::Nothing => unreachable!(),
             Root::Run(run) => run.rows[place as usize],
             Root::Pair(pair) => {
                 let before = pair.earlier.len();
                 if place < before {
-                    return pair.earlier.row_at(place);
+                    return pair.earlier.row_at(place, steps);
                 }
-                pair.later.row_at(place - before)
+                pair.later.row_at(place - before, steps)
             }
         }
     }

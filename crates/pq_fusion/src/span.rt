@@ -23,7 +23,7 @@ impl Span {
         ensures own { AllByRecursion (LiesIn result) entries.now }
         ensures others { (entry : Entry) → LiesIn self entry → LiesIn result entry }
     {
-        match (entries.get(0), entries.last()) {
+        match (entries.first(), entries.last()) {
             (Some(first), Some(last)) => Span {
                 low: self.low.min(first.key),
                 high: self.high.max(last.key),

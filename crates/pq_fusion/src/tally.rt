@@ -10,6 +10,7 @@ ghost use Rattle.pq_fusion.specs.Pieces.{PieceParts, fuse};
 ghost use Rattle.pq_fusion.specs.Searches.{SearchesWithin, VisitsUpTo};
 ghost use Rattle.pq_fusion.specs.Tallies.{reaching, tally_of, LeadsTally};
 
+use crate::exchange::place_of;
 use crate::node_piece::NodePiece;
 use retro_base::{Entry, Row, Steps};
 use std::sync::ledger::Ledger;
@@ -101,15 +102,5 @@ pub(crate) fn reaching<L: Ledger>(bound: Entry, entries: &[Entry], steps: &mut S
     ensures few { result ≤ length entries.now }
     ensures visits { SearchesWithin 1 (length entries.now) steps.old steps.new }
 {
-    let (mut low, mut high) = (0, entries.len());
-    'halve: while low < high {
-        steps.tick();
-        let middle = low + (high - low) / 2;
-        if entries[middle].comes_before(bound) {
-            low = middle + 1;
-        } else {
-            high = middle;
-        }
-    }
-    (entries.len() - low) as u32
+    (entries.len() - place_of(entries, bound, steps)) as u32
 }

@@ -2,15 +2,19 @@ use Rattle.std.proofs.Common.{◌≡◌, ◌+◌, ◌-◌, length, length-append
 use Rattle.std.specs.Prelude.{is_some, slice_get}
 use Rattle.std.specs.List.{remove}
 use Rattle.retro_base.specs.Weights.{added_by}
+use Rattle.pq_fusion.specs.declared.subtree.Link.{Link}
 use Rattle.pq_fusion.specs.declared.subtree.Pair.{Pair}
 use Rattle.pq_fusion.specs.Bounds.{higher, lower}
 use Rattle.pq_fusion.specs.Edits.{DiffersBy}
-use Rattle.pq_fusion.specs.Nodes.{pair_rows}
+use Rattle.pq_fusion.specs.Nodes.{pair_rows, part_of}
 use Rattle.pq_fusion.specs.Passages.{with_piece}
 use Rattle.pq_fusion.specs.Pieces.{tolerant}
+use Rattle.pq_fusion.specs.Searches.{EditVisits, SearchesWithin}
+use Rattle.pq_fusion.specs.Wear.{WornRows}
 use Rattle.pq_fusion.proofs.Edged.{cut_earlier, cut_later, turned}
 use Rattle.pq_fusion.proofs.Edited.{cut_after, cut_pair, length-remove}
 use Rattle.pq_fusion.proofs.Parts.{there_later, there_within}
+use Rattle.pq_fusion.proofs.Walked.{into_earlier, into_later, opened_pair, piece_edited, side_edited}
 use Rattle.pq_fusion.proofs.Worn.{rare_earlier, rare_later}
 use Rattle.pq_fusion.proofs.+cut.Goals as goal
 
@@ -82,3 +86,40 @@ subtree::Pair::remove_below-returns-clause-rare g t c =
       length-append pair.earlier.rows pair.later.rows,
     )) in
     rare_later pair.earlier pair.later edited c.requires.balanced _ _ (omega (arith, size)) (omega (arith, size)) c.in_ok-passed-2.ensures.rare
+
+pub subtree::Pair::remove_below-returns-then-place-before-clause-visits : goal.subtree::Pair::remove_below-returns-then-place-before-clause-visits
+subtree::Pair::remove_below-returns-then-place-before-clause-visits g t c =
+    into_earlier c.args.self.now.earlier.rows c.args.self.now.later.rows c.args.steps.now c.remove.new.steps c.requires.balanced c.remove.ensures.visits
+
+pub subtree::Pair::remove_below-returns-in_err-passed-clause-visits : goal.subtree::Pair::remove_below-returns-in_err-passed-clause-visits
+subtree::Pair::remove_below-returns-in_err-passed-clause-visits g t c =
+    into_earlier c.args.self.now.earlier.rows c.args.self.now.later.rows c.args.steps.now c.remove.new.steps c.requires.balanced c.remove.ensures.visits
+
+pub subtree::Pair::remove_below-returns-clause-visits : goal.subtree::Pair::remove_below-returns-clause-visits
+subtree::Pair::remove_below-returns-clause-visits g t c =
+    into_later c.args.self.now.earlier.rows c.args.self.now.later.rows c.args.steps.now c.remove-2.new.steps c.requires.balanced c.remove-2.ensures.visits
+
+pub subtree::Pair::remove_below-returns-in_err-passed-2-clause-visits : goal.subtree::Pair::remove_below-returns-in_err-passed-2-clause-visits
+subtree::Pair::remove_below-returns-in_err-passed-2-clause-visits g t c =
+    into_later c.args.self.now.earlier.rows c.args.self.now.later.rows c.args.steps.now c.remove-2.new.steps c.requires.balanced c.remove-2.ensures.visits
+
+pub edit::cut_row-returns-in-Err-clause-visits : goal.edit::cut_row-returns-in-Err-clause-visits
+edit::cut_row-returns-in-Err-clause-visits g t c =
+    let is = ap (λ (p : Pair). with_piece p c.in_ok-pair.field-0.piece) c.deref_mut.ensures.value ∙ c.in_ok-pair.ensures in
+    side_edited (pair_rows c.args.pair.value) c.args.steps.now c.boundary-boundary.new.steps
+    (subst (λ (p : Pair). SearchesWithin 6 (length (pair_rows p)) c.args.steps.now c.boundary-boundary.new.steps) c.deref.ensures c.boundary-boundary.ensures.visits)
+    (pair_rows c.deref_mut.result.now) c.remove_below.new.steps (ap pair_rows is) c.remove_below.ensures.visits
+
+pub edit::cut_row-returns-in-Ok-clause-visits : goal.edit::cut_row-returns-in-Ok-clause-visits
+edit::cut_row-returns-in-Ok-clause-visits g t c =
+    let is = ap (λ (p : Pair). with_piece p c.in_ok-pair.field-0.piece) c.deref_mut.ensures.value ∙ c.in_ok-pair.ensures in
+    piece_edited (pair_rows c.args.pair.value) c.args.steps.now c.boundary-boundary.new.steps
+    (subst (λ (p : Pair). SearchesWithin 6 (length (pair_rows p)) c.args.steps.now c.boundary-boundary.new.steps) c.deref.ensures c.boundary-boundary.ensures.visits)
+    (pair_rows c.deref_mut.result.now) c.remove_below.new.steps (ap pair_rows is) c.remove_below.ensures.visits
+    c.in_ok-pair.field-0.piece c.after.new.steps (ap (λ (p : Pair). p.piece) is ∙ c.requires.sound.piece_is) c.after.ensures.visits
+
+pub subtree::Subtree::remove-returns-clause-visits : goal.subtree::Subtree::remove-returns-clause-visits
+subtree::Subtree::remove-returns-clause-visits g t c =
+    let same = ap (λ (l : Link). (part_of l).rows) c.in-Fork.ensures.value ∙ ap (λ (p : WornRows). p.rows) c.self.view_is in
+    subst (λ l. EditVisits 14 1 l c.args.steps.now c.cut_row-edited.new.steps) same
+    (opened_pair (pair_rows c.in-Fork.pair.value) c.args.steps.now c.tick.new.self c.cut_row-edited.new.steps c.tick.ensures c.cut_row-edited.ensures.visits)

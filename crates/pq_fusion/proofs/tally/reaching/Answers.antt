@@ -1,24 +1,5 @@
-use Rattle.std.proofs.Common.{◌+◌, ◌-◌, ◌/◌, arith, sym, refl, subst}
-use Rattle.pq_fusion.proofs.Searched.{IsNarrowed, narrowed_starts, narrowed_upper, narrowed_lower, narrowed_ends, narrowed_visits}
+use Rattle.pq_fusion.proofs.Tallied.{reaching_counts}
 use Rattle.pq_fusion.proofs.tally.reaching.Goals as goal
 
-pub halve-init : goal.halve-init
-halve-init g c = narrowed_starts c.args.bound c.args.entries.now c.args.steps.now
-
-pub halve-preserved-then-comes_before : goal.halve-preserved-then-comes_before
-halve-preserved-then-comes_before g c =
-    subst (IsNarrowed c.args.bound c.args.entries.now (c.halve.low + (c.halve.high - c.halve.low) / 2 + 1) c.halve.high c.args.steps.now) (sym c.tick.ensures)
-    (narrowed_upper c.args.bound c.args.entries.now c.halve.low c.halve.high c.args.steps.now c.halve.steps (c.halve.low + (c.halve.high - c.halve.low) / 2) _
-    c.requires.order c.halve.invariant c.halve-test.true refl (sym c.if-comes_before.ensures))
-
-pub halve-preserved : goal.halve-preserved
-halve-preserved g c =
-    subst (IsNarrowed c.args.bound c.args.entries.now c.halve.low (c.halve.low + (c.halve.high - c.halve.low) / 2) c.args.steps.now) (sym c.tick.ensures)
-    (narrowed_lower c.args.bound c.args.entries.now c.halve.low c.halve.high c.args.steps.now c.halve.steps (c.halve.low + (c.halve.high - c.halve.low) / 2) _
-    c.requires.order c.halve.invariant c.halve-test.true refl (sym c.if-comes_before.ensures))
-
 pub returns-clause-count : goal.returns-clause-count
-returns-clause-count g c = narrowed_ends c.args.bound c.args.entries.now c.halve.low c.halve.high c.args.steps.now c.halve.steps c.halve.invariant (omega (arith, c.halve-test.false))
-
-pub returns-clause-visits : goal.returns-clause-visits
-returns-clause-visits g c = narrowed_visits c.args.bound c.args.entries.now c.halve.low c.halve.high c.args.steps.now c.halve.steps c.halve.invariant
+returns-clause-count g c = let found = c.place_of.ensures.place in reaching_counts c.args.bound c.args.entries.now c.place_of.result found.within found.before found.from

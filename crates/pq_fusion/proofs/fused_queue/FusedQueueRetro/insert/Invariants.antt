@@ -1,4 +1,7 @@
 use Rattle.pq_fusion.proofs.fused_queue.FusedQueueRetro.insert.Given as goal
 
-abbrev pub ghosts-insert_uncounted : goal.ghosts-insert_uncounted
-ghosts-insert_uncounted a = record { name = a.blank.name; parts = a.blank.parts }
+abbrev pub ghosts-insert_uncounted-L-Ledger : goal.ghosts-insert_uncounted-L-Ledger
+ghosts-insert_uncounted-L-Ledger a = record { name = a.visits.name; parts = a.visits.parts }
+
+abbrev pub ghosts-insert_uncounted-M-Ledger : goal.ghosts-insert_uncounted-M-Ledger
+ghosts-insert_uncounted-M-Ledger a = record { name = a.anew.name; parts = a.anew.parts }

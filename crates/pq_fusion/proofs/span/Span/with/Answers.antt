@@ -14,4 +14,4 @@ pub returns-in_default-clause-own : goal.returns-in_default-clause-own
 returns-in_default-clause-own c = none_last (LiesIn c.args.self) c.args.entries.now (sym c.last.ensures ∙ c.in_default.is-1)
 
 pub returns-in_default-2-clause-own : goal.returns-in_default-2-clause-own
-returns-in_default-2-clause-own c = none_first (LiesIn c.args.self) c.args.entries.now (sym c.get.ensures ∙ c.in_default.is-0)
+returns-in_default-2-clause-own c = none_first (LiesIn c.args.self) c.args.entries.now (sym c.first.ensures ∙ c.in_default.is-0)

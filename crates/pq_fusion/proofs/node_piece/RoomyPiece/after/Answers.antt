@@ -1,6 +1,6 @@
 use Rattle.std.proofs.Common.{refl}
 use Rattle.pq_fusion.proofs.Swapped.{after_gain, after_loss}
-use Rattle.pq_fusion.proofs.node_piece.RoomyPiece.after_counted.Goals as goal
+use Rattle.pq_fusion.proofs.node_piece.RoomyPiece.after.Goals as goal
 
 pub invariant_of-t-10 : goal.invariant_of-t-10
 invariant_of-t-10 g c =

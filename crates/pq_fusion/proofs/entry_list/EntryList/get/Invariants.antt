@@ -1,4 +1,0 @@
-use Rattle.pq_fusion.proofs.entry_list.EntryList.get.Given as goal
-
-abbrev pub ghosts-get_with : goal.ghosts-get_with
-ghosts-get_with a = record { name = a.blank.name; parts = a.blank.parts }
