@@ -1,3 +1,5 @@
+//! The entry at a rank of two lists together, and what stands at the boundary of so many takings.
+
 ghost use Rattle.std.specs.Prelude.{◌≡◌, ◌+◌, ◌-◌, ◌≤◌, false, true, length};
 ghost use Rattle.pq_fusion.specs.Bounds.{at_rank, is_below, last_of};
 ghost use Rattle.pq_fusion.specs.Edits.{boundary_at};

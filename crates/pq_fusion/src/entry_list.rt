@@ -1,3 +1,5 @@
+//! Entries in rising order, with room for an edit.
+
 ghost use Rattle.std.specs.Prelude.{◌≡◌, ◌+◌, ◌++◌, ◌-◌, ◌<◌, ◌≤◌, [], List, length, slice_get, IfOk, OnOk, MatchResult, vec_capacity, vec_len};
 ghost use Rattle.retro_base.specs.declared.row.Entry.{Entry};
 ghost use Rattle.retro_base.specs.EntriesInOrder.{AreInOrder};

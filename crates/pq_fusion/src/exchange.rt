@@ -1,3 +1,5 @@
+//! One entry of a vector in the place of another.
+
 ghost use Rattle.std.specs.Prelude.{◌≡◌, ◌+◌, ◌<◌, List, length, OnOk, vec_capacity, vec_len};
 ghost use Rattle.retro_base.specs.declared.row.Entry.{Entry};
 ghost use Rattle.retro_base.specs.EntriesInOrder.{AreInOrder};
