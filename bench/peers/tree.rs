@@ -132,10 +132,9 @@ impl<T: Item> Link<T> {
 
     /// A node over the halves of a full leaf.
     fn divided(mut items: Vec<T>) -> Box<Node<T>> {
-        let mut later = Vec::with_capacity(FULL);
-        later.extend_from_slice(&items[FULL / 2 + 1..]);
-        items.truncate(FULL / 2 + 1);
+        let later = items.split_off(FULL / 2 + 1);
         let item = items.pop().unwrap();
+        items.shrink_to(items.len().next_multiple_of(8));
         Box::new(Node {
             left: Link::leaf(items),
             item,
@@ -147,8 +146,8 @@ impl<T: Item> Link<T> {
         if let Part::Leaf(items) = &mut self.part
             && items.len() < FULL
         {
-            if items.capacity() == 0 {
-                items.reserve_exact(FULL);
+            if items.len() == items.capacity() {
+                items.reserve_exact(8 - items.len() % 8);
             }
             self.measure = if place == items.len() {
                 items.push(item);
@@ -517,8 +516,13 @@ impl<T: Item> Tree<T> {
         let Part::Leaf(mut items) = tail.take().part else {
             unreachable!()
         };
-        items.insert(place - before, item);
-        let first = items.remove(0);
+        let first = if place == before {
+            item
+        } else {
+            let first = items.remove(0);
+            items.insert(place - before - 1, item);
+            first
+        };
         self.root.append(Box::new(Node {
             left: Link::empty(),
             item: first,

@@ -142,8 +142,45 @@ impl Lifetime {
 
 /// The lifetimes in a span of labels: as they are where they are few, and else divided over the span itself and its halves.
 enum Spans {
-    Few(Tree<Lifetime>),
+    Few(Few),
     Full(Box<Span>),
+}
+
+/// A few lifetimes in their order.
+struct Few(Vec<Lifetime>);
+
+impl Few {
+    fn len(&self) -> usize {
+        self.0.len()
+    }
+
+    fn place_of(&self, life: Lifetime) -> usize {
+        self.0.partition_point(|other| *other < life)
+    }
+
+    fn put(&mut self, life: Lifetime) {
+        let place = self.place_of(life);
+        if self.0.len() == self.0.capacity() {
+            self.0.reserve_exact(8);
+        }
+        self.0.insert(place, life);
+    }
+
+    fn take_out(&mut self, life: Lifetime) {
+        let place = self.place_of(life);
+        self.0.remove(place);
+    }
+
+    /// Takes one out and puts another one in, in its place where it stands in order there.
+    fn exchange(&mut self, life: Lifetime, other: Lifetime) {
+        let (place, next) = (self.place_of(life), self.place_of(other));
+        if next == place || next == place + 1 {
+            self.0[place] = other;
+        } else {
+            self.put(other);
+            self.take_out(life);
+        }
+    }
 }
 
 struct Span {
@@ -156,11 +193,11 @@ struct Span {
 const LEVELS: u32 = 40;
 
 /// So many lifetimes of a span are kept as they are at the most.
-const FEW: u32 = 63;
+const FEW: usize = 127;
 
 impl Spans {
     fn new() -> Spans {
-        Spans::Few(Tree::empty())
+        Spans::Few(Few(Vec::new()))
     }
 
     fn is_nothing(&self) -> bool {
@@ -186,14 +223,14 @@ fn add(spans: &mut Spans, level: u32, life: Lifetime) {
     }
 }
 
-fn divided(few: &Tree<Lifetime>, level: u32) -> Box<Span> {
+fn divided(few: &Few, level: u32) -> Box<Span> {
     let mut span = Box::new(Span {
         pairs: Tree::empty(),
         left: Spans::new(),
         right: Spans::new(),
     });
-    for place in (0..few.len()).rev() {
-        add_to_span(&mut span, level, few.get(place));
+    for life in few.0.iter().rev() {
+        add_to_span(&mut span, level, *life);
     }
     span
 }
@@ -286,10 +323,12 @@ fn move_first(left: &mut Spans, level: u32, life: Lifetime, next: u64) {
     }
 }
 
-fn ask_few(few: &Tree<Lifetime>, label: u64, low: i64, high: i64) -> Found {
+fn ask_few(few: &Few, label: u64, low: i64, high: i64) -> Found {
     let mut found = Found::NONE;
-    for place in 0..few.len() {
-        let life = few.get(place);
+    for life in &few.0 {
+        if label < life.from {
+            break;
+        }
         if life.holds(label) {
             found = found.combine(Found::of_one(life.pair, low, high));
         }

@@ -203,6 +203,7 @@ impl<T: Item> Tree<T> {
     fn divided(mut items: Vec<T>) -> Box<Node<T>> {
         let later = items.split_off(FULL / 2 + 1);
         let item = items.pop().unwrap();
+        items.shrink_to(items.len().next_multiple_of(8));
         Box::new(Node {
             left: Tree::leaf(items),
             item,
@@ -213,6 +214,9 @@ impl<T: Item> Tree<T> {
     pub fn insert(&mut self, place: u32, item: T) {
         let mut node = match self.take() {
             Tree::Leaf { mut items, .. } if items.len() < FULL => {
+                if items.len() == items.capacity() {
+                    items.reserve_exact(8 - items.len() % 8);
+                }
                 items.insert(place as usize, item);
                 *self = Tree::leaf(items);
                 return;
