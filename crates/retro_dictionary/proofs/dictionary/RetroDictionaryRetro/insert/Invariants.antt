@@ -3,5 +3,5 @@ use Rattle.retro_dictionary.proofs.dictionary.RetroDictionaryRetro.insert.Given 
 abbrev pub ghosts-put : goal.ghosts-put
 ghosts-put a = record { name = a.blank.name; parts = a.blank.parts }
 
-abbrev pub ghosts-recent_beside : goal.ghosts-lately_beside
+abbrev pub ghosts-recent_beside : goal.ghosts-recent_beside
 ghosts-recent_beside a = record { name = a.blank.name; parts = a.blank.parts }
