@@ -73,7 +73,7 @@ TellsOf timeline effect =
     → HasReported names by timeline.name (reported_rows effect.timeline.kind effect.timeline.rows) judge (reply_text effect.outcome)
 
 pub record StaysGood (timeline : NamedTimeline) (effect : TimelineEffect) : Type 0 where
-  pub same_bytes : effect.timeline.name ≡ timeline.name
+  pub same_name : effect.timeline.name ≡ timeline.name
   pub good : IsGood effect.timeline
   pub tells : TellsOf timeline effect
 
@@ -90,7 +90,7 @@ names_no_timeline (Some row) = tt
 
 stays_as_it_was : (timeline : NamedTimeline) (outcome : Outcome) → IsGood timeline → IsPassedOver outcome → StaysGood timeline (unchanged timeline outcome)
 stays_as_it_was timeline outcome good passes = record {
-  same_bytes = refl;
+  same_name = refl;
   good = good;
   tells = λ names few listed judge by agrees own. record {
     later = judge;
@@ -161,7 +161,7 @@ module _ (truth : EditsAreReported) (spells : EditsAreSpelled) (back : PrintedRe
         elim (failure timeline.kind (edited_by timeline.rows step)) as (λ o. failure timeline.kind (edited_by timeline.rows step) ≡ o
         → StaysGood timeline (accepted_or_refused timeline (after_step timeline step next) (reported timeline.name timeline.kind timeline.rows step plain) o)) [
           | None ↦ λ valid. record {
-            same_bytes = refl;
+            same_name = refl;
             good = good_made step next more most (made valid);
             tells = λ names few listed judge by agrees own.
                 tells_made names few timeline.name good.named listed timeline.kind next step judge by timeline.rows (edited_by timeline.rows step) plain passes agrees own (made valid);
@@ -308,7 +308,7 @@ module _ (truth : EditsAreReported) (spells : EditsAreSpelled) (back : PrintedRe
         → (undo_start : List Row) → Leads (MakesStep timeline.kind timeline.next) undo_start undo after
         → (redo_start : List Row) → Leads (TakesBack timeline.kind timeline.next) redo_start redo after → StaysGood timeline (stepped after undo redo step)
     step_stays step after undo redo made undo_start undoable redo_start redoable = record {
-      same_bytes = refl;
+      same_name = refl;
       good = record {
         named = good.named;
         least = good.least;
