@@ -3,7 +3,7 @@
 ghost use Rattle.std.specs.Prelude.{◌≡◌, ℕ, ◌+◌, ◌*◌, ◌^◌, ◌<◌, ◌≤◌, [], length, slice_get, true, Some, IfOk, OnOk, OnErr};
 ghost use Rattle.std.specs.List.{insert, remove, slice_range};
 ghost use Rattle.retro_base.specs.declared.kind.Kind.TheVariants.{Pq};
-ghost use Rattle.retro_base.specs.Answers.{answer_of};
+ghost use Rattle.retro_base.specs.Answers.{answer_of, content};
 ghost use Rattle.retro_base.specs.BridgeTable.{added};
 ghost use Rattle.retro_base.specs.Changes.{IsChange};
 ghost use Rattle.retro_base.specs.Digits.{digits};
@@ -250,11 +250,26 @@ impl Retro for FusedQueue {
         uncounted::failure_after_remove(&self.queue, place)
     }
 
-    fn insert(&mut self, place: u32, row: Row) -> Result<Change, NoMemory> {
+    fn insert(&mut self, place: u32, row: Row) -> Result<Change, NoMemory>
+        requires within { place ≤ length self.old.rows }
+        requires replayable { IsReplayable Pq (insert self.old.rows place row) }
+        ensures rows { OnOk result (self.new.rows ≡ insert self.old.rows place row) }
+        ensures replayable { OnOk result (IsReplayable Pq self.new.rows) }
+        ensures change { IfOk result (IsChange Pq self.old.rows (add place row)) }
+        ensures err { OnErr result (self.new ≡ self.old) }
+    {
         self.insert_uncounted::<Brand, Brand>(place, row, Blank::new(1), Blank::new(1))
     }
 
-    fn remove(&mut self, place: u32) -> Result<(Row, Change), NoMemory> {
+    fn remove(&mut self, place: u32) -> Result<(Row, Change), NoMemory>
+        requires within { place < length self.old.rows }
+        requires replays { IsValid Pq (remove self.old.rows place) }
+        ensures row { IfOk result (λ taken. slice_get self.old.rows place ≡ Some taken.0) }
+        ensures rows { OnOk result (self.new.rows ≡ remove self.old.rows place) }
+        ensures replayable { OnOk result (IsReplayable Pq self.new.rows) }
+        ensures change { IfOk result (λ taken. IsChange Pq self.old.rows (cut place taken.0) taken.1) }
+        ensures err { OnErr result (self.new ≡ self.old) }
+    {
         self.remove_uncounted::<Brand, Brand>(place, Blank::new(1), Blank::new(1))
     }
 
@@ -266,7 +281,11 @@ impl Retro for FusedQueue {
         Ok(self.answer_at(place, question))
     }
 
-    fn all(&mut self, place: u32) -> Result<Listing, NoMemory> {
+    fn all(&mut self, place: u32) -> Result<Listing, NoMemory>
+        requires { place ≤ length self.old.rows }
+        ensures unchanged { self.new ≡ self.old }
+        ensures content { IfOk result (λ listing. listing ≡ content (state_at Pq self.old.rows place)) }
+    {
         let left = self.remaining(place)?;
         keys_of(self.alloc, left.as_slice())
     }
