@@ -13,6 +13,7 @@ ghost use Rattle.workbench.specs.Reported.{reported};
 ghost use Rattle.workbench.specs.declared.outcome.Outcome.TheVariants.{Accepted};
 ghost use Rattle.workbench.specs.EditErrors.{IsRefusedBy};
 
+use crate::loading::put_in;
 use crate::named_timeline::{NamedTimeline, no_row};
 use crate::outcome::{Outcome, Refusal};
 use crate::position::{Position, position_of, row_named};

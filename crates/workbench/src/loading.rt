@@ -92,7 +92,7 @@ fn append_all<R: Retro + Drop>(
 }
 
 /// The list edit that puts a row in.
-fn put_in(place: u32, row: Row, change: Change) -> Turn
+pub(crate) fn put_in(place: u32, row: Row, change: Change) -> Turn
     ensures reported { edit_reported result ≡ add place row }
     ensures change { result.change ≡ change }
 {
