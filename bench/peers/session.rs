@@ -458,7 +458,10 @@ impl Script {
 
     fn save(&self, name: &str, out: &mut Vec<u8>) -> Option<()> {
         let timeline = self.timelines.get(name)?;
-        let (kind, _) = KINDS.iter().find(|(_, kind)| *kind == timeline.kind)?;
+        let kind = match timeline.kind {
+            Kind::Pqf => "pq",
+            own => KINDS.iter().find(|(_, kind)| *kind == own)?.0,
+        };
         say!(
             out,
             "timeline {name} {kind} next {} rows {}\n",
