@@ -19,7 +19,7 @@ import tempfile
 import time
 
 import page
-from phases import KINDS, PHASES, Case, History
+from phases import KINDS, MANY_KEYS, MANY_PHASES, PHASES, Case, History
 
 ROOT = os.path.dirname(os.path.dirname(os.path.abspath(__file__)))
 SIZES = [1_024, 8_192, 65_536, 131_072]
@@ -88,12 +88,12 @@ def without_refusals(answers, phase):
 
 
 class Run:
-    """One run of a program over a history of one kind and size."""
+    """One run of a program over a history."""
 
-    def __init__(self, words, kind, rows, phases, share):
+    def __init__(self, words, history, phases, share):
         self.peer = Peer(words)
-        self.history = History(kind, rows)
-        self.kind, self.rows, self.phases, self.share = kind, rows, phases, share
+        self.history, self.kind, self.rows = history, history.kind, history.rows
+        self.phases, self.share = phases, share
         self.times = {}  # microseconds for a line, by phase
         self.used = {}  # bytes
         self.kept = []  # lines of evidence
@@ -161,7 +161,18 @@ def phases_of(peer, kind):
 
 def measured(words, kind, rows, peer, quick):
     """One run of a program."""
-    return Run(words, kind, rows, phases_of(peer, kind), SHARE / 10 if quick else SHARE).go()
+    return Run(words, History(kind, rows), phases_of(peer, kind), SHARE / 10 if quick else SHARE).go()
+
+
+def many_keys(programs, rows, quick, times):
+    """A dictionary with many keys, in each program without proofs and in retro: the least of what each phase took, and the bytes a row."""
+    for turn in range(1 if quick else max(RUNS.values())):
+        for peer in programs:
+            if peer != "sqlite" and turn < RUNS[peer]:
+                run = Run(programs[peer]("dict"), History("dict", rows, keys=MANY_KEYS), MANY_PHASES, SHARE / 10 if quick else SHARE).go()
+                for phase, took in {**run.times, "row": run.used["row"]}.items():
+                    spot = ("many keys", rows, phase, peer)
+                    times[spot] = min(times.get(spot, took), took)
 
 
 def side_by_side(programs, there, kind, rows, quick, times, used):
@@ -332,6 +343,9 @@ def main():
         for rows in doubtful(kind, sizes, times):
             print("%5.0f s  %s %d is measured again: a phase took over four times as long as with more rows" % (time.time() - began, kind, rows), flush=True)
             note(measured(programs["retro"](kind), kind, rows, "retro", quick), kind, rows, "retro", times, used)
+    for rows in sizes[-2:]:
+        many_keys(programs, rows, quick, times)
+        print("%5.0f s  a dictionary of many keys, %d rows" % (time.time() - began, rows), flush=True)
     for rows in sizes:
         for place in ("end", "anywhere"):
             lines = evidence(program, rows, place == "anywhere")

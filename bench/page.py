@@ -5,7 +5,7 @@ import os
 import textwrap
 
 import plot
-from phases import KINDS, PHASES, Case
+from phases import KINDS, MANY_KEYS, MANY_PHASES, PHASES, Case
 
 Made = collections.namedtuple("Made", "times used sizes skipped compared sqlite quick minutes machine system date")
 
@@ -30,6 +30,7 @@ MEANT = {
     "load": ("a block, for each row", "and read from it"),
     "check": ("`check`, for each line of evidence", "somebody else judges the evidence of all these edits"),
 }
+WIDE = "a past question about half of the keys"
 
 PLOTS = [("end", "measured-end.svg"), ("edit", "measured-edit.svg"), ("past", "measured-past.svg"), ("mixed", "measured-mixed.svg")]
 
@@ -253,6 +254,22 @@ class Page:
     def both(self, rows, phase):
         return " / ".join(number(cost) or "-" for cost in self.costs(rows, phase))
 
+    def many_keys(self):
+        """A dictionary with many keys, of which a question goes over half."""
+        times = self.made.times
+        yield "## A dictionary of {:,} keys".format(MANY_KEYS)
+        yield ""
+        yield from prose(
+            "The same lines of a dictionary with so many keys, of which most come few times, and the questions `count` and `sum` of",
+            "half of its keys at a random time. Microseconds a line; at the end bytes a row. In parentheses the multiples of the same design and of the best",
+            "program.")
+        names = {phase: WIDE if phase == "wide" else MEANT[phase][0] for phase, _ in MANY_PHASES}
+        sizes, rows = self.made.sizes[-2:], []
+        for phase, name in {**names, "row": "bytes a row"}.items():
+            costs = [{peer: times.get(("many keys", size, phase, peer)) for peer in self.peers} for size in sizes]
+            rows.append([name] + ["%s (%s)" % (number(cost["retro"]), ", ".join(ratio(cost["retro"], cost.get(peer)) or "-" for peer in ("same", "best"))) for cost in costs])
+        yield from table([""] + ["{:,} rows".format(size) for size in sizes], rows)
+
     def judging(self):
         times, used = self.made.times, self.made.used
         yield "## Judging evidence"
@@ -278,7 +295,7 @@ class Page:
             yield from table(["Program", "µs a line"], [[name, "%.3f" % times["asked", peer]] for peer, name in names.items() if ("asked", peer) in times])
 
     def text(self):
-        for part in (self.head, self.programs, self.marks, self.growth, self.memory, self.fused, self.judging, self.texts):
+        for part in (self.head, self.programs, self.marks, self.growth, self.memory, self.many_keys, self.fused, self.judging, self.texts):
             yield from part()
 
 

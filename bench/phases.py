@@ -9,6 +9,7 @@ import random
 
 KINDS = ["queue", "stack", "deque", "dict", "pq", "pqf"]
 KEYS = 1_000  # keys of a dictionary
+MANY_KEYS = 60_000  # and of one with many
 PACE = 1_000  # between the times of two rows
 WIDEST = 1_000_000  # keys of a priority queue
 
@@ -40,6 +41,9 @@ PHASES = [
     ("load", 1),
 ]
 
+# And of a dictionary with many keys.
+MANY_PHASES = [("end", None), ("edit", 20_000), ("past", 20_000), ("wide", 20_000)]
+
 
 Case = collections.namedtuple("Case", "kind rows phase")
 
@@ -52,14 +56,14 @@ def margin(rows):
 class History:
     """A timeline `g` of one kind, with so many rows, and what phases have put into it."""
 
-    def __init__(self, kind, rows, seed=1):
-        self.kind, self.rows = kind, rows
+    def __init__(self, kind, rows, seed=1, keys=KEYS):
+        self.kind, self.rows, self.keys = kind, rows, keys
         self.draw = random.Random("%s %d %d" % (kind, rows, seed))
         self.next = 1
         self.own = []  # rows of phases: lists of numbers, the last of which can be deleted
         self.adding = []  # rows of the history that put something in
         self.ahead = 0
-        self.new_keys = KEYS
+        self.new_keys = keys
         self.moved = []
 
     def number(self):
@@ -72,7 +76,7 @@ class History:
         if self.kind in ("pq", "pqf"):
             return "ins %d" % self.draw.randrange(WIDEST)
         if self.kind == "dict":
-            return "put %d %d" % (self.draw.randrange(KEYS), value)
+            return "put %d %d" % (self.draw.randrange(self.keys), value)
         return "%s %d" % ({"queue": "enq", "stack": "push"}.get(self.kind) or self.draw.choice(["pushl", "pushr"]), value)
 
     def take(self):
@@ -138,11 +142,16 @@ class History:
     def question(self, moment=""):
         question = self.draw.choice(QUESTIONS[self.kind])
         if self.kind == "dict":
-            question += " %d" % self.draw.randrange(KEYS)
+            question += " %d" % self.draw.randrange(self.keys)
         return "g ask %s%s" % (moment, question)
 
     def past(self):
         return self.question("at %d " % self.time(1))
+
+    def wide(self):
+        """A question about half of the keys of a dictionary."""
+        low = self.draw.randrange(self.keys // 2)
+        return "g ask at %d %s %d %d" % (self.time(1), self.draw.choice(["count", "sum"]), low, low + self.keys // 2)
 
     def first(self):
         return self.question("at %d " % (PACE * self.rows - PACE * margin(self.rows) - PACE))
@@ -187,7 +196,7 @@ class History:
             return self.edits(count)
         if phase == "mixed":
             return self.mixed(count)
-        one = {"now": self.question, "first": self.first, "past": self.past, "forward": self.forward, "move": self.move, "burst": self.burst}.get(phase)
+        one = {"now": self.question, "first": self.first, "past": self.past, "wide": self.wide, "forward": self.forward, "move": self.move, "burst": self.burst}.get(phase)
         if one:
             return [one() for _ in range(count)]
         if phase == "fate":
