@@ -1,9 +1,9 @@
 -- The rule of checkpoints at an edit, over the width, the places and the number of rows alone: where a checkpoint is made for a row that
 -- is put in, how all of them move with the rows, and which of them are left, at which width.
-use Rattle.std.specs.Prelude.{◌≡◌, ℕ, ◌+◌, ◌-◌, ◌/◌, ◌≤◌, nat_eq, nat_lt, if◌then◌else◌, List, [], ◌∷◌, ◌++◌, length, drop, map, reverse}
+use Rattle.std.specs.Prelude.{◌≡◌, ℕ, ◌+◌, ◌-◌, ◌/◌, ◌≤◌, nat_eq, nat_lt, if◌then◌else◌, true, false, List, [], ◌∷◌, ◌++◌, length, drop, map, reverse}
 use Rattle.retro_base.specs.Edits.{Edit, add, cut}
 use Rattle.checkpoint_full.specs.Checkpoints.{Checkpointed}
-use Rattle.checkpoint_full.specs.Widths.{settled, settled_width}
+use Rattle.checkpoint_full.specs.Widths.{least_width, made_places, settled, settled_width}
 
 -- a checkpoint after the place stands one further once a row is put in there, and one earlier once the row there is taken out
 abbrev pub one_further : ℕ → ℕ → ℕ
@@ -72,3 +72,11 @@ pub record FollowsRule (before : Checkpointed) (edit : Edit) (after : Checkpoint
   pub width : after.width ≡ width_after before edit
   pub places : after.places ≡ places_after before edit
   pub wider : before.width ≤ after.width
+
+-- a question about the past leaves all as it was where the checkpoints were made; where they were not, it makes them, at each multiple of
+-- the least width
+pub record MakesCheckpoints (before after : Checkpointed) : Type 0 where
+  pub made : after.made ≡ true
+  pub width : before.made ≡ false → after.width ≡ least_width (length before.rows)
+  pub places : before.made ≡ false → after.places ≡ made_places after.width (length before.rows)
+  pub same : before.made ≡ true → after ≡ before

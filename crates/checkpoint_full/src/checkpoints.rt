@@ -8,7 +8,7 @@ ghost use Rattle.checkpoint_full.specs.Widths.{made_places, most_checkpoints, mu
 use crate::copies::Copies;
 use crate::snapshot::Snapshot;
 use crate::spares::stand_between;
-use retro_base::{NoMemory, Partial, Steps};
+use retro_base::{NoMemory, Partial};
 use std::alloc::Global;
 use std::sync::ledger::Ledger;
 
@@ -33,11 +33,10 @@ fn first_made(rows: u32, width: u32) -> u32
 
 /// Makes the checkpoints of a timeline, at the start and at each multiple of the width below the number of rows. Each of
 /// them is one copy, of the next one without its last rows.
-pub(crate) fn make<P: Partial + Drop, L: Ledger, M: Ledger>(
+pub(crate) fn make<P: Partial + Drop, M: Ledger>(
     alloc: Global,
     present: &Snapshot<P>,
     width: u32,
-    steps: &mut Steps<L>,
     copies: &mut Copies<M>,
 ) -> Result<Vec<Snapshot<P>>, NoMemory>
     requires of_widths { IsWidth width }
@@ -49,9 +48,9 @@ pub(crate) fn make<P: Partial + Drop, L: Ledger, M: Ledger>(
     ensures copies { copies.new ≤ copies.old + 1 + multiples_below width (place_of present.now) }
 {
     let mut checkpoints = Vec::new(alloc);
-    let mut latest = present.copy_at(first_made(present.place(), width), steps, copies)?;
+    let mut latest = present.copy_at(first_made(present.place(), width), copies)?;
     while latest.place() > 0 {
-        let earlier = latest.copy_at(latest.place().saturating_sub(width), steps, copies)?;
+        let earlier = latest.copy_at(latest.place().saturating_sub(width), copies)?;
         checkpoints.push(latest)?;
         latest = earlier;
     }
@@ -92,13 +91,12 @@ fn place_between(earlier: u32, later: u32, place: u32) -> u32
 
 /// Makes a checkpoint between the neighbours of the place where one more row would not fit between them, and answers its
 /// index where it made one: one that was laid aside, or a copy. After `NoMemory` all are as before.
-pub(crate) fn make_room<P: Partial + Drop, L: Ledger, M: Ledger>(
+pub(crate) fn make_room<P: Partial + Drop, M: Ledger>(
     present: &Snapshot<P>,
     checkpoints: &mut Vec<Snapshot<P>>,
     spares: &mut Vec<Snapshot<P>>,
     width: u32,
     place: u32,
-    steps: &mut Steps<L>,
     copies: &mut Copies<M>,
 ) -> Result<Option<usize>, NoMemory>
     requires of_widths { IsWidth width }
@@ -126,7 +124,7 @@ pub(crate) fn make_room<P: Partial + Drop, L: Ledger, M: Ledger>(
         return Ok(None);
     }
     let at = place_between(earlier, later.place(), place);
-    let between = stand_between(present, spares, earlier, later, at, steps, copies)?;
+    let between = stand_between(present, spares, earlier, later, at, copies)?;
     checkpoints.insert(index, between)?;
     Ok(Some(index))
 }

@@ -8,70 +8,59 @@ ghost use Rattle.retro_base.specs.Timeline.{IsReplayable};
 ghost use Rattle.checkpoint_full.specs.Checkpoints.{after, place_of, with_row, without_row, CanFollow, CanLose, CanTake, HoldsFirstRows};
 
 use crate::snapshot::Snapshot;
-use retro_base::{Change, NoMemory, Partial, Row, Steps};
-use std::sync::ledger::Ledger;
+use retro_base::{Change, NoMemory, Partial, Row};
 
 /// Puts the row into a checkpoint that stands after the place. After `NoMemory` all is as before.
-fn insert_in<P: Partial + Drop, L: Ledger>(
+fn insert_in<P: Partial + Drop>(
     checkpoint: &mut Snapshot<P>,
     place: u32,
     row: Row,
-    steps: &mut Steps<L>,
 ) -> Result<(), NoMemory>
     requires { CanFollow place row checkpoint.old }
     ensures ok { OnOk result (checkpoint.new ≡ with_row place row checkpoint.old) }
     ensures err { OnErr result (checkpoint.new ≡ checkpoint.old) }
 {
     if checkpoint.is_after(place) {
-        checkpoint.insert(place, row, steps)?;
+        checkpoint.put_in(place, row)?;
     }
     Ok(())
 }
 
 /// Takes the row at the place out of a checkpoint that stands after it.
-fn remove_in<P: Partial + Drop, L: Ledger>(
-    checkpoint: &mut Snapshot<P>,
-    place: u32,
-    steps: &mut Steps<L>,
-)
+fn remove_in<P: Partial + Drop>(checkpoint: &mut Snapshot<P>, place: u32)
     requires { CanLose place checkpoint.old }
     ensures { checkpoint.new ≡ without_row place checkpoint.old }
 {
     if checkpoint.is_after(place) {
-        checkpoint.remove(place, steps);
+        checkpoint.take_out(place);
     }
 }
 
 /// Takes the row at the place out of each checkpoint that stands after it.
-pub(crate) fn remove_in_each<P: Partial + Drop, L: Ledger>(
-    checkpoints: &mut [Snapshot<P>],
-    place: u32,
-    steps: &mut Steps<L>,
-)
+pub(crate) fn remove_in_each<P: Partial + Drop>(checkpoints: &mut [Snapshot<P>], place: u32)
     requires { AllByRecursion (CanLose place) checkpoints.old }
     ensures { checkpoints.new ≡ map (without_row place) checkpoints.old }
 {
     for checkpoint in checkpoints.iter_mut() {
-        remove_in(checkpoint, place, steps);
+        remove_in(checkpoint, place);
     }
 }
 
 /// Puts the row into each checkpoint that stands after the place. After `NoMemory` it is taken back from the first
 /// ones, and all are as before.
-pub(crate) fn insert_in_each<P: Partial + Drop, L: Ledger>(
+pub(crate) fn insert_in_each<P: Partial + Drop>(
     checkpoints: &mut [Snapshot<P>],
     place: u32,
     row: Row,
-    steps: &mut Steps<L>,
 ) -> Result<(), NoMemory>
     requires { AllByRecursion (CanFollow place row) checkpoints.old }
     ensures ok { OnOk result (checkpoints.new ≡ map (with_row place row) checkpoints.old) }
     ensures err { OnErr result (checkpoints.new ≡ checkpoints.old) }
 {
     for index in 0..checkpoints.len() {
-        if let Err(error) = insert_in(&mut checkpoints[index], place, row, steps) {
+        if let Err(error) = insert_in(&mut checkpoints[index], place, row) {
             let (first, _) = checkpoints.split_at_mut(index);
-            remove_in_each(first, place, steps);
+            remove_in_each(first, place);
             return Err(error);
         }
     }
@@ -80,12 +69,11 @@ pub(crate) fn insert_in_each<P: Partial + Drop, L: Ledger>(
 
 /// Puts the row into the present and into each checkpoint that stands after the place. After `NoMemory` all are as
 /// before.
-pub(crate) fn insert_everywhere<P: Partial + Drop, L: Ledger>(
+pub(crate) fn insert_everywhere<P: Partial + Drop>(
     present: &mut Snapshot<P>,
     checkpoints: &mut [Snapshot<P>],
     place: u32,
     row: Row,
-    steps: &mut Steps<L>,
 ) -> Result<Change, NoMemory>
     requires within { place ≤ place_of present.old }
     requires can { CanTake present.old place row }
@@ -97,20 +85,19 @@ pub(crate) fn insert_everywhere<P: Partial + Drop, L: Ledger>(
     ensures change { IfOk result (IsChange present.old.kind present.old.rows (add place row)) }
     ensures err { OnErr result ((present.new ≡ present.old) × (checkpoints.new ≡ checkpoints.old)) }
 {
-    let change = present.insert(place, row, steps)?;
-    if let Err(error) = insert_in_each(checkpoints, place, row, steps) {
-        present.remove(place, steps);
+    let change = present.put_in(place, row)?;
+    if let Err(error) = insert_in_each(checkpoints, place, row) {
+        present.take_out(place);
         return Err(error);
     }
     Ok(change)
 }
 
 /// Takes the row at the place out of the present and of each checkpoint that stands after it. It takes no memory.
-pub(crate) fn remove_everywhere<P: Partial + Drop, L: Ledger>(
+pub(crate) fn remove_everywhere<P: Partial + Drop>(
     present: &mut Snapshot<P>,
     checkpoints: &mut [Snapshot<P>],
     place: u32,
-    steps: &mut Steps<L>,
 ) -> (Row, Change)
     requires within { place < place_of present.old }
     requires replays { IsValid present.old.kind (remove present.old.rows place) }
@@ -121,6 +108,6 @@ pub(crate) fn remove_everywhere<P: Partial + Drop, L: Ledger>(
     ensures replayable { IsReplayable present.new.kind present.new.rows }
     ensures change { IsChange present.old.kind present.old.rows (cut place result.0) result.1 }
 {
-    remove_in_each(checkpoints, place, steps);
-    present.remove(place, steps)
+    remove_in_each(checkpoints, place);
+    present.take_out(place)
 }

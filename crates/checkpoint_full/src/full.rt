@@ -12,14 +12,18 @@ ghost use Rattle.retro_base.specs.Timeline.{IsReplayable};
 ghost use Rattle.retro_base.specs.Visits.{OpensCounter, VisitsWithin};
 ghost use Rattle.checkpoint_full.specs.Checkpoints.{nearest_to, FitsBetween};
 ghost use Rattle.checkpoint_full.specs.Copies.{CopiesEach};
-ghost use Rattle.checkpoint_full.specs.Rule.{latest_first, FollowsRule};
-ghost use Rattle.checkpoint_full.specs.Widths.{least_width, made_places, narrowest};
+ghost use Rattle.checkpoint_full.specs.Rule.{latest_first, FollowsRule, MakesCheckpoints};
+ghost use Rattle.checkpoint_full.specs.Widths.{narrowest};
 
+use crate::checkpoints::{drop_made, make, make_room};
 use crate::copies::Copies;
-use crate::kept::{ask_kept, follow_kept, insert_kept, list_kept, remove_kept};
+use crate::follow::{insert_everywhere, remove_everywhere};
+use crate::past::{ask_at, list_at, nearest_earlier};
 use crate::reader::Reader;
+use crate::settle::settle;
 use crate::snapshot::Snapshot;
-use crate::width::NARROWEST;
+use crate::spares::{insert_in_spares, keep_few, remove_in_spares};
+use crate::width::{NARROWEST, width_for};
 use retro_base::{
     Answer, Change, Kind, Listing, NoMemory, Op, Partial, Question, Retro, Row, Steps,
 };
@@ -98,10 +102,7 @@ impl<P: Partial + Drop> Full<P> {
         ensures kind { self.new.kind ≡ self.old.kind }
         ensures rows { self.new.rows ≡ self.old.rows }
         ensures answer { IfOk result (λ answer. answer ≡ answer_of (state_at self.old.kind self.old.rows place) question) }
-        ensures made { OnOk result (self.new.made ≡ true) }
-        ensures first { self.old.made ≡ false → OnOk result (self.new.width ≡ least_width (length self.old.rows)) }
-        ensures multiples { self.old.made ≡ false → OnOk result (self.new.places ≡ made_places self.new.width (length self.old.rows)) }
-        ensures places { self.old.made ≡ true → self.new ≡ self.old }
+        ensures checkpoints { OnOk result (MakesCheckpoints self.old self.new) }
         ensures err { OnErr result (self.new ≡ self.old) }
         ensures visits { self.old.made ≡ true → VisitsWithin (432 * (self.old.width + 1)) (length self.old.rows) steps.old steps.new }
         ensures near { self.old.made ≡ true
@@ -126,10 +127,7 @@ impl<P: Partial + Drop> Full<P> {
         ensures kind { self.new.kind ≡ self.old.kind }
         ensures rows { self.new.rows ≡ self.old.rows }
         ensures answer { IfOk result (λ answer. answer ≡ answer_of (state_at self.old.kind self.old.rows place) question) }
-        ensures made { OnOk result (self.new.made ≡ true) }
-        ensures first { self.old.made ≡ false → OnOk result (self.new.width ≡ least_width (length self.old.rows)) }
-        ensures multiples { self.old.made ≡ false → OnOk result (self.new.places ≡ made_places self.new.width (length self.old.rows)) }
-        ensures places { self.old.made ≡ true → self.new ≡ self.old }
+        ensures checkpoints { OnOk result (MakesCheckpoints self.old self.new) }
         ensures err { OnErr result (self.new ≡ self.old) }
         ensures visits { self.old.made ≡ true → VisitsWithin (432 * (self.old.width + 1)) (length self.old.rows) steps.old steps.new }
         ensures near { self.old.made ≡ true
@@ -156,10 +154,7 @@ impl<P: Partial + Drop> Full<P> {
         ensures kind { self.new.kind ≡ self.old.kind }
         ensures rows { self.new.rows ≡ self.old.rows }
         ensures answer { IfOk result (λ answer. answer ≡ answer_of (state_at self.old.kind self.old.rows place) question) }
-        ensures made { OnOk result (self.new.made ≡ true) }
-        ensures first { self.old.made ≡ false → OnOk result (self.new.width ≡ least_width (length self.old.rows)) }
-        ensures multiples { self.old.made ≡ false → OnOk result (self.new.places ≡ made_places self.new.width (length self.old.rows)) }
-        ensures places { self.old.made ≡ true → self.new ≡ self.old }
+        ensures checkpoints { OnOk result (MakesCheckpoints self.old self.new) }
         ensures err { OnErr result (self.new ≡ self.old) }
         ensures visits { self.old.made ≡ true → VisitsWithin (432 * (self.old.width + 1)) (length self.old.rows) steps.old steps.new }
         ensures near { self.old.made ≡ true
@@ -169,16 +164,31 @@ impl<P: Partial + Drop> Full<P> {
         ensures lent { self.old.made ≡ true → copies.new ≡ copies.old }
         ensures each { self.old.made ≡ false → CopiesEach (length self.old.rows) copies.old copies.new }
     {
-        ask_kept(
-            self.alloc,
-            &self.present,
-            &mut self.checkpoints,
-            &mut self.width,
+        if self.checkpoints.is_empty() {
+            let least = width_for(self.present.place());
+            let made = make(self.alloc, &self.present, least, copies)?;
+            let answer = ask_at(
+                &mut self.reader,
+                made.as_slice(),
+                &self.present,
+                least,
+                place,
+                question,
+                steps,
+            )?;
+            self.checkpoints = made;
+            self.width = least;
+            return Ok(answer);
+        }
+        let lent = self.checkpoints.as_slice();
+        ask_at(
             &mut self.reader,
+            lent,
+            &self.present,
+            self.width,
             place,
             question,
             steps,
-            copies,
         )
     }
 
@@ -191,14 +201,13 @@ impl<P: Partial + Drop> Full<P> {
         ensures few { copies.new ≤ copies.old + 1 }
         ensures unmade { self.old.made ≡ false → copies.new ≡ copies.old }
     {
-        follow_kept(
-            &self.present,
-            self.checkpoints.as_slice(),
-            self.width,
-            &mut self.reader,
-            place,
-            copies,
-        );
+        if self.checkpoints.is_empty() || place == self.present.place() {
+            return;
+        }
+        let made = self.checkpoints.as_slice();
+        let index = nearest_earlier(made, &self.present, self.width, place);
+        self.reader
+            .follow(&self.checkpoints[index], place, self.width, copies);
     }
 
     /// Puts the row in, as `insert` of `Retro`, and counts what it copies: one checkpoint at the most, and none where one
@@ -220,18 +229,33 @@ impl<P: Partial + Drop> Full<P> {
         ensures few { copies.new ≤ copies.old + 1 }
         ensures fits { FitsBetween self.old.width place (length self.old.rows) (latest_first self.old) → copies.new ≡ copies.old }
     {
-        let change = insert_kept::<P, Brand, M>(
-            &mut self.present,
+        let split = make_room(
+            &self.present,
             &mut self.checkpoints,
             &mut self.spares,
-            &mut self.width,
+            self.width,
             place,
-            row,
-            Blank::new(1),
             copies,
         )?;
-        self.reader.after_edit(place);
-        Ok(change)
+        let lent = self.checkpoints.as_mut_slice();
+        match insert_everywhere(&mut self.present, lent, place, row) {
+            Ok(change) => {
+                insert_in_spares(&mut self.spares, place, row);
+                self.width = settle(
+                    &self.present,
+                    &mut self.checkpoints,
+                    &mut self.spares,
+                    self.width,
+                );
+                keep_few(&self.present, &mut self.spares, self.checkpoints.len());
+                self.reader.after_edit(place);
+                Ok(change)
+            }
+            Err(error) => {
+                drop_made(&mut self.checkpoints, split);
+                Err(error)
+            }
+        }
     }
 
     /// `insert_counted` with a counter of its own.
@@ -262,10 +286,7 @@ impl<P: Partial + Drop> Full<P> {
         ensures kind { self.new.kind ≡ self.old.kind }
         ensures rows { self.new.rows ≡ self.old.rows }
         ensures content { IfOk result (λ listing. listing ≡ content (state_at self.old.kind self.old.rows place)) }
-        ensures made { OnOk result (self.new.made ≡ true) }
-        ensures first { self.old.made ≡ false → OnOk result (self.new.width ≡ least_width (length self.old.rows)) }
-        ensures multiples { self.old.made ≡ false → OnOk result (self.new.places ≡ made_places self.new.width (length self.old.rows)) }
-        ensures places { self.old.made ≡ true → self.new ≡ self.old }
+        ensures checkpoints { OnOk result (MakesCheckpoints self.old self.new) }
         ensures err { OnErr result (self.new ≡ self.old) }
     {
         self.list_following::<Brand>(place, Blank::new(1))
@@ -281,23 +302,31 @@ impl<P: Partial + Drop> Full<P> {
         ensures kind { self.new.kind ≡ self.old.kind }
         ensures rows { self.new.rows ≡ self.old.rows }
         ensures content { IfOk result (λ listing. listing ≡ content (state_at self.old.kind self.old.rows place)) }
-        ensures made { OnOk result (self.new.made ≡ true) }
-        ensures first { self.old.made ≡ false → OnOk result (self.new.width ≡ least_width (length self.old.rows)) }
-        ensures multiples { self.old.made ≡ false → OnOk result (self.new.places ≡ made_places self.new.width (length self.old.rows)) }
-        ensures places { self.old.made ≡ true → self.new ≡ self.old }
+        ensures checkpoints { OnOk result (MakesCheckpoints self.old self.new) }
         ensures err { OnErr result (self.new ≡ self.old) }
         ensures lent { self.old.made ≡ true → copies.new ≡ copies.old }
         ensures each { self.old.made ≡ false → CopiesEach (length self.old.rows) copies.old copies.new }
     {
-        list_kept::<P, Brand, M>(
-            self.alloc,
-            &self.present,
-            &mut self.checkpoints,
-            &mut self.width,
+        if self.checkpoints.is_empty() {
+            let least = width_for(self.present.place());
+            let made = make(self.alloc, &self.present, least, copies)?;
+            let listing = list_at(
+                &mut self.reader,
+                made.as_slice(),
+                &self.present,
+                least,
+                place,
+            )?;
+            self.checkpoints = made;
+            self.width = least;
+            return Ok(listing);
+        }
+        list_at(
             &mut self.reader,
+            self.checkpoints.as_slice(),
+            &self.present,
+            self.width,
             place,
-            Blank::new(1),
-            copies,
         )
     }
 
@@ -314,10 +343,7 @@ impl<P: Partial + Drop> Full<P> {
         ensures kind { self.new.kind ≡ self.old.kind }
         ensures rows { self.new.rows ≡ self.old.rows }
         ensures answer { IfOk result (λ answer. answer ≡ answer_of (state_at self.old.kind self.old.rows place) question) }
-        ensures made { OnOk result (self.new.made ≡ true) }
-        ensures first { self.old.made ≡ false → OnOk result (self.new.width ≡ least_width (length self.old.rows)) }
-        ensures multiples { self.old.made ≡ false → OnOk result (self.new.places ≡ made_places self.new.width (length self.old.rows)) }
-        ensures places { self.old.made ≡ true → self.new ≡ self.old }
+        ensures checkpoints { OnOk result (MakesCheckpoints self.old self.new) }
         ensures err { OnErr result (self.new ≡ self.old) }
     {
         let mut steps = Steps::<L>::new(blank);
@@ -331,10 +357,7 @@ impl<P: Partial + Drop> Full<P> {
         ensures kind { self.new.kind ≡ self.old.kind }
         ensures rows { self.new.rows ≡ self.old.rows }
         ensures content { IfOk result (λ listing. listing ≡ content (state_at self.old.kind self.old.rows place)) }
-        ensures made { OnOk result (self.new.made ≡ true) }
-        ensures first { self.old.made ≡ false → OnOk result (self.new.width ≡ least_width (length self.old.rows)) }
-        ensures multiples { self.old.made ≡ false → OnOk result (self.new.places ≡ made_places self.new.width (length self.old.rows)) }
-        ensures places { self.old.made ≡ true → self.new ≡ self.old }
+        ensures checkpoints { OnOk result (MakesCheckpoints self.old self.new) }
         ensures err { OnErr result (self.new ≡ self.old) }
     {
         let mut copies = Copies::<M>::new(blank);
@@ -392,14 +415,16 @@ impl<P: Partial + Drop> Retro for Full<P> {
         ensures rule { IfOk result (λ taken. FollowsRule self.old (cut place taken.0) self.new) }
         ensures err { OnErr result (self.new ≡ self.old) }
     {
-        let taken = remove_kept::<P, Brand>(
-            &mut self.present,
+        let lent = self.checkpoints.as_mut_slice();
+        let taken = remove_everywhere(&mut self.present, lent, place);
+        remove_in_spares(&mut self.spares, place);
+        self.width = settle(
+            &self.present,
             &mut self.checkpoints,
             &mut self.spares,
-            &mut self.width,
-            place,
-            Blank::new(1),
+            self.width,
         );
+        keep_few(&self.present, &mut self.spares, self.checkpoints.len());
         self.reader.after_edit(place);
         Ok(taken)
     }
@@ -414,10 +439,7 @@ impl<P: Partial + Drop> Retro for Full<P> {
         ensures kind { self.new.kind ≡ self.old.kind }
         ensures rows { self.new.rows ≡ self.old.rows }
         ensures answer { IfOk result (λ answer. answer ≡ answer_of (state_at self.old.kind self.old.rows place) question) }
-        ensures made { OnOk result (self.new.made ≡ true) }
-        ensures first { self.old.made ≡ false → OnOk result (self.new.width ≡ least_width (length self.old.rows)) }
-        ensures multiples { self.old.made ≡ false → OnOk result (self.new.places ≡ made_places self.new.width (length self.old.rows)) }
-        ensures places { self.old.made ≡ true → self.new ≡ self.old }
+        ensures checkpoints { OnOk result (MakesCheckpoints self.old self.new) }
         ensures err { OnErr result (self.new ≡ self.old) }
     {
         self.ask_uncounted::<Brand>(place, question, Blank::new(1))
@@ -428,10 +450,7 @@ impl<P: Partial + Drop> Retro for Full<P> {
         ensures kind { self.new.kind ≡ self.old.kind }
         ensures rows { self.new.rows ≡ self.old.rows }
         ensures content { IfOk result (λ listing. listing ≡ content (state_at self.old.kind self.old.rows place)) }
-        ensures made { OnOk result (self.new.made ≡ true) }
-        ensures first { self.old.made ≡ false → OnOk result (self.new.width ≡ least_width (length self.old.rows)) }
-        ensures multiples { self.old.made ≡ false → OnOk result (self.new.places ≡ made_places self.new.width (length self.old.rows)) }
-        ensures places { self.old.made ≡ true → self.new ≡ self.old }
+        ensures checkpoints { OnOk result (MakesCheckpoints self.old self.new) }
         ensures err { OnErr result (self.new ≡ self.old) }
     {
         self.all_past(place)

@@ -27,7 +27,7 @@
 //! of `retro_base`; after `NoMemory` each call leaves all that is seen, and the rows of every checkpoint, as they were.
 //!
 //! - `Full`. The counter of what is copied: `Copies`. The least width: `NARROWEST`. The most checkpoints: `MOST_CHECKPOINTS`.
-//! - `full`: the type and its calls. `snapshot`: a structure that steps a counter where it is copied. `kept`, `checkpoints`, `spares`: what is
+//! - `full`: the type and its calls. `snapshot`: a structure that steps a counter where it is copied. `checkpoints`, `spares`: what is
 //!   kept of the past. `settle`, `width`: where checkpoints stand. `past`, `follow`, `reader`: how a question about the past is answered.
 //!   `copies`: the counter of copies.
 #![tactic(auto)]
@@ -36,7 +36,6 @@ mod checkpoints;
 mod copies;
 mod follow;
 mod full;
-mod kept;
 mod past;
 mod reader;
 mod settle;

@@ -67,13 +67,12 @@ pub(crate) fn ask_at<P: Partial + Drop, L: Ledger>(
 }
 
 /// Lists the content at a place.
-pub(crate) fn list_at<P: Partial + Drop, L: Ledger>(
+pub(crate) fn list_at<P: Partial + Drop>(
     reader: &mut Reader<P>,
     checkpoints: &[Snapshot<P>],
     timeline: &Snapshot<P>,
     width: u32,
     place: u32,
-    steps: &mut Steps<L>,
 ) -> Result<Listing, NoMemory>
     requires made { were_made checkpoints.now ≡ true }
     requires checkpoints { AreCheckpoints width timeline.now checkpoints.now }
@@ -88,7 +87,7 @@ pub(crate) fn list_at<P: Partial + Drop, L: Ledger>(
     }
     let index = nearest_earlier(checkpoints, timeline, width, place);
     match reader.choose(&checkpoints[index], place, width) {
-        Some(copy) => reader.list(copy, timeline, place, steps),
-        None => checkpoints[index].list_after(timeline, place, steps),
+        Some(copy) => reader.list(copy, timeline, place),
+        None => checkpoints[index].list_after(timeline, place),
     }
 }

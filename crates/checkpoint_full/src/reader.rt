@@ -195,12 +195,11 @@ impl<P: Partial + Drop> Reader<P> {
 
     /// Lists the content at the place with a structure that was given out, and keeps it there. Where there is no memory
     /// to move it, it is let go.
-    pub(crate) fn list<L: Ledger>(
+    pub(crate) fn list(
         &mut self,
         copy: Snapshot<P>,
         timeline: &Snapshot<P>,
         place: u32,
-        steps: &mut Steps<L>,
     ) -> Result<Listing, NoMemory>
         requires first { HoldsFirstRows timeline.now copy }
         requires within { place ≤ place_of timeline.now }
@@ -210,7 +209,7 @@ impl<P: Partial + Drop> Reader<P> {
         ensures run { self.new.run ≡ self.old.run }
     {
         let mut copy = copy;
-        copy.move_to(timeline, place, steps)?;
+        copy.bring_to(timeline, place)?;
         let listing = copy.all_now();
         self.copy = Some(copy);
         listing

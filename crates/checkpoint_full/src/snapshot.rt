@@ -9,15 +9,15 @@ ghost use Rattle.retro_base.specs.Kind.{kind_of};
 ghost use Rattle.retro_base.specs.Questions.{suits};
 ghost use Rattle.retro_base.specs.Replay.{failure, IsValid, present, state_at};
 ghost use Rattle.retro_base.specs.Timeline.{IsReplayable};
-ghost use Rattle.retro_base.specs.Visits.{VisitsWithin};
+ghost use Rattle.retro_base.specs.Visits.{OpensCounter, VisitsWithin};
 ghost use Rattle.checkpoint_full.specs.Checkpoints.{after, first_of, place_of, CanTake, HoldsFirstRows};
 
 use crate::copies::Copies;
 use retro_base::{
     Answer, Change, Kind, Listing, NoMemory, Op, Partial, Question, Row, Steps, uncounted,
 };
-use std::marker::Model;
-use std::sync::ledger::Ledger;
+use std::marker::{Brand, Model};
+use std::sync::ledger::{Blank, Ledger};
 
 /// A structure that contracts see as its kind and its rows.
 ///
@@ -102,7 +102,32 @@ impl<P: Partial + Drop> Snapshot<P> {
     }
 
     /// Puts a row in at a place, and answers the change of its present. After `NoMemory` all is as before.
-    pub(crate) fn insert<L: Ledger>(
+    pub(crate) fn put_in(&mut self, place: u32, row: Row) -> Result<Change, NoMemory>
+        requires within { place ≤ place_of self.old }
+        requires can { CanTake self.old place row }
+        ensures ok { OnOk result (self.new ≡ after self.old (add place row)) }
+        ensures before { IsReplayable self.old.kind self.old.rows }
+        ensures replayable { IsReplayable self.new.kind self.new.rows }
+        ensures change { IfOk result (IsChange self.old.kind self.old.rows (add place row)) }
+        ensures err { OnErr result (self.new ≡ self.old) }
+    {
+        uncounted::insert(&mut self.structure, place, row)
+    }
+
+    /// Takes the row at a place out, gives it back, and answers the change of its present. It takes no memory.
+    pub(crate) fn take_out(&mut self, place: u32) -> (Row, Change)
+        requires within { place < place_of self.old }
+        requires replays { IsValid self.old.kind (remove self.old.rows place) }
+        ensures row { slice_get self.old.rows place ≡ Some result.0 }
+        ensures rows { self.new ≡ after self.old (cut place result.0) }
+        ensures replayable { IsReplayable self.new.kind self.new.rows }
+        ensures change { IsChange self.old.kind self.old.rows (cut place result.0) result.1 }
+    {
+        uncounted::remove(&mut self.structure, place)
+    }
+
+    /// `put_in`, which counts what it visits.
+    fn insert<L: Ledger>(
         &mut self,
         place: u32,
         row: Row,
@@ -111,23 +136,17 @@ impl<P: Partial + Drop> Snapshot<P> {
         requires within { place ≤ place_of self.old }
         requires can { CanTake self.old place row }
         ensures ok { OnOk result (self.new ≡ after self.old (add place row)) }
-        ensures before { IsReplayable self.old.kind self.old.rows }
-        ensures replayable { IsReplayable self.new.kind self.new.rows }
-        ensures change { IfOk result (IsChange self.old.kind self.old.rows (add place row)) }
         ensures err { OnErr result (self.new ≡ self.old) }
         ensures visits { VisitsWithin 144 (place_of self.old + 1) steps.old steps.new }
     {
         self.structure.insert(place, row, steps)
     }
 
-    /// Takes the row at a place out, gives it back, and answers the change of its present. It takes no memory.
-    pub(crate) fn remove<L: Ledger>(&mut self, place: u32, steps: &mut Steps<L>) -> (Row, Change)
+    /// `take_out`, which counts what it visits.
+    fn remove<L: Ledger>(&mut self, place: u32, steps: &mut Steps<L>) -> (Row, Change)
         requires within { place < place_of self.old }
         requires replays { IsValid self.old.kind (remove self.old.rows place) }
-        ensures row { slice_get self.old.rows place ≡ Some result.0 }
         ensures rows { self.new ≡ after self.old (cut place result.0) }
-        ensures replayable { IsReplayable self.new.kind self.new.rows }
-        ensures change { IsChange self.old.kind self.old.rows (cut place result.0) result.1 }
         ensures visits { VisitsWithin 144 (place_of self.old) steps.old steps.new }
     {
         self.structure.remove(place, steps)
@@ -178,18 +197,13 @@ impl<P: Partial + Drop> Snapshot<P> {
     }
 
     /// The whole content of the timeline at a place, from its first rows, which stay as they are.
-    pub(crate) fn list_after<L: Ledger>(
-        &self,
-        timeline: &Snapshot<P>,
-        place: u32,
-        steps: &mut Steps<L>,
-    ) -> Result<Listing, NoMemory>
+    pub(crate) fn list_after(&self, timeline: &Snapshot<P>, place: u32) -> Result<Listing, NoMemory>
         requires first { HoldsFirstRows timeline.now self.now }
         requires earlier { place_of self.now ≤ place }
         requires within { place ≤ place_of timeline.now }
         ensures content { IfOk result (λ listing. listing ≡ content (state_at timeline.now.kind timeline.now.rows place)) }
     {
-        self.structure.list_after(&timeline.structure, place, steps)
+        uncounted::list_after(&self.structure, &timeline.structure, place)
     }
 
     /// Takes the last row off.
@@ -202,7 +216,7 @@ impl<P: Partial + Drop> Snapshot<P> {
     }
 
     /// Takes rows off the end, back to a place. It takes no memory.
-    pub(crate) fn roll_back<L: Ledger>(&mut self, place: u32, steps: &mut Steps<L>)
+    fn roll_back<L: Ledger>(&mut self, place: u32, steps: &mut Steps<L>)
         requires { place ≤ place_of self.old }
         ensures rows { self.new ≡ first_of place self.old }
         ensures visits { VisitsWithin (144 * (place_of self.old - place)) (place_of self.old) steps.old steps.new }
@@ -231,7 +245,7 @@ impl<P: Partial + Drop> Snapshot<P> {
     }
 
     /// Appends the rows of the timeline up to a place, or some of them before `NoMemory`.
-    pub(crate) fn roll_forward<L: Ledger>(
+    fn roll_forward<L: Ledger>(
         &mut self,
         timeline: &Snapshot<P>,
         place: u32,
@@ -270,6 +284,40 @@ impl<P: Partial + Drop> Snapshot<P> {
         self.roll_forward(timeline, place, steps)
     }
 
+    /// `move_to`, for a caller that counts nothing.
+    pub(crate) fn bring_to(&mut self, timeline: &Snapshot<P>, place: u32) -> Result<(), NoMemory>
+        requires first { HoldsFirstRows timeline.now self.old }
+        requires within { place ≤ place_of timeline.now }
+        ensures ok { OnOk result (self.new ≡ first_of place timeline.now) }
+    {
+        self.move_uncounted::<Brand>(timeline, place, Blank::new(1))
+    }
+
+    fn move_uncounted<L: Ledger>(
+        &mut self,
+        timeline: &Snapshot<P>,
+        place: u32,
+        blank: Blank,
+    ) -> Result<(), NoMemory>
+        requires first { HoldsFirstRows timeline.now self.old }
+        requires within { place ≤ place_of timeline.now }
+        requires counter { OpensCounter blank.name L.name blank.parts L.parts }
+        ensures ok { OnOk result (self.new ≡ first_of place timeline.now) }
+    {
+        let mut steps = Steps::<L>::new(blank);
+        self.move_to(timeline, place, &mut steps)
+    }
+
+    /// Takes rows off the end, back to a place, for a caller that counts no visits. It takes no memory.
+    fn shorten<L: Ledger>(&mut self, place: u32, blank: Blank)
+        requires within { place ≤ place_of self.old }
+        requires counter { OpensCounter blank.name L.name blank.parts L.parts }
+        ensures rows { self.new ≡ first_of place self.old }
+    {
+        let mut steps = Steps::<L>::new(blank);
+        self.roll_back(place, &mut steps);
+    }
+
     /// A snapshot of the same rows, which is one copy.
     pub(crate) fn copy<M: Ledger>(&self, copies: &mut Copies<M>) -> Result<Snapshot<P>, NoMemory>
         ensures copy { IfOk result (λ copy. copy ≡ self.now) }
@@ -280,10 +328,9 @@ impl<P: Partial + Drop> Snapshot<P> {
     }
 
     /// A snapshot of the first rows, up to a place, which is one copy.
-    pub(crate) fn copy_at<L: Ledger, M: Ledger>(
+    pub(crate) fn copy_at<M: Ledger>(
         &self,
         place: u32,
-        steps: &mut Steps<L>,
         copies: &mut Copies<M>,
     ) -> Result<Snapshot<P>, NoMemory>
         requires { place ≤ place_of self.now }
@@ -291,7 +338,7 @@ impl<P: Partial + Drop> Snapshot<P> {
         ensures counted { copies.new ≡ copies.old + 1 }
     {
         let mut copy = self.copy(copies)?;
-        copy.roll_back(place, steps);
+        copy.shorten::<Brand>(place, Blank::new(1));
         Ok(copy)
     }
 }

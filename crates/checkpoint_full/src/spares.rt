@@ -11,7 +11,7 @@ use crate::copies::Copies;
 use crate::follow::{insert_in_each, remove_in_each};
 use crate::snapshot::Snapshot;
 use crate::width::MOST_CHECKPOINTS;
-use retro_base::{NoMemory, Partial, Row, Steps};
+use retro_base::{NoMemory, Partial, Row};
 use std::sync::ledger::Ledger;
 
 /// Lays a structure aside, before the others, where there is memory for that.
@@ -59,30 +59,28 @@ pub(crate) fn take_between<P: Partial + Drop>(
 }
 
 /// Moves a structure to a place of a later one.
-fn moved_to<P: Partial + Drop, L: Ledger>(
+fn moved_to<P: Partial + Drop>(
     spare: Snapshot<P>,
     later: &Snapshot<P>,
     place: u32,
-    steps: &mut Steps<L>,
 ) -> Result<Snapshot<P>, NoMemory>
     requires first { HoldsFirstRows later.now spare }
     requires within { place ≤ place_of later.now }
     ensures { IfOk result (λ moved. moved ≡ first_of place later.now) }
 {
     let mut spare = spare;
-    spare.move_to(later, place, steps)?;
+    spare.bring_to(later, place)?;
     Ok(spare)
 }
 
 /// A structure at a place between two neighbours: one that was laid aside between them and is moved there, or a copy of the
 /// later neighbour without its last rows.
-pub(crate) fn stand_between<P: Partial + Drop, L: Ledger, M: Ledger>(
+pub(crate) fn stand_between<P: Partial + Drop, M: Ledger>(
     timeline: &Snapshot<P>,
     spares: &mut Vec<Snapshot<P>>,
     earlier: u32,
     later: &Snapshot<P>,
     place: u32,
-    steps: &mut Steps<L>,
     copies: &mut Copies<M>,
 ) -> Result<Snapshot<P>, NoMemory>
     requires first { AllByRecursion (HoldsFirstRows timeline.now) spares.old.items }
@@ -93,36 +91,31 @@ pub(crate) fn stand_between<P: Partial + Drop, L: Ledger, M: Ledger>(
     ensures few { copies.new ≤ copies.old + 1 }
 {
     match take_between(timeline, spares, earlier, later.place()) {
-        Some(spare) => moved_to(spare, later, place, steps),
-        None => later.copy_at(place, steps, copies),
+        Some(spare) => moved_to(spare, later, place),
+        None => later.copy_at(place, copies),
     }
 }
 
 /// Puts the row into each that stands after the place. Where there is no memory for that, none is kept.
-pub(crate) fn insert_in_spares<P: Partial + Drop, L: Ledger>(
+pub(crate) fn insert_in_spares<P: Partial + Drop>(
     spares: &mut Vec<Snapshot<P>>,
     place: u32,
     row: Row,
-    steps: &mut Steps<L>,
 )
     requires { AllByRecursion (CanFollow place row) spares.old.items }
     ensures { (spares.new.items ≡ map (with_row place row) spares.old.items) ⊎ (spares.new.items ≡ []) }
 {
-    if let Err(_error) = insert_in_each(spares.as_mut_slice(), place, row, steps) {
+    if let Err(_error) = insert_in_each(spares.as_mut_slice(), place, row) {
         spares.truncate(0);
     }
 }
 
 /// Takes the row at the place out of each that stands after it.
-pub(crate) fn remove_in_spares<P: Partial + Drop, L: Ledger>(
-    spares: &mut Vec<Snapshot<P>>,
-    place: u32,
-    steps: &mut Steps<L>,
-)
+pub(crate) fn remove_in_spares<P: Partial + Drop>(spares: &mut Vec<Snapshot<P>>, place: u32)
     requires { AllByRecursion (CanLose place) spares.old.items }
     ensures { spares.new.items ≡ map (without_row place) spares.old.items }
 {
-    remove_in_each(spares.as_mut_slice(), place, steps);
+    remove_in_each(spares.as_mut_slice(), place);
 }
 
 /// Lets those go that were laid aside first, where there are more structures than there may be checkpoints.

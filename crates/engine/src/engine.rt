@@ -13,10 +13,9 @@ ghost use Rattle.retro_base.specs.Timeline.{IsReplayable};
 ghost use Rattle.retro_base.specs.Visits.{OpensCounter, VisitsWithin};
 ghost use Rattle.checkpoint_full.specs.Checkpoints.{nearest_to, FitsBetween};
 ghost use Rattle.checkpoint_full.specs.Copies.{CopiesEach};
-ghost use Rattle.checkpoint_full.specs.Rule.{latest_first, FollowsRule};
-ghost use Rattle.checkpoint_full.specs.Widths.{least_width, made_places};
+ghost use Rattle.checkpoint_full.specs.Rule.{latest_first, FollowsRule, MakesCheckpoints};
 ghost use Rattle.pq_fusion.specs.Searches.{VisitsUpTo};
-ghost use Rattle.engine.specs.Engine.{kind_inside, rows_inside, is_line, is_pq, is_fused, made_inside, places_inside, seen_inside, width_inside, KeepsStructure};
+ghost use Rattle.engine.specs.Engine.{kind_inside, rows_inside, is_line, is_pq, is_fused, made_inside, seen_inside, width_inside, KeepsStructure};
 
 use bridge_pq::BridgeQueue;
 use checkpoint_full::{Copies, Full};
@@ -104,10 +103,7 @@ impl Engine {
         ensures line_visits { is_line self.old ≡ true → VisitsWithin 144 (length (rows_inside self.old)) steps.old steps.new }
         ensures fused { is_fused self.old ≡ true → IsOk result }
         ensures fused_visits { is_fused self.old ≡ true → VisitsUpTo (25 * 64 * digits (length (rows_inside self.old) + 1) * digits (length (rows_inside self.old) + 1)) steps.old steps.new }
-        ensures made { is_pq self.old ≡ true → OnOk result (made_inside self.new ≡ true) }
-        ensures first { is_pq self.old ≡ true → made_inside self.old ≡ false → OnOk result (width_inside self.new ≡ least_width (length (rows_inside self.old))) }
-        ensures multiples { is_pq self.old ≡ true → made_inside self.old ≡ false → OnOk result (places_inside self.new ≡ made_places (width_inside self.new) (length (rows_inside self.old))) }
-        ensures places { made_inside self.old ≡ true → (made_inside self.new ≡ true) × (width_inside self.new ≡ width_inside self.old) × (places_inside self.new ≡ places_inside self.old) }
+        ensures checkpoints { is_pq self.old ≡ true → OnOk result (MakesCheckpoints (seen_inside self.old) (seen_inside self.new)) }
         ensures visits { made_inside self.old ≡ true → VisitsWithin (432 * (width_inside self.old + 1)) (length (rows_inside self.old)) steps.old steps.new }
         ensures near { made_inside self.old ≡ true
             → VisitsWithin (432 * (place - nearest_to place (latest_first (seen_inside self.old))) + 144) (length (rows_inside self.old)) steps.old steps.new }
@@ -139,10 +135,7 @@ impl Engine {
         ensures variant { is_fused self.new ≡ is_fused self.old }
         ensures rows { rows_inside self.new ≡ rows_inside self.old }
         ensures answer { IfOk result (λ answer. answer ≡ answer_of (state_at (kind_inside self.old) (rows_inside self.old) place) question) }
-        ensures made { is_pq self.old ≡ true → OnOk result (made_inside self.new ≡ true) }
-        ensures first { is_pq self.old ≡ true → made_inside self.old ≡ false → OnOk result (width_inside self.new ≡ least_width (length (rows_inside self.old))) }
-        ensures multiples { is_pq self.old ≡ true → made_inside self.old ≡ false → OnOk result (places_inside self.new ≡ made_places (width_inside self.new) (length (rows_inside self.old))) }
-        ensures places { made_inside self.old ≡ true → (made_inside self.new ≡ true) × (width_inside self.new ≡ width_inside self.old) × (places_inside self.new ≡ places_inside self.old) }
+        ensures checkpoints { is_pq self.old ≡ true → OnOk result (MakesCheckpoints (seen_inside self.old) (seen_inside self.new)) }
         ensures err { OnErr result (self.new ≡ self.old) }
     {
         let mut steps = Steps::<L>::new(blank);
@@ -168,10 +161,7 @@ impl Engine {
         ensures line_visits { is_line self.old ≡ true → VisitsWithin 144 (length (rows_inside self.old)) steps.old steps.new }
         ensures fused { is_fused self.old ≡ true → IsOk result }
         ensures fused_visits { is_fused self.old ≡ true → VisitsUpTo (25 * 64 * digits (length (rows_inside self.old) + 1) * digits (length (rows_inside self.old) + 1)) steps.old steps.new }
-        ensures made { is_pq self.old ≡ true → OnOk result (made_inside self.new ≡ true) }
-        ensures first { is_pq self.old ≡ true → made_inside self.old ≡ false → OnOk result (width_inside self.new ≡ least_width (length (rows_inside self.old))) }
-        ensures multiples { is_pq self.old ≡ true → made_inside self.old ≡ false → OnOk result (places_inside self.new ≡ made_places (width_inside self.new) (length (rows_inside self.old))) }
-        ensures places { made_inside self.old ≡ true → (made_inside self.new ≡ true) × (width_inside self.new ≡ width_inside self.old) × (places_inside self.new ≡ places_inside self.old) }
+        ensures checkpoints { is_pq self.old ≡ true → OnOk result (MakesCheckpoints (seen_inside self.old) (seen_inside self.new)) }
         ensures visits { made_inside self.old ≡ true → VisitsWithin (432 * (width_inside self.old + 1)) (length (rows_inside self.old)) steps.old steps.new }
         ensures near { made_inside self.old ≡ true
             → VisitsWithin (432 * (place - nearest_to place (latest_first (seen_inside self.old))) + 144) (length (rows_inside self.old)) steps.old steps.new }
@@ -325,10 +315,7 @@ impl Retro for Engine {
         ensures variant { is_fused self.new ≡ is_fused self.old }
         ensures rows { rows_inside self.new ≡ rows_inside self.old }
         ensures answer { IfOk result (λ answer. answer ≡ answer_of (state_at (kind_inside self.old) (rows_inside self.old) place) question) }
-        ensures made { is_pq self.old ≡ true → OnOk result (made_inside self.new ≡ true) }
-        ensures first { is_pq self.old ≡ true → made_inside self.old ≡ false → OnOk result (width_inside self.new ≡ least_width (length (rows_inside self.old))) }
-        ensures multiples { is_pq self.old ≡ true → made_inside self.old ≡ false → OnOk result (places_inside self.new ≡ made_places (width_inside self.new) (length (rows_inside self.old))) }
-        ensures places { made_inside self.old ≡ true → (made_inside self.new ≡ true) × (width_inside self.new ≡ width_inside self.old) × (places_inside self.new ≡ places_inside self.old) }
+        ensures checkpoints { is_pq self.old ≡ true → OnOk result (MakesCheckpoints (seen_inside self.old) (seen_inside self.new)) }
         ensures err { OnErr result (self.new ≡ self.old) }
     {
         self.ask_uncounted::<Brand>(place, question, Blank::new(1))
@@ -340,10 +327,7 @@ impl Retro for Engine {
         ensures variant { is_fused self.new ≡ is_fused self.old }
         ensures rows { rows_inside self.new ≡ rows_inside self.old }
         ensures content { IfOk result (λ listing. listing ≡ content (state_at (kind_inside self.old) (rows_inside self.old) place)) }
-        ensures made { is_pq self.old ≡ true → OnOk result (made_inside self.new ≡ true) }
-        ensures first { is_pq self.old ≡ true → made_inside self.old ≡ false → OnOk result (width_inside self.new ≡ least_width (length (rows_inside self.old))) }
-        ensures multiples { is_pq self.old ≡ true → made_inside self.old ≡ false → OnOk result (places_inside self.new ≡ made_places (width_inside self.new) (length (rows_inside self.old))) }
-        ensures places { made_inside self.old ≡ true → (made_inside self.new ≡ true) × (width_inside self.new ≡ width_inside self.old) × (places_inside self.new ≡ places_inside self.old) }
+        ensures checkpoints { is_pq self.old ≡ true → OnOk result (MakesCheckpoints (seen_inside self.old) (seen_inside self.new)) }
         ensures err { OnErr result (self.new ≡ self.old) }
     {
         match self {
