@@ -110,7 +110,7 @@ kth_is (x ∷ items) (suc n) k item at low high =
     later_present x.present x.entry item.entry (present_in (take n items)) (present_in (take (suc n) items)) (present_in items) k low high
     (λ j below above. kth_is items n j item at below above)
 
-get_beyond : (xs : List Entry) (k : ℕ) → length xs ≤ k → slice_get xs k ≡ None
+pub get_beyond : (xs : List Entry) (k : ℕ) → length xs ≤ k → slice_get xs k ≡ None
 get_beyond [] k beyond = refl
 get_beyond (x ∷ xs) zero beyond = absurd (omega arith)
 get_beyond (x ∷ xs) (suc k) beyond = get_beyond xs k (omega arith)

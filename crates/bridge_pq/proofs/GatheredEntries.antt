@@ -15,6 +15,7 @@ use Rattle.retro_base.specs.lemmas.CountedEntries.{with_length}
 use Rattle.bridge_pq.specs.declared.marked_entry.MarkedEntry.{MarkedEntry}
 use Rattle.bridge_pq.specs.MarkedEntries.{entries_in, present_in}
 use Rattle.bridge_pq.specs.Gathered.{with_all, in_front, fresh_first, HeldLater, IsHeld, IsTaken}
+use Rattle.bridge_pq.proofs.EntryPlaces.{get_beyond}
 
 -- none of these comes before the entry
 abbrev pub NoneBefore : Entry → List Entry → Type 0
@@ -188,16 +189,11 @@ skip_one (f ∷ entries) x others (suc j) order few =
     ∙ ap (picked f (slice_get (with_all entries others) j)) (skip_one entries x others (suc j) order (omega arith))
     ∙ sym (put_later f (with_all entries others) j (gathered_in_order entries others order.1))
 
-beyond_all : (xs : List Entry) (k : ℕ) → length xs ≤ k → slice_get xs k ≡ None
-beyond_all [] k beyond = refl
-beyond_all (x ∷ xs) zero beyond = absurd (omega arith)
-beyond_all (x ∷ xs) (suc k) beyond = beyond_all xs k (omega arith)
-
 pub skipped : (count : ℕ) (entries others : List Entry) (i : ℕ) → AreInOrder others → length entries ≤ i
     → slice_get (with_all entries others) (count + i) ≡ slice_get (with_all entries (drop count others)) i
 skipped zero entries others i order few = ap (slice_get (with_all entries others)) (let same : 0 + i ≡ i = omega arith in same)
 skipped (suc count) entries [] i order few =
-    beyond_all (with_all entries []) (suc count + i) (omega (arith, length_gathered entries [], few)) ∙ sym (beyond_all (with_all entries []) i (omega (arith, length_gathered entries [], few)))
+    get_beyond (with_all entries []) (suc count + i) (omega (arith, length_gathered entries [], few)) ∙ sym (get_beyond (with_all entries []) i (omega (arith, length_gathered entries [], few)))
 skipped (suc count) entries (x ∷ others) i order few =
     ap (slice_get (with_all entries (x ∷ others))) (let same : suc count + i ≡ suc (count + i) = omega arith in same)
     ∙ skip_one entries x others (count + i) order (omega arith) ∙ skipped count entries others i order.1 few
@@ -215,7 +211,7 @@ gone_at_once (suc count) (Some x) next left rest held some taken =
 pub at_most_index : (xs : List Entry) (index limit : ℕ) → length xs ≤ limit → slice_get xs (min index limit) ≡ slice_get xs index
 at_most_index xs index limit few = elim (cases_lt index limit) [
   | inl below ↦ ap (slice_get xs) (omega arith)
-  | inr above ↦ beyond_all xs (min index limit) (omega arith) ∙ sym (beyond_all xs index (omega arith))
+  | inr above ↦ get_beyond xs (min index limit) (omega arith) ∙ sym (get_beyond xs index (omega arith))
 ]
 
 pub get_dropped : (xs : List Entry) (n : ℕ) → slice_get (drop n xs) 0 ≡ slice_get xs n

@@ -20,7 +20,7 @@ use Rattle.retro_base.specs.lemmas.bridges.EntryOrder.{same_entry-same}
 use Rattle.evidence_check.specs.Truth.{has_number}
 
 -- the numbers of rows with one more
-swapped : (a b c : Bool) → (a || (b || c)) ≡ (b || (a || c))
+pub swapped : (a b c : Bool) → (a || (b || c)) ≡ (b || (a || c))
 swapped true true c = refl
 swapped true false c = refl
 swapped false b c = refl

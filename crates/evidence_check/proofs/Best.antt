@@ -10,7 +10,7 @@ abbrev pub Shown : (WeighedRow → Option Entry) → List WeighedRow → Entry �
 Shown shown [] entry = ⊥
 Shown shown (first ∷ others) entry = (shown first ≡ Some entry) ⊎ Shown shown others entry
 
-some_same : {X : Type 0} (x y : X) (o : Option X) → o ≡ Some x → o ≡ Some y → x ≡ y
+pub some_same : {X : Type 0} (x y : X) (o : Option X) → o ≡ Some x → o ≡ Some y → x ≡ y
 some_same x y o first second = cc
 
 module _ (beaten : Entry → Entry → Bool)

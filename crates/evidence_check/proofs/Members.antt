@@ -6,6 +6,7 @@ use Rattle.retro_base.specs.State.{comes_before, with_entry}
 use Rattle.retro_base.specs.Bridges.{is_among, same_entry}
 use Rattle.retro_base.specs.lemmas.bridges.EntryOrder.{same_entry-same, same_entry-refl}
 use Rattle.retro_base.specs.Facts.{either_true}
+use Rattle.evidence_check.proofs.Beside.{swapped}
 
 abbrev pub In : Entry → List Entry → Type 0
 In x [] = ⊥
@@ -55,11 +56,6 @@ absent_among x xs absent = elim (is_among xs x) as (λ b. is_among xs x ≡ b �
 
 pub among_absent : (x : Entry) (xs : List Entry) → is_among xs x ≡ false → ¬ Contains xs x
 among_absent x xs outside held = let wrong : true ≡ false = sym (contains_among x xs held) ∙ outside in absurd (cc)
-
-swapped : (a b c : Bool) → (a || (b || c)) ≡ (b || (a || c))
-swapped true true c = refl
-swapped true false c = refl
-swapped false b c = refl
 
 -- among entries with one more
 pub among_with : (x new : Entry) (held : List Entry) → is_among (with_entry new held) x ≡ (same_entry x new || is_among held x)

@@ -26,7 +26,7 @@ EntryGoes number state (Some standing) = ⊥
 other : (n number : ℕ) → n ≢ number → (n == number) ≡ false
 other n number apart = ne_eqb n number apart
 
-none_cons : (number : ℕ) (new : Entry) (es : List Entry) → new.number ≢ number → NoneHas number es → NoneHas number (new ∷ es)
+pub none_cons : (number : ℕ) (new : Entry) (es : List Entry) → new.number ≢ number → NoneHas number es → NoneHas number (new ∷ es)
 none_cons number new es apart none = or_false _ _ (other new.number number apart) none
 
 none_next : (number : ℕ) (e : Entry) (es fs : List Entry) → NoneHas number (e ∷ es) → NoneHas number fs → NoneHas number (e ∷ fs)

@@ -12,7 +12,7 @@ use Rattle.fates.specs.Holding.{Lacks, NoneHas, AllBefore, NoneIs, IsOnlyAt, Sta
 use Rattle.fates.specs.Fates.{numbered_op}
 use Rattle.fates.specs.Standings.{is_lesser}
 use Rattle.fates.proofs.Held.{other_number, or_false, first_false, second_false, lacks_cons, lacks_tail, lacks_append, lacks_take}
-use Rattle.fates.proofs.AfterLessers.{none_with}
+use Rattle.fates.proofs.AfterLessers.{none_cons, none_with}
 use Rattle.retro_base.specs.declared.op.Op.{Op}
 use Rattle.retro_base.specs.declared.op.Op.TheVariants.{Enq, Deq, Push, Pop, PushL, PushR, PopL, PopR, Put, Del, Ins, DelMin}
 use Rattle.retro_base.specs.declared.row.Entry.{Entry}
@@ -164,9 +164,6 @@ record PutFront (entry new : Entry) (front back : List Entry) : Type 0 where
   before : AllBefore entry grown
   none : NoneHas entry.number grown
 
-none_more : (number : ℕ) (new : Entry) (es : List Entry) → new.number ≢ number → NoneHas number es → NoneHas number (new ∷ es)
-none_more number new es apart none = or_false _ _ (ne_eqb new.number number apart) none
-
 -- what is no lesser comes after what is
 lesser_first : (entry new e : Entry) → comes_before new entry ≡ true → comes_before e entry ≡ false → comes_before new e ≡ true
 lesser_first entry new e less greater = elim (comes_before new e) as (λ b. comes_before new e ≡ b → b ≡ true) [
@@ -180,13 +177,13 @@ lesser_first entry new e less greater = elim (comes_before new e) as (λ b. come
 
 put_front : (entry new : Entry) (front back : List Entry) → comes_before new entry ≡ true → new.number ≢ entry.number → AllBefore entry front → NoneBefore entry back
     → NoneHas entry.number front → PutFront entry new front back
-put_front entry new [] [] less apart all after none = record { grown = new ∷ []; is = refl; more = refl; before = (less, tt); none = none_more entry.number new [] apart refl }
+put_front entry new [] [] less apart all after none = record { grown = new ∷ []; is = refl; more = refl; before = (less, tt); none = none_cons entry.number new [] apart refl }
 put_front entry new [] (b ∷ back) less apart all after none = record {
   grown = new ∷ [];
   is = rw (lesser_first entry new b less after.0) refl;
   more = refl;
   before = (less, tt);
-  none = none_more entry.number new [] apart refl;
+  none = none_cons entry.number new [] apart refl;
 }
 put_front entry new (e ∷ front) back less apart all after none =
     elim (comes_before new e) as (λ b. comes_before new e ≡ b → PutFront entry new (e ∷ front) back) [
@@ -195,7 +192,7 @@ put_front entry new (e ∷ front) back less apart all after none =
         is = rw here refl;
         more = omega arith;
         before = (less, all);
-        none = none_more entry.number new (e ∷ front) apart none;
+        none = none_cons entry.number new (e ∷ front) apart none;
       }
       | false ↦ λ further.
           let rest = put_front entry new front back less apart all.1 after (second_false (e.number == entry.number) (list_any (λ x. x.number == entry.number) front) none) in

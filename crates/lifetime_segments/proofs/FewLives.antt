@@ -95,11 +95,6 @@ module _ {A : Type 0} {before : A → A → Bool} (order : IsOrder before) where
       ∙ sym (ap (in_order earlier) (parts-with level (ending next life) lives (record { rises = rises; begins = here.begins })))
 
 -- what holds of all elements holds of one of them
-pub all_get : {X : Type 0} (P : X → Type 0) (xs : List X) (place : ℕ) (x : X) → AllByRecursion P xs → slice_get xs place ≡ Some x → P x
-all_get P [] place x all there = absurd (cc)
-all_get P (y ∷ ys) zero x all there = let same : y ≡ x = cc in subst P same all.0
-all_get P (y ∷ ys) (suc place) x all there = all_get P ys place x all.1 there
-
 -- the elements from one on, and up to it
 pub drop_get : {X : Type 0} (xs : List X) (place : ℕ) (x : X) → slice_get xs place ≡ Some x → drop place xs ≡ x ∷ drop (suc place) xs
 drop_get [] place x there = absurd (cc)

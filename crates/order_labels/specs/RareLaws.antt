@@ -12,7 +12,7 @@ pub record Lasting (rule : LabelRule) (LastFor : ℕ → List ℕ → Type 0) : 
   pub with_row : (k : ℕ) (labels : List ℕ) (place : ℕ) → place ≤ length labels → LastFor (suc k) labels → (label : ℕ) × (rule labels place ≡ Some label) × LastFor k (insert labels place label)
   pub without_row : (k : ℕ) (labels : List ℕ) (place : ℕ) → place < length labels → LastFor k labels → LastFor k (remove labels place)
 
-not_both : {label : ℕ} {found : Option ℕ} → found ≡ Some label → found ≡ None → ⊥
+pub not_both : {label : ℕ} {found : Option ℕ} → found ≡ Some label → found ≡ None → ⊥
 not_both some none = cc
 
 -- the number of the width and of the bound on rows

@@ -5,11 +5,12 @@ use Rattle.retro_base.specs.EntriesInOrder.{AreInOrder}
 use Rattle.retro_base.specs.State.{comes_before, with_entry}
 use Rattle.retro_base.specs.lemmas.bridges.EntryOrder.{before_one_way, before_irreflexive, same_or_other}
 use Rattle.retro_base.specs.lemmas.bridges.Entries.{In, with_in, in_with, with_first, with_later}
+use Rattle.retro_base.specs.lemmas.CountedEntries.{with_length}
 use Rattle.pq_fusion.specs.declared.bound.Bound.{Bound}
 use Rattle.pq_fusion.specs.declared.bound.Bound.TheVariants.{Low, At, Top}
 use Rattle.pq_fusion.specs.Bounds.{is_below, higher, lower, with_bound}
 use Rattle.pq_fusion.specs.Pieces.{together}
-use Rattle.pq_fusion.proofs.Order.{IsLeast, same_by_order, not_earlier, least_first, order_with, with_either, length_with, with_in_first, with_in_second}
+use Rattle.pq_fusion.proofs.Order.{IsLeast, same_by_order, not_earlier, least_first, order_with, with_either, with_in_first, with_in_second}
 
 pub one_way : (a b : Bound) → is_below a b ≡ true → is_below b a ≡ false
 one_way Low Low below = absurd (cc)
@@ -186,12 +187,12 @@ lows Top = 0
 
 pub length_bound : (b : Bound) (xs : List Entry) → length (with_bound b xs) ≡ entries_in b + length xs
 length_bound Low xs = omega arith
-length_bound (At e) xs = omega (arith, length_with e xs)
+length_bound (At e) xs = omega (arith, with_length e xs)
 length_bound Top xs = omega arith
 
 -- what one entry was put into is known again
 with_long : (e y : Entry) (ys : List Entry) → e ∷ [] ≡ with_entry e (y ∷ ys) → ⊥
-with_long e y ys same = absurd (omega (arith, ap length same, length_with e (y ∷ ys)))
+with_long e y ys same = absurd (omega (arith, ap length same, with_length e (y ∷ ys)))
 
 taken_first : (e x y : Entry) (xs ys : List Entry) → AreInOrder (y ∷ ys) → comes_before e y ≡ false → e ∷ x ∷ xs ≡ y ∷ with_entry e ys → x ∷ xs ≡ y ∷ ys
 taken_first e x y xs ys order after same =

@@ -7,13 +7,14 @@ use Rattle.retro_base.specs.declared.row.Entry.{Entry}
 use Rattle.retro_base.specs.EntriesInOrder.{AreInOrder}
 use Rattle.retro_base.specs.State.{comes_before, with_entry}
 use Rattle.retro_base.specs.lemmas.bridges.Entries.{with_first, with_later}
+use Rattle.retro_base.specs.lemmas.CountedEntries.{with_length}
 use Rattle.pq_fusion.specs.Chunks.{AtHead, AreChunks, IsChunk, IsHome, IsOneMoreAtMost, HoldsRank, entries_of, starts_of}
 use Rattle.pq_fusion.specs.declared.bound.Bound.{Bound}
 use Rattle.pq_fusion.specs.declared.bound.Bound.TheVariants.{Low, At, Top}
 use Rattle.pq_fusion.specs.Bounds.{with_bound}
 use Rattle.pq_fusion.specs.Exchanges.{Has, IsExchange}
 use Rattle.pq_fusion.proofs.Bounded.{order_bound}
-use Rattle.pq_fusion.proofs.Order.{IsLeast, not_earlier, same_by_order, length_with}
+use Rattle.pq_fusion.proofs.Order.{IsLeast, not_earlier, same_by_order}
 use Rattle.pq_fusion.proofs.Split.{order_front, order_back}
 use Rattle.pq_fusion.proofs.Swapped.{has_least}
 
@@ -87,7 +88,7 @@ no_items [] none = refl
 no_items (x ∷ xs) none = absurd (omega (arith, none))
 
 pub one_more : (e : Entry) (xs new : List Entry) → new ≡ with_entry e xs → IsOneMoreAtMost xs new
-one_more e xs new is = (omega (arith, ap length is, length_with e xs), omega (arith, ap length is, length_with e xs))
+one_more e xs new is = (omega (arith, ap length is, with_length e xs), omega (arith, ap length is, with_length e xs))
 
 -- an entry of two lists that stand one behind the other
 has_behind : (e : Entry) (xs ys : List Entry) → Has e ys → Has e (xs ++ ys)

@@ -11,6 +11,7 @@ use Rattle.retro_base.specs.Kind.{kind_of}
 use Rattle.retro_base.specs.State.{with_entry}
 use Rattle.retro_base.specs.Timeline.{AreOfKind}
 use Rattle.retro_base.specs.Weights.{added_by}
+use Rattle.retro_base.specs.lemmas.bridges.EditJunctions.{rows_around}
 use Rattle.pq_fusion.specs.declared.bound.Bound.{Bound}
 use Rattle.pq_fusion.specs.declared.bound.Bound.TheVariants.{At}
 use Rattle.pq_fusion.specs.Bounds.{higher, is_below, lower}
@@ -19,17 +20,11 @@ use Rattle.pq_fusion.specs.Pieces.{PieceParts, IsRising, tolerant, fuse}
 use Rattle.pq_fusion.proofs.Bounded.{higher_first, lower_first, lower_second, not_itself, one_way}
 use Rattle.pq_fusion.proofs.Compared.{besides_is}
 use Rattle.pq_fusion.proofs.FromRows.{tolerant_rise, rows_fuse}
-use Rattle.pq_fusion.proofs.Parts.{parted_at, kind_at}
-use Rattle.pq_fusion.proofs.Passed.{earlier_passes, earlier_after, later_passes, passes_one}
+use Rattle.pq_fusion.proofs.Parts.{kind_at}
+use Rattle.pq_fusion.proofs.Passed.{alone_cut, earlier_after, earlier_passes, later_passes, passes_one}
 use Rattle.pq_fusion.proofs.RowByRow.{adding_last}
 
 -- the greater of a bound and of what is no greater
-own_highest : (own c : Bound) → higher own (lower own c) ≡ own
-own_highest own c = elim (is_below c own) as (λ t. is_below c own ≡ t → higher own (lower own c) ≡ own) [
-  | true ↦ λ less. let no = one_way c own less in ap (higher own) (lower_second own c no) ∙ higher_first own c no
-  | false ↦ λ no. ap (higher own) (lower_first own c no) ∙ higher_first own own (not_itself own)
-] refl
-
 -- an edit that gains is none that loses
 pub turned : (gains some : Bool) → not gains ≡ some → gains ≡ not some
 turned true some same = ap not same
@@ -126,7 +121,7 @@ module _ (row : Row) (earlier later : List Row) (place : ℕ) (x c : Bound) wher
           let there = adding_last later (place - length earlier) row e (omega (arith, place_is, length-append earlier later)) kind is in
           let left : (tolerant (insert later (place - length earlier) row)).left ≡ with_entry e (tolerant later).left = ap (λ (p : PieceParts). p.left) there in
           let x_is : x ≡ At e = sym (besides_is x (tolerant later).left _ differs.some differs.left) ∙ besides_is (At e) (tolerant later).left _ refl left in
-          let passed_is : higher (At e) (lower x c) ≡ At e = ap (λ b. higher (At e) (lower b c)) x_is ∙ own_highest (At e) c in
+          let passed_is : higher (At e) (lower x c) ≡ At e = ap (λ b. higher (At e) (lower b c)) x_is ∙ alone_cut (At e) c in
           subst (λ y. Apart (At e) y (tolerant (earlier ++ later)) (tolerant (insert (earlier ++ later) place row))) (sym passed_is)
           (subst (Apart (At e) (At e) (tolerant (earlier ++ later))) (sym (adding_last (earlier ++ later) place row e place_is kind is))
           (record { left = refl; removed = refl; unmet = omega arith; order = not_itself (At e); some = refl; no_top = refl }))
@@ -167,7 +162,7 @@ module _ (rows : List Row) (place : ℕ) (row : Row) (gains : Bool) (x : Bound) 
   found_out there kind gains_is after_is =
       let one = passes_one (take place rows) (drop (suc place) rows) row (kind_at rows place row there kind) in
       let differs : DiffersBy (added_by row) one.0 (tolerant (remove rows place)) (tolerant rows) =
-      subst (λ l. DiffersBy (added_by row) one.0 (tolerant (remove rows place)) (tolerant l)) (parted_at rows place row there) one.1 in
+      subst (λ l. DiffersBy (added_by row) one.0 (tolerant (remove rows place)) (tolerant l)) (rows_around rows place row there) one.1 in
       let passes = cut_as (added_by row) gains (own_of (added_by row)) one.0 (tolerant rows) (tolerant (remove rows place)) gains_is refl differs in
       subst (λ y. DiffersBy (added_by row) y (tolerant (remove rows place)) (tolerant rows))
       (sym (found (own_of (added_by row)) one.0 (subst (λ p. Passes gains (own_of (added_by row)) one.0 p after) (sym before_is)

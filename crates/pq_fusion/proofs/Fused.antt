@@ -8,8 +8,9 @@ use Rattle.retro_base.specs.declared.row.Entry.{Entry}
 use Rattle.retro_base.specs.EntriesInOrder.{AreInOrder}
 use Rattle.retro_base.specs.State.{comes_before, with_entry}
 use Rattle.retro_base.specs.lemmas.bridges.EntryOrder.{before_one_way}
+use Rattle.retro_base.specs.lemmas.CountedEntries.{with_length}
 use Rattle.pq_fusion.specs.Pieces.{PieceParts, IsRising, no_parts, after_take, after_row, together, greatest, all_but_greatest, met, kept, fuse}
-use Rattle.pq_fusion.proofs.Order.{IsLeast, least_further, least_first, least_with, order_with, with_either, length_with, together_none, together_more}
+use Rattle.pq_fusion.proofs.Order.{IsLeast, least_further, least_first, least_with, order_with, with_either, together_none, together_more}
 use Rattle.pq_fusion.proofs.Order.{order_together, least_together, length_together, together_alone, with_in_first, with_in_second, with_none}
 use Rattle.pq_fusion.proofs.Split.{InParts, parts_of, lesser_is, greater_is, order_front, order_back, least_moves, with_lesser, with_greater}
 
@@ -77,7 +78,7 @@ take_of_staying a y ys removed unmet lesser t ts least order later split =
     let first : with_entry y (together ys (t ∷ ts)) ≡ t ∷ with_entry y (together ys ts) =
     ap (λ l. with_entry y (together ys l)) (sym (least_first t ts above)) ∙ ap (with_entry y) (with_in_second t ys ts) ∙ with_either y t (together ys ts)
     ∙ least_first t (with_entry y (together ys ts)) (least_with t y (together ys ts) (least_together t ys ts (least_further t y ys later least) above) later) in
-    fuse_is a (parts ys (with_entry y removed) unmet) (lesser ++ t ∷ []) (with_entry y ts) (record { joined = joined; counted = omega (arith, length_with y ts, split.counted) })
+    fuse_is a (parts ys (with_entry y removed) unmet) (lesser ++ t ∷ []) (with_entry y ts) (record { joined = joined; counted = omega (arith, with_length y ts, split.counted) })
     ∙ same_parts _ _ _ _ _ _ (with_in_second y ys ts) (ap (together a.removed) moved ∙ with_in_second t a.removed lesser) refl
     ∙ ap (λ l. after_take l (together a.removed lesser) (a.unmet + (unmet - length a.left))) (sym (together_more y ys (t ∷ ts) ∙ first))
 

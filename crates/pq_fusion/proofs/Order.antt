@@ -10,6 +10,7 @@ use Rattle.retro_base.specs.EntriesInOrder.{AreInOrder}
 use Rattle.retro_base.specs.State.{comes_before, with_entry}
 use Rattle.retro_base.specs.lemmas.bridges.EntryOrder.{before_one_way, before_or_after, same_or_other}
 use Rattle.retro_base.specs.lemmas.bridges.Entries.{with_first, with_later, with_swapped}
+use Rattle.retro_base.specs.lemmas.CountedEntries.{with_length}
 use Rattle.pq_fusion.specs.Pieces.{together}
 
 -- no entry of the list comes before this one
@@ -70,13 +71,6 @@ with_either a b xs = elim (same_or_other a b) [
   | inr other ↦ with_swapped a b xs other
 ]
 
-pub length_with : (e : Entry) (xs : List Entry) → length (with_entry e xs) ≡ suc (length xs)
-length_with e [] = refl
-length_with e (x ∷ xs) = elim (comes_before e x) as (λ b. length (cond b (e ∷ x ∷ xs) (x ∷ with_entry e xs)) ≡ suc (suc (length xs))) [
-  | true ↦ refl
-  | false ↦ ap suc (length_with e xs)
-]
-
 -- two lists together
 pub together_none : (ys : List Entry) → together [] ys ≡ ys
 unfolding together
@@ -99,7 +93,7 @@ least_together z (x ∷ xs) ys first second = least_with z x (together xs ys) (l
 pub length_together : (xs ys : List Entry) → length (together xs ys) ≡ length xs + length ys
 unfolding together
 length_together [] ys = omega arith
-length_together (x ∷ xs) ys = omega (arith, length_with x (together xs ys), length_together xs ys)
+length_together (x ∷ xs) ys = omega (arith, with_length x (together xs ys), length_together xs ys)
 
 -- alone they stay as they are
 pub together_alone : (xs : List Entry) → AreInOrder xs → together xs [] ≡ xs

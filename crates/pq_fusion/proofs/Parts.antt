@@ -6,11 +6,6 @@ use Rattle.retro_base.specs.declared.row.Row.{Row}
 use Rattle.retro_base.specs.Kind.{kind_of}
 use Rattle.retro_base.specs.Timeline.{AreOfKind}
 
-pub parted_at : (rows : List Row) (place : ℕ) (row : Row) → slice_get rows place ≡ Some row → take place rows ++ row ∷ drop (suc place) rows ≡ rows
-parted_at [] place row there = absurd (cc)
-parted_at (x ∷ rows) zero row there = let same : x ≡ row = cc in ap (λ r. r ∷ rows) (sym same)
-parted_at (x ∷ rows) (suc place) row there = ap (λ l. x ∷ l) (parted_at rows place row there)
-
 pub kind_at : (rows : List Row) (place : ℕ) (row : Row) → slice_get rows place ≡ Some row → AreOfKind Pq rows → kind_of row.op ≡ Pq
 kind_at [] place row there all = absurd (cc)
 kind_at (x ∷ rows) zero row there all = let same : x ≡ row = cc in subst (λ r. kind_of r.op ≡ Pq) same all.0

@@ -143,7 +143,7 @@ median_some own x t order some above = elim (between own x t order) [
   | inr w ↦ subst (λ b. is_below Low b ≡ true) (sym w.0) above
 ]
 
-alone_cut : (own c : Bound) → higher own (lower own c) ≡ own
+pub alone_cut : (own c : Bound) → higher own (lower own c) ≡ own
 alone_cut own c = elim (between own own c (not_itself own)) [ inl w ↦ w.0 | inr w ↦ w.0 ∙ w.1 ]
 
 module _ (own x : Bound) (p q : PieceParts) (apart : Apart own x p q) (a : PieceParts) where

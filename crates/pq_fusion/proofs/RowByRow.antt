@@ -14,8 +14,9 @@ use Rattle.retro_base.specs.Limits.{most_rows}
 use Rattle.retro_base.specs.State.{with_entry}
 use Rattle.retro_base.specs.Timeline.{AreOfKind}
 use Rattle.retro_base.specs.Weights.{added_as, added_by}
+use Rattle.retro_base.specs.lemmas.CountedEntries.{with_length}
 use Rattle.pq_fusion.specs.Pieces.{PieceParts, IsPiece, size_of, after_take, after_row, tolerant, no_parts}
-use Rattle.pq_fusion.proofs.Order.{order_with, length_with}
+use Rattle.pq_fusion.proofs.Order.{order_with}
 use Rattle.pq_fusion.proofs.Fused.{parts, same_parts, rising_row}
 use Rattle.pq_fusion.proofs.FromRows.{in_parts, one_more, no_more}
 use Rattle.pq_fusion.proofs.Replays.{adds_or_takes}
@@ -57,7 +58,7 @@ module _ (p seen : PieceParts) (is : p ≡ seen) (piece : IsPiece p) (few : size
   pub piece_adding : (entry : Entry) (left : List Entry) → left ≡ with_entry entry p.left → IsPiece (parts left p.removed p.unmet)
   piece_adding entry left left_is = record {
     rising = record { left = subst AreInOrder (sym left_is) (order_with entry p.left piece.rising.left); removed = piece.rising.removed };
-    few = omega (arith, ap length left_is, length_with entry p.left, room);
+    few = omega (arith, ap length left_is, with_length entry p.left, room);
   }
 
   pub piece_taking : IsPiece (after_take p.left p.removed p.unmet)

@@ -7,8 +7,9 @@ use Rattle.retro_base.specs.declared.row.Entry.{Entry}
 use Rattle.retro_base.specs.declared.row.Row.{Row}
 use Rattle.retro_base.specs.EntriesInOrder.{AreInOrder}
 use Rattle.retro_base.specs.Limits.{most_rows}
+use Rattle.retro_base.specs.lemmas.CountedEntries.{with_length}
 use Rattle.pq_fusion.specs.Pieces.{PieceParts, IsPiece, size_of, no_parts, after_take, after_row, after_rows, tolerant, together, fuse}
-use Rattle.pq_fusion.proofs.Order.{length_with, length_together, order_together}
+use Rattle.pq_fusion.proofs.Order.{length_together, order_together}
 use Rattle.pq_fusion.proofs.Split.{order_front, order_back}
 use Rattle.pq_fusion.proofs.Fused.{parts, fused_rise}
 
@@ -51,7 +52,7 @@ back_order xs ys back place met order m f =
 -- rows come to no more entries and unmet takings than they are
 take_size : (left removed : List Entry) (unmet : ℕ) → size_of (after_take left removed unmet) ≤ suc (length left + length removed + unmet)
 take_size [] removed unmet = omega arith
-take_size (x ∷ xs) removed unmet = omega (arith, length_with x removed)
+take_size (x ∷ xs) removed unmet = omega (arith, with_length x removed)
 
 pub row_size : (op : Op) (number : ℕ) (a : PieceParts) → size_of (after_row op number a) ≤ suc (size_of a)
 unfolding after_row
@@ -65,7 +66,7 @@ row_size PopL number a = omega arith
 row_size PopR number a = omega arith
 row_size (Put k v) number a = omega arith
 row_size (Del k) number a = omega arith
-row_size (Ins k) number a = omega (arith, length_with (record { key = k; number = number }) a.left)
+row_size (Ins k) number a = omega (arith, with_length (record { key = k; number = number }) a.left)
 row_size DelMin number a = take_size a.left a.removed a.unmet
 
 rows_size_from : (rows : List Row) (a : PieceParts) → size_of (after_rows rows a) ≤ size_of a + length rows

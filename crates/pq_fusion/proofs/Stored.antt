@@ -12,10 +12,10 @@ use Rattle.retro_base.specs.declared.op.Op.{Op}
 use Rattle.retro_base.specs.declared.op.Op.TheVariants.{Enq, Deq, Push, Pop, PushL, PushR, PopL, PopR, Put, Del, Ins, DelMin}
 use Rattle.retro_base.specs.declared.row.Entry.{Entry}
 use Rattle.retro_base.specs.Weights.{added_as, added_by}
+use Rattle.retro_base.specs.lemmas.CountedEntries.{with_length}
 use Rattle.pq_fusion.specs.declared.subtree.Pair.{Pair}
 use Rattle.pq_fusion.specs.Nodes.{IsPairOf, IsWithinLevels}
 use Rattle.pq_fusion.specs.Pieces.{PieceParts, no_parts, after_take, after_row, after_rows, tolerant}
-use Rattle.pq_fusion.proofs.Order.{length_with}
 
 -- how many entries a piece has
 abbrev pub count_of : PieceParts → ℕ
@@ -95,7 +95,7 @@ one_square own (suc whole) few = omega (arith, few)
 -- what rows leave and remove is all that they add
 take_count : (left removed : List Entry) (unmet : ℕ) → count_of (after_take left removed unmet) ≡ length left + length removed
 take_count [] removed unmet = refl
-take_count (x ∷ xs) removed unmet = omega (arith, length_with x removed)
+take_count (x ∷ xs) removed unmet = omega (arith, with_length x removed)
 
 added_more : (o : Option Entry) (rows : List Row) → length (cons_option o (added rows)) ≡ length (option_to_list o) + length (added rows)
 added_more None rows = omega arith
@@ -113,7 +113,7 @@ row_count PopL number a = omega arith
 row_count PopR number a = omega arith
 row_count (Put k v) number a = omega arith
 row_count (Del k) number a = omega arith
-row_count (Ins k) number a = omega (arith, length_with (record { key = k; number = number }) a.left)
+row_count (Ins k) number a = omega (arith, with_length (record { key = k; number = number }) a.left)
 row_count DelMin number a = omega (arith, take_count a.left a.removed a.unmet)
 
 count_from : (rows : List Row) (a : PieceParts) → count_of (after_rows rows a) ≡ count_of a + length (added rows)

@@ -21,16 +21,6 @@ all_from : (e : Entry) (xs : List Entry) → AllWithin (λ y. comes_before y e �
 all_from e [] all = tt
 all_from e (x ∷ xs) all = (all 0 x (omega arith) (omega arith), all_from e xs (λ k d from to. all (suc k) d (omega arith) (omega arith)))
 
-pub inserted : (e : Entry) (xs : List Entry) (place : ℕ) → place ≤ length xs → AllWithin (λ y. comes_before y e ≡ true) xs 0 place
-    → AllWithin (λ y. comes_before y e ≡ false) xs place (length xs) → insert xs place e ≡ with_entry e xs
-inserted e [] zero within before after = refl
-inserted e [] (suc place) within before after = absurd (omega arith)
-inserted e (x ∷ xs) zero within before after = sym (least_first e (x ∷ xs) (all_from e (x ∷ xs) after))
-inserted e (x ∷ xs) (suc place) within before after =
-    let own : comes_before x e ≡ true = before 0 x (omega arith) (omega arith) in
-    ap (λ l. x ∷ l) (inserted e xs place (omega arith) (λ k d from to. before (suc k) d (omega arith) (omega arith)) (λ k d from to. after (suc k) d (omega arith) (omega arith)))
-    ∙ sym (with_later e x xs (before_one_way x e own))
-
 -- taking out
 pub record IsTaken (e : Entry) (xs ys : List Entry) : Type 0 where
   pub items : with_entry e ys ≡ xs

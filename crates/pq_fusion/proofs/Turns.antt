@@ -3,12 +3,12 @@ use Rattle.std.proofs.Common.{◌≡◌, ℕ, ◌+◌, ◌*◌, ◌^◌, ◌<◌
 use Rattle.std.specs.List.{AllWithin}
 use Rattle.retro_base.specs.declared.row.Entry.{Entry}
 use Rattle.retro_base.specs.State.{comes_before}
+use Rattle.retro_base.specs.lemmas.CountedEntries.{with_length}
 use Rattle.pq_fusion.specs.declared.bound.Bound.{Bound}
 use Rattle.pq_fusion.specs.declared.bound.Bound.TheVariants.{Low, At, Top}
 use Rattle.pq_fusion.specs.Bounds.{with_bound}
 use Rattle.pq_fusion.specs.Exchanges.{IsPlaceOf}
 use Rattle.pq_fusion.specs.Searches.{SearchesWithin, VisitsUpTo}
-use Rattle.pq_fusion.proofs.Order.{length_with}
 use Rattle.pq_fusion.proofs.Searched.{IsLeft, IsNarrowed, half_left}
 
 -- a search among so many, of which these are left
@@ -50,5 +50,5 @@ searches_joined times more first second all start between end first_few second_f
 
 pub bound_few : (b : Bound) (xs : List Entry) → length (with_bound b xs) ≤ length xs + 1
 bound_few Low xs = omega arith
-bound_few (At e) xs = omega (arith, length_with e xs)
+bound_few (At e) xs = omega (arith, with_length e xs)
 bound_few Top xs = omega arith

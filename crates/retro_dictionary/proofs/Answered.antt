@@ -114,7 +114,7 @@ all_of : (P : ℤ × ℤ → Type 0) (test : ℤ × ℤ → Bool) (ps : List (�
 all_of P test [] all = tt
 all_of P test (p ∷ ps) all = elim (test p) as (λ b. AllByRecursion P (cond b (p ∷ filter test ps) (filter test ps))) [ true ↦ (all.0, all_of P test ps all.1) | false ↦ all_of P test ps all.1 ]
 
-filter-le : (test : ℤ × ℤ → Bool) (ps : List (ℤ × ℤ)) → length (filter test ps) ≤ length ps
+pub filter-le : (test : ℤ × ℤ → Bool) (ps : List (ℤ × ℤ)) → length (filter test ps) ≤ length ps
 filter-le test [] = omega arith
 filter-le test (p ∷ ps) = elim (test p) as (λ b. length (cond b (p ∷ filter test ps) (filter test ps)) ≤ suc (length ps)) [ true ↦ omega (arith, filter-le test ps) | false ↦ omega (arith, filter-le test ps) ]
 

@@ -20,6 +20,7 @@ use Rattle.retro_dictionary.specs.Asked.{IsNumber}
 use Rattle.retro_dictionary.specs.Bounds.{reaches, StandUpTo, FailsAt, HasNumber}
 use Rattle.retro_dictionary.proofs.MeasuredPairs.{all_taken}
 use Rattle.retro_base.specs.Facts.{get_drop}
+use Rattle.retro_dictionary.proofs.Answered.{filter-le}
 
 module _ {A : Type 0} (test : A → Bool) where
   none_pass : (xs : List A) → AllByRecursion (λ x. test x ≡ false) xs → filter test xs ≡ []
@@ -177,10 +178,6 @@ number_at ps place pair there is other found =
       some_same p q equal = cc
 
 -- no more pairs lie in a range than there are
-filter-le : (test : ℤ × ℤ → Bool) (ps : List (ℤ × ℤ)) → length (filter test ps) ≤ length ps
-filter-le test [] = omega arith
-filter-le test (p ∷ ps) = elim (test p) as (λ b. length (cond b (p ∷ filter test ps) (filter test ps)) ≤ suc (length ps)) [ true ↦ omega (arith, filter-le test ps) | false ↦ omega (arith, filter-le test ps) ]
-
 pub counts-fit : (first second : Found) → AnswerTogether pair_before found_in first second → first.count + second.count ≤ most_items
 counts-fit first second both =
     omega (

@@ -11,7 +11,7 @@ use Rattle.order_labels.specs.LabelLaws.{insertions, least_insertions}
 use Rattle.order_labels.specs.ApartLaws.{gap_at, apart_with, apart_without, less_apart, below_more, halves_apart, next_inside, next_at_end, next_before}
 use Rattle.order_labels.specs.SpreadLaws.{exponent-falls, multiples-apart, spread-apart}
 use Rattle.order_labels.specs.PowerLaws.{power-within, power-least, power-next, twice}
-use Rattle.order_labels.specs.RareLaws.{least-number}
+use Rattle.order_labels.specs.RareLaws.{least-number, not_both}
 use Rattle.retro_dictionary.specs.declared.recent.RecentNeighbour.{RecentNeighbour}
 use Rattle.retro_dictionary.specs.declared.recent.RecentNeighbour.TheVariants.{Before, After, Neither}
 use Rattle.retro_dictionary.specs.Edited.{IsBetween}
@@ -201,9 +201,6 @@ module _ (recent : RecentNeighbour) (k so_far : ℕ) (fits : suc k + so_far ≤ 
     | inl below ↦ inside (label ∷ labels) place below apart
     | inr last ↦ at_end (label ∷ labels) place (omega arith) (omega arith) apart
   ]
-
-not_both : {label : ℕ} {found : Option ℕ} → found ≡ Some label → found ≡ None → ⊥
-not_both some none = cc
 
 -- so as many insertions as labels last for come before one that relabels
 lasts : (k so_far : ℕ) (labels : List ℕ) (edits : List RowEdit) (last : RowEdit) → k + so_far ≤ least_insertions → LieApart k labels → EndInRelabelling row_rule so_far labels edits last

@@ -1,13 +1,14 @@
 use Rattle.std.proofs.Common.{◌≡◌, ◌<◌, ◌≤◌, ◌-◌, ◌^◌, suc, false, ◌∷◌, length, drop, refl, sym, subst, ap, ◌∙◌, arith, rules, length-drop}
 use Rattle.std.specs.List.{AllByRecursion}
 use Rattle.std.proofs.lemmas.List.{drop_all}
+use Rattle.retro_base.specs.OrderLaws.{all_at}
 use Rattle.lifetime_segments.specs.Lawful.{most_items}
 use Rattle.lifetime_segments.specs.Lifetimes.{stands_earlier}
 use Rattle.lifetime_segments.specs.Ordered.{put_in}
 use Rattle.lifetime_segments.specs.Tries.{IsOfNode, Touches, NodeAdds, NodeKeeps, Has, NodeHas, is_whole, in_first, in_second}
 use Rattle.lifetime_segments.proofs.Results.{ok_weaker, err_weaker, err_always}
 use Rattle.lifetime_segments.proofs.Nodes.{LeadsTo, bare_of, node_of, trie_of, some_of, some_with, node_has, left_has, right_has, node_left, node_ordered, node_few, node_with_whole, node_with_parts, node_kept, below_level}
-use Rattle.lifetime_segments.proofs.FewLives.{few_of, of_few, few_ordered, few_with, few_touch, few_length, all_get, drop_get}
+use Rattle.lifetime_segments.proofs.FewLives.{few_of, of_few, few_ordered, few_with, few_touch, few_length, drop_get}
 use Rattle.lifetime_segments.proofs.Moved.{few_alike, node_of_alike}
 use Rattle.lifetime_segments.proofs.adding.+add.Goals as goal
 
@@ -161,7 +162,7 @@ divided-loop-place-init g t c =
 pub divided-add_to_node-requires : goal.divided-add_to_node-requires
 divided-add_to_node-requires g t c κs within =
     let before = g.D.Decomposable.stands_before in
-    let touches = all_get (Touches c.args.level) c.args.few.now (c.loop-place.place - 1) c.get.result c.requires.touch c.get.ensures in
+    let touches = all_at (Touches c.args.level) c.args.few.now (c.loop-place.place - 1) c.get.result c.requires.touch c.get.ensures in
     let begins : c.get.result.from < 2 ^ c.args.level = touches.begins in
     let rises : c.get.result.from < c.get.result.to = touches.rises in
     let has : NodeHas before c.args.level c.deref_mut.result.now = subst (NodeHas before c.args.level) (sym c.deref_mut.ensures.value) (record {

@@ -1,9 +1,9 @@
 use Rattle.std.proofs.Common.{◌≡◌, ◌∙◌, length, ap, arith, subst}
 use Rattle.retro_base.specs.State.{with_entry}
+use Rattle.retro_base.specs.lemmas.CountedEntries.{with_length}
 use Rattle.pq_fusion.specs.Chunks.{IsChunk, IsHome, entries_of}
 use Rattle.pq_fusion.proofs.Begun.{chunks_few}
 use Rattle.pq_fusion.proofs.Chunked.{home_few, home_order, home_has, home_chunk, taken_one, taken_whole, chunks_set, no_items}
-use Rattle.pq_fusion.proofs.Order.{length_with}
 use Rattle.pq_fusion.proofs.Turns.{searches_joined}
 use Rattle.pq_fusion.proofs.chunk_edits.take_among.Goals as goal
 
@@ -38,7 +38,7 @@ returns-else-as_slice-eq0-clause-chunks g c =
     let trimmed = ap length c.trim.ensures in
     chunks_set IsChunk c.args.chunks.now.items c.home-place.result c.trim.new.chunk c.requires.chunks (
       omega (arith, trimmed, c.if-as_slice-eq0.false, ap length c.as_slice.ensures.value),
-      omega (arith, trimmed, ap length c.take_out.ensures.items, length_with c.args.entry c.take_out.new.list.items, own.1),
+      omega (arith, trimmed, ap length c.take_out.ensures.items, with_length c.args.entry c.take_out.new.list.items, own.1),
     )
 
 pub returns-then-as_slice-eq0-clause-visits : goal.returns-then-as_slice-eq0-clause-visits
