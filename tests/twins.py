@@ -1,10 +1,13 @@
 #!/usr/bin/env python3
-"""Lists the lemmas that say the same under two names, or twice under one.
+"""Lists the lemmas that say the same under two names, or twice under one, and why each such group stands.
 
     python3 tests/twins.py [--list]
 
 Two lemmas say the same where their statements differ in nothing but the names of what they bind. What a file defines for itself
-is told apart by the file. Without `--list` it prints one line, how many groups there are, with how many lemmas too many.
+is told apart by the file. There are three reasons for such a group: all of it but one lemma stands inside other lemmas or in the proofs of single
+functions, from where nothing else can cite it; the lemmas stand in crates of which neither can cite the other, since a crate cites
+the `specs/` of those below it alone, and a page for two crates would cost more than a lemma of a few lines; or the group is named in `ALLOWED`. Without `--list` it prints one line
+with the number of each. It fails where a group has no reason.
 """
 
 import collections
@@ -17,6 +20,10 @@ ROOT = os.path.dirname(os.path.dirname(os.path.abspath(__file__)))
 NAMED = re.compile(r"^( *)(?:pub )?([^\s:(){}]+) : (.+)$")
 BOUND = re.compile(r"[({]([^\s(){}:,]+(?: [^\s(){}:,]+)*) : |λ ([^.()]+)\. ")
 WORD = re.compile(r"[^\s(){},;]+")
+ALLOWED = {
+    "clash": "two entries of one number in a page on keys and in one on edits: each page is read alone",
+}
+INSIDE, APART = "inside another proof", "in crates apart"
 
 
 def statements(path):
@@ -67,12 +74,45 @@ def groups():
     return [places for places in said.values() if len(places) > 1]
 
 
+def below():
+    """For each crate those that it stands on."""
+    with open(os.path.join(ROOT, "crates.txt")) as lines:
+        return {crate: set(on.split()) for crate, on in (line.split(":") for line in lines if ":" in line)}
+
+
+def is_inside(place):
+    """Whether a lemma stands inside another one, or in the proof of a function."""
+    path, number = place.split(" ")[0].split(":")
+    with open(os.path.join(ROOT, path), encoding="utf-8") as lines:
+        return path.endswith("/Answers.antt") or lines.read().split("\n")[int(number) - 1].startswith(" ")
+
+
+def cites(one, other, stand):
+    """Whether the file of one lemma could cite the other lemma."""
+    (_, crate, *_), (_, home, folder, *_) = one.split("/"), other.split("/")
+    return crate == home or home in stand[crate] and folder == "specs"
+
+
+def reason(places, stand):
+    """Why a group of lemmas with one statement stands, or None."""
+    outer = [place for place in places if not is_inside(place)]
+    if len(outer) < 2:
+        return INSIDE
+    if not any(cites(one, other, stand) for one in outer for other in outer if one != other):
+        return APART
+    return ALLOWED.get(places[0].split(" ")[1])
+
+
 def main():
-    twins = groups()
-    if "--list" in sys.argv[1:]:
-        for places in sorted(twins, key=len, reverse=True):
-            print("\n".join(places), end="\n\n")
-    print("%d statements stand more than once, with %d lemmas too many" % (len(twins), sum(map(len, twins)) - len(twins)))
+    twins, stand = groups(), below()
+    reasons = [reason(places, stand) for places in twins]
+    for places, why in sorted(zip(twins, reasons), key=lambda pair: len(pair[0]), reverse=True):
+        if "--list" in sys.argv[1:] or why is None:
+            print("\n".join(places + ["  " + (why or "no reason: one of them could cite the other")]), end="\n\n")
+    print("%d statements stand more than once, with %d lemmas too many: %d inside another proof, %d in crates apart, %d named, %d without a reason" % (
+        len(twins), sum(map(len, twins)) - len(twins), reasons.count(INSIDE), reasons.count(APART),
+        sum(why in ALLOWED.values() for why in reasons), reasons.count(None)))
+    return 1 if None in reasons else 0
 
 
-main()
+sys.exit(main())
