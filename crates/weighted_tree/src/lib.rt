@@ -33,6 +33,7 @@
 //! | `get`, `insert`, `remove`, `replace`, `measure`, `first_place`, `last_place`, `partition_point` | at most 12 d |
 //! | `read` | at most 12 d, and one more for each item that it reads |
 //! | `copy` | one for each item |
+//! | those of `uncounted` | no bound is told |
 //!
 //! A link holds its node or its leaf closed: each way to open it, be it to read it, to change it or to take it
 //! apart, is a visit, and a step on the counter that the caller hands in, which contracts alone see. So an
@@ -47,7 +48,7 @@
 //! specs/Reads.antt for what `read` writes, and specs/ReadLaws.antt for what it leaves of a list;
 //! `VisitsWithin` of `retro_base` for the cost.
 //!
-//! - `tree`: the type and its calls. `tail`: its last items.
+//! - `tree`: the type and its calls. `uncounted`: the same for a caller that counts nothing. `tail`: its last items.
 //! - `subtree`: the link to a node or a leaf, and what it tells. `closed`: what a link holds, which a visit opens.
 //! - `node`: a node and its sides. `balance`: rotations.
 //! - `leaf`: the items of a leaf. `leaf_edit`: one of them comes or goes. `room`: the memory that they have.
@@ -68,6 +69,7 @@ mod search;
 mod subtree;
 mod tail;
 mod tree;
+pub mod uncounted;
 mod walk;
 
 pub use tree::Tree;
