@@ -4,9 +4,7 @@ ghost use Rattle.std.specs.Prelude.{◌≤◌, length};
 ghost use Rattle.order_labels.specs.Beside.{IsBeside};
 
 use crate::spread::{LIMIT, Label};
-use retro_base::Steps;
-use std::sync::ledger::Ledger;
-use weighted_tree::Tree;
+use weighted_tree::{Tree, uncounted};
 
 /// The labels beside a place: 0 stands before all labels, and their limit after them.
 #[derive(Clone, Copy, Debug, PartialEq, Eq)]
@@ -22,21 +20,17 @@ pub struct Beside {
 }
 
 /// The labels beside a place, by one way down the tree.
-pub(crate) fn labels_beside<L: Ledger>(
-    rows: &Tree<Label>,
-    place: u32,
-    steps: &mut Steps<L>,
-) -> Beside
+pub(crate) fn labels_beside(rows: &Tree<Label>, place: u32) -> Beside
     requires { place ≤ length rows.now }
     ensures { IsBeside rows.now place result }
 {
     let count = place.min(2);
     let mut labels = [0, 0, LIMIT, LIMIT];
-    rows.read(
+    uncounted::read(
+        rows,
         place - count,
         |row: &Label| row.value(),
         &mut labels[2 - count as usize..],
-        steps,
     );
     Beside {
         former: labels[0],

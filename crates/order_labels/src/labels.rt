@@ -5,15 +5,13 @@ ghost use Rattle.std.specs.List.{insert, remove};
 ghost use Rattle.order_labels.specs.Beside.{IsBeside};
 ghost use Rattle.order_labels.specs.Labels.{AreApart, AreLabels, has_room, inserted, label_before, label_after, label_limit, least_gap};
 ghost use Rattle.retro_base.specs.Limits.{most_rows};
-ghost use Rattle.retro_base.specs.Visits.{OpensCounter};
 
 use crate::beside::{Beside, labels_beside};
 use crate::spread::{Label, spread};
-use retro_base::{NoMemory, Steps};
+use retro_base::NoMemory;
 use std::alloc::Global;
-use std::marker::{Brand, Model};
-use std::sync::ledger::{Blank, Ledger};
-use weighted_tree::Tree;
+use std::marker::Model;
+use weighted_tree::{Tree, uncounted};
 
 /// A list of labels that rise strictly, each above 0 and below 2^40.
 #[derive(Drop)]
@@ -70,7 +68,7 @@ impl Labels {
         ensures length { OnOk result (length self.new ≡ length self.old + 1) }
         ensures err { OnErr result (self.new ≡ self.old) }
     {
-        put_in::<Brand>(&mut self.rows, place, Blank::new(1))
+        put_in(&mut self.rows, place)
     }
 
     /// Gives a new row at a place a label of the caller's choice, between those beside it. After `NoMemory` all is as before.
@@ -82,7 +80,7 @@ impl Labels {
         ensures ok { OnOk result (self.new ≡ insert self.old place label) }
         ensures err { OnErr result (self.new ≡ self.old) }
     {
-        put_labelled::<Brand>(&mut self.rows, place, label, Blank::new(1))
+        uncounted::insert(&mut self.rows, place, Label::new(label))
     }
 
     /// Takes the label at a place out; the others stay.
@@ -90,7 +88,7 @@ impl Labels {
         requires { place < length self.old }
         ensures { self.new ≡ remove self.old place }
     {
-        take_out::<Brand>(&mut self.rows, place, Blank::new(1));
+        uncounted::remove(&mut self.rows, place);
     }
 
     /// The label at a place.
@@ -98,7 +96,7 @@ impl Labels {
         requires { place < length self.now }
         ensures { slice_get self.now place ≡ Some result }
     {
-        read::<Brand>(&self.rows, place, Blank::new(1))
+        uncounted::get(&self.rows, place).value()
     }
 
     /// The labels beside a place.
@@ -106,7 +104,7 @@ impl Labels {
         requires { place ≤ length self.now }
         ensures { IsBeside self.now place result }
     {
-        read_beside::<Brand>(&self.rows, place, Blank::new(1))
+        labels_beside(&self.rows, place)
     }
 
     /// The place of the row with this label, where there is one.
@@ -115,12 +113,11 @@ impl Labels {
         ensures within { IfSome result (λ place. place < length self.now) }
         ensures labels { AreLabels self.now }
     {
-        find::<Brand>(&self.rows, label, Blank::new(1))
+        find(&self.rows, label)
     }
 }
 
-fn put_in<L: Ledger>(rows: &mut Tree<Label>, place: u32, blank: Blank) -> Result<Fresh, NoMemory>
-    requires counter { OpensCounter blank.name L.name blank.parts L.parts }
+fn put_in(rows: &mut Tree<Label>, place: u32) -> Result<Fresh, NoMemory>
     requires within { place ≤ length rows.old }
     requires room { length rows.old < most_rows }
     requires labels { AreLabels rows.old }
@@ -132,80 +129,34 @@ fn put_in<L: Ledger>(rows: &mut Tree<Label>, place: u32, blank: Blank) -> Result
     ensures length { OnOk result (length rows.new ≡ length rows.old + 1) }
     ensures err { OnErr result (rows.new ≡ rows.old) }
 {
-    let mut steps = Steps::<L>::new(blank);
-    let Beside { before, after, .. } = labels_beside(rows, place, &mut steps);
+    let Beside { before, after, .. } = labels_beside(rows, place);
     if after - before >= 2 {
         let label = (before + after) / 2;
-        rows.insert(place, Label::new(label), &mut steps)?;
+        uncounted::insert(rows, place, Label::new(label))?;
         return Ok(Fresh {
             label,
             relabelled: false,
         });
     }
-    rows.insert(place, Label::new(after), &mut steps)?;
-    spread(rows, &mut steps);
+    uncounted::insert(rows, place, Label::new(after))?;
+    spread(rows);
     Ok(Fresh {
-        label: rows.get(place, &mut steps).value(),
+        label: uncounted::get(rows, place).value(),
         relabelled: true,
     })
 }
 
-fn put_labelled<L: Ledger>(
-    rows: &mut Tree<Label>,
-    place: u32,
-    label: u64,
-    blank: Blank,
-) -> Result<(), NoMemory>
-    requires counter { OpensCounter blank.name L.name blank.parts L.parts }
-    requires within { place ≤ length rows.old }
-    requires room { length rows.old < most_rows }
-    ensures ok { OnOk result (rows.new ≡ insert rows.old place label) }
-    ensures err { OnErr result (rows.new ≡ rows.old) }
-{
-    let mut steps = Steps::<L>::new(blank);
-    rows.insert(place, Label::new(label), &mut steps)
-}
-
-fn read_beside<L: Ledger>(rows: &Tree<Label>, place: u32, blank: Blank) -> Beside
-    requires counter { OpensCounter blank.name L.name blank.parts L.parts }
-    requires within { place ≤ length rows.now }
-    ensures { IsBeside rows.now place result }
-{
-    let mut steps = Steps::<L>::new(blank);
-    labels_beside(rows, place, &mut steps)
-}
-
-fn take_out<L: Ledger>(rows: &mut Tree<Label>, place: u32, blank: Blank)
-    requires counter { OpensCounter blank.name L.name blank.parts L.parts }
-    requires within { place < length rows.old }
-    ensures { rows.new ≡ remove rows.old place }
-{
-    let mut steps = Steps::<L>::new(blank);
-    rows.remove(place, &mut steps);
-}
-
-fn read<L: Ledger>(rows: &Tree<Label>, place: u32, blank: Blank) -> u64
-    requires counter { OpensCounter blank.name L.name blank.parts L.parts }
-    requires within { place < length rows.now }
-    ensures { slice_get rows.now place ≡ Some result }
-{
-    let mut steps = Steps::<L>::new(blank);
-    rows.get(place, &mut steps).value()
-}
-
-fn find<L: Ledger>(rows: &Tree<Label>, label: u64, blank: Blank) -> Option<u32>
-    requires counter { OpensCounter blank.name L.name blank.parts L.parts }
+fn find(rows: &Tree<Label>, label: u64) -> Option<u32>
     requires labels { AreLabels rows.now }
     ensures place { result ≡ position (λ other. other == label) rows.now }
     ensures within { IfSome result (λ place. place < length rows.now) }
 {
-    let mut steps = Steps::<L>::new(blank);
-    let count = rows.partition_point(|row: &Label| row.value() <= label, &mut steps);
+    let count = uncounted::partition_point(rows, |row: &Label| row.value() <= label);
     if count == 0 {
         return None;
     }
     let place = count - 1;
-    if rows.get(place, &mut steps).value() == label {
+    if uncounted::get(rows, place).value() == label {
         Some(place)
     } else {
         None

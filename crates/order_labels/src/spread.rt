@@ -5,9 +5,7 @@ ghost use Rattle.order_labels.specs.Labels.{exponent, gap_of, least_gap, spread,
 ghost use Rattle.retro_base.specs.Limits.{most_rows};
 
 use monoid_laws::Counted;
-use retro_base::Steps;
-use std::sync::ledger::Ledger;
-use weighted_tree::Tree;
+use weighted_tree::{Tree, uncounted};
 
 /// The label of a row, as it stands in the tree.
 pub(crate) type Label = Counted<u64>;
@@ -19,14 +17,14 @@ const WIDTH: u32 = 40;
 pub(crate) const LIMIT: u64 = 1 << WIDTH;
 
 /// Relabels all rows.
-pub(crate) fn spread<L: Ledger>(rows: &mut Tree<Label>, steps: &mut Steps<L>)
+pub(crate) fn spread(rows: &mut Tree<Label>)
     requires { length rows.old ≤ most_rows }
     ensures { rows.new ≡ spread (length rows.old) }
 {
     let count = rows.len();
     let gap = gap_of(count);
     for place in 0..count {
-        rows.replace(place, Label::new((u64::from(place) + 1) * gap), steps);
+        uncounted::replace(rows, place, Label::new((u64::from(place) + 1) * gap));
     }
 }
 

@@ -7,14 +7,14 @@ use Rattle.order_labels.proofs.Equal.{itself, never_fall, no_label, label_found,
 use Rattle.order_labels.proofs.labels.find.Goals as goal
 
 pub returns-then-count-eq0-clause-place : goal.returns-then-count-eq0-clause-place
-returns-then-count-eq0-clause-place g c =
+returns-then-count-eq0-clause-place c =
     let counted : c.partition_point-count.result ≡ count_up_to itself c.args.rows.now c.args.label =
     count_found itself c.args.label _ _ c.args.rows.now _ c.partition_point-count.ensures.partition (λ row answer call. search rules)
     (never_fall 0 label_limit c.args.rows.now c.requires.labels.rising) c.partition_point-count.ensures.within in
     sym (no_label c.args.label c.args.rows.now (sym counted ∙ c.if-count-eq0.true))
 
 pub returns-then-value-label-clause-place : goal.returns-then-value-label-clause-place
-returns-then-value-label-clause-place g c =
+returns-then-value-label-clause-place c =
     let counted : c.partition_point-count.result ≡ count_up_to itself c.args.rows.now c.args.label =
     count_found itself c.args.label _ _ c.args.rows.now _ c.partition_point-count.ensures.partition (λ row answer call. search rules)
     (never_fall 0 label_limit c.args.rows.now c.requires.labels.rising) c.partition_point-count.ensures.within in
@@ -23,8 +23,8 @@ returns-then-value-label-clause-place g c =
     (let last_is : count_up_to itself c.args.rows.now c.args.label ≡ suc last = omega (arith, counted) in last_is)
     c.get.ensures.item (eq-eqb c.get.result c.args.label (sym c.value.ensures ∙ c.if-value-label.true)))
 
-pub returns-clause-place : goal.returns-clause-place
-returns-clause-place g c =
+pub returns-else-value-label-clause-place : goal.returns-else-value-label-clause-place
+returns-else-value-label-clause-place c =
     let counted : c.partition_point-count.result ≡ count_up_to itself c.args.rows.now c.args.label =
     count_found itself c.args.label _ _ c.args.rows.now _ c.partition_point-count.ensures.partition (λ row answer call. search rules)
     (never_fall 0 label_limit c.args.rows.now c.requires.labels.rising) c.partition_point-count.ensures.within in

@@ -4,13 +4,13 @@ use Rattle.order_labels.proofs.Spreading.{more_multiples, length-partly}
 use Rattle.order_labels.proofs.spread.spread.Goals as goal
 
 pub replace-requires : goal.replace-requires
-replace-requires g c =
+replace-requires c =
     let rows = c.args.rows.now in
     let place = c.loop-place.place in
     record { within = omega (arith, ap length c.loop-place.invariant, length-partly c.gap_of-gap.result place rows (omega arith)) }
 
 pub loop-place-preserved : goal.loop-place-preserved
-loop-place-preserved g c =
+loop-place-preserved c =
     let rows = c.args.rows.now in
     let place = c.loop-place.place in
     let gap = c.gap_of-gap.result in
