@@ -8,8 +8,8 @@ use crate::kept::Kept;
 use crate::numbers::write_run;
 use crate::run::Run;
 use crate::runs::start_of;
-use retro_base::{NoMemory, Steps};
-use std::sync::ledger::Ledger;
+use retro_base::NoMemory;
+use weighted_tree::uncounted;
 
 /// The most rows of a run; a full one is divided where one more comes in.
 pub(crate) const LONGEST_RUN: u32 = 32;
@@ -25,12 +25,7 @@ fn first_part(count: u32, is_last: bool) -> u32
 }
 
 /// Divides a run that has so many rows, and tells how many of them stay. After `NoMemory` all is as before.
-pub(crate) fn divide<L: Ledger>(
-    kept: &mut Kept,
-    run: u32,
-    count: u32,
-    steps: &mut Steps<L>,
-) -> Result<u32, NoMemory>
+pub(crate) fn divide(kept: &mut Kept, run: u32, count: u32) -> Result<u32, NoMemory>
     requires kept { KeepsRows kept.old }
     requires there { slice_get kept.old.runs run ≡ Some count }
     requires more { 1 < count }
@@ -41,23 +36,16 @@ pub(crate) fn divide<L: Ledger>(
     ensures runs { IfOk result (λ half. kept.new.runs ≡ divided kept.old.runs run count half) }
 {
     let half = first_part(count, run + 1 == kept.runs.len());
-    kept.runs.insert(run + 1, Run::new(count - half), steps)?;
-    match kept.names.insert(run + 1, steps) {
+    uncounted::insert(&mut kept.runs, run + 1, Run::new(count - half))?;
+    match kept.names.insert(run + 1) {
         Ok(name) => {
-            kept.runs.replace(run, Run::new(half), steps);
-            let from = start_of(&kept.runs, run + 1, steps);
-            write_run(
-                &mut kept.numbers,
-                &kept.rows,
-                from,
-                count - half,
-                name,
-                steps,
-            );
+            uncounted::replace(&mut kept.runs, run, Run::new(half));
+            let from = start_of(&kept.runs, run + 1);
+            write_run(&mut kept.numbers, &kept.rows, from, count - half, name);
             Ok(half)
         }
         Err(NoMemory) => {
-            kept.runs.remove(run + 1, steps);
+            uncounted::remove(&mut kept.runs, run + 1);
             Err(NoMemory)
         }
     }

@@ -6,93 +6,57 @@ ghost use Rattle.order_timeline.specs.Kept.{KeepsRows};
 ghost use Rattle.order_timeline.specs.Runs.{IsNotBefore};
 ghost use Rattle.retro_base.specs.Places.{place_of_row, place_of_time};
 ghost use Rattle.retro_base.specs.Timeline.{TimesNeverFall};
-ghost use Rattle.retro_base.specs.Visits.{OpensCounter};
 
 use crate::divide::LONGEST_RUN;
 use crate::kept::Kept;
 use crate::runs::start_of;
 use monoid_laws::Counted;
-use retro_base::{Row, Steps};
-use std::sync::ledger::{Blank, Ledger};
-use weighted_tree::Tree;
-
-/// The row at a place.
-pub(crate) fn read<L: Ledger>(rows: &Tree<Counted<Row>>, place: u32, blank: Blank) -> Row
-    requires counter { OpensCounter blank.name L.name blank.parts L.parts }
-    requires within { place < length rows.now }
-    ensures { slice_get rows.now place ≡ Some result }
-{
-    let mut steps = Steps::<L>::new(blank);
-    rows.get(place, &mut steps).value()
-}
+use retro_base::Row;
+use weighted_tree::{Tree, uncounted};
 
 /// How many rows stand up to this time.
-pub(crate) fn rows_up_to<L: Ledger>(rows: &Tree<Counted<Row>>, time: u64, blank: Blank) -> u32
-    requires counter { OpensCounter blank.name L.name blank.parts L.parts }
+pub(crate) fn rows_up_to(rows: &Tree<Counted<Row>>, time: u64) -> u32
     requires order { TimesNeverFall rows.now }
     ensures place { result ≡ place_of_time time rows.now }
     ensures within { result ≤ length rows.now }
 {
-    let mut steps = Steps::<L>::new(blank);
-    rows.partition_point(
-        |counted: &Counted<Row>| counted.value().time <= time,
-        &mut steps,
-    )
+    uncounted::partition_point(rows, |counted: &Counted<Row>| counted.value().time <= time)
 }
 
 /// Copies the rows from a place on into a slice, as many as fit or are there, and gives their number.
-pub(crate) fn read_from<L: Ledger>(
-    rows: &Tree<Counted<Row>>,
-    from: u32,
-    copies: &mut [Row],
-    blank: Blank,
-) -> u32
-    requires counter { OpensCounter blank.name L.name blank.parts L.parts }
+pub(crate) fn read_from(rows: &Tree<Counted<Row>>, from: u32, copies: &mut [Row]) -> u32
     requires within { from ≤ length rows.now }
     requires few { length rows.now ≤ most_rows }
     ensures count { result ≡ min (length rows.now - from) (length copies.old) }
     ensures rows { copies.new ≡ take result (drop from rows.now) ++ drop result copies.old }
 {
-    let mut steps = Steps::<L>::new(blank);
-    rows.read(
-        from,
-        |counted: &Counted<Row>| counted.value(),
-        copies,
-        &mut steps,
-    ) as u32
+    uncounted::read(rows, from, |counted: &Counted<Row>| counted.value(), copies) as u32
 }
 
 /// The place of the row with this number, where there is one.
-pub(crate) fn place_of<L: Ledger>(kept: &Kept, number: u32, blank: Blank) -> Option<u32>
-    requires counter { OpensCounter blank.name L.name blank.parts L.parts }
+pub(crate) fn place_of(kept: &Kept, number: u32) -> Option<u32>
     requires kept { KeepsRows kept.now }
     ensures { result ≡ place_of_row number kept.now.rows }
 {
-    let mut steps = Steps::<L>::new(blank);
     let name = kept.numbers.get(number)?;
-    let run = kept.names.place_of(name, &mut steps)?;
-    let start = start_of(&kept.runs, run, &mut steps);
-    place_from(&kept.rows, start, number, &mut steps)
+    let run = kept.names.place_of(name)?;
+    let start = start_of(&kept.runs, run);
+    place_from(&kept.rows, start, number)
 }
 
 /// The same from a place on.
-fn place_from<L: Ledger>(
-    rows: &Tree<Counted<Row>>,
-    from: u32,
-    number: u32,
-    steps: &mut Steps<L>,
-) -> Option<u32>
+fn place_from(rows: &Tree<Counted<Row>>, from: u32, number: u32) -> Option<u32>
     requires { IsNotBefore rows.now from number }
     ensures { result ≡ place_of_row number rows.now }
 {
     let mut window = [0; WINDOW];
     let mut place = from;
     while place < rows.len() {
-        let read = rows.read(
+        let read = uncounted::read(
+            rows,
             place,
             |counted: &Counted<Row>| counted.value().number,
             &mut window,
-            steps,
         );
         match index_of(&window[..read], number) {
             Some(index) => return Some(place + index as u32),

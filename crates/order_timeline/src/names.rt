@@ -8,11 +8,10 @@ ghost use Rattle.retro_base.specs.Limits.{most_rows};
 use crate::table::Table;
 use monoid_laws::Counted;
 use order_labels::Labels;
-use retro_base::{NoMemory, Steps};
+use retro_base::NoMemory;
 use std::alloc::Global;
 use std::marker::Model;
-use std::sync::ledger::Ledger;
-use weighted_tree::Tree;
+use weighted_tree::{Tree, uncounted};
 
 /// A list of names that are distinct, each found by the label that stands at its place.
 #[derive(Drop)]
@@ -51,77 +50,60 @@ impl Names {
     }
 
     /// The name at a place.
-    pub(crate) fn name_at<L: Ledger>(&self, place: u32, steps: &mut Steps<L>) -> u32
+    pub(crate) fn name_at(&self, place: u32) -> u32
         requires { place < length self.now }
         ensures { slice_get self.now place ≡ Some result }
     {
-        self.names.get(place, steps).value()
+        uncounted::get(&self.names, place).value()
     }
 
     /// The place of a name, where there is one.
-    pub(crate) fn place_of<L: Ledger>(&self, name: u32, steps: &mut Steps<L>) -> Option<u32>
+    pub(crate) fn place_of(&self, name: u32) -> Option<u32>
         ensures place { result ≡ position (λ other. other == name) self.now }
         ensures within { IfSome result (λ place. place < length self.now) }
     {
-        find(&self.names, &self.labels, &self.table, name, steps)
+        find(&self.names, &self.labels, &self.table, name)
     }
 
     /// Puts a new name in at a place, and tells it. After `NoMemory` the names are as before.
-    pub(crate) fn insert<L: Ledger>(
-        &mut self,
-        place: u32,
-        steps: &mut Steps<L>,
-    ) -> Result<u32, NoMemory>
+    pub(crate) fn insert(&mut self, place: u32) -> Result<u32, NoMemory>
         requires within { place ≤ length self.old }
         requires room { length self.old < most_rows }
         ensures ok { IfOk result (λ name. self.new ≡ insert self.old place name) }
         ensures err { OnErr result (self.new ≡ self.old) }
     {
-        put_in(
-            &mut self.names,
-            &mut self.labels,
-            &mut self.table,
-            place,
-            steps,
-        )
+        put_in(&mut self.names, &mut self.labels, &mut self.table, place)
     }
 
     /// Takes the name at a place out.
-    pub(crate) fn remove<L: Ledger>(&mut self, place: u32, steps: &mut Steps<L>)
+    pub(crate) fn remove(&mut self, place: u32)
         requires { place < length self.old }
         ensures { self.new ≡ remove self.old place }
     {
-        self.names.remove(place, steps);
+        uncounted::remove(&mut self.names, place);
         self.labels.remove(place);
     }
 }
 
-fn find<L: Ledger>(
-    names: &Tree<Counted<u32>>,
-    labels: &Labels,
-    table: &Table,
-    name: u32,
-    steps: &mut Steps<L>,
-) -> Option<u32>
+fn find(names: &Tree<Counted<u32>>, labels: &Labels, table: &Table, name: u32) -> Option<u32>
     requires { AreFiled names.now labels.now table.now }
     ensures place { result ≡ position (λ other. other == name) names.now }
     ensures within { IfSome result (λ place. place < length names.now) }
 {
     let label = table.get(name)?;
     let place = labels.place_of_label(label)?;
-    if names.get(place, steps).value() == name {
+    if uncounted::get(names, place).value() == name {
         Some(place)
     } else {
         None
     }
 }
 
-fn put_in<L: Ledger>(
+fn put_in(
     names: &mut Tree<Counted<u32>>,
     labels: &mut Labels,
     table: &mut Table,
     place: u32,
-    steps: &mut Steps<L>,
 ) -> Result<u32, NoMemory>
     requires within { place ≤ length names.old }
     requires room { length names.old < most_rows }
@@ -131,37 +113,32 @@ fn put_in<L: Ledger>(
     ensures err { OnErr result (names.new ≡ names.old) }
 {
     let name = table.add(0)?;
-    names.insert(place, Counted::new(name), steps)?;
+    uncounted::insert(names, place, Counted::new(name))?;
     match labels.insert(place) {
         Ok(fresh) => {
             if fresh.relabelled {
-                file_all(names, labels, table, steps);
+                file_all(names, labels, table);
             } else {
                 table.set(name, fresh.label);
             }
             Ok(name)
         }
         Err(NoMemory) => {
-            names.remove(place, steps);
+            uncounted::remove(names, place);
             Err(NoMemory)
         }
     }
 }
 
 /// Gives each name the label at its place.
-fn file_all<L: Ledger>(
-    names: &Tree<Counted<u32>>,
-    labels: &Labels,
-    table: &mut Table,
-    steps: &mut Steps<L>,
-)
+fn file_all(names: &Tree<Counted<u32>>, labels: &Labels, table: &mut Table)
     requires each { length labels.now ≡ length names.now }
     requires distinct { AreDistinct names.now }
     requires known { AllByRecursion (λ name. name < length table.old) names.now }
     ensures { AreFiled names.now labels.now table.new }
 {
     for place in 0..names.len() {
-        let name = names.get(place, steps).value();
+        let name = uncounted::get(names, place).value();
         table.set(name, labels.label_at(place));
     }
 }

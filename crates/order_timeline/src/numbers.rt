@@ -7,11 +7,10 @@ ghost use Rattle.retro_base.specs.Timeline.{HaveOwnNumbers};
 
 use crate::page::{Page, SPAN};
 use monoid_laws::Counted;
-use retro_base::{NoMemory, Row, Steps};
+use retro_base::{NoMemory, Row};
 use std::alloc::Global;
 use std::marker::Model;
-use std::sync::ledger::Ledger;
-use weighted_tree::Tree;
+use weighted_tree::{Tree, uncounted};
 
 /// The name of each row's run, by the row's number: a table in pages.
 ///
@@ -119,13 +118,12 @@ pub(crate) fn forget(numbers: &mut Numbers, number: u32)
 }
 
 /// Writes one name for each of `count` rows from a place on.
-pub(crate) fn write_run<L: Ledger>(
+pub(crate) fn write_run(
     numbers: &mut Numbers,
     rows: &Tree<Counted<Row>>,
     from: u32,
     count: u32,
     name: u32,
-    steps: &mut Steps<L>,
 )
     requires within { from + count ≤ length rows.now }
     requires few { length rows.now ≤ most_rows }
@@ -134,7 +132,7 @@ pub(crate) fn write_run<L: Ledger>(
     ensures { WritesRun rows.now from count name numbers.old numbers.new }
 {
     for place in from..from + count {
-        let number = rows.get(place, steps).value().number;
+        let number = uncounted::get(rows, place).value().number;
         write(numbers, number, name);
     }
 }

@@ -9,12 +9,12 @@ ghost use Rattle.retro_base.specs.Timeline.{IsFresh};
 ghost use Rattle.order_timeline.specs.Rows.{IsOrdered};
 
 use crate::edit::{put_in, take_out};
-use crate::find::{place_of, read, read_from, rows_up_to};
+use crate::find::{place_of, read_from, rows_up_to};
 use crate::kept::Kept;
 use retro_base::{NoMemory, Row};
 use std::alloc::Global;
-use std::marker::{Brand, Model};
-use std::sync::ledger::Blank;
+use std::marker::Model;
+use weighted_tree::uncounted;
 
 /// Rows in order of time, each with a number of its own.
 #[derive(Drop)]
@@ -57,7 +57,7 @@ impl Timeline {
         requires { place < length self.now }
         ensures { slice_get self.now place ≡ Some result }
     {
-        read::<Brand>(&self.kept.rows, place, Blank::new(1))
+        uncounted::get(&self.kept.rows, place).value()
     }
 
     /// Copies the rows from a place on into a slice, as many as fit or are there, and gives their number.
@@ -66,7 +66,7 @@ impl Timeline {
         ensures count { result ≡ min (length self.now - from) (length rows.old) }
         ensures rows { rows.new ≡ take result (drop from self.now) ++ drop result rows.old }
     {
-        read_from::<Brand>(&self.kept.rows, from, rows, Blank::new(1))
+        read_from(&self.kept.rows, from, rows)
     }
 
     /// The place of a time: how many rows stand up to it.
@@ -75,7 +75,7 @@ impl Timeline {
         ensures within { result ≤ length self.now }
         ensures fits { Fits self.now result time }
     {
-        rows_up_to::<Brand>(&self.kept.rows, time, Blank::new(1))
+        rows_up_to(&self.kept.rows, time)
     }
 
     /// The place of the row with this number, where there is one.
@@ -84,7 +84,7 @@ impl Timeline {
         ensures within { IfSome result (λ place. place < length self.now) }
         ensures few { length self.now ≤ most_rows }
     {
-        place_of::<Brand>(&self.kept, number, Blank::new(1))
+        place_of(&self.kept, number)
     }
 
     /// Puts a row in at a place where its time fits. After `NoMemory` all is as before.
@@ -96,7 +96,7 @@ impl Timeline {
         ensures ok { OnOk result (self.new ≡ insert self.old place row) }
         ensures err { OnErr result (self.new ≡ self.old) }
     {
-        put_in::<Brand>(&mut self.kept, place, row, Blank::new(1))
+        put_in(&mut self.kept, place, row)
     }
 
     /// Takes the row at a place out, and gives it back.
@@ -105,6 +105,6 @@ impl Timeline {
         ensures row { slice_get self.old place ≡ Some result }
         ensures rows { self.new ≡ remove self.old place }
     {
-        take_out::<Brand>(&mut self.kept, place, Blank::new(1))
+        take_out(&mut self.kept, place)
     }
 }

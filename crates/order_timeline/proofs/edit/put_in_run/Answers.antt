@@ -5,7 +5,7 @@ use Rattle.order_timeline.proofs.Totals.{run_within}
 use Rattle.order_timeline.proofs.edit.put_in_run.Goals as goal
 
 pub overflow_add-count : goal.overflow_add-count
-overflow_add-count g c =
+overflow_add-count c =
     omega (
       arith,
       run_within c.args.kept.now.runs c.args.run c.rows-count.result (c.get.ensures.item ∙ ap Some (sym c.rows-count.ensures)),
@@ -14,15 +14,15 @@ overflow_add-count g c =
     )
 
 pub returns-then-is_err-clause-kept : goal.returns-then-is_err-clause-kept
-returns-then-is_err-clause-kept g c =
-    kept_again c.args.kept.now.rows c.insert.new.self c.args.kept.now.runs c.args.kept.now.names c.args.kept.now.numbers
+returns-then-is_err-clause-kept c =
+    kept_again c.args.kept.now.rows c.insert.new.tree c.args.kept.now.runs c.args.kept.now.names c.args.kept.now.numbers
     c.forget.new.numbers c.args.row.number c.requires.kept c.requires.comes.fresh
     (err_from c.insert.result c.is_err.result _ c.is_err.ensures.value c.if-is_err.true c.insert.ensures.err)
     (twice c.args.kept.now.numbers c.add.new.numbers c.forget.new.numbers c.args.row.number (Some c.name_at-name.result) None c.in_ok-add.ensures.ok c.forget.ensures)
 
 pub returns-clause-kept : goal.returns-clause-kept
-returns-clause-kept g c =
-    kept_put c.args.kept.now.rows c.insert.new.self c.args.kept.now.runs c.replace.new.self c.args.kept.now.names
+returns-clause-kept c =
+    kept_put c.args.kept.now.rows c.insert.new.tree c.args.kept.now.runs c.replace.new.tree c.args.kept.now.names
     c.args.kept.now.numbers c.add.new.numbers c.args.run c.args.place
     c.args.row c.new.result c.rows-count.result c.name_at-name.result c.new-2.result c.requires.kept c.requires.comes c.requires.run c.requires.room
     (c.get.ensures.item ∙ ap Some (sym c.rows-count.ensures)) c.name_at-name.ensures c.in_ok-add.ensures.ok c.new.ensures

@@ -8,19 +8,19 @@ use Rattle.order_timeline.proofs.Rows.{ordered_without}
 use Rattle.order_timeline.proofs.edit.take_out.Goals as goal
 
 pub run_of-run-requires : goal.run_of-run-requires
-run_of-run-requires g c = omega (arith, all_rows c.args.kept.now.rows c.args.kept.now.runs c.args.kept.now.names c.args.kept.now.numbers c.requires.kept.in_runs, c.requires.within)
+run_of-run-requires c = omega (arith, all_rows c.args.kept.now.rows c.args.kept.now.runs c.args.kept.now.names c.args.kept.now.numbers c.requires.kept.in_runs, c.requires.within)
 
 pub overflow_sub-count : goal.overflow_sub-count
-overflow_sub-count g c = omega (arith, c.run_of-run.ensures, read_index c.args.kept.now.runs c.run_of-run.result c.rows-count.result (c.get.ensures.item ∙ ap Some (sym c.rows-count.ensures)))
+overflow_sub-count c = omega (arith, c.run_of-run.ensures, read_index c.args.kept.now.runs c.run_of-run.result c.rows-count.result (c.get.ensures.item ∙ ap Some (sym c.rows-count.ensures)))
 
 pub returns-then-count-eq1-clause-kept : goal.returns-then-count-eq1-clause-kept
-returns-then-count-eq1-clause-kept g c =
+returns-then-count-eq1-clause-kept c =
     let ordered = subst IsOrdered (sym c.remove.ensures.items) (ordered_without c.args.kept.now.rows c.args.place c.requires.kept.ordered c.requires.within) in
     let in_runs =
     let gone = in_runs_gone c.args.kept.now.rows c.args.kept.now.runs c.args.kept.now.names c.args.kept.now.numbers c.forget.new.numbers c.run_of-run.result c.args.place
     c.value-row.result c.rows-count.result c.requires.kept.in_runs c.requires.within c.requires.kept.ordered.own_numbers
     (c.remove.ensures.item ∙ ap Some (sym c.value-row.ensures)) c.run_of-run.ensures (c.get.ensures.item ∙ ap Some (sym c.rows-count.ensures)) c.if-count-eq1.true c.forget.ensures in
-    subst (λ rows. IsInRuns rows c.remove-then-count-eq1.new.self c.remove-then-count-eq1-2.new.self c.forget.new.numbers) (sym c.remove.ensures.items)
+    subst (λ rows. IsInRuns rows c.remove-then-count-eq1.new.tree c.remove-then-count-eq1-2.new.self c.forget.new.numbers) (sym c.remove.ensures.items)
     (subst (λ runs. IsInRuns (remove c.args.kept.now.rows c.args.place) runs c.remove-then-count-eq1-2.new.self c.forget.new.numbers) (sym c.remove-then-count-eq1.ensures.items)
     (subst (λ names. IsInRuns (remove c.args.kept.now.rows c.args.place) (remove c.args.kept.now.runs c.run_of-run.result) names c.forget.new.numbers) (sym c.remove-then-count-eq1-2.ensures) gone))
     in
@@ -31,13 +31,13 @@ returns-then-count-eq1-clause-kept g c =
     }
 
 pub returns-clause-kept : goal.returns-clause-kept
-returns-clause-kept g c =
+returns-clause-kept c =
     let ordered = subst IsOrdered (sym c.remove.ensures.items) (ordered_without c.args.kept.now.rows c.args.place c.requires.kept.ordered c.requires.within) in
     let in_runs =
     let stays = in_runs_without c.args.kept.now.rows c.args.kept.now.runs c.args.kept.now.names c.args.kept.now.numbers c.forget.new.numbers c.run_of-run.result c.args.place
     c.value-row.result c.rows-count.result c.requires.kept.in_runs c.requires.within c.requires.kept.ordered.own_numbers
     (c.remove.ensures.item ∙ ap Some (sym c.value-row.ensures)) c.run_of-run.ensures (c.get.ensures.item ∙ ap Some (sym c.rows-count.ensures)) c.forget.ensures in
-    subst (λ rows. IsInRuns rows c.replace.new.self c.args.kept.now.names c.forget.new.numbers) (sym c.remove.ensures.items)
+    subst (λ rows. IsInRuns rows c.replace.new.tree c.args.kept.now.names c.forget.new.numbers) (sym c.remove.ensures.items)
     (subst (λ runs. IsInRuns (remove c.args.kept.now.rows c.args.place) runs c.args.kept.now.names c.forget.new.numbers)
     (sym (c.replace.ensures.items ∙ ap (slice_set c.args.kept.now.runs c.run_of-run.result) c.new.ensures)) stays)
     in

@@ -5,7 +5,7 @@ use Rattle.order_timeline.proofs.Rows.{numbers_read, window_stays}
 use Rattle.order_timeline.proofs.find.place_from.Goals as goal
 
 pub returns-in-Some : goal.returns-in-Some
-returns-in-Some g c =
+returns-in-Some c =
     let rows = c.args.rows.now in
     let place = c.loop-place.place in
     let few : c.read-read.result ≤ length (drop place rows) = omega (arith, length-drop place rows, c.read-read.ensures.count) in
@@ -15,7 +15,7 @@ returns-in-Some g c =
     sym (found_among c.args.number rows place c.read-read.result c.in-Some.index c.loop-place.invariant.before few found)
 
 pub loop-place-preserved : goal.loop-place-preserved
-loop-place-preserved g c =
+loop-place-preserved c =
     let rows = c.args.rows.now in
     let place = c.loop-place.place in
     let few : c.read-read.result ≤ length (drop place rows) = omega (arith, length-drop place rows, c.read-read.ensures.count) in

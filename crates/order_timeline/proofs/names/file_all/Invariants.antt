@@ -4,4 +4,4 @@ use Rattle.order_timeline.proofs.Filed.{FirstHave}
 use Rattle.order_timeline.proofs.names.file_all.Given as goal
 
 abbrev pub invariant-loop-place : goal.invariant-loop-place
-invariant-loop-place g l = FirstHave l.place l.names l.labels l.table × AllByRecursion (λ name. name < length l.table) l.names
+invariant-loop-place l = FirstHave l.place l.names l.labels l.table × AllByRecursion (λ name. name < length l.table) l.names

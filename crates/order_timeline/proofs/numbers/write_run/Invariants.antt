@@ -3,4 +3,4 @@ use Rattle.order_timeline.specs.Numbers.{IsNamed, written}
 use Rattle.order_timeline.proofs.numbers.write_run.Given as goal
 
 abbrev pub invariant-loop-place : goal.invariant-loop-place
-invariant-loop-place g l = (names : List ℕ) → IsNamed l.rows names l.initial.numbers → IsNamed l.rows (written names l.from (l.place - l.from) l.name) l.numbers
+invariant-loop-place l = (names : List ℕ) → IsNamed l.rows names l.initial.numbers → IsNamed l.rows (written names l.from (l.place - l.from) l.name) l.numbers

@@ -6,8 +6,8 @@ use Rattle.order_timeline.specs.Runs.{IsInRun}
 use Rattle.order_timeline.proofs.Totals.{ends_after, ends-rise, run-found, run-there, total-range}
 use Rattle.order_timeline.proofs.runs.run_of.Goals as goal
 
-found : (g : _) (c : goal.In-Some g) → (1 ≤ c.in-Some.count) × IsInRun c.args.runs.now (c.in-Some.count - 1) c.args.place
-found g c =
+found : (c : goal.In-Some) → (1 ≤ c.in-Some.count) × IsInRun c.args.runs.now (c.in-Some.count - 1) c.args.place
+found c =
     let runs = c.args.runs.now in
     let place = c.args.place in
     run-found place runs c.first_place.result c.in-Some.count
@@ -18,13 +18,13 @@ found g c =
     (ends-rise place runs 0 (length runs))) c.in-Some.is
 
 pub overflow_sub-result : goal.overflow_sub-result
-overflow_sub-result g c = (found g c).0
+overflow_sub-result c = (found c).0
 
 pub returns-in-Some : goal.returns-in-Some
-returns-in-Some g c = (found g c).1
+returns-in-Some c = (found c).1
 
 pub returns-in-None : goal.returns-in-None
-returns-in-None g c =
+returns-in-None c =
     let runs = c.args.runs.now in
     let place = c.args.place in
     absurd (run-there place runs c.first_place.result c.requires
