@@ -13,8 +13,7 @@ use crate::row::KeyRow;
 use crate::tree::{around, beside, first_above, op_of, put_in, relabel, take_out};
 use retro_base::{NoMemory, Op};
 use std::alloc::Global;
-use std::marker::{Brand, Model};
-use std::sync::ledger::Blank;
+use std::marker::Model;
 use weighted_tree::Tree;
 
 /// The rows of a dictionary: a list of labels, which rise, and operations.
@@ -75,7 +74,7 @@ impl KeyIndex {
         ensures beside { IfOk result (λ rows. rows ≡ beside (key_of op) label self.old) }
         ensures err { OnErr result (self.new ≡ self.old) }
     {
-        put_in::<Brand>(&mut self.by_key, label, op, Blank::new(1))
+        put_in(&mut self.by_key, label, op)
     }
 
     /// Takes the row with a label out, and gives its operation, where there is one.
@@ -84,8 +83,8 @@ impl KeyIndex {
         ensures rows { self.new ≡ without label self.old }
         ensures listed { AreKeyRows self.old }
     {
-        let op = op_of::<Brand>(&self.by_key, label, Blank::new(1))?;
-        take_out::<Brand>(&mut self.by_key, label, op, Blank::new(1));
+        let op = op_of(&self.by_key, label)?;
+        take_out(&mut self.by_key, label, op);
         Some(op)
     }
 
@@ -94,7 +93,7 @@ impl KeyIndex {
         requires there { op_at label self.old ≡ Some op }
         ensures { self.new ≡ without label self.old }
     {
-        take_out::<Brand>(&mut self.by_key, label, op, Blank::new(1));
+        take_out(&mut self.by_key, label, op);
     }
 
     /// The last row on a key below a label.
@@ -108,14 +107,14 @@ impl KeyIndex {
     pub fn beside(&self, key: i64, label: u64) -> Beside
         ensures { result ≡ beside key label self.now }
     {
-        beside::<Brand>(&self.by_key, key, label, Blank::new(1))
+        beside(&self.by_key, key, label)
     }
 
     /// The first row on a key above a label, where the one below it is not asked for.
     pub fn after(&self, key: i64, label: u64) -> Option<(u64, Op)>
         ensures { result ≡ first_after key label self.now }
     {
-        first_above::<Brand>(&self.by_key, key, label, Blank::new(1))
+        first_above(&self.by_key, key, label)
     }
 
     /// The first row that fails once a row is put in right after all rows whose label is at most `behind`.
@@ -127,7 +126,7 @@ impl KeyIndex {
     {
         match op {
             Op::Del { key } => {
-                let rows = around::<Brand>(&self.by_key, key, behind, Blank::new(1));
+                let rows = around(&self.by_key, key, behind);
                 if !is_there(rows.before) {
                     return Some(Bad::Inserted);
                 }
@@ -147,7 +146,7 @@ impl KeyIndex {
         ensures bad { result ≡ bad_label (without label self.now) }
         ensures good { IfNone result (Replays (without label self.now)) }
     {
-        match op_of::<Brand>(&self.by_key, label, Blank::new(1)) {
+        match op_of(&self.by_key, label) {
             Some(op) => self.bad_without(label, op),
             None => None,
         }
@@ -162,7 +161,7 @@ impl KeyIndex {
     {
         match op {
             Op::Put { key, .. } => {
-                let rows = beside::<Brand>(&self.by_key, key, label, Blank::new(1));
+                let rows = beside(&self.by_key, key, label);
                 if is_there(rows.before) {
                     return None;
                 }
@@ -180,6 +179,6 @@ impl KeyIndex {
         requires all { HoldsLabels former.now self.old }
         ensures { self.new ≡ relabelled former.now fresh.now self.old }
     {
-        relabel::<Brand>(&mut self.by_key, former, fresh, Blank::new(1));
+        relabel(&mut self.by_key, former, fresh);
     }
 }

@@ -5,7 +5,6 @@ ghost use Rattle.std.specs.List.{filter};
 ghost use Rattle.std.specs.Option.{option_and_then};
 ghost use Rattle.retro_base.specs.declared.kind.Kind.TheVariants.{Dict};
 ghost use Rattle.retro_base.specs.Kind.{kind_of};
-ghost use Rattle.retro_base.specs.Visits.{OpensCounter};
 ghost use Rattle.key_index.specs.Beside.{around, beside};
 ghost use Rattle.key_index.specs.KeyRows.{first_after, key_of, last_before, last_of, op_at, with_row, without};
 ghost use Rattle.key_index.specs.Ordered.{AreByKey, IsIndex, by_label, if_on, reaches};
@@ -15,9 +14,8 @@ use crate::beside::Beside;
 use crate::labels::Labels2;
 use crate::row::{KeyRow, key_of};
 use crate::search::count_up_to;
-use retro_base::{NoMemory, Op, Steps};
-use std::sync::ledger::{Blank, Ledger};
-use weighted_tree::Tree;
+use retro_base::{NoMemory, Op};
+use weighted_tree::{Tree, uncounted};
 
 /// How many rows an index has at most: as many as a tree takes.
 const MOST_ROWS: u32 = 1 << 31;
@@ -34,110 +32,81 @@ fn on_key(key: i64, row: KeyRow) -> Option<(u64, Op)>
 }
 
 /// The last of so many rows, if it is on the key.
-fn last_on<L: Ledger>(
-    by_key: &Tree<KeyRow>,
-    key: i64,
-    count: u32,
-    steps: &mut Steps<L>,
-) -> Option<(u64, Op)>
+fn last_on(by_key: &Tree<KeyRow>, key: i64, count: u32) -> Option<(u64, Op)>
     requires { count ≤ length by_key.now }
     ensures { result ≡ option_and_then (if_on key) (last_of (take count by_key.now)) }
 {
     if count == 0 {
         return None;
     }
-    on_key(key, by_key.get(count - 1, steps))
+    on_key(key, uncounted::get(by_key, count - 1))
 }
 
 /// The row after so many, if it is on the key.
-fn next_on<L: Ledger>(
-    by_key: &Tree<KeyRow>,
-    key: i64,
-    count: u32,
-    steps: &mut Steps<L>,
-) -> Option<(u64, Op)>
+fn next_on(by_key: &Tree<KeyRow>, key: i64, count: u32) -> Option<(u64, Op)>
     requires { count ≤ length by_key.now }
     ensures { result ≡ option_and_then (if_on key) (slice_get by_key.now count) }
 {
     if count == by_key.len() {
         return None;
     }
-    on_key(key, by_key.get(count, steps))
+    on_key(key, uncounted::get(by_key, count))
 }
 
 /// The last row on a key below a label, where so many rows stand up to it.
-fn last_below<L: Ledger>(
-    by_key: &Tree<KeyRow>,
-    key: i64,
-    label: u64,
-    count: u32,
-    steps: &mut Steps<L>,
-) -> Option<(u64, Op)>
+fn last_below(by_key: &Tree<KeyRow>, key: i64, label: u64, count: u32) -> Option<(u64, Op)>
     requires ordered { AreByKey by_key.now }
     requires front { take count by_key.now ≡ filter (reaches key label) by_key.now }
     requires within { count ≤ length by_key.now }
     ensures { result ≡ last_before key label by_key.now }
 {
-    let (at, op) = last_on(by_key, key, count, steps)?;
+    let (at, op) = last_on(by_key, key, count)?;
     if at == label {
-        return last_on(by_key, key, count - 1, steps);
+        return last_on(by_key, key, count - 1);
     }
     Some((at, op))
 }
 
 /// The rows on a key next to a label.
-pub(crate) fn beside<L: Ledger>(by_key: &Tree<KeyRow>, key: i64, label: u64, blank: Blank) -> Beside
-    requires counter { OpensCounter blank.name L.name blank.parts L.parts }
+pub(crate) fn beside(by_key: &Tree<KeyRow>, key: i64, label: u64) -> Beside
     requires ordered { AreByKey by_key.now }
     ensures { result ≡ beside key label by_key.now }
 {
-    let mut steps = Steps::<L>::new(blank);
-    let count = count_up_to(by_key, key, label, &mut steps);
+    let count = count_up_to(by_key, key, label);
     Beside {
-        before: last_below(by_key, key, label, count, &mut steps),
-        after: next_on(by_key, key, count, &mut steps),
+        before: last_below(by_key, key, label, count),
+        after: next_on(by_key, key, count),
     }
 }
 
 /// The last row on a key up to a label, and the first one above it.
-pub(crate) fn around<L: Ledger>(by_key: &Tree<KeyRow>, key: i64, label: u64, blank: Blank) -> Beside
-    requires counter { OpensCounter blank.name L.name blank.parts L.parts }
+pub(crate) fn around(by_key: &Tree<KeyRow>, key: i64, label: u64) -> Beside
     requires ordered { AreByKey by_key.now }
     ensures { result ≡ around key label by_key.now }
 {
-    let mut steps = Steps::<L>::new(blank);
-    let count = count_up_to(by_key, key, label, &mut steps);
+    let count = count_up_to(by_key, key, label);
     Beside {
-        before: last_on(by_key, key, count, &mut steps),
-        after: next_on(by_key, key, count, &mut steps),
+        before: last_on(by_key, key, count),
+        after: next_on(by_key, key, count),
     }
 }
 
 /// The first row on a key above a label.
-pub(crate) fn first_above<L: Ledger>(
-    by_key: &Tree<KeyRow>,
-    key: i64,
-    label: u64,
-    blank: Blank,
-) -> Option<(u64, Op)>
-    requires counter { OpensCounter blank.name L.name blank.parts L.parts }
+pub(crate) fn first_above(by_key: &Tree<KeyRow>, key: i64, label: u64) -> Option<(u64, Op)>
     requires ordered { AreByKey by_key.now }
     ensures { result ≡ first_after key label by_key.now }
 {
-    let mut steps = Steps::<L>::new(blank);
-    let count = count_up_to(by_key, key, label, &mut steps);
-    next_on(by_key, key, count, &mut steps)
+    let count = count_up_to(by_key, key, label);
+    next_on(by_key, key, count)
 }
 
 /// The operation of the row with a label, where there is one. The rows are not in the order of their labels, so all are looked at.
-pub(crate) fn op_of<L: Ledger>(by_key: &Tree<KeyRow>, label: u64, blank: Blank) -> Option<Op>
-    requires counter { OpensCounter blank.name L.name blank.parts L.parts }
+pub(crate) fn op_of(by_key: &Tree<KeyRow>, label: u64) -> Option<Op>
     ensures { result ≡ op_at label by_key.now }
 {
-    let mut steps = Steps::<L>::new(blank);
     let count = by_key.len();
     for place in 0..count {
-        let row = by_key.get(place, &mut steps);
+        let row = uncounted::get(by_key, place);
         if row.label() == label {
             return Some(row.op());
         }
@@ -146,13 +115,7 @@ pub(crate) fn op_of<L: Ledger>(by_key: &Tree<KeyRow>, label: u64, blank: Blank) 
 }
 
 /// Puts a row in, and gives the rows beside it on its key.
-pub(crate) fn put_in<L: Ledger>(
-    by_key: &mut Tree<KeyRow>,
-    label: u64,
-    op: Op,
-    blank: Blank,
-) -> Result<Beside, NoMemory>
-    requires counter { OpensCounter blank.name L.name blank.parts L.parts }
+pub(crate) fn put_in(by_key: &mut Tree<KeyRow>, label: u64, op: Op) -> Result<Beside, NoMemory>
     requires index { IsIndex by_key.old }
     requires fresh { op_at label (by_label by_key.old) ≡ None }
     requires dict { kind_of op ≡ Dict }
@@ -161,48 +124,38 @@ pub(crate) fn put_in<L: Ledger>(
     ensures beside { IfOk result (λ rows. rows ≡ beside (key_of op) label (by_label by_key.old)) }
     ensures err { OnErr result (by_key.new ≡ by_key.old) }
 {
-    let mut steps = Steps::<L>::new(blank);
     if by_key.len() >= MOST_ROWS {
         return Err(NoMemory);
     }
     let key = key_of(op);
-    let place = count_up_to(by_key, key, label, &mut steps);
-    let before = last_on(by_key, key, place, &mut steps);
-    let after = next_on(by_key, key, place, &mut steps);
-    by_key.insert(place, KeyRow::new(label, op), &mut steps)?;
+    let place = count_up_to(by_key, key, label);
+    let before = last_on(by_key, key, place);
+    let after = next_on(by_key, key, place);
+    uncounted::insert(by_key, place, KeyRow::new(label, op))?;
     Ok(Beside { before, after })
 }
 
 /// Takes the row with a label and this operation out.
-pub(crate) fn take_out<L: Ledger>(by_key: &mut Tree<KeyRow>, label: u64, op: Op, blank: Blank)
-    requires counter { OpensCounter blank.name L.name blank.parts L.parts }
+pub(crate) fn take_out(by_key: &mut Tree<KeyRow>, label: u64, op: Op)
     requires index { IsIndex by_key.old }
     requires there { op_at label (by_label by_key.old) ≡ Some op }
     ensures index { IsIndex by_key.new }
     ensures rows { by_label by_key.new ≡ without label (by_label by_key.old) }
 {
-    let mut steps = Steps::<L>::new(blank);
-    let count = count_up_to(by_key, key_of(op), label, &mut steps);
-    by_key.remove(count - 1, &mut steps);
+    let count = count_up_to(by_key, key_of(op), label);
+    uncounted::remove(by_key, count - 1);
 }
 
 /// Gives each row the counterpart of its label.
-pub(crate) fn relabel<L: Ledger>(
-    by_key: &mut Tree<KeyRow>,
-    former: &Labels2,
-    fresh: &Labels2,
-    blank: Blank,
-)
-    requires counter { OpensCounter blank.name L.name blank.parts L.parts }
+pub(crate) fn relabel(by_key: &mut Tree<KeyRow>, former: &Labels2, fresh: &Labels2)
     requires rise { Rise former.now }
     requires as_many { length fresh.now ≡ length former.now }
     requires all { HoldsLabels former.now by_key.old }
     ensures { by_key.new ≡ relabelled former.now fresh.now by_key.old }
 {
-    let mut steps = Steps::<L>::new(blank);
     for place in 0..by_key.len() {
-        let row = by_key.get(place, &mut steps);
+        let row = uncounted::get(by_key, place);
         let label = former.counterpart(fresh, row.label());
-        by_key.replace(place, KeyRow::new(label, row.op()), &mut steps);
+        uncounted::replace(by_key, place, KeyRow::new(label, row.op()));
     }
 }

@@ -4,7 +4,7 @@ use Rattle.key_index.proofs.Neighbours.{next_is, beside_is}
 use Rattle.key_index.proofs.tree.beside.Goals as goal
 
 pub returns : goal.returns
-returns g c =
+returns c =
     let key_is = to_z-of_z w64 c.args.key c.ranges.key in
     beside_is (rw key_is at c.last_below.ensures)
     ((rw key_is at c.next_on.ensures) ∙ next_is c.args.key c.args.label c.args.by_key.now c.count_up_to-count.result c.requires.ordered (rw key_is at c.count_up_to-count.ensures.back))

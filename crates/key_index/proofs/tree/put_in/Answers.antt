@@ -5,26 +5,25 @@ use Rattle.key_index.specs.Ordered.{IsIndexed, by_label}
 use Rattle.key_index.proofs.ByLabel.{by_label_is, index_of}
 use Rattle.key_index.proofs.Neighbours.{last_is, next_is, same_around, around_fresh, beside_is}
 use Rattle.key_index.proofs.PutIn.{none_has, put_indexed}
-use Rattle.key_index.proofs.tree.put_in.Given.{Over}
 use Rattle.key_index.proofs.tree.put_in.Goals as goal
 use Rattle.key_index.proofs.tree.put_in.Goals.{In_ok-insert}
 
 -- the rows with one more, and the same in the order of their keys
-indexed : (g : Over) (c : In_ok-insert g) → IsIndexed (with_row c.args.label c.args.op (by_label c.args.by_key.now)) c.insert.new.self
-indexed g c =
+indexed : (c : In_ok-insert) → IsIndexed (with_row c.args.label c.args.op (by_label c.args.by_key.now)) c.insert.new.tree
+indexed c =
     let key_is : to_z w64 (of_z w64 c.key_of-key.result) ≡ key_of c.args.op = to_z-of_z w64 c.key_of-key.result (record { sfits = c.key_of-key.type_inv }) ∙ c.key_of-key.ensures in
     rw (c.in_ok-insert.ensures.ok, c.new.ensures)
     (put_indexed c.args.label c.args.op (by_label c.args.by_key.now) c.args.by_key.now c.count_up_to-place.result c.requires.index c.requires.fresh c.requires.dict
     (rw key_is at c.count_up_to-place.ensures.front) (rw key_is at c.count_up_to-place.ensures.back))
 
 pub returns-clause-index : goal.returns-clause-index
-returns-clause-index g c = index_of _ _ (indexed g (goal.at.returns-clause-index g c).In_ok-insert)
+returns-clause-index c = index_of _ _ (indexed (goal.at.returns-clause-index c).In_ok-insert)
 
 pub returns-clause-ok : goal.returns-clause-ok
-returns-clause-ok g c = by_label_is _ _ (indexed g (goal.at.returns-clause-ok g c).In_ok-insert)
+returns-clause-ok c = by_label_is _ _ (indexed (goal.at.returns-clause-ok c).In_ok-insert)
 
 pub returns-clause-beside : goal.returns-clause-beside
-returns-clause-beside g c =
+returns-clause-beside c =
     let key_is : to_z w64 (of_z w64 c.key_of-key.result) ≡ key_of c.args.op = to_z-of_z w64 c.key_of-key.result (record { sfits = c.key_of-key.type_inv }) ∙ c.key_of-key.ensures in
     let key = key_of c.args.op in
     let rows = c.args.by_key.now in

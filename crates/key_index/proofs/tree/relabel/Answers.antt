@@ -4,7 +4,7 @@ use Rattle.key_index.proofs.Moved.{partly, partly-get, partly-more}
 use Rattle.key_index.proofs.tree.relabel.Goals as goal
 
 pub loop-place-preserved : goal.loop-place-preserved
-loop-place-preserved g c =
+loop-place-preserved c =
     let former = c.args.former.now in
     let fresh = c.args.fresh.now in
     let rows = c.args.by_key.now in

@@ -4,33 +4,32 @@ use Rattle.key_index.specs.KeyRows.{key_of, without}
 use Rattle.key_index.specs.Ordered.{IsIndexed, by_label}
 use Rattle.key_index.proofs.ByLabel.{by_label_is, index_of}
 use Rattle.key_index.proofs.TakenOut.{count_is, taken_indexed}
-use Rattle.key_index.proofs.tree.take_out.Given.{Over}
 use Rattle.key_index.proofs.tree.take_out.Goals as goal
 use Rattle.key_index.proofs.tree.take_out.Goals.{After-count_up_to-count, After-remove}
 
 -- the key as it is handed on
-key-is : (g : Over) (c : After-count_up_to-count g) → to_z w64 (of_z w64 c.key_of.result) ≡ key_of c.args.op
-key-is g c = to_z-of_z w64 c.key_of.result (record { sfits = c.key_of.type_inv }) ∙ c.key_of.ensures
+key-is : (c : After-count_up_to-count) → to_z w64 (of_z w64 c.key_of.result) ≡ key_of c.args.op
+key-is c = to_z-of_z w64 c.key_of.result (record { sfits = c.key_of.type_inv }) ∙ c.key_of.ensures
 
 pub overflow_sub-count : goal.overflow_sub-count
-overflow_sub-count g c =
+overflow_sub-count c =
     omega (
       arith,
       count_is c.args.label c.args.op (by_label c.args.by_key.now) c.args.by_key.now c.requires.index c.requires.there c.count_up_to-count.result c.count_up_to-count.ensures.within
-          (rw (key-is g (goal.at.overflow_sub-count g c).After-count_up_to-count) at c.count_up_to-count.ensures.front),
+          (rw (key-is (goal.at.overflow_sub-count c).After-count_up_to-count) at c.count_up_to-count.ensures.front),
     )
 
 -- the rows without it, and the same in the order of their keys
-indexed : (g : Over) (c : After-remove g) → to_z w64 (of_z w64 c.key_of.result) ≡ key_of c.args.op → IsIndexed (without c.args.label (by_label c.args.by_key.now)) c.remove.new.self
-indexed g c key_is =
+indexed : (c : After-remove) → to_z w64 (of_z w64 c.key_of.result) ≡ key_of c.args.op → IsIndexed (without c.args.label (by_label c.args.by_key.now)) c.remove.new.tree
+indexed c key_is =
     rw c.remove.ensures.items
     (taken_indexed c.args.label c.args.op (by_label c.args.by_key.now) c.args.by_key.now c.requires.index c.requires.there c.count_up_to-count.result c.count_up_to-count.ensures.within
     (rw key_is at c.count_up_to-count.ensures.front))
 
 pub returns-clause-index : goal.returns-clause-index
-returns-clause-index g c =
-    index_of _ _ (indexed g (goal.at.returns-clause-index g c).After-remove (key-is g (goal.at.returns-clause-index g c).After-count_up_to-count))
+returns-clause-index c =
+    index_of _ _ (indexed (goal.at.returns-clause-index c).After-remove (key-is (goal.at.returns-clause-index c).After-count_up_to-count))
 
 pub returns-clause-rows : goal.returns-clause-rows
-returns-clause-rows g c =
-    by_label_is _ _ (indexed g (goal.at.returns-clause-rows g c).After-remove (key-is g (goal.at.returns-clause-rows g c).After-count_up_to-count))
+returns-clause-rows c =
+    by_label_is _ _ (indexed (goal.at.returns-clause-rows c).After-remove (key-is (goal.at.returns-clause-rows c).After-count_up_to-count))
