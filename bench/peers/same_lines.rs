@@ -2,7 +2,7 @@
 
 use crate::rows::{Answer, Change, Kind, Op, Past, Question, Row};
 use crate::timeline::Timeline;
-use crate::tree::{Item, Tree, Walks, first_at_most, last_growing, sum_to};
+use crate::tree::{Item, Tree, Walks, first_at_most, last_growing, last_growing_at_either, sum_to};
 
 pub struct SameLines {
     kind: Kind,
@@ -54,15 +54,7 @@ impl SameLines {
         let written = match self.kind {
             Kind::Queue => last_growing(&self.rows, |walks| walks.right, place, from_right)?,
             Kind::Stack => last_growing(&self.rows, |walks| walks.left, place, from_left)?,
-            _ => {
-                let by_left = last_growing(&self.rows, |walks| walks.left, place, from_left);
-                by_left.max(last_growing(
-                    &self.rows,
-                    |walks| walks.right,
-                    place,
-                    from_right,
-                ))?
-            }
+            _ => last_growing_at_either(&self.rows, place, from_left, from_right)?,
         };
         match self.rows.get(written).0.op {
             Op::AddLeft(value) | Op::AddRight(value) => Some(value),

@@ -355,6 +355,7 @@ impl<T: Item> Link<T> {
     }
 
     /// The measure of the items before a place.
+    #[inline(always)]
     fn prefix(&self, mut place: usize) -> T::Measure {
         let (mut link, mut seen) = (self, T::Measure::default());
         while place > 0 {
@@ -378,22 +379,27 @@ impl<T: Item> Link<T> {
     }
 
     /// The measure of the items from a place on.
+    #[inline(always)]
     fn suffix(&self, place: usize) -> T::Measure {
-        if place == 0 {
-            return self.measure;
+        let (mut link, mut rest) = (self, self.len() - place);
+        let mut after = T::Measure::default();
+        while rest < link.len() {
+            let node = match &link.part {
+                Part::Leaf(items) => {
+                    return T::join(measured(&items[items.len() - rest..]), after);
+                }
+                Part::Node(node) => node,
+            };
+            let count = node.right.len();
+            if rest <= count {
+                link = &node.right;
+            } else {
+                after = T::join(node.item.measure(), T::join(node.right.measure, after));
+                rest -= count + 1;
+                link = &node.left;
+            }
         }
-        let node = match &self.part {
-            Part::Leaf(items) => return measured(&items[place.min(items.len())..]),
-            Part::Node(node) => node,
-        };
-        let before = node.left.len();
-        if place > before {
-            return node.right.suffix(place - before - 1);
-        }
-        T::join(
-            T::join(node.left.suffix(place), node.item.measure()),
-            node.right.measure,
-        )
+        T::join(link.measure, after)
     }
 
     fn on(
@@ -591,6 +597,7 @@ impl<T: Item> Tree<T> {
     }
 
     /// The measure of the items before a place.
+    #[inline(always)]
     pub fn prefix(&self, place: usize) -> T::Measure {
         let before = self.root.len();
         match &self.tail {
@@ -600,6 +607,7 @@ impl<T: Item> Tree<T> {
     }
 
     /// The measure of the items from a place on.
+    #[inline(always)]
     pub fn suffix(&self, place: usize) -> T::Measure {
         let before = self.root.len();
         match &self.tail {
@@ -704,7 +712,8 @@ pub fn sum_to<T: Item<Measure = Walks>>(
     walk(rows.prefix(place)).sum()
 }
 
-/// The first place from `from` on where the sum is at most a value.
+/// The first place from `from` on where the sum is at most a value. Most often there is none, which the measure of all items from
+/// there on tells before any search.
 pub fn first_at_most<T: Item<Measure = Walks>>(
     rows: &Tree<T>,
     walk: impl Fn(Walks) -> Walk,
@@ -712,6 +721,9 @@ pub fn first_at_most<T: Item<Measure = Walks>>(
     value: i64,
 ) -> Option<usize> {
     let start = sum_to(rows, &walk, from);
+    if start - i64::from(walk(rows.suffix(from)).falls) > value {
+        return None;
+    }
     rows.first_place(from, &|walks| start - i64::from(walk(walks).falls) <= value)
 }
 
@@ -723,4 +735,16 @@ pub fn last_growing<T: Item<Measure = Walks>>(
     count: i64,
 ) -> Option<usize> {
     rows.last_place(to, &|walks| i64::from(walk(walks).rises) >= count)
+}
+
+/// The last place up to `to` from which on a line grows by so much, at its left end or at its right end.
+pub fn last_growing_at_either<T: Item<Measure = Walks>>(
+    rows: &Tree<T>,
+    to: usize,
+    at_left: i64,
+    at_right: i64,
+) -> Option<usize> {
+    rows.last_place(to, &|walks| {
+        i64::from(walks.left.rises) >= at_left || i64::from(walks.right.rises) >= at_right
+    })
 }

@@ -1,8 +1,10 @@
 //! A row as it is measured: by how much it lets the line grow at either end.
 
-ghost use Rattle.std.specs.Prelude.{◌≡◌};
+ghost use Rattle.std.specs.Prelude.{◌≡◌, ◌+ℤ◌, ◌||◌};
+ghost use Rattle.std.specs.Int.Signed.{le_z};
 ghost use Rattle.monoid_laws.specs.Walk.{end_of, lowest_of, height_of};
 ghost use Rattle.prefix_trees.specs.Walks.{walk_at};
+ghost use Rattle.prefix_trees.specs.declared.growth.End.TheVariants.{Left, Right};
 
 use crate::growth::{End, left_growth, right_growth, sign_of};
 use monoid_laws::{Both, LeastPrefix, Measured};
@@ -68,11 +70,11 @@ pub(crate) fn growth(range: &Walks) -> i64
     range.first().sum()
 }
 
-/// The lowest point of the whole line, seen from its start.
-pub(crate) fn lowest(range: &Walks) -> i64
-    ensures { result ≡ lowest_of range.now.0 }
+/// Whether the whole line, of so many items at its start, falls to a value on the way.
+pub(crate) fn falls_to(range: &Walks, start: i64, value: i64) -> bool
+    ensures { result ≡ le_z (start +ℤ lowest_of range.now.0) value }
 {
-    range.first().least()
+    i128::from(start) + i128::from(range.first().least()) <= i128::from(value)
 }
 
 /// How far the growth at an end ends above its lowest point.
@@ -81,6 +83,13 @@ pub(crate) fn height(range: &Walks, end: End) -> i64
 {
     let walk = walk_at(range, end);
     walk.sum() - walk.least()
+}
+
+/// Whether the growth ends so far above its lowest point, at the left end or at the right end.
+pub(crate) fn rises_at_either(range: &Walks, at_left: i64, at_right: i64) -> bool
+    ensures { result ≡ (le_z at_left (height_of (walk_at Left range.now)) || le_z at_right (height_of (walk_at Right range.now))) }
+{
+    height(range, End::Left) >= at_left || height(range, End::Right) >= at_right
 }
 
 /// The walk of the growth at an end.

@@ -4,13 +4,13 @@ ghost use Rattle.std.specs.Prelude.{◌≡◌, ℕ, ℤ, List, pos, negsuc, ◌-
 ghost use Rattle.std.specs.List.{insert, remove};
 ghost use Rattle.retro_base.specs.declared.row.Row.{Row};
 ghost use Rattle.retro_base.specs.Visits.{VisitsWithin};
-ghost use Rattle.prefix_trees.specs.Growth.{grown, growth_at, sign_of};
-ghost use Rattle.prefix_trees.specs.Prefixes.{FindsFirstAtMost, FindsLastAtMost};
+ghost use Rattle.prefix_trees.specs.Growth.{grown, growth_at, left_growth, right_growth, sign_of};
+ghost use Rattle.prefix_trees.specs.Prefixes.{FindsFirstAtMost, FindsLastAtMost, FindsLastAtEither};
 ghost use Rattle.prefix_trees.specs.Falls.{NeverFalls, FallsFirst};
 ghost use Rattle.prefix_trees.specs.WriterLaws.{IsWrittenAt};
 
 use crate::growth::{End, sign_of, value_of};
-use crate::line_row::{LineRow, Walks, growth, height, lowest};
+use crate::line_row::{LineRow, Walks, falls_to, growth, height, rises_at_either};
 use retro_base::{NoMemory, Op, Row, Steps};
 use std::alloc::Global;
 use std::marker::Model;
@@ -100,19 +100,58 @@ impl LineRows {
             .last_place(to, |range: &Walks| height(range, end) >= count, steps)
     }
 
-    /// The least place from `from` on before which there are no more items than the value.
+    /// The greatest place up to `to` from which on the rows before `to` let the line grow by so many items at least, at its left end
+    /// by `at_left` or at its right end by `at_right`.
+    pub fn last_growing_at_either<L: Ledger>(
+        &self,
+        to: u32,
+        at_left: i64,
+        at_right: i64,
+        steps: &mut Steps<L>,
+    ) -> Option<u32>
+        requires { to ≤ length self.now }
+        ensures last { FindsLastAtEither self.now to
+            (grown left_growth self.now to -ℤ at_left) (grown right_growth self.now to -ℤ at_right) result }
+        ensures visits { VisitsWithin 12 (length self.now) steps.old steps.new }
+    {
+        self.rows.last_place(
+            to,
+            |range: &Walks| rises_at_either(range, at_left, at_right),
+            steps,
+        )
+    }
+
+    /// The least place from `from` on before which there are no more items than the value. Most often there is none, which the
+    /// measure of all rows from there on tells before any search.
     fn first_at_most<L: Ledger>(&self, from: u32, value: i64, steps: &mut Steps<L>) -> Option<u32>
         requires { from ≤ length self.now }
         ensures first { FindsFirstAtMost sign_of self.now from value result }
-        ensures visits { VisitsWithin 24 (length self.now) steps.old steps.new }
+        ensures visits { VisitsWithin 36 (length self.now) steps.old steps.new }
     {
-        let start = i128::from(self.size_at(from, steps));
-        let goal = i128::from(value);
-        self.rows.first_place(
-            from,
-            |range: &Walks| start + i128::from(lowest(range)) <= goal,
-            steps,
-        )
+        let start = self.size_at(from, steps);
+        let rest = self.rows.measure(from, self.len(), steps);
+        if falls_to(&rest, start, value) {
+            self.first_falling(from, start, value, steps)
+        } else {
+            None
+        }
+    }
+
+    /// The same by a search, where it is told how many items there are before the place.
+    fn first_falling<L: Ledger>(
+        &self,
+        from: u32,
+        start: i64,
+        value: i64,
+        steps: &mut Steps<L>,
+    ) -> Option<u32>
+        requires within { from ≤ length self.now }
+        requires start { start ≡ grown sign_of self.now from }
+        ensures first { FindsFirstAtMost sign_of self.now from value result }
+        ensures visits { VisitsWithin 12 (length self.now) steps.old steps.new }
+    {
+        self.rows
+            .first_place(from, |range: &Walks| falls_to(range, start, value), steps)
     }
 
     /// The index of the first row that finds nothing to take, were a row with this operation put in at
@@ -127,7 +166,7 @@ impl LineRows {
         requires never { NeverFalls self.now }
         ensures first { (row : Row) → row.op ≡ op → FallsFirst (insert self.now place row) result }
         ensures index { IfSome result (λ index. index ≤ length self.now) }
-        ensures visits { VisitsWithin 24 (length self.now) steps.old steps.new }
+        ensures visits { VisitsWithin 36 (length self.now) steps.old steps.new }
     {
         if sign_of(op) >= 0 {
             return None;
@@ -146,7 +185,7 @@ impl LineRows {
         requires never { NeverFalls self.now }
         ensures first { FallsFirst (remove self.now place) result }
         ensures index { IfSome result (λ index. index + 1 < length self.now) }
-        ensures visits { VisitsWithin 36 (length self.now) steps.old steps.new }
+        ensures visits { VisitsWithin 48 (length self.now) steps.old steps.new }
     {
         let row = self.row_at(place, steps);
         if sign_of(row.op) <= 0 {

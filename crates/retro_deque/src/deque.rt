@@ -1,7 +1,6 @@
 //! The deque.
 
-use crate::later::later;
-use prefix_trees::{End, LineRows, RetroLine, Sequence};
+use prefix_trees::{LineRows, RetroLine, Sequence};
 use retro_base::{Kind, Steps};
 use std::sync::ledger::Ledger;
 
@@ -28,10 +27,8 @@ impl Sequence for Deque {
         index: u32,
         steps: &mut Steps<L>,
     ) -> Option<u32> {
-        let from_left = i64::from(index) + 1;
-        let from_right = rows.size_at(place, steps) - i64::from(index);
-        let by_left = rows.last_growing(End::Left, place, from_left, steps);
-        let by_right = rows.last_growing(End::Right, place, from_right, steps);
-        later(by_left, by_right)
+        let at_left = i64::from(index) + 1;
+        let at_right = rows.size_at(place, steps) - i64::from(index);
+        rows.last_growing_at_either(place, at_left, at_right, steps)
     }
 }

@@ -2,9 +2,9 @@
 //!
 //! An item has a position that never changes while it is there: the right end has grown over it, or the left
 //! one. So it was written by the later of two rows, the last one before which the right end did not reach the
-//! position, and the last one before which the left end did not. These are the last row from which on the right end grew
-//! by that item and those on its right, and the like at the left: two searches among prefix sums, however long the history is
-//! (Demaine, Iacono and Langerman, "Retroactive Data Structures", section 5). specs/EndLaws.antt says why, over
+//! position, and the last one before which the left end did not. So it is the last row from which on the right end grew
+//! by that item and those on its right, or the left end by it and those on its left: one search among prefix sums, however long
+//! the history is (Demaine, Iacono and Langerman, "Retroactive Data Structures", section 5). specs/EndLaws.antt says why, over
 //! lists of rows alone.
 //!
 //! `RetroDeque` is seen as its rows. It is a `RetroLine` of `prefix_trees` over the rows of a deque: so it implements `Partial`
@@ -12,10 +12,9 @@
 //! each binary digit of one more than the number of rows, and only `insert`, `copy` and the listings take memory.
 //!
 //! - `RetroDeque`.
-//! - `deque`: the kind, and the type. `later`: the later of two places.
+//! - `deque`: the kind, and the type.
 #![tactic(auto)]
 
 mod deque;
-mod later;
 
 pub use deque::RetroDeque;

@@ -1,24 +1,25 @@
-use Rattle.std.proofs.Common.{◌≡◌, ◌+ℤ◌, ◌∙◌, ap, sym, rules}
+use Rattle.std.proofs.Common.{◌≡◌, ◌+ℤ◌, ◌∙◌, length, ap, sym, rules}
 use Rattle.std.specs.List.{slice_range}
 use Rattle.std.specs.Int.Signed.{le_z}
-use Rattle.monoid_laws.specs.PrefixSumLaws.{reaches, reaches-rises}
-use Rattle.monoid_laws.specs.Walk.{lowest_of}
+use Rattle.monoid_laws.specs.PrefixSumLaws.{reaches}
+use Rattle.monoid_laws.specs.Walk.{walk_of, lowest_of}
 use Rattle.prefix_trees.specs.Growth.{grown, growths, sign_of}
-use Rattle.prefix_trees.proofs.MeasuredRows.{walks_of, range-whole}
-use Rattle.prefix_trees.proofs.FoundPlaces.{finds-first}
+use Rattle.prefix_trees.proofs.MeasuredRows.{range-whole}
+use Rattle.prefix_trees.proofs.FoundPlaces.{finds-none}
 use Rattle.prefix_trees.proofs.line_rows.LineRows.first_at_most.Goals as goal
 
-pub returns-clause-first : goal.returns-clause-first
-returns-clause-first g c =
+pub returns-else-falls_to-clause-first : goal.returns-else-falls_to-clause-first
+returns-else-falls_to-clause-first g c =
     let rows = c.self.inside.rows in
     let from = c.args.from in
     let value = c.args.value in
     let sums = growths sign_of rows in
-    let start : c.size_at.result ≡ grown sign_of rows from = c.size_at.ensures.size ∙ ap (λ xs. grown sign_of xs from) (sym c.self.view_is) in
-    rw (← c.self.view_is) (finds-first sign_of rows value from c.first_place.result (c.first_place.ensures.first (reaches sums from value)
-    (λ place answer above within call.
-    let reported : answer ≡ le_z (c.size_at.result +ℤ lowest_of (walks_of (slice_range rows from place)).0) value = search rules in
-    reported
-    ∙ ap (λ s. le_z (s +ℤ lowest_of (walks_of (slice_range rows from place)).0) value) start
-    ∙ ap (λ w. le_z (grown sign_of rows from +ℤ lowest_of w) value) (range-whole rows from place))
-    (λ place later above order within holds. reaches-rises sums from value place later above order holds)))
+    let start : c.size_at-start.result ≡ grown sign_of rows from = c.size_at-start.ensures.size ∙ ap (λ xs. grown sign_of xs from) (sym c.self.view_is) in
+    let rest : c.measure-rest.result.0 ≡ walk_of (slice_range sums from c.len.result) = ap (λ w. w.0) c.measure-rest.ensures.value ∙ range-whole rows from c.len.result in
+    let end : c.len.result ≡ length rows = c.len.ensures ∙ ap length (sym c.self.view_is) in
+    let told : c.falls_to.result ≡ le_z (c.size_at-start.result +ℤ lowest_of c.measure-rest.result.0) value = search rules in
+    let tested = told
+    ∙ ap (λ s. le_z (s +ℤ lowest_of c.measure-rest.result.0) value) start
+    ∙ ap (λ w. le_z (grown sign_of rows from +ℤ lowest_of w) value) rest
+    ∙ ap (reaches sums from value) end in
+    rw (← c.self.view_is) (finds-none sign_of rows value from (sym tested ∙ c.if-falls_to.false))

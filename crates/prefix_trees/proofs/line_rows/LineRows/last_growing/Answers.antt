@@ -1,12 +1,12 @@
-use Rattle.std.proofs.Common.{◌≡◌, ◌-ℤ◌, ◌∙◌, ap, rules}
+use Rattle.std.proofs.Common.{◌≡◌, ◌-ℤ◌, ◌∙◌, rules}
 use Rattle.std.specs.List.{slice_range}
 use Rattle.std.specs.Int.Signed.{le_z}
 use Rattle.monoid_laws.specs.SuffixSumLaws.{keeps, keeps-falls}
-use Rattle.monoid_laws.specs.Walk.{walk_of, height_of}
+use Rattle.monoid_laws.specs.Walk.{height_of}
 use Rattle.prefix_trees.specs.Growth.{grown, growths, growth_at}
 use Rattle.prefix_trees.specs.Walks.{walk_at}
-use Rattle.prefix_trees.proofs.MeasuredRows.{walks_of, range-end, from_end}
-use Rattle.prefix_trees.proofs.FoundPlaces.{finds-last}
+use Rattle.prefix_trees.proofs.MeasuredRows.{walks_of}
+use Rattle.prefix_trees.proofs.FoundPlaces.{finds-last, end-keeps}
 use Rattle.prefix_trees.proofs.line_rows.LineRows.last_growing.Goals as goal
 
 pub returns-clause-last : goal.returns-clause-last
@@ -16,9 +16,9 @@ returns-clause-last g c =
     let to = c.args.to in
     let count = c.args.count in
     let sums = growths (growth_at end) rows in
-    let grown_to = grown (growth_at end) rows to in
-    rw (← c.self.view_is) (finds-last (growth_at end) rows (grown_to -ℤ count) to c.last_place.result (c.last_place.ensures.last (keeps sums to (grown_to -ℤ count))
+    let value = grown (growth_at end) rows to -ℤ count in
+    rw (← c.self.view_is) (finds-last (growth_at end) rows value to c.last_place.result (c.last_place.ensures.last (keeps sums to value)
     (λ place answer above within call.
     let reported : answer ≡ le_z count (height_of (walk_at end (walks_of (slice_range rows place to)))) = search rules in
-    reported ∙ ap (λ w. le_z count (height_of w)) (range-end rows place to end) ∙ from_end grown_to count (height_of (walk_of (slice_range sums place to))))
-    (λ place earlier order within holds. keeps-falls sums to (grown_to -ℤ count) place earlier order within holds)))
+    reported ∙ end-keeps end rows place to count)
+    (λ place earlier order within holds. keeps-falls sums to value place earlier order within holds)))
