@@ -10,18 +10,16 @@ use crate::lifetime::Lifetime;
 use crate::sorted::{ByItem, put};
 use crate::taking::take_first;
 use crate::trie::{FEW, Node, Trie};
-use retro_base::{NoMemory, Steps};
+use retro_base::NoMemory;
 use std::alloc::Global;
-use std::sync::ledger::Ledger;
 
 /// Puts the item of a lifetime into the spans that make it up. Lifetimes that are no longer few are divided first.
 #[cycle(add)]
-pub(crate) fn add<D: Decomposable, L: Ledger>(
+pub(crate) fn add<D: Decomposable>(
     trie: &mut Trie<D::Item>,
     level: u32,
     life: Lifetime<D::Item>,
     alloc: Global,
-    steps: &mut Steps<L>,
 ) -> Result<(), NoMemory>
     requires level { level ≤ 40 }
     requires begins { life.from < 2 ^ level }
@@ -31,13 +29,13 @@ pub(crate) fn add<D: Decomposable, L: Ledger>(
     ensures err { OnErr result (Keeps D.stands_before level trie.old trie.new) }
 {
     match trie {
-        Trie::Full(node) => add_to_node::<D, L>(node, level, life, alloc, steps),
+        Trie::Full(node) => add_to_node::<D>(node, level, life, alloc),
         Trie::Few(few) => {
             if few.len() < FEW {
                 return put_life::<D>(few, life.clipped(level));
             }
-            let mut node = divided::<D, L>(few, level, alloc, steps)?;
-            add_to_node::<D, L>(&mut node, level, life, alloc, steps)?;
+            let mut node = divided::<D>(few, level, alloc)?;
+            add_to_node::<D>(&mut node, level, life, alloc)?;
             *trie = Trie::Full(node);
             Ok(())
         }
@@ -46,11 +44,10 @@ pub(crate) fn add<D: Decomposable, L: Ledger>(
 
 /// A node that has these lifetimes.
 #[cycle(add)]
-fn divided<D: Decomposable, L: Ledger>(
+fn divided<D: Decomposable>(
     few: &LifeList<D::Item>,
     level: u32,
     alloc: Global,
-    steps: &mut Steps<L>,
 ) -> Result<Box<Node<D::Item>>, NoMemory>
     requires level { level ≤ 40 }
     requires touch { AllByRecursion (Touches level) few.now }
@@ -59,18 +56,17 @@ fn divided<D: Decomposable, L: Ledger>(
 {
     let mut node = Node::boxed(alloc)?;
     for place in (0..few.len()).rev() {
-        add_to_node::<D, L>(&mut node, level, few.get(place), alloc, steps)?;
+        add_to_node::<D>(&mut node, level, few.get(place), alloc)?;
     }
     Ok(node)
 }
 
 #[cycle(add)]
-fn add_to_node<D: Decomposable, L: Ledger>(
+fn add_to_node<D: Decomposable>(
     node: &mut Node<D::Item>,
     level: u32,
     life: Lifetime<D::Item>,
     alloc: Global,
-    steps: &mut Steps<L>,
 ) -> Result<(), NoMemory>
     requires level { level ≤ 40 }
     requires begins { life.from < 2 ^ level }
@@ -80,20 +76,19 @@ fn add_to_node<D: Decomposable, L: Ledger>(
     ensures err { OnErr result (NodeKeeps D.stands_before level node.old node.new) }
 {
     if life.is_whole(level) {
-        put::<ByItem<D>, L>(&mut node.items, life.item, steps)
+        put::<ByItem<D>>(&mut node.items, life.item)
     } else {
-        add_to_halves::<D, L>(node, level - 1, life, alloc, steps)
+        add_to_halves::<D>(node, level - 1, life, alloc)
     }
 }
 
 /// After out of memory on the second side, the first has the lifetimes that it had.
 #[cycle(add)]
-pub(crate) fn add_to_halves<D: Decomposable, L: Ledger>(
+pub(crate) fn add_to_halves<D: Decomposable>(
     node: &mut Node<D::Item>,
     level: u32,
     life: Lifetime<D::Item>,
     alloc: Global,
-    steps: &mut Steps<L>,
 ) -> Result<(), NoMemory>
     requires level { level < 40 }
     requires begins { life.from < 2 ^ suc level }
@@ -103,21 +98,20 @@ pub(crate) fn add_to_halves<D: Decomposable, L: Ledger>(
     ensures ok { OnOk result (NodeAdds D.stands_before (suc level) life node.old node.new) }
     ensures err { OnErr result (NodeKeeps D.stands_before (suc level) node.old node.new) }
 {
-    add_first::<D, L>(&mut node.left, level, life, alloc, steps)?;
-    let added = add_second::<D, L>(&mut node.right, level, life, alloc, steps);
+    add_first::<D>(&mut node.left, level, life, alloc)?;
+    let added = add_second::<D>(&mut node.right, level, life, alloc);
     if added.is_err() {
-        take_first::<D, L>(&mut node.left, level, life, steps);
+        take_first::<D>(&mut node.left, level, life);
     }
     added
 }
 
 #[cycle(add)]
-fn add_first<D: Decomposable, L: Ledger>(
+fn add_first<D: Decomposable>(
     left: &mut Trie<D::Item>,
     level: u32,
     life: Lifetime<D::Item>,
     alloc: Global,
-    steps: &mut Steps<L>,
 ) -> Result<(), NoMemory>
     requires level { level < 40 }
     requires rises { life.from < life.to }
@@ -127,19 +121,18 @@ fn add_first<D: Decomposable, L: Ledger>(
     ensures err { OnErr result (Keeps D.stands_before level left.old left.new) }
 {
     if life.begins_in_first(level) {
-        add::<D, L>(left, level, life, alloc, steps)
+        add::<D>(left, level, life, alloc)
     } else {
         Ok(())
     }
 }
 
 #[cycle(add)]
-pub(crate) fn add_second<D: Decomposable, L: Ledger>(
+pub(crate) fn add_second<D: Decomposable>(
     right: &mut Trie<D::Item>,
     level: u32,
     life: Lifetime<D::Item>,
     alloc: Global,
-    steps: &mut Steps<L>,
 ) -> Result<(), NoMemory>
     requires level { level < 40 }
     requires begins { life.from < 2 ^ suc level }
@@ -150,7 +143,7 @@ pub(crate) fn add_second<D: Decomposable, L: Ledger>(
     ensures err { OnErr result (Keeps D.stands_before level right.old right.new) }
 {
     if life.ends_in_second(level) {
-        add::<D, L>(right, level, life.in_second(level), alloc, steps)
+        add::<D>(right, level, life.in_second(level), alloc)
     } else {
         Ok(())
     }

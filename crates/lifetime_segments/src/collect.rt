@@ -1,6 +1,5 @@
 //! The items on the way to a label.
 ghost use Rattle.std.specs.Prelude.{◌≡◌, ◌<◌, ◌≤◌, ◌^◌, ◌++◌, suc, [], OnOk, IfOk};
-ghost use Rattle.retro_base.specs.Visits.{OpensCounter};
 ghost use Rattle.lifetime_segments.specs.Lifetimes.{items_at, stands_earlier};
 ghost use Rattle.lifetime_segments.specs.Ordered.{AreInOrder};
 ghost use Rattle.lifetime_segments.specs.Tries.{CollectsAt, NodeCollectsAt};
@@ -10,38 +9,33 @@ use crate::life_list::LifeList;
 use crate::lifetime::labels;
 use crate::trie::{Node, Trie};
 use monoid_laws::Measured;
-use retro_base::{NoMemory, Steps};
+use retro_base::NoMemory;
 use std::alloc::Global;
-use std::sync::ledger::{Blank, Ledger};
-use weighted_tree::Tree;
+use weighted_tree::{Tree, uncounted};
 
 /// The items in the spans above a label, span by span.
-pub(crate) fn collected<D: Decomposable, L: Ledger>(
+pub(crate) fn collected<D: Decomposable>(
     root: &Trie<D::Item>,
     level: u32,
     label: u64,
     alloc: Global,
-    blank: Blank,
 ) -> Result<Vec<D::Item>, NoMemory>
-    requires counter { OpensCounter blank.name L.name blank.parts L.parts }
     requires level { level ≤ 40 }
     requires within { label < 2 ^ level }
     ensures { IfOk result (λ items. CollectsAt D.stands_before level label root.now [] items.items) }
 {
-    let mut steps = Steps::<L>::new(blank);
     let mut items = Vec::new(alloc);
-    collect::<D, L>(root, level, label, &mut items, &mut steps)?;
+    collect::<D>(root, level, label, &mut items)?;
     Ok(items)
 }
 
 /// Appends the items in the spans above a label.
 #[cycle(collect)]
-fn collect<D: Decomposable, L: Ledger>(
+fn collect<D: Decomposable>(
     trie: &Trie<D::Item>,
     level: u32,
     label: u64,
     items: &mut Vec<D::Item>,
-    steps: &mut Steps<L>,
 ) -> Result<(), NoMemory>
     requires level { level ≤ 40 }
     requires within { label < 2 ^ level }
@@ -51,21 +45,20 @@ fn collect<D: Decomposable, L: Ledger>(
         Trie::Few(few) => return append_few::<D>(few, label, items),
         Trie::Full(node) => node,
     };
-    append(&node.items, items, steps)?;
+    append(&node.items, items)?;
     if level == 0 {
         return Ok(());
     }
-    collect_half::<D, L>(node, level - 1, label, items, steps)
+    collect_half::<D>(node, level - 1, label, items)
 }
 
 /// Appends the items in the spans below a node and above a label.
 #[cycle(collect)]
-fn collect_half<D: Decomposable, L: Ledger>(
+fn collect_half<D: Decomposable>(
     node: &Node<D::Item>,
     level: u32,
     label: u64,
     items: &mut Vec<D::Item>,
-    steps: &mut Steps<L>,
 ) -> Result<(), NoMemory>
     requires level { level < 40 }
     requires within { label < 2 ^ suc level }
@@ -73,25 +66,21 @@ fn collect_half<D: Decomposable, L: Ledger>(
 {
     let half = labels(level);
     if label < half {
-        collect::<D, L>(&node.left, level, label, items, steps)
+        collect::<D>(&node.left, level, label, items)
     } else {
-        collect::<D, L>(&node.right, level, label - half, items, steps)
+        collect::<D>(&node.right, level, label - half, items)
     }
 }
 
 /// Appends the items of a tree.
-fn append<T: Measured, L: Ledger>(
-    tree: &Tree<T>,
-    items: &mut Vec<T>,
-    steps: &mut Steps<L>,
-) -> Result<(), NoMemory>
+fn append<T: Measured>(tree: &Tree<T>, items: &mut Vec<T>) -> Result<(), NoMemory>
     ensures { OnOk result (items.new.items ≡ items.old.items ++ tree.now) }
 {
     if tree.len() == 0 {
         return Ok(());
     }
-    let mut read = vec![in tree.alloc(); tree.get(0, steps); tree.len() as usize]?;
-    tree.read(0, |item: &T| *item, &mut read, steps);
+    let mut read = vec![in tree.alloc(); uncounted::get(tree, 0); tree.len() as usize]?;
+    uncounted::read(tree, 0, |item: &T| *item, &mut read);
     items.append(&mut read)?;
     Ok(())
 }

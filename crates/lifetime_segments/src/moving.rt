@@ -9,19 +9,17 @@ use crate::lifetime::{Lifetime, labels};
 use crate::sorted::{ByItem, put, take_out};
 use crate::taking::{take_first, take_second};
 use crate::trie::{Node, Trie};
-use retro_base::{NoMemory, Steps};
+use retro_base::NoMemory;
 use std::alloc::Global;
-use std::sync::ledger::Ledger;
 
 /// Moves where a lifetime ends. Spans that it has with either end are left as they are.
 #[cycle(move_end)]
-pub(crate) fn move_end<D: Decomposable, L: Ledger>(
+pub(crate) fn move_end<D: Decomposable>(
     trie: &mut Trie<D::Item>,
     level: u32,
     life: Lifetime<D::Item>,
     next: u64,
     alloc: Global,
-    steps: &mut Steps<L>,
 ) -> Result<(), NoMemory>
     requires level { level ≤ 40 }
     requires begins { life.from < 2 ^ level }
@@ -37,18 +35,17 @@ pub(crate) fn move_end<D: Decomposable, L: Ledger>(
             let moved = life.ending(next).clipped(level);
             exchange_lives::<D>(few, life.clipped(level), moved)
         }
-        Trie::Full(node) => move_in_node::<D, L>(node, level, life, next, alloc, steps),
+        Trie::Full(node) => move_in_node::<D>(node, level, life, next, alloc),
     }
 }
 
 #[cycle(move_end)]
-fn move_in_node<D: Decomposable, L: Ledger>(
+fn move_in_node<D: Decomposable>(
     node: &mut Node<D::Item>,
     level: u32,
     life: Lifetime<D::Item>,
     next: u64,
     alloc: Global,
-    steps: &mut Steps<L>,
 ) -> Result<(), NoMemory>
     requires level { level ≤ 40 }
     requires begins { life.from < 2 ^ level }
@@ -63,22 +60,21 @@ fn move_in_node<D: Decomposable, L: Ledger>(
         if life.ending(next).is_whole(level) {
             return Ok(());
         }
-        return break_up::<D, L>(node, level - 1, life, next, alloc, steps);
+        return break_up::<D>(node, level - 1, life, next, alloc);
     }
     if life.ending(next).is_whole(level) {
-        return make_whole::<D, L>(node, level - 1, life, next, steps);
+        return make_whole::<D>(node, level - 1, life, next);
     }
-    move_in_halves::<D, L>(node, level - 1, life, next, alloc, steps)
+    move_in_halves::<D>(node, level - 1, life, next, alloc)
 }
 
 /// A lifetime that held a whole span ends in it: its item goes from the node into the halves.
-fn break_up<D: Decomposable, L: Ledger>(
+fn break_up<D: Decomposable>(
     node: &mut Node<D::Item>,
     level: u32,
     life: Lifetime<D::Item>,
     next: u64,
     alloc: Global,
-    steps: &mut Steps<L>,
 ) -> Result<(), NoMemory>
     requires level { level < 40 }
     requires next { life.from < next }
@@ -89,18 +85,17 @@ fn break_up<D: Decomposable, L: Ledger>(
     ensures ok { OnOk result (NodeMoves D.stands_before (suc level) life next node.old node.new) }
     ensures err { OnErr result (NodeKeeps D.stands_before (suc level) node.old node.new) }
 {
-    add_to_halves::<D, L>(node, level, life.ending(next), alloc, steps)?;
-    take_out::<ByItem<D>, L>(&mut node.items, life.item, steps);
+    add_to_halves::<D>(node, level, life.ending(next), alloc)?;
+    take_out::<ByItem<D>>(&mut node.items, life.item);
     Ok(())
 }
 
 /// A lifetime that ended in a span holds it whole: its item goes from the halves into the node.
-fn make_whole<D: Decomposable, L: Ledger>(
+fn make_whole<D: Decomposable>(
     node: &mut Node<D::Item>,
     level: u32,
     life: Lifetime<D::Item>,
     next: u64,
-    steps: &mut Steps<L>,
 ) -> Result<(), NoMemory>
     requires level { level < 40 }
     requires begins { life.from < 2 ^ suc level }
@@ -112,21 +107,20 @@ fn make_whole<D: Decomposable, L: Ledger>(
     ensures ok { OnOk result (NodeMoves D.stands_before (suc level) life next node.old node.new) }
     ensures err { OnErr result (NodeKeeps D.stands_before (suc level) node.old node.new) }
 {
-    put::<ByItem<D>, L>(&mut node.items, life.item, steps)?;
-    take_first::<D, L>(&mut node.left, level, life, steps);
-    take_second::<D, L>(&mut node.right, level, life, steps);
+    put::<ByItem<D>>(&mut node.items, life.item)?;
+    take_first::<D>(&mut node.left, level, life);
+    take_second::<D>(&mut node.right, level, life);
     Ok(())
 }
 
 /// Where both ends lie in the second half, only that half changes.
 #[cycle(move_end)]
-fn move_in_halves<D: Decomposable, L: Ledger>(
+fn move_in_halves<D: Decomposable>(
     node: &mut Node<D::Item>,
     level: u32,
     life: Lifetime<D::Item>,
     next: u64,
     alloc: Global,
-    steps: &mut Steps<L>,
 ) -> Result<(), NoMemory>
     requires level { level < 40 }
     requires begins { life.from < 2 ^ suc level }
@@ -141,27 +135,26 @@ fn move_in_halves<D: Decomposable, L: Ledger>(
 {
     let half = labels(level);
     if next <= half {
-        move_first::<D, L>(&mut node.left, level, life, next, alloc, steps)?;
-        take_second::<D, L>(&mut node.right, level, life, steps);
+        move_first::<D>(&mut node.left, level, life, next, alloc)?;
+        take_second::<D>(&mut node.right, level, life);
         return Ok(());
     }
     if half < life.to {
         let later = life.in_second(level);
-        return move_end::<D, L>(&mut node.right, level, later, next - half, alloc, steps);
+        return move_end::<D>(&mut node.right, level, later, next - half, alloc);
     }
-    lengthen::<D, L>(node, level, life, next, alloc, steps)
+    lengthen::<D>(node, level, life, next, alloc)
 }
 
 /// A lifetime that ended in the first half ends in the second. After out of memory in the first half, the second has the
 /// lifetimes that it had.
 #[cycle(move_end)]
-fn lengthen<D: Decomposable, L: Ledger>(
+fn lengthen<D: Decomposable>(
     node: &mut Node<D::Item>,
     level: u32,
     life: Lifetime<D::Item>,
     next: u64,
     alloc: Global,
-    steps: &mut Steps<L>,
 ) -> Result<(), NoMemory>
     requires level { level < 40 }
     requires begins { life.from < 2 ^ suc level }
@@ -176,23 +169,22 @@ fn lengthen<D: Decomposable, L: Ledger>(
     ensures err { OnErr result (NodeKeeps D.stands_before (suc level) node.old node.new) }
 {
     let longer = life.ending(next);
-    add_second::<D, L>(&mut node.right, level, longer, alloc, steps)?;
-    let moved = move_first::<D, L>(&mut node.left, level, life, next, alloc, steps);
+    add_second::<D>(&mut node.right, level, longer, alloc)?;
+    let moved = move_first::<D>(&mut node.left, level, life, next, alloc);
     if moved.is_err() {
-        take_second::<D, L>(&mut node.right, level, longer, steps);
+        take_second::<D>(&mut node.right, level, longer);
     }
     moved
 }
 
 /// Where both ends lie past the first half, it is left as it is.
 #[cycle(move_end)]
-fn move_first<D: Decomposable, L: Ledger>(
+fn move_first<D: Decomposable>(
     left: &mut Trie<D::Item>,
     level: u32,
     life: Lifetime<D::Item>,
     next: u64,
     alloc: Global,
-    steps: &mut Steps<L>,
 ) -> Result<(), NoMemory>
     requires level { level < 40 }
     requires rises { life.from < life.to }
@@ -208,5 +200,5 @@ fn move_first<D: Decomposable, L: Ledger>(
     if half <= life.to && half <= next {
         return Ok(());
     }
-    move_end::<D, L>(left, level, life, next, alloc, steps)
+    move_end::<D>(left, level, life, next, alloc)
 }

@@ -1,7 +1,6 @@
 //! The type and its calls: the lifetimes that are held, and the spans that they lie in.
 ghost use Rattle.std.specs.Prelude.{◌≡◌, ◌<◌, ◌≤◌, true, [], length, Some, IfOk, OnOk, OnErr};
 ghost use Rattle.std.specs.List.{AllByRecursion};
-ghost use Rattle.retro_base.specs.Visits.{OpensCounter};
 ghost use Rattle.lifetime_segments.specs.Lawful.{most_items};
 ghost use Rattle.lifetime_segments.specs.Lifetimes.{label_end, lifetime, IsInRange, items_at, stands_earlier};
 ghost use Rattle.lifetime_segments.specs.Ordered.{AreInOrder, put_in, in_order, is_in, without, position_in};
@@ -16,11 +15,10 @@ use crate::search::ask;
 use crate::sorted::{ByStart, is_beside, place_of, position, put, take_out};
 use crate::taking::take;
 use crate::trie::Trie;
-use retro_base::{NoMemory, Steps};
+use retro_base::NoMemory;
 use std::alloc::Global;
-use std::marker::{Brand, Model};
-use std::sync::ledger::{Blank, Ledger};
-use weighted_tree::Tree;
+use std::marker::Model;
+use weighted_tree::{Tree, uncounted};
 
 /// The level of the span of all labels.
 const LEVELS: u32 = 40;
@@ -66,7 +64,7 @@ impl<D: Decomposable> Segments<D> {
         ensures err { OnErr result (self.new ≡ self.old) }
     {
         let life = Lifetime { from, to, item };
-        add_held::<D, Brand>(&mut self.held, &mut self.root, life, Blank::new(1))
+        add_held::<D>(&mut self.held, &mut self.root, life)
     }
 
     /// Moves where a lifetime ends: the one that ends at `next` is put in, and the one that ends at `to` taken out. After
@@ -79,15 +77,8 @@ impl<D: Decomposable> Segments<D> {
         ensures err { OnErr result (self.new ≡ self.old) }
     {
         let life = Lifetime { from, to, item };
-        if let Some(place) = place_held::<D, Brand>(&self.held, life, Blank::new(1)) {
-            return move_held::<D, Brand>(
-                &mut self.held,
-                &mut self.root,
-                place,
-                life,
-                next,
-                Blank::new(1),
-            );
+        if let Some(place) = position::<ByStart<D>>(&self.held, &life) {
+            return move_held::<D>(&mut self.held, &mut self.root, place, life, next);
         }
         self.add(from, next, item)?;
         self.take(from, to, item);
@@ -102,7 +93,7 @@ impl<D: Decomposable> Segments<D> {
         ensures in_range { AllByRecursion IsInRange self.old }
     {
         let life = Lifetime { from, to, item };
-        take_held::<D, Brand>(&mut self.held, &mut self.root, life, Blank::new(1))
+        take_held::<D>(&mut self.held, &mut self.root, life)
     }
 
     /// The items of all lifetimes that hold the label, in no order of their own.
@@ -112,7 +103,7 @@ impl<D: Decomposable> Segments<D> {
         ensures few { IfOk result (λ items. length items.items ≤ most_items) }
     {
         let alloc = self.held.alloc();
-        collected::<D, Brand>(&self.root, LEVELS, label, alloc, Blank::new(1))
+        collected::<D>(&self.root, LEVELS, label, alloc)
     }
 }
 
@@ -126,13 +117,11 @@ impl<D: AnswersOfOne> Segments<D> {
     }
 }
 
-fn add_held<D: Decomposable, L: Ledger>(
+fn add_held<D: Decomposable>(
     held: &mut Tree<Lifetime<D::Item>>,
     root: &mut Trie<D::Item>,
     life: Lifetime<D::Item>,
-    blank: Blank,
 ) -> Result<(), NoMemory>
-    requires counter { OpensCounter blank.name L.name blank.parts L.parts }
     requires range { IsInRange life }
     requires room { length held.old < most_items }
     requires held { AreHeld D.stands_before held.old root.old }
@@ -140,60 +129,40 @@ fn add_held<D: Decomposable, L: Ledger>(
     ensures ok { OnOk result (held.new ≡ put_in (stands_earlier D.stands_before) life held.old) }
     ensures err { OnErr result (held.new ≡ held.old) }
 {
-    let mut steps = Steps::<L>::new(blank);
-    put::<ByStart<D>, L>(held, life, &mut steps)?;
-    let added = add::<D, L>(root, LEVELS, life, held.alloc(), &mut steps);
+    put::<ByStart<D>>(held, life)?;
+    let added = add::<D>(root, LEVELS, life, held.alloc());
     if added.is_err() {
-        take_out::<ByStart<D>, L>(held, life, &mut steps);
+        take_out::<ByStart<D>>(held, life);
     }
     added
 }
 
-fn take_held<D: Decomposable, L: Ledger>(
+fn take_held<D: Decomposable>(
     held: &mut Tree<Lifetime<D::Item>>,
     root: &mut Trie<D::Item>,
     life: Lifetime<D::Item>,
-    blank: Blank,
 ) -> bool
-    requires counter { OpensCounter blank.name L.name blank.parts L.parts }
     requires held { AreHeld D.stands_before held.old root.old }
     ensures held { AreHeld D.stands_before held.new root.new }
     ensures found { result ≡ is_in (stands_earlier D.stands_before) life held.old }
     ensures rest { held.new ≡ without (stands_earlier D.stands_before) life held.old }
 {
-    let mut steps = Steps::<L>::new(blank);
-    let Some(place) = position::<ByStart<D>, L>(held, &life, &mut steps) else {
+    let Some(place) = position::<ByStart<D>>(held, &life) else {
         return false;
     };
-    held.remove(place, &mut steps);
-    take::<D, L>(root, LEVELS, life, &mut steps);
+    uncounted::remove(held, place);
+    take::<D>(root, LEVELS, life);
     true
 }
 
-/// The place of a lifetime among those that are held, if it is there.
-fn place_held<D: Decomposable, L: Ledger>(
-    held: &Tree<Lifetime<D::Item>>,
-    life: Lifetime<D::Item>,
-    blank: Blank,
-) -> Option<u32>
-    requires counter { OpensCounter blank.name L.name blank.parts L.parts }
-    requires ordered { AreInOrder (stands_earlier D.stands_before) held.now }
-    ensures { result ≡ position_in (stands_earlier D.stands_before) life held.now }
-{
-    let mut steps = Steps::<L>::new(blank);
-    position::<ByStart<D>, L>(held, &life, &mut steps)
-}
-
 /// Moves where a lifetime ends. Lifetimes stand by where they begin, so it mostly stays where it stands, and is replaced.
-fn move_held<D: Decomposable, L: Ledger>(
+fn move_held<D: Decomposable>(
     held: &mut Tree<Lifetime<D::Item>>,
     root: &mut Trie<D::Item>,
     place: u32,
     life: Lifetime<D::Item>,
     next: u64,
-    blank: Blank,
 ) -> Result<(), NoMemory>
-    requires counter { OpensCounter blank.name L.name blank.parts L.parts }
     requires range { IsInRange (ending next life) }
     requires room { length held.old < most_items }
     requires place { position_in (stands_earlier D.stands_before) life held.old ≡ Some place }
@@ -202,24 +171,22 @@ fn move_held<D: Decomposable, L: Ledger>(
     ensures ok { OnOk result (held.new ≡ without (stands_earlier D.stands_before) life (put_in (stands_earlier D.stands_before) (ending next life) held.old)) }
     ensures err { OnErr result (held.new ≡ held.old) }
 {
-    let mut steps = Steps::<L>::new(blank);
     let moved = life.ending(next);
-    let moved_place = place_of::<ByStart<D>, L>(held, &moved, &mut steps);
+    let moved_place = place_of::<ByStart<D>>(held, &moved);
     if is_beside(place as usize, moved_place as usize) {
-        move_end::<D, L>(root, LEVELS, life, next, held.alloc(), &mut steps)?;
-        held.replace(place, moved, &mut steps);
+        move_end::<D>(root, LEVELS, life, next, held.alloc())?;
+        uncounted::replace(held, place, moved);
         return Ok(());
     }
-    move_away::<D, L>(held, root, life, next, &mut steps)
+    move_away::<D>(held, root, life, next)
 }
 
 /// Moves where a lifetime ends that goes past others.
-fn move_away<D: Decomposable, L: Ledger>(
+fn move_away<D: Decomposable>(
     held: &mut Tree<Lifetime<D::Item>>,
     root: &mut Trie<D::Item>,
     life: Lifetime<D::Item>,
     next: u64,
-    steps: &mut Steps<L>,
 ) -> Result<(), NoMemory>
     requires range { IsInRange (ending next life) }
     requires room { length held.old < most_items }
@@ -230,9 +197,9 @@ fn move_away<D: Decomposable, L: Ledger>(
     ensures err { OnErr result (held.new ≡ held.old) }
 {
     let moved = life.ending(next);
-    put::<ByStart<D>, L>(held, moved, steps)?;
-    let done = move_end::<D, L>(root, LEVELS, life, next, held.alloc(), steps);
+    put::<ByStart<D>>(held, moved)?;
+    let done = move_end::<D>(root, LEVELS, life, next, held.alloc());
     let gone = if done.is_err() { moved } else { life };
-    take_out::<ByStart<D>, L>(held, gone, steps);
+    take_out::<ByStart<D>>(held, gone);
     done
 }

@@ -7,10 +7,9 @@ ghost use Rattle.lifetime_segments.specs.LifetimeLaws.{earlier_order};
 use crate::decomposable::Decomposable;
 use crate::lifetime::Lifetime;
 use monoid_laws::Measured;
-use retro_base::{NoMemory, Steps};
+use retro_base::NoMemory;
 use std::marker::PhantomData;
-use std::sync::ledger::Ledger;
-use weighted_tree::Tree;
+use weighted_tree::{Tree, uncounted};
 
 /// An order in which a tree keeps its items.
 pub(crate) trait Order {
@@ -62,43 +61,31 @@ impl<D: Decomposable> Order for ByStart<D> {
 }
 
 /// How many of the items stand before one: its place among them.
-pub(crate) fn place_of<O: Order, L: Ledger>(
-    items: &Tree<O::Item>,
-    item: &O::Item,
-    steps: &mut Steps<L>,
-) -> u32
+pub(crate) fn place_of<O: Order>(items: &Tree<O::Item>, item: &O::Item) -> u32
     requires ordered { AreInOrder O.stands_before items.now }
     ensures { result ≡ place_in O.stands_before item.now items.now }
 {
-    items.partition_point(|other: &O::Item| O::before(other, item), steps)
+    uncounted::partition_point(items, |other: &O::Item| O::before(other, item))
 }
 
 /// Puts an item in at its place.
-pub(crate) fn put<O: Order, L: Ledger>(
-    items: &mut Tree<O::Item>,
-    item: O::Item,
-    steps: &mut Steps<L>,
-) -> Result<(), NoMemory>
+pub(crate) fn put<O: Order>(items: &mut Tree<O::Item>, item: O::Item) -> Result<(), NoMemory>
     requires ordered { AreInOrder O.stands_before items.old }
     requires room { length items.old < 2 ^ 31 }
     ensures ok { OnOk result (items.new ≡ put_in O.stands_before item items.old) }
     ensures err { OnErr result (items.new ≡ items.old) }
 {
-    let place = place_of::<O, L>(items, &item, steps);
-    items.insert(place, item, steps)
+    let place = place_of::<O>(items, &item);
+    uncounted::insert(items, place, item)
 }
 
 /// The place of an item, if it is there.
-pub(crate) fn position<O: Order, L: Ledger>(
-    items: &Tree<O::Item>,
-    item: &O::Item,
-    steps: &mut Steps<L>,
-) -> Option<u32>
+pub(crate) fn position<O: Order>(items: &Tree<O::Item>, item: &O::Item) -> Option<u32>
     requires ordered { AreInOrder O.stands_before items.now }
     ensures { result ≡ position_in O.stands_before item.now items.now }
 {
-    let place = place_of::<O, L>(items, item, steps);
-    if place < items.len() && !O::before(item, &items.get(place, steps)) {
+    let place = place_of::<O>(items, item);
+    if place < items.len() && !O::before(item, &uncounted::get(items, place)) {
         Some(place)
     } else {
         None
@@ -115,15 +102,11 @@ pub(crate) fn is_beside(place: usize, next: usize) -> bool
 }
 
 /// Takes an item out that is there.
-pub(crate) fn take_out<O: Order, L: Ledger>(
-    items: &mut Tree<O::Item>,
-    item: O::Item,
-    steps: &mut Steps<L>,
-)
+pub(crate) fn take_out<O: Order>(items: &mut Tree<O::Item>, item: O::Item)
     requires ordered { AreInOrder O.stands_before items.old }
     requires there { is_in O.stands_before item items.old ≡ true }
     ensures { items.new ≡ without O.stands_before item items.old }
 {
-    let place = place_of::<O, L>(items, &item, steps);
-    items.remove(place, steps);
+    let place = place_of::<O>(items, &item);
+    uncounted::remove(items, place);
 }

@@ -7,17 +7,10 @@ use crate::life_list::take_life;
 use crate::lifetime::Lifetime;
 use crate::sorted::{ByItem, take_out};
 use crate::trie::{Node, Trie};
-use retro_base::Steps;
-use std::sync::ledger::Ledger;
 
 /// Takes the item of a lifetime out of the spans that make it up.
 #[cycle(take)]
-pub(crate) fn take<D: Decomposable, L: Ledger>(
-    trie: &mut Trie<D::Item>,
-    level: u32,
-    life: Lifetime<D::Item>,
-    steps: &mut Steps<L>,
-)
+pub(crate) fn take<D: Decomposable>(trie: &mut Trie<D::Item>, level: u32, life: Lifetime<D::Item>)
     requires level { level ≤ 40 }
     requires begins { life.from < 2 ^ level }
     requires rises { life.from < life.to }
@@ -27,7 +20,7 @@ pub(crate) fn take<D: Decomposable, L: Ledger>(
     match trie {
         Trie::Few(few) => take_life::<D>(few, life.clipped(level)),
         Trie::Full(node) => {
-            take_from_node::<D, L>(node, level, life, steps);
+            take_from_node::<D>(node, level, life);
             if node.is_bare() {
                 *trie = Trie::new(node.items.alloc());
             }
@@ -36,12 +29,7 @@ pub(crate) fn take<D: Decomposable, L: Ledger>(
 }
 
 #[cycle(take)]
-fn take_from_node<D: Decomposable, L: Ledger>(
-    node: &mut Node<D::Item>,
-    level: u32,
-    life: Lifetime<D::Item>,
-    steps: &mut Steps<L>,
-)
+fn take_from_node<D: Decomposable>(node: &mut Node<D::Item>, level: u32, life: Lifetime<D::Item>)
     requires level { level ≤ 40 }
     requires begins { life.from < 2 ^ level }
     requires rises { life.from < life.to }
@@ -49,19 +37,18 @@ fn take_from_node<D: Decomposable, L: Ledger>(
     ensures { NodeTakes D.stands_before level life node.old node.new }
 {
     if life.is_whole(level) {
-        take_out::<ByItem<D>, L>(&mut node.items, life.item, steps);
+        take_out::<ByItem<D>>(&mut node.items, life.item);
     } else {
-        take_first::<D, L>(&mut node.left, level - 1, life, steps);
-        take_second::<D, L>(&mut node.right, level - 1, life, steps);
+        take_first::<D>(&mut node.left, level - 1, life);
+        take_second::<D>(&mut node.right, level - 1, life);
     }
 }
 
 #[cycle(take)]
-pub(crate) fn take_first<D: Decomposable, L: Ledger>(
+pub(crate) fn take_first<D: Decomposable>(
     left: &mut Trie<D::Item>,
     level: u32,
     life: Lifetime<D::Item>,
-    steps: &mut Steps<L>,
 )
     requires level { level < 40 }
     requires rises { life.from < life.to }
@@ -70,16 +57,15 @@ pub(crate) fn take_first<D: Decomposable, L: Ledger>(
     ensures { TakesFirst D.stands_before level life left.old left.new }
 {
     if life.begins_in_first(level) {
-        take::<D, L>(left, level, life, steps);
+        take::<D>(left, level, life);
     }
 }
 
 #[cycle(take)]
-pub(crate) fn take_second<D: Decomposable, L: Ledger>(
+pub(crate) fn take_second<D: Decomposable>(
     right: &mut Trie<D::Item>,
     level: u32,
     life: Lifetime<D::Item>,
-    steps: &mut Steps<L>,
 )
     requires level { level < 40 }
     requires begins { life.from < 2 ^ suc level }
@@ -89,6 +75,6 @@ pub(crate) fn take_second<D: Decomposable, L: Ledger>(
     ensures { TakesSecond D.stands_before level life right.old right.new }
 {
     if life.ends_in_second(level) {
-        take::<D, L>(right, level, life.in_second(level), steps);
+        take::<D>(right, level, life.in_second(level));
     }
 }
