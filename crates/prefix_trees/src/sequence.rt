@@ -40,6 +40,24 @@ pub trait Sequence {
         ensures writer { FindsWriter kind rows.now place index result }
         ensures visits { VisitsWithin 96 (length rows.now) steps.old steps.new };
 
+    /// The same where it is told how many items there are.
+    fn written_among<L: Ledger>(
+        rows: &LineRows,
+        place: u32,
+        size: i64,
+        index: u32,
+        steps: &mut Steps<L>,
+    ) -> Option<u32>
+        requires replayable { IsReplayable kind rows.now }
+        requires within { place ≤ length rows.now }
+        requires told { size ≡ grown sign_of rows.now place }
+        requires there { pos index <ℤ grown sign_of rows.now place }
+        ensures writer { FindsWriter kind rows.now place index result }
+        ensures visits { VisitsWithin 96 (length rows.now) steps.old steps.new }
+    {
+        Self::written_by(rows, place, index, steps)
+    }
+
     /// Its state is a line of items.
     ghost is_line: { IsLine kind };
 }
@@ -55,21 +73,23 @@ fn size_at<S: Sequence, L: Ledger>(rows: &LineRows, place: u32, steps: &mut Step
     rows.size_at(place, steps) as u32
 }
 
-/// The item at an index from the left, after the first so many rows.
+/// The item at an index from the left, after the first so many rows, which left so many items.
 fn item_at<S: Sequence, L: Ledger>(
     rows: &LineRows,
     place: u32,
+    size: u32,
     index: u32,
     steps: &mut Steps<L>,
 ) -> i64
     requires replayable { IsReplayable S.kind rows.now }
     requires within { place ≤ length rows.now }
+    requires told { pos size ≡ grown sign_of rows.now place }
     requires there { pos index <ℤ grown sign_of rows.now place }
     ensures item { (line : List ℤ)
         → LineAt S.kind rows.now place line → slice_get line index ≡ Some result }
     ensures visits { VisitsWithin 108 (length rows.now) steps.old steps.new }
 {
-    let written = S::written_by(rows, place, index, steps);
+    let written = S::written_among(rows, place, i64::from(size), index, steps);
     rows.value_at(written.unwrap(), steps)
 }
 
@@ -91,7 +111,7 @@ pub(crate) fn ask_sequence<S: Sequence, L: Ledger>(
             value: i128::from(size),
         },
         Asked::Item { index } => Answer::Number {
-            value: i128::from(item_at::<S, L>(rows, place, index, steps)),
+            value: i128::from(item_at::<S, L>(rows, place, size, index, steps)),
         },
         Asked::Nothing => Answer::Nothing,
     }
@@ -145,7 +165,7 @@ fn listed<S: Sequence, L: Ledger>(
     let size = size_at::<S, L>(rows, place, &mut steps);
     let mut listing = Listing::new(rows.alloc());
     for index in 0..size {
-        let value = item_at::<S, L>(rows, place, index, &mut steps);
+        let value = item_at::<S, L>(rows, place, size, index, &mut steps);
         listing.push(Item::Single { value })?;
     }
     Ok(listing)

@@ -1,6 +1,6 @@
 use Rattle.std.proofs.Common.{rules}
 use Rattle.retro_deque.specs.EndLaws.{found-by_ends}
-use Rattle.retro_deque.proofs.deque.DequeSequence.written_by.Goals as goal
+use Rattle.retro_deque.proofs.deque.DequeSequence.written_among.Goals as goal
 
 pub returns-clause-writer : goal.returns-clause-writer
 returns-clause-writer g c =

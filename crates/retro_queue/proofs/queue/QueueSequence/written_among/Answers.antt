@@ -1,6 +1,6 @@
 use Rattle.std.proofs.Common.{rules}
 use Rattle.retro_queue.specs.FrontLaws.{found-by_counts}
-use Rattle.retro_queue.proofs.queue.QueueSequence.written_by.Goals as goal
+use Rattle.retro_queue.proofs.queue.QueueSequence.written_among.Goals as goal
 
 pub returns-clause-writer : goal.returns-clause-writer
 returns-clause-writer g c =
