@@ -23,6 +23,7 @@ use std::sync::ledger::Ledger;
 pub(crate) const FULL: usize = 32;
 
 /// The measure of the items of a leaf from `from` to before `to`.
+#[inline(always)]
 pub(crate) fn measure_between<T: Measured>(items: &[T], from: usize, to: usize) -> T::Measure
     requires order { from ≤ to }
     requires within { to ≤ length items.now }
@@ -40,6 +41,7 @@ pub(crate) fn measure_between<T: Measured>(items: &[T], from: usize, to: usize) 
 
 /// How many items of a leaf after the place `from`, seen from `side`, a test turns true of the measure before them joined
 /// with theirs.
+#[inline(always)]
 pub(crate) fn boundary_in<T: Measured, F: Fn(&T::Measure) -> bool>(
     items: &[T],
     side: Side,
