@@ -14,8 +14,7 @@ use crate::listed::list_at;
 use crate::recent::recent_beside;
 use retro_base::{Answer, Change, Kind, Listing, NoMemory, Op, Question, Retro, Row};
 use std::alloc::Global;
-use std::marker::{Brand, Model};
-use std::sync::ledger::Blank;
+use std::marker::Model;
 
 /// A dictionary whose past can be edited, which contracts see as its rows.
 #[derive(Drop)]
@@ -100,7 +99,7 @@ impl Retro for RetroDictionary {
 
     fn failure_after_remove(&self, place: u32) -> Option<u32> {
         let label = self.kept.labels.label_at(place);
-        let op = op_of_row::<Brand>(&self.kept.rows, place, Blank::new(1));
+        let op = op_of_row(&self.kept.rows, place);
         place_of_bad_label(
             &self.kept.labels,
             place,
@@ -109,13 +108,13 @@ impl Retro for RetroDictionary {
     }
 
     fn insert(&mut self, place: u32, row: Row) -> Result<Change, NoMemory> {
-        let recent = recent_beside::<Brand>(&self.kept.rows, place, row.number, Blank::new(1));
-        put::<Brand>(&mut self.kept, place, row, recent, Blank::new(1))?;
+        let recent = recent_beside(&self.kept.rows, place, row.number);
+        put(&mut self.kept, place, row, recent)?;
         Ok(Change::Plain)
     }
 
     fn remove(&mut self, place: u32) -> Result<(Row, Change), NoMemory> {
-        let row = take_out::<Brand>(&mut self.kept, place, Blank::new(1))?;
+        let row = take_out(&mut self.kept, place)?;
         Ok((row, Change::Plain))
     }
 

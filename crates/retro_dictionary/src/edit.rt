@@ -6,7 +6,6 @@ ghost use Rattle.key_index.specs.KeyRows.{op_at, with_row, without};
 ghost use Rattle.order_labels.specs.Labels.{inserted_by};
 ghost use Rattle.retro_base.specs.declared.kind.Kind.TheVariants.{Dict};
 ghost use Rattle.retro_base.specs.Kind.{kind_of};
-ghost use Rattle.retro_base.specs.Visits.{OpensCounter};
 ghost use Rattle.retro_dictionary.specs.Edited.{CanPut, CanCut, CanRemove, IsBetween, left_of, next_of, cut_by, joined_by};
 ghost use Rattle.retro_dictionary.specs.Ready.{IsKept, IsReadyFor};
 ghost use Rattle.retro_dictionary.specs.RelabellingLaw.{counted_by, one_more};
@@ -21,8 +20,8 @@ use crate::search::PairSearch;
 use key_index::KeyIndex;
 use lifetime_segments::Segments;
 use monoid_laws::Counted;
-use retro_base::{NoMemory, Op, Row, Steps};
-use std::sync::ledger::{Blank, Ledger};
+use retro_base::{NoMemory, Op, Row};
+use weighted_tree::uncounted;
 
 /// Puts a row in at a label, and ends and begins lifetimes by it. After `NoMemory` all is as before.
 fn put_labelled(
@@ -76,14 +75,7 @@ fn take_labelled(
 }
 
 /// Puts a row in at a place, at a label that is left there. After `NoMemory` all is as before.
-fn put_between<L: Ledger>(
-    kept: &mut Kept,
-    place: u32,
-    label: u64,
-    row: Row,
-    blank: Blank,
-) -> Result<(), NoMemory>
-    requires counter { OpensCounter blank.name L.name blank.parts L.parts }
+fn put_between(kept: &mut Kept, place: u32, label: u64, row: Row) -> Result<(), NoMemory>
     requires ready { IsReadyFor kept.old place row }
     requires between { IsBetween kept.old.labels place label }
     ensures rows { OnOk result (kept.new.rows ≡ insert kept.old.rows place row) }
@@ -92,18 +84,13 @@ fn put_between<L: Ledger>(
     ensures kept { OnOk result (IsKept kept.new) }
     ensures err { OnErr result (kept.new ≡ kept.old) }
 {
-    let mut steps = Steps::<L>::new(blank);
     kept.labels.insert_labelled(place, label)?;
-    if kept
-        .rows
-        .insert(place, Counted::new(row), &mut steps)
-        .is_err()
-    {
+    if uncounted::insert(&mut kept.rows, place, Counted::new(row)).is_err() {
         kept.labels.remove(place);
         return Err(NoMemory);
     }
     if put_labelled(&mut kept.index, &mut kept.segments, label, row.op).is_err() {
-        kept.rows.remove(place, &mut steps);
+        uncounted::remove(&mut kept.rows, place);
         kept.labels.remove(place);
         return Err(NoMemory);
     }
@@ -112,14 +99,12 @@ fn put_between<L: Ledger>(
 }
 
 /// Puts a row in at a place, where it gets its label by the rule. After `NoMemory` all is as before.
-pub(crate) fn put<L: Ledger>(
+pub(crate) fn put(
     kept: &mut Kept,
     place: u32,
     row: Row,
     recent: RecentNeighbour,
-    blank: Blank,
 ) -> Result<(), NoMemory>
-    requires counter { OpensCounter blank.name L.name blank.parts L.parts }
     requires ready { IsReadyFor kept.old place row }
     requires recent { recent ≡ recent_beside kept.old.rows place row.number }
     ensures rows { OnOk result (kept.new.rows ≡ insert kept.old.rows place row) }
@@ -129,18 +114,13 @@ pub(crate) fn put<L: Ledger>(
     ensures err { OnErr result (kept.new ≡ kept.old) }
 {
     match free_label(&kept.labels, recent, kept.insertions_since_relabel, place) {
-        Some(label) => put_between::<L>(kept, place, label, row, blank),
-        None => put_relabelled::<L>(kept, place, row, blank),
+        Some(label) => put_between(kept, place, label, row),
+        None => put_relabelled(kept, place, row),
     }
 }
 
 /// Takes the row at a place out. After `NoMemory` all is as before.
-pub(crate) fn take_out<L: Ledger>(
-    kept: &mut Kept,
-    place: u32,
-    blank: Blank,
-) -> Result<Row, NoMemory>
-    requires counter { OpensCounter blank.name L.name blank.parts L.parts }
+pub(crate) fn take_out(kept: &mut Kept, place: u32) -> Result<Row, NoMemory>
     requires kept { IsKept kept.old }
     requires can { CanRemove kept.old.rows place }
     ensures row { IfOk result (λ row. slice_get kept.old.rows place ≡ Some row) }
@@ -150,11 +130,10 @@ pub(crate) fn take_out<L: Ledger>(
     ensures kept { OnOk result (IsKept kept.new) }
     ensures err { OnErr result (kept.new ≡ kept.old) }
 {
-    let mut steps = Steps::<L>::new(blank);
-    let row = kept.rows.get(place, &mut steps).value();
+    let row = uncounted::get(&kept.rows, place).value();
     let label = kept.labels.label_at(place);
     take_labelled(&mut kept.index, &mut kept.segments, label, row.op)?;
     kept.labels.remove(place);
-    kept.rows.remove(place, &mut steps);
+    uncounted::remove(&mut kept.rows, place);
     Ok(row)
 }

@@ -2,7 +2,6 @@
 
 ghost use Rattle.std.specs.Prelude.{◌≡◌, ◌<◌, [], Some, length, slice_get};
 ghost use Rattle.std.specs.Option.{option_map};
-ghost use Rattle.retro_base.specs.Visits.{OpensCounter};
 ghost use Rattle.retro_dictionary.specs.Ready.{IsKept};
 
 use crate::search::PairSearch;
@@ -10,10 +9,9 @@ use key_index::KeyIndex;
 use lifetime_segments::Segments;
 use monoid_laws::Counted;
 use order_labels::Labels;
-use retro_base::{Op, Row, Steps};
+use retro_base::{Op, Row};
 use std::alloc::Global;
-use std::sync::ledger::{Blank, Ledger};
-use weighted_tree::Tree;
+use weighted_tree::{Tree, uncounted};
 
 /// What a dictionary keeps of its rows.
 #[derive(Drop)]
@@ -42,11 +40,9 @@ impl Kept {
 }
 
 /// The operation of the row at a place.
-pub(crate) fn op_of_row<L: Ledger>(rows: &Tree<Counted<Row>>, place: u32, blank: Blank) -> Op
-    requires counter { OpensCounter blank.name L.name blank.parts L.parts }
+pub(crate) fn op_of_row(rows: &Tree<Counted<Row>>, place: u32) -> Op
     requires within { place < length rows.now }
     ensures { option_map (λ row. row.op) (slice_get rows.now place) ≡ Some result }
 {
-    let mut steps = Steps::<L>::new(blank);
-    rows.get(place, &mut steps).value().op
+    uncounted::get(rows, place).value().op
 }

@@ -1,14 +1,12 @@
 //! Which of the rows beside a place came in lately, by their numbers.
 
 ghost use Rattle.std.specs.Prelude.{◌≡◌, ◌≤◌, length, if◌then◌else◌};
-ghost use Rattle.retro_base.specs.Visits.{OpensCounter};
 ghost use Rattle.retro_dictionary.specs.declared.recent.RecentNeighbour.TheVariants.{Before, After, Neither};
 ghost use Rattle.retro_dictionary.specs.RowLabels.{is_recent, recent_beside};
 
 use monoid_laws::Counted;
-use retro_base::{Row, Steps};
-use std::sync::ledger::{Blank, Ledger};
-use weighted_tree::Tree;
+use retro_base::Row;
+use weighted_tree::{Tree, uncounted};
 
 /// Which of the rows beside a place came in lately.
 #[derive(Clone, Copy)]
@@ -25,27 +23,20 @@ const LATEST: u32 = 8;
 
 /// Which of the rows beside a place came in lately, before a row with this number is put in there. After all rows the rule does not
 /// ask. Where no row stands before the place, this number stands for that row's: no number is lately before itself.
-pub(crate) fn recent_beside<L: Ledger>(
-    rows: &Tree<Counted<Row>>,
-    place: u32,
-    number: u32,
-    blank: Blank,
-) -> RecentNeighbour
-    requires counter { OpensCounter blank.name L.name blank.parts L.parts }
+pub(crate) fn recent_beside(rows: &Tree<Counted<Row>>, place: u32, number: u32) -> RecentNeighbour
     requires within { place ≤ length rows.now }
     ensures { result ≡ recent_beside rows.now place number }
 {
     if place == rows.len() {
         return RecentNeighbour::Neither;
     }
-    let mut steps = Steps::<L>::new(blank);
     let count = place.min(1);
     let mut numbers = [number; 2];
-    rows.read(
+    uncounted::read(
+        rows,
         place - count,
         |row: &Counted<Row>| row.value().number,
         &mut numbers[1 - count as usize..],
-        &mut steps,
     );
     recent_in(numbers[0], numbers[1], number)
 }

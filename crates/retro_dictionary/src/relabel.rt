@@ -6,7 +6,6 @@ ghost use Rattle.order_labels.specs.Labels.{has_room, label_limit, multiples, sp
 ghost use Rattle.retro_base.specs.declared.kind.Kind.TheVariants.{Dict};
 ghost use Rattle.retro_base.specs.Kind.{kind_of};
 ghost use Rattle.retro_base.specs.Limits.{most_rows};
-ghost use Rattle.retro_base.specs.Visits.{OpensCounter};
 ghost use Rattle.retro_dictionary.specs.Edited.{CanPut, next_of, placed_at};
 ghost use Rattle.retro_dictionary.specs.Kept.{ordered};
 ghost use Rattle.retro_dictionary.specs.Labelled.{labelled};
@@ -21,10 +20,9 @@ use key_index::{KeyIndex, Labels2};
 use lifetime_segments::Segments;
 use monoid_laws::Counted;
 use order_labels::{Labels, gap_of};
-use retro_base::{NoMemory, Op, Row, Steps};
+use retro_base::{NoMemory, Op, Row};
 use std::alloc::Global;
-use std::sync::ledger::{Blank, Ledger};
-use weighted_tree::Tree;
+use weighted_tree::{Tree, uncounted};
 
 /// The label of the row at a place, where labels stand so far apart.
 fn label_of(place: u32, gap: u64) -> u64
@@ -119,10 +117,9 @@ fn begin(
 }
 
 /// The lifetimes of all pairs, where the labels of the rows are spread evenly. They are made from the last row to the first.
-fn segments_of<L: Ledger>(
+fn segments_of(
     rows: &Tree<Counted<Row>>,
     index: &KeyIndex,
-    steps: &mut Steps<L>,
 ) -> Result<Segments<PairSearch>, NoMemory>
     requires few { length rows.now ≤ most_rows }
     requires indexed { index.now ≡ labelled (spread (length rows.now)) rows.now }
@@ -132,14 +129,14 @@ fn segments_of<L: Ledger>(
     let gap = gap_of(count);
     let mut segments = Segments::new(rows.alloc());
     for place in (0..count).rev() {
-        let op = rows.get(place, steps).value().op;
+        let op = uncounted::get(rows, place).value().op;
         begin(&mut segments, index, label_of(place, gap), op)?;
     }
     Ok(segments)
 }
 
 /// Makes the lifetimes anew, and then labels the rows. After `NoMemory` all is as before.
-fn label_anew<L: Ledger>(kept: &mut Kept, place: u32, steps: &mut Steps<L>) -> Result<(), NoMemory>
+fn label_anew(kept: &mut Kept, place: u32) -> Result<(), NoMemory>
     requires within { place ≤ length kept.old.labels }
     requires room { length kept.old.labels < most_rows }
     requires few { length kept.old.rows ≤ most_rows }
@@ -147,7 +144,7 @@ fn label_anew<L: Ledger>(kept: &mut Kept, place: u32, steps: &mut Steps<L>) -> R
     ensures ok { OnOk result (kept.new ≡ labelled_anew place kept.old) }
     ensures err { OnErr result (kept.new ≡ kept.old) }
 {
-    let segments = segments_of(&kept.rows, &kept.index, steps)?;
+    let segments = segments_of(&kept.rows, &kept.index)?;
     kept.labels.insert(place)?;
     kept.insertions_since_relabel = 0;
     kept.segments = segments;
@@ -155,12 +152,7 @@ fn label_anew<L: Ledger>(kept: &mut Kept, place: u32, steps: &mut Steps<L>) -> R
 }
 
 /// Puts a row in that the index has already. After `NoMemory` all is as before.
-fn put_indexed<L: Ledger>(
-    kept: &mut Kept,
-    place: u32,
-    row: Row,
-    steps: &mut Steps<L>,
-) -> Result<(), NoMemory>
+fn put_indexed(kept: &mut Kept, place: u32, row: Row) -> Result<(), NoMemory>
     requires within { place ≤ length kept.old.rows }
     requires room { length kept.old.rows < most_rows }
     requires as_many { length kept.old.labels ≡ length kept.old.rows }
@@ -168,9 +160,9 @@ fn put_indexed<L: Ledger>(
     ensures ok { OnOk result (kept.new ≡ labelled_anew place (with_row_at place row kept.old)) }
     ensures err { OnErr result (kept.new ≡ kept.old) }
 {
-    kept.rows.insert(place, Counted::new(row), steps)?;
-    if label_anew(kept, place, steps).is_err() {
-        kept.rows.remove(place, steps);
+    uncounted::insert(&mut kept.rows, place, Counted::new(row))?;
+    if label_anew(kept, place).is_err() {
+        uncounted::remove(&mut kept.rows, place);
         return Err(NoMemory);
     }
     Ok(())
@@ -179,13 +171,7 @@ fn put_indexed<L: Ledger>(
 /// Puts a row in at a place where no label is left: all rows are relabelled. After `NoMemory` all is as before.
 ///
 /// All that takes memory is made beside what is there, and the labels are written last, since they cannot be taken back.
-pub(crate) fn put_relabelled<L: Ledger>(
-    kept: &mut Kept,
-    place: u32,
-    row: Row,
-    blank: Blank,
-) -> Result<(), NoMemory>
-    requires counter { OpensCounter blank.name L.name blank.parts L.parts }
+pub(crate) fn put_relabelled(kept: &mut Kept, place: u32, row: Row) -> Result<(), NoMemory>
     requires ready { IsReadyFor kept.old place row }
     requires full { has_room kept.old.labels place ≡ false }
     ensures rows { OnOk result (kept.new.rows ≡ insert kept.old.rows place row) }
@@ -194,14 +180,13 @@ pub(crate) fn put_relabelled<L: Ledger>(
     ensures kept { OnOk result (IsKept kept.new) }
     ensures err { OnErr result (kept.new ≡ kept.old) }
 {
-    let mut steps = Steps::<L>::new(blank);
     let alloc = kept.rows.alloc();
     let count = kept.rows.len();
     let former = labels_before(&kept.labels, alloc)?;
     let fresh = labels_after(count, place, alloc)?;
     let label = new_label(count, place);
     relabel_with(&mut kept.index, &former, &fresh, label, row.op)?;
-    if put_indexed(kept, place, row, &mut steps).is_err() {
+    if put_indexed(kept, place, row).is_err() {
         kept.index.remove_row(label, row.op);
         kept.index.relabel(&fresh, &former);
         return Err(NoMemory);

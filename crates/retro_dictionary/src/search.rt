@@ -3,7 +3,6 @@
 ghost use Rattle.std.specs.Prelude.{◌≡◌, ◌-◌, ◌<◌, ◌≤◌, ◌∷◌, [], suc, true, length, slice_get, Some, IfSome, IfNone};
 ghost use Rattle.std.specs.List.{slice_range};
 ghost use Rattle.retro_base.specs.Answers.{pairs_between};
-ghost use Rattle.retro_base.specs.Visits.{OpensCounter};
 ghost use Rattle.lifetime_segments.specs.Lawful.{IsLawful};
 ghost use Rattle.retro_dictionary.specs.PairSearch.{pair_before, found_in, found_of, none_found, found_together, lesser, greater};
 ghost use Rattle.retro_dictionary.specs.declared.search.Bound.TheVariants.{Below, UpTo};
@@ -11,10 +10,7 @@ ghost use Rattle.retro_dictionary.specs.Bounds.{reaches, StandUpTo, FailsAt, Has
 
 use crate::pairs::{Found, KeyPair, KeyRange};
 use lifetime_segments::{AnswersOfOne, Decomposable};
-use retro_base::Steps;
-use std::marker::Brand;
-use std::sync::ledger::{Blank, Ledger};
-use weighted_tree::Tree;
+use weighted_tree::{Tree, uncounted};
 
 /// The search of a dictionary: how many pairs have keys in a range, their sum, and the least and the greatest of them.
 #[derive(Clone, Copy)]
@@ -56,7 +52,7 @@ impl Decomposable for PairSearch {
     }
 
     fn ask(items: &Tree<KeyPair>, query: KeyRange) -> Found {
-        found_in::<Brand>(items, query, Blank::new(1))
+        found_in(items, query)
     }
 
     fn combine(first: Found, second: Found) -> Found {
@@ -110,64 +106,48 @@ struct Placed {
 /// What is found of the pairs whose keys lie in a range.
 ///
 /// A question asks some dozen trees, of which most have no pair in its range: one search and one look tell that.
-fn found_in<L: Ledger>(items: &Tree<KeyPair>, range: KeyRange, blank: Blank) -> Found
-    requires counter { OpensCounter blank.name L.name blank.parts L.parts }
+fn found_in(items: &Tree<KeyPair>, range: KeyRange) -> Found
     requires lawful { IsLawful pair_before items.now }
     ensures { result ≡ found_in items.now range }
 {
-    let mut steps = Steps::<L>::new(blank);
-    let Some(first) = first_within(items, range, &mut steps) else {
+    let Some(first) = first_within(items, range) else {
         return PairSearch::empty();
     };
-    let last = last_within(items, &first, range, &mut steps);
-    found_between(items, &first, &last, &mut steps)
+    let last = last_within(items, &first, range);
+    found_between(items, &first, &last)
 }
 
 /// The first pair whose key lies in a range, if there is one.
-fn first_within<L: Ledger>(
-    items: &Tree<KeyPair>,
-    range: KeyRange,
-    steps: &mut Steps<L>,
-) -> Option<Placed>
+fn first_within(items: &Tree<KeyPair>, range: KeyRange) -> Option<Placed>
     requires lawful { IsLawful pair_before items.now }
     ensures some { IfSome result (IsFirstWithin range items.now) }
     ensures none { IfNone result (pairs_between range.low range.high items.now ≡ []) }
 {
-    let place = count_below(items, range.low, steps);
-    let pair = pair_up_to(items, place, range.high, steps)?;
+    let place = count_below(items, range.low);
+    let pair = pair_up_to(items, place, range.high)?;
     Some(Placed { place, pair })
 }
 
 /// The last pair whose key lies in a range, by the first one. A range of one key mostly has no other.
-fn last_within<L: Ledger>(
-    items: &Tree<KeyPair>,
-    first: &Placed,
-    range: KeyRange,
-    steps: &mut Steps<L>,
-) -> Placed
+fn last_within(items: &Tree<KeyPair>, first: &Placed, range: KeyRange) -> Placed
     requires lawful { IsLawful pair_before items.now }
     requires first { IsFirstWithin range items.now first.now }
     ensures order { first.now.place ≤ result.place }
     ensures last { IsLastWithin range items.now result }
 {
-    if range.low == range.high && pair_up_to(items, first.place + 1, range.high, steps).is_none() {
+    if range.low == range.high && pair_up_to(items, first.place + 1, range.high).is_none() {
         return *first;
     }
-    let place = count_to_end(items, first, range, steps) - 1;
+    let place = count_to_end(items, first, range) - 1;
     if place == first.place {
         return *first;
     }
-    let pair = items.get(place, steps);
+    let pair = uncounted::get(items, place);
     Placed { place, pair }
 }
 
 /// What is found of the pairs from one to another.
-fn found_between<L: Ledger>(
-    items: &Tree<KeyPair>,
-    first: &Placed,
-    last: &Placed,
-    steps: &mut Steps<L>,
-) -> Found
+fn found_between(items: &Tree<KeyPair>, first: &Placed, last: &Placed) -> Found
     requires lawful { IsLawful pair_before items.now }
     requires order { first.now.place ≤ last.now.place }
     requires first { slice_get items.now first.now.place ≡ Some first.now.pair }
@@ -180,7 +160,7 @@ fn found_between<L: Ledger>(
     let to = last.place + 1;
     Found {
         count: to - first.place,
-        sum: items.measure(first.place, to, steps).sum(),
+        sum: uncounted::measure(items, first.place, to).sum(),
         least: Some(first.pair),
         greatest: Some(last.pair),
     }
@@ -199,12 +179,7 @@ fn found_of_one(pair: KeyPair) -> Found
 }
 
 /// The pair at a place, if there is one and its key is not above another.
-fn pair_up_to<L: Ledger>(
-    items: &Tree<KeyPair>,
-    place: u32,
-    high: i64,
-    steps: &mut Steps<L>,
-) -> Option<KeyPair>
+fn pair_up_to(items: &Tree<KeyPair>, place: u32, high: i64) -> Option<KeyPair>
     requires within { place ≤ length items.now }
     ensures some { IfSome result (λ pair. (slice_get items.now place ≡ Some pair) × (reaches (UpTo high) pair ≡ true)) }
     ensures none { IfNone result (FailsAt (reaches (UpTo high)) items.now place) }
@@ -213,12 +188,12 @@ fn pair_up_to<L: Ledger>(
     if place == items.len() {
         return None;
     }
-    let pair = items.get(place, steps);
+    let pair = uncounted::get(items, place);
     if pair.key <= high { Some(pair) } else { None }
 }
 
 /// How many pairs have keys below one, where no key is below the least number.
-fn count_below<L: Ledger>(items: &Tree<KeyPair>, low: i64, steps: &mut Steps<L>) -> u32
+fn count_below(items: &Tree<KeyPair>, low: i64) -> u32
     requires lawful { IsLawful pair_before items.now }
     ensures below { HasNumber items.now result → StandUpTo (Below low) items.now result }
     ensures within { result ≤ length items.now }
@@ -226,16 +201,11 @@ fn count_below<L: Ledger>(items: &Tree<KeyPair>, low: i64, steps: &mut Steps<L>)
     if low == i64::MIN {
         return 0;
     }
-    count_up_to(items, Bound::Below { key: low }, steps)
+    count_up_to(items, Bound::Below { key: low })
 }
 
 /// How many pairs have keys up to the end of a range that has this first one, where no key is above the greatest number.
-fn count_to_end<L: Ledger>(
-    items: &Tree<KeyPair>,
-    first: &Placed,
-    range: KeyRange,
-    steps: &mut Steps<L>,
-) -> u32
+fn count_to_end(items: &Tree<KeyPair>, first: &Placed, range: KeyRange) -> u32
     requires lawful { IsLawful pair_before items.now }
     requires first { IsFirstWithin range items.now first.now }
     ensures past { first.now.place < result }
@@ -245,7 +215,7 @@ fn count_to_end<L: Ledger>(
     if range.high == i64::MAX {
         return items.len();
     }
-    count_up_to(items, Bound::UpTo { key: range.high }, steps)
+    count_up_to(items, Bound::UpTo { key: range.high })
 }
 
 /// Up to where pairs are looked for.
@@ -268,10 +238,10 @@ fn reaches(bound: Bound, pair: KeyPair) -> bool
 }
 
 /// How many pairs stand up to the bound.
-fn count_up_to<L: Ledger>(items: &Tree<KeyPair>, bound: Bound, steps: &mut Steps<L>) -> u32
+fn count_up_to(items: &Tree<KeyPair>, bound: Bound) -> u32
     requires { IsLawful pair_before items.now }
     ensures up_to { StandUpTo bound items.now result }
     ensures within { result ≤ length items.now }
 {
-    items.partition_point(|pair: &KeyPair| reaches(bound, *pair), steps)
+    uncounted::partition_point(items, |pair: &KeyPair| reaches(bound, *pair))
 }

@@ -6,27 +6,27 @@ use Rattle.retro_dictionary.proofs.edit.put_between.Goals as goal
 use Rattle.retro_base.specs.EditedLists.{remove-insert}
 
 pub returns-then-is_err-clause-err : goal.returns-then-is_err-clause-err
-returns-then-is_err-clause-err g c =
-    let rows_kept : c.insert.new.self ≡ c.args.kept.now.rows = search rules in
+returns-then-is_err-clause-err c =
+    let rows_kept : c.insert.new.tree ≡ c.args.kept.now.rows = search rules in
     let taken : c.remove.new.self ≡ remove (insert c.args.kept.now.labels c.args.place c.args.label) c.args.place = search rules in
     all-same c.args.kept.now _ _ _ _ rows_kept (taken ∙ labels-back c.args.kept.now.rows c.args.kept.now.labels c.args.kept.now.index c.args.kept.now.segments
     c.requires.ready.all c.args.place c.args.label c.requires.ready.can.within) refl refl
 
 pub put_labelled-requires-clause-fresh : goal.put_labelled-requires-clause-fresh
-put_labelled-requires-clause-fresh g c =
+put_labelled-requires-clause-fresh c =
     no_row-at c.args.kept.now.rows c.args.kept.now.labels c.args.kept.now.index c.args.kept.now.segments c.requires.ready.all c.args.place c.args.label c.args.row c.requires.ready.can.within c.requires.between
 
 pub put_labelled-requires-clause-undone : goal.put_labelled-requires-clause-undone
-put_labelled-requires-clause-undone g c =
+put_labelled-requires-clause-undone c =
     undone c.args.kept.now.rows c.args.kept.now.labels c.args.kept.now.index c.args.kept.now.segments c.requires.ready.all c.args.place c.args.label c.args.row c.requires.between
 
 pub put_labelled-requires-clause-can : goal.put_labelled-requires-clause-can
-put_labelled-requires-clause-can g c =
+put_labelled-requires-clause-can c =
     can-cut c.args.kept.now.rows c.args.kept.now.labels c.args.kept.now.index c.args.kept.now.segments c.requires.ready.all c.args.place c.args.label c.args.row c.requires.ready.can.within c.requires.between
 
 pub returns-then-is_err-2-clause-err : goal.returns-then-is_err-2-clause-err
-returns-then-is_err-2-clause-err g c =
-    let put : c.insert.new.self ≡ insert c.args.kept.now.rows c.args.place c.args.row = search rules in
+returns-then-is_err-2-clause-err c =
+    let put : c.insert.new.tree ≡ insert c.args.kept.now.rows c.args.place c.args.row = search rules in
     let taken : c.remove-then-is_err-2-2.new.self ≡ remove (insert c.args.kept.now.labels c.args.place c.args.label) c.args.place = search rules in
     all-same c.args.kept.now _ _ _ _
     (c.remove-then-is_err-2.ensures.items ∙ ap (λ rows. remove rows c.args.place) put ∙ remove-insert c.args.kept.now.rows c.args.place c.args.row c.requires.ready.can.within)
@@ -34,8 +34,8 @@ returns-then-is_err-2-clause-err g c =
     (search rules) (search rules)
 
 pub returns-clause-kept : goal.returns-clause-kept
-returns-clause-kept g c =
-    let put : c.insert.new.self ≡ insert c.args.kept.now.rows c.args.place c.args.row = search rules in
+returns-clause-kept c =
+    let put : c.insert.new.tree ≡ insert c.args.kept.now.rows c.args.place c.args.row = search rules in
     kept-as _ _ _ _ _ _ _ _
     (kept-with c.args.kept.now.rows c.args.kept.now.labels c.args.kept.now.index c.args.kept.now.segments c.requires.ready.all c.args.place c.args.label c.args.row
     c.requires.ready.can.within c.requires.between c.requires.ready.can)

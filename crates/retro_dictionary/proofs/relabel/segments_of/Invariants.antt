@@ -6,4 +6,4 @@ use Rattle.retro_dictionary.specs.Lifetimes.{lifetimes_of}
 use Rattle.retro_dictionary.proofs.relabel.segments_of.Given as goal
 
 abbrev pub invariant-loop-place : goal.invariant-loop-place
-invariant-loop-place g l = l.segments ≡ ordered (lifetimes_of (labelled (drop l.place (spread (length l.rows))) (drop l.place l.rows)))
+invariant-loop-place l = l.segments ≡ ordered (lifetimes_of (labelled (drop l.place (spread (length l.rows))) (drop l.place l.rows)))

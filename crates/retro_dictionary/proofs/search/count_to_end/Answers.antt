@@ -7,7 +7,7 @@ use Rattle.retro_dictionary.proofs.RangeOfPairs.{all_up_to, before_end, not_abov
 use Rattle.retro_dictionary.proofs.search.count_to_end.Goals as goal
 
 pub returns-then-range-eq9223372036854775807-clause-up_to : goal.returns-then-range-eq9223372036854775807-clause-up_to
-returns-then-range-eq9223372036854775807-clause-up_to g c = λ number.
+returns-then-range-eq9223372036854775807-clause-up_to c = λ number.
     let items = c.args.items.now in
     let place = c.len.result - 1 in
     let last = get_or items place c.args.first.now.pair in
@@ -18,7 +18,7 @@ returns-then-range-eq9223372036854775807-clause-up_to g c = λ number.
     (all_up_to (UpTo c.args.range.high) items place last c.requires.lawful.ordered there (omega (arith, c.len.ensures, some)) (not_above c.args.range.high last greatest))
 
 pub returns-clause-past : goal.returns-clause-past
-returns-clause-past g c =
+returns-clause-past c =
     let high_fits : SFits w64 c.args.range.high = search rules in
     let up_to = simp to_z-of_z at c.count_up_to.ensures.up_to in
     before_end (UpTo c.args.range.high) c.args.items.now c.count_up_to.result c.args.first.now.place c.args.first.now.pair up_to c.requires.first.there c.requires.first.reached

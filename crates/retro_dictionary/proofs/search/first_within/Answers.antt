@@ -5,7 +5,7 @@ use Rattle.retro_dictionary.proofs.RangeOfPairs.{none-inside}
 use Rattle.retro_dictionary.proofs.search.first_within.Goals as goal
 
 pub returns-in_err-pair-clause-none : goal.returns-in_err-pair-clause-none
-returns-in_err-pair-clause-none g c =
+returns-in_err-pair-clause-none c =
     let low_fits : SFits w64 c.args.range.low = search rules in
     let high_fits : SFits w64 c.args.range.high = search rules in
     let begins = simp to_z-of_z at c.count_below-place.ensures.below in

@@ -8,16 +8,16 @@ use Rattle.retro_dictionary.proofs.MeasuredPairs.{range_of_one, found, found_by_
 use Rattle.retro_dictionary.proofs.search.found_between.Goals as goal
 
 pub overflow_add-to : goal.overflow_add-to
-overflow_add-to g c = omega (arith, c.requires.lawful.few, slice_get_within c.args.items.now c.args.last.now.place c.args.last.now.pair c.requires.last)
+overflow_add-to c = omega (arith, c.requires.lawful.few, slice_get_within c.args.items.now c.args.last.now.place c.args.last.now.pair c.requires.last)
 
 pub returns-then-first-last : goal.returns-then-first-last
-returns-then-first-last g c =
+returns-then-first-last c =
     let same : c.args.first.now.place ≡ c.args.last.now.place = omega arith in
     c.found_of_one.ensures ∙ sym (ap found_of (ap (λ place. slice_range c.args.items.now c.args.first.now.place (suc place)) (sym same)
     ∙ range_of_one c.args.items.now c.args.first.now.place c.args.first.now.pair c.requires.first))
 
 pub returns : goal.returns
-returns g c =
+returns c =
     let items = c.args.items.now in
     let from = c.args.first.now.place in
     let to = c.args.last.now.place + 1 in

@@ -4,7 +4,7 @@ use Rattle.retro_dictionary.proofs.RangeOfPairs.{slice-inside}
 use Rattle.retro_dictionary.proofs.search.found_in.Goals as goal
 
 pub returns : goal.returns
-returns g c =
+returns c =
     let first = c.in-Some.ensures.some in
     let last = c.last_within-last.ensures.last in
     c.found_between.ensures

@@ -12,7 +12,7 @@ where_none None P none holds = holds
 where_none (Some x) P none holds = absurd (cc)
 
 pub returns-then-is_none-clause-last : goal.returns-then-is_none-clause-last
-returns-then-is_none-clause-last g c =
+returns-then-is_none-clause-last c =
     let high_fits : SFits w64 c.args.range.high = search rules in
     let test = reaches (UpTo c.args.range.high) in
     let past : IfNone c.pair_up_to.result (FailsAt test c.args.items.now (c.args.first.now.place + 1)) = simp to_z-of_z at c.pair_up_to.ensures.none in
@@ -24,7 +24,7 @@ returns-then-is_none-clause-last g c =
     }
 
 pub returns-then-place-first-clause-last : goal.returns-then-place-first-clause-last
-returns-then-place-first-clause-last g c =
+returns-then-place-first-clause-last c =
     let items = c.args.items.now in
     record {
       there = c.requires.first.there;
@@ -33,7 +33,7 @@ returns-then-place-first-clause-last g c =
     }
 
 pub returns-clause-last : goal.returns-clause-last
-returns-clause-last g c =
+returns-clause-last c =
     let items = c.args.items.now in
     let place = c.count_to_end-place.result - 1 in
     let number : IsNumber c.get-pair.result.0 = search rules in

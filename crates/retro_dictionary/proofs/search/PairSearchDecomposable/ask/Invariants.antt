@@ -1,4 +1,0 @@
-use Rattle.retro_dictionary.proofs.search.PairSearchDecomposable.ask.Given as goal
-
-abbrev pub ghosts-found_in : goal.ghosts-found_in
-ghosts-found_in a = record { name = a.blank.name; parts = a.blank.parts }
