@@ -11,12 +11,11 @@ use Rattle.retro_cli.specs.declared.form.Form.{Form}
 use Rattle.retro_cli.specs.declared.form.Form.TheVariants.{Run, Check, Gen}
 use Rattle.retro_cli.specs.declared.status.Status.{Status}
 use Rattle.retro_cli.specs.declared.status.Status.TheVariants as statuses
-use Rattle.retro_cli.specs.Audience.{Audience}
+use Rattle.retro_cli.specs.Audience.{Audience, followed}
 use Rattle.retro_cli.specs.Delivery.{Arrives, IsCutOff}
-use Rattle.retro_cli.specs.Ends.{EndsAtSend, EndsAtSink}
-use Rattle.retro_cli.specs.Followed.{EndsAtFailedSend, EndsAtFault, EndsAtLine, EndsAtReport}
-use Rattle.retro_cli.specs.FollowedProgram.{FollowsScript, RunsBy}
-use Rattle.retro_cli.specs.Output.{alone}
+use Rattle.retro_cli.specs.Ends.{Answers, EndsAfterLine, EndsAtSend, EndsAtSink, ScriptStands}
+use Rattle.retro_cli.specs.FollowedProgram.{RunsBy}
+use Rattle.retro_cli.specs.Output.{Answering, alone}
 use Rattle.retro_cli.specs.Program.{AnswersScript, JudgesEvidence, Runs, SumsUp}
 use Rattle.retro_cli.specs.Summary.{summary}
 use Rattle.retro_cli.specs.Unsent.{EndsUnsent, EndsUnsentBy}
@@ -37,44 +36,53 @@ module _ {K : Type 0} (G : sinks.Ghosts K) (text : Option (List ℕ)) (a b : Dir
   cut_off_reference (inr all) = EndsWithFlush-reference G a false b all.1
 
 module _ {S K : Type 0} (I : sources.Ghosts S) (G : sinks.Ghosts K) (source source' : S) (a b : DirectSink K) where
-  -- a write failed, or the flush, and no send did
-  at_sink : EndsAtSink (direct G) direct_sends alone (I.left source) (I.left source') a b ⊎ EndsAtSend (direct G) direct_sends alone (I.left source) (I.left source') a b
-      → EndsAtSink G no_sends alone (I.left source) (I.left source') (sink_behind a) (sink_behind b)
-  at_sink (inl (inl part)) = inl (part.0, EndsWithFailedWrite-behind G a b part.1)
-  at_sink (inl (inr all)) = inr (all.0, EndsWithFlush-behind G a false b all.1)
-  at_sink (inr sent) = absurd (no_failed_send-behind G a b sent.1)
+  -- a script that is answered so
+  module _ (answering : Answering) where
+    -- a write failed, or the flush, and no send did
+    at_sink : EndsAtSink (direct G) direct_sends answering (I.left source) (I.left source') a b ⊎ EndsAtSend (direct G) direct_sends answering (I.left source) (I.left source') a b
+        → EndsAtSink G no_sends answering (I.left source) (I.left source') (sink_behind a) (sink_behind b)
+    at_sink (inl (inl part)) = inl (part.0, EndsWithFailedWrite-behind G a b part.1)
+    at_sink (inl (inr all)) = inr (all.0, EndsWithFlush-behind G a false b all.1)
+    at_sink (inr sent) = absurd (no_failed_send-behind G a b sent.1)
 
-  sink_reference : EndsAtSink (direct G) direct_sends alone (I.left source) (I.left source') a b ⊎ EndsAtSend (direct G) direct_sends alone (I.left source) (I.left source') a b
-      → reference_behind b ≡ reference_behind a
-  sink_reference (inl (inl part)) = EndsWithFailedWrite-reference G a b part.1
-  sink_reference (inl (inr all)) = EndsWithFlush-reference G a false b all.1
-  sink_reference (inr sent) = absurd (no_failed_send-behind G a b sent.1)
+    answers_behind : (refused : Bool) → Answers I (direct G) direct_sends answering source source' a b refused
+        → Answers I G no_sends answering source source' (sink_behind a) (sink_behind b) refused
+    answers_behind refused p = record { ended = p.ended; output = p.output; flush = EndsWithFlush-behind G a true b p.flush; flushed = p.flushed; refusal = p.refusal }
 
-  script_behind : (status : Status) → AnswersScript I (direct G) direct_sends source source' a b status
-      → AnswersScript I G no_sends source source' (sink_behind a) (sink_behind b) status
-  script_behind status p = record {
-    ended = p.ended;
-    answered = p.answered;
-    flush = λ e. EndsWithFlush-behind G a true b (p.flush e);
-    refusal = p.refusal;
-    prefix = p.prefix;
-    part = λ e. inl (at_sink (p.part e));
-    whole = p.whole;
-    unflushed = λ e. StaysUnflushed-behind G a b (p.unflushed e);
-    of_taken = p.of_taken;
-    of_first = p.of_first;
-    of_earlier = p.of_earlier;
-  }
+    line_behind : EndsAfterLine (direct G) direct_sends answering (I.left source) (I.left source') a b
+        → EndsAfterLine G no_sends answering (I.left source) (I.left source') (sink_behind a) (sink_behind b)
+    line_behind p = record { whole = p.whole; unflushed = StaysUnflushed-behind G a b p.unflushed }
 
-  script_reference : (status : Status) → (status ≡ statuses.Words → ⊥) → AnswersScript I (direct G) direct_sends source source' a b status
-      → reference_behind b ≡ reference_behind a
-  script_reference statuses.Done known p = EndsWithFlush-reference G a true b (p.flush tt)
-  script_reference statuses.Refused known p = EndsWithFlush-reference G a true b (p.flush tt)
-  script_reference statuses.Words known p = absurd (known refl)
-  script_reference statuses.ReadFault known p = StaysUnflushed-reference G a b (p.unflushed tt)
-  script_reference statuses.WriteFault known p = sink_reference (p.part refl)
-  script_reference statuses.NoMemory known p = StaysUnflushed-reference G a b (p.unflushed tt)
-  script_reference statuses.TooLong known p = StaysUnflushed-reference G a b (p.unflushed tt)
+    stands_behind : (status : Status) → ScriptStands I (direct G) direct_sends answering source source' a b status
+        → ScriptStands I G no_sends answering source source' (sink_behind a) (sink_behind b) status
+    stands_behind statuses.Done p = answers_behind false p
+    stands_behind statuses.Refused p = answers_behind true p
+    stands_behind statuses.Words p = p
+    stands_behind statuses.ReadFault p = (line_behind p.0, p.1)
+    stands_behind statuses.WriteFault p = inl (at_sink p)
+    stands_behind statuses.NoMemory (inl at) = inl record { earlier = at.earlier; unflushed = StaysUnflushed-behind G a b at.unflushed }
+    stands_behind statuses.NoMemory (inr at) = inr record { ended = at.ended; whole = at.whole; unflushed = StaysUnflushed-behind G a b at.unflushed }
+    stands_behind statuses.TooLong p = (line_behind p.0, p.1)
+
+    stands_reference : (status : Status) → ScriptStands I (direct G) direct_sends answering source source' a b status → reference_behind b ≡ reference_behind a
+    stands_reference statuses.Done p = EndsWithFlush-reference G a true b p.flush
+    stands_reference statuses.Refused p = EndsWithFlush-reference G a true b p.flush
+    stands_reference statuses.Words p = absurd p
+    stands_reference statuses.ReadFault p = StaysUnflushed-reference G a b p.0.unflushed
+    stands_reference statuses.WriteFault (inl (inl part)) = EndsWithFailedWrite-reference G a b part.1
+    stands_reference statuses.WriteFault (inl (inr all)) = EndsWithFlush-reference G a false b all.1
+    stands_reference statuses.WriteFault (inr sent) = absurd (no_failed_send-behind G a b sent.1)
+    stands_reference statuses.NoMemory (inl at) = StaysUnflushed-reference G a b at.unflushed
+    stands_reference statuses.NoMemory (inr at) = StaysUnflushed-reference G a b at.unflushed
+    stands_reference statuses.TooLong p = StaysUnflushed-reference G a b p.0.unflushed
+
+    script_behind : (status : Status) → AnswersScript I (direct G) direct_sends source source' a b status answering
+        → AnswersScript I G no_sends source source' (sink_behind a) (sink_behind b) status answering
+    script_behind status p = record { prefix = p.prefix; stands = stands_behind status p.stands }
+
+    script_unsent : (status : Status) → AnswersScript I (direct G) direct_sends source source' a b status answering → status ≡ statuses.WriteFault
+        → EndsAtSink G no_sends answering (I.left source) (I.left source') (sink_behind a) (sink_behind b)
+    script_unsent status p e = at_sink (rw e at p.stands)
 
   evidence_behind : (status : Status) → JudgesEvidence I (direct G) direct_sends source source' a b status
       → JudgesEvidence I G no_sends source source' (sink_behind a) (sink_behind b) status
@@ -118,81 +126,37 @@ module _ {S K : Type 0} (I : sources.Ghosts S) (G : sinks.Ghosts K) (source sour
   pub runs_behind : (status : Status) (form : Option Form) → Runs I (direct G) direct_sends source source' a b status form
       → Runs I G no_sends source source' (sink_behind a) (sink_behind b) status form
   runs_behind status None p = (p.0, ap (λ s. sink_behind s) p.1)
-  runs_behind status (Some Run) p = script_behind status p
+  runs_behind status (Some Run) p = script_behind alone status p
   runs_behind status (Some Check) p = evidence_behind status p
   runs_behind status (Some (Gen kind lines start)) p = summary_behind kind lines start status p
 
   pub runs_unsent : (status : Status) (form : Option Form) → Runs I (direct G) direct_sends source source' a b status form → status ≡ statuses.WriteFault
       → EndsUnsent I G source source' (sink_behind a) (sink_behind b) form
   runs_unsent status None p e = tt
-  runs_unsent status (Some Run) p e = at_sink (p.part e)
+  runs_unsent status (Some Run) p e = script_unsent alone status p e
   runs_unsent status (Some Check) p e = tt
   runs_unsent status (Some (Gen kind lines start)) p e = tt
 
   pub runs_reference : (status : Status) (form : Option Form) → (status ≡ statuses.Words → form ≡ None) → Runs I (direct G) direct_sends source source' a b status form
       → reference_behind b ≡ reference_behind a
   runs_reference status None known p = ap (λ s. reference_behind s) p.1
-  runs_reference status (Some Run) known p = script_reference status (λ e. no_form Run (known e)) p
+  runs_reference status (Some Run) known p = stands_reference alone status p.stands
   runs_reference status (Some Check) known p = evidence_reference status (λ e. no_form Check (known e)) p
   runs_reference status (Some (Gen kind lines start)) known p =
       summary_reference kind lines start status (λ e. no_form (Gen kind lines start) (known e)) p
 
   module _ (audience : Audience) where
-    at_fault : EndsAtFault I (direct G) direct_sends audience source source' a b ⊎ EndsAtFailedSend I (direct G) direct_sends audience source source' a b
-        → EndsAtFault I G no_sends audience source source' (sink_behind a) (sink_behind b)
-    at_fault (inl (inl part)) = inl (part.0, EndsWithFailedWrite-behind G a b part.1)
-    at_fault (inl (inr all)) = inr (all.0, EndsWithFlush-behind G a false b all.1)
-    at_fault (inr sent) = absurd (no_failed_send-behind G a b sent.1)
-
-    fault_reference : EndsAtFault I (direct G) direct_sends audience source source' a b ⊎ EndsAtFailedSend I (direct G) direct_sends audience source source' a b
-        → reference_behind b ≡ reference_behind a
-    fault_reference (inl (inl part)) = EndsWithFailedWrite-reference G a b part.1
-    fault_reference (inl (inr all)) = EndsWithFlush-reference G a false b all.1
-    fault_reference (inr sent) = absurd (no_failed_send-behind G a b sent.1)
-
-    short_behind : EndsAtLine I (direct G) direct_sends audience source source' a b ⊎ EndsAtReport I (direct G) direct_sends audience source source' a b
-        → EndsAtLine I G no_sends audience source source' (sink_behind a) (sink_behind b) ⊎ EndsAtReport I G no_sends audience source source' (sink_behind a) (sink_behind b)
-    short_behind (inl at) = inl record { earlier = at.earlier; unflushed = StaysUnflushed-behind G a b at.unflushed }
-    short_behind (inr at) = inr record { ended = at.ended; whole = at.whole; unflushed = StaysUnflushed-behind G a b at.unflushed }
-
-    follows_behind : (status : Status) → FollowsScript I (direct G) direct_sends audience source source' a b status
-        → FollowsScript I G no_sends audience source source' (sink_behind a) (sink_behind b) status
-    follows_behind status p = record {
-      ended = p.ended;
-      answered = p.answered;
-      flush = λ e. EndsWithFlush-behind G a true b (p.flush e);
-      refusal = p.refusal;
-      fault = λ e. inl (at_fault (p.fault e));
-      unflushed = λ e. StaysUnflushed-behind G a b (p.unflushed e);
-      of_taken = p.of_taken;
-      of_first = p.of_first;
-      short = λ e. short_behind (p.short e);
-    }
-
-    follows_reference : (status : Status) → (status ≡ statuses.Words → ⊥) → FollowsScript I (direct G) direct_sends audience source source' a b status
-        → reference_behind b ≡ reference_behind a
-    follows_reference statuses.Done known p = EndsWithFlush-reference G a true b (p.flush tt)
-    follows_reference statuses.Refused known p = EndsWithFlush-reference G a true b (p.flush tt)
-    follows_reference statuses.Words known p = absurd (known refl)
-    follows_reference statuses.ReadFault known p = StaysUnflushed-reference G a b (p.unflushed tt)
-    follows_reference statuses.WriteFault known p = fault_reference (p.fault refl)
-    follows_reference statuses.NoMemory known p = StaysUnflushed-reference G a b (p.unflushed tt)
-    follows_reference statuses.TooLong known p = StaysUnflushed-reference G a b (p.unflushed tt)
-
     pub by_words_behind : (status : Status) (follow : Bool) (form : Option Form) → RunsBy I (direct G) direct_sends audience source source' a b status follow form
         → RunsBy I G no_sends audience source source' (sink_behind a) (sink_behind b) status follow form
-    by_words_behind status true form p = follows_behind status p
+    by_words_behind status true form p = script_behind (followed audience) status p
     by_words_behind status false form p = runs_behind status form p
 
     pub by_words_unsent : (status : Status) (follow : Bool) (form : Option Form) → RunsBy I (direct G) direct_sends audience source source' a b status follow form
         → status ≡ statuses.WriteFault → EndsUnsentBy I G source source' (sink_behind a) (sink_behind b) audience follow form
-    by_words_unsent status true form p e = at_fault (p.fault e)
+    by_words_unsent status true form p e = script_unsent (followed audience) status p e
     by_words_unsent status false form p e = runs_unsent status form p e
-
-    true_is_not_false : true ≡ false → ⊥
-    true_is_not_false e = cc
 
     pub by_words_reference : (status : Status) (follow : Bool) (form : Option Form) → (status ≡ statuses.Words → (follow ≡ false) × (form ≡ None))
         → RunsBy I (direct G) direct_sends audience source source' a b status follow form → reference_behind b ≡ reference_behind a
-    by_words_reference status true form known p = follows_reference status (λ e. true_is_not_false (known e).0) p
+    by_words_reference status true form known p = stands_reference (followed audience) status p.stands
     by_words_reference status false form known p = runs_reference status form (λ e. (known e).1) p

@@ -1,4 +1,4 @@
--- What stands in the sink where a run ends.
+-- What stands in the sink where a run of lines ends.
 use Rattle.std.proofs.Common.{◌≡◌, ℕ, Bool, false, ◌||◌, ◌≤◌, ◌<◌, ◌-◌, ◌+◌, List, [], ◌∷◌, ◌++◌, length, take, drop, arith, refl, sym, ap, ◌∙◌}
 use Rattle.std.proofs.Common.{subst, append_assoc, append-nil, length-append, length-drop, Option, Some, None, Result, Err, inl, inr}
 use Rattle.std.specs.Ffi.{without_last}
@@ -11,27 +11,27 @@ use Rattle.retro_io.specs.LineLaws.{unbroken-append}
 use Rattle.retro_io.specs.LineReader.{held_and_left}
 use Rattle.retro_io.specs.Lines.{lines, has_line_feed}
 use Rattle.retro_io.specs.Marks.{GivesNextOf}
-use Rattle.retro_io.specs.Sink.{Appends, AppendsProperPrefix}
+use Rattle.retro_io.specs.Sink.{Appends, AppendsPrefixOf, AppendsProperPrefix}
 use Rattle.retro_io.specs.SinkLaws.{Appends-append, Appends-none, AppendsPrefixOf-from, AppendsPrefixOf-parts}
 use Rattle.retro_io.specs.Source.{GivesCount}
 use Rattle.workbench.specs.Answers.{bench_after}
 use Rattle.workbench.specs.Bench.{Bench, empty_bench}
 use Rattle.workbench.specs.Reaction.{Reaction, closing}
-use Rattle.retro_cli.specs.Audience.{Audience, Turn, audience_after, followed, follows, follows_to}
-use Rattle.retro_cli.specs.Output.{Answering, answers_by, close_of, output_by, refuses_by, up_to_last_feed}
+use Rattle.retro_cli.specs.Audience.{Audience, HaveFollowed, Turn, audience_after, followed, follows, follows_to}
+use Rattle.retro_cli.specs.Events.{report_lines}
+use Rattle.retro_cli.specs.Output.{Answering, answers_by, close_of, output_by, refuses_by, up_to_last_feed, whole_by}
 use Rattle.retro_cli.specs.declared.stop.Stop.{Stop}
 use Rattle.retro_cli.specs.declared.stop.Stop.TheVariants as stops
 use Rattle.retro_io.specs.declared.mark.ReadError.{ReadError}
 use Rattle.retro_io.specs.declared.mark.ReadError.TheVariants.{ReadFault, TooLong}
 use Rattle.retro_io.specs.declared.sink.Sink.{Ghosts}
-use Rattle.retro_io.specs.FlushLaws.{EndsWithFailedSend-more, EndsWithFailedWrite-more, StaysUnflushed-more}
+use Rattle.retro_io.specs.FlushLaws.{EndsWithFailedSend-more, EndsWithFailedWrite-more}
 use Rattle.retro_io.specs.Flushes.{EndsWithFailedSend, EndsWithFailedWrite, Sends, StaysUnflushed}
-use Rattle.retro_cli.specs.Ends.{EndsAfterLine, LinesStand, Stands}
-use Rattle.retro_cli.specs.Followed.{HaveFollowed}
+use Rattle.retro_cli.specs.Ends.{LinesStand}
 use Rattle.retro_cli.specs.Stop.{StopsAt, stops_at_write}
-use Rattle.retro_cli.specs.Run.{AppendsAnswersOfFirst, AppendsAnswersOfTaken, AppendsFirstAnswers, AppendsOutput, AppendsProperOutputPrefix, AppendsOutputPrefix, MatchesRefusal}
+use Rattle.retro_cli.specs.Run.{AppendsAnswersOfFirst, AppendsAnswersOfTaken, AppendsFirstAnswers, AppendsOutput, AppendsWhole, AppendsWholePart, AppendsWholePrefix, MatchesRefusal}
 use Rattle.retro_cli.proofs.GoesOn.{GivenAs, GoesOn, gives, none_is_not_some, some_same}
-use Rattle.retro_cli.proofs.Reactions.{answers_by-none, before_last, output_after, output_from}
+use Rattle.retro_cli.proofs.Reactions.{answers_by-none, before_last, reports_of, whole_after, whole_from, with_reports-is}
 use Rattle.retro_cli.proofs.WholeLines.{up_to-unbroken}
 
 -- a run that stopped so
@@ -57,6 +57,14 @@ prefix_between first written written' so_far answer later all whole before part 
           (Appends-append first written written' so_far parts.0 before parts.3),
     )
 
+-- a prefix that is not all of it is one
+pub prefix_of_part : (all : List ℕ) (before after : Option (List ℕ)) → AppendsProperPrefix before all after → AppendsPrefixOf before all after
+prefix_of_part all before after part =
+    let parts = AppendsPrefixOf-parts before (without_last all) after part.1 in
+    let last = drop (length all - 1) all in
+    AppendsPrefixOf-from before all parts.0 (parts.1 ++ last) after
+    (sym (take-append-drop (length all - 1) all) ∙ ap (λ xs. xs ++ last) parts.2 ∙ append_assoc parts.0 parts.1 last) parts.3
+
 module _ (audience : Audience) where
   -- nothing was appended
   pub appends_no_answers : (script written : Option (List ℕ)) → AppendsFirstAnswers (followed audience) script written written
@@ -64,16 +72,12 @@ module _ (audience : Audience) where
   appends_no_answers (Some bytes) written =
       record { answered = []; unanswered = lines bytes; cut = refl; appended = rw (answers_by-none audience) (Appends-none written) }
 
-  pub appends_no_output : (script written : Option (List ℕ)) → AppendsOutputPrefix (followed audience) script written written
-  appends_no_output None written = tt
-  appends_no_output (Some bytes) written = AppendsPrefixOf-from written (output_by (followed audience) bytes) [] (output_by (followed audience) bytes) written refl (Appends-none written)
-
-  -- the whole answers to some first lines are a prefix of the output
-  pub prefix_of_answers : (script before after : Option (List ℕ)) → AppendsFirstAnswers (followed audience) script before after → AppendsOutputPrefix (followed audience) script before after
+  -- the whole answers to some first lines are a prefix of the whole
+  pub prefix_of_answers : (script before after : Option (List ℕ)) → AppendsFirstAnswers (followed audience) script before after → AppendsWholePrefix (followed audience) script before after
   prefix_of_answers None before after answers = tt
   prefix_of_answers (Some bytes) before after answers =
-      AppendsPrefixOf-from before (output_by (followed audience) bytes) (answers_by (followed audience) answers.answered) _ after
-      (output_after audience bytes answers.answered answers.unanswered answers.cut) answers.appended
+      let whole = whole_after audience bytes answers.answered answers.unanswered answers.cut in
+      AppendsPrefixOf-from before (whole_by (followed audience) bytes) (answers_by (followed audience) answers.answered) whole.0 after whole.1 answers.appended
 
   -- the answers so far are the whole answers to the lines given
   pub first_answers : (script first : Option (List ℕ)) (bench : Bench) (who : Audience) (refused ended : Bool) (rest written : Option (List ℕ))
@@ -83,45 +87,36 @@ module _ (audience : Audience) where
       let here = on bytes refl in
       record { answered = here.given; unanswered = lines here.left; cut = here.cut; appended = here.appended }
 
-  -- the whole output is a prefix of it
-  pub prefix_of_all : (script before after : Option (List ℕ)) → AppendsOutput (followed audience) script before after → AppendsOutputPrefix (followed audience) script before after
+  -- the whole is a prefix of it
+  pub prefix_of_all : (script before after : Option (List ℕ)) → AppendsWhole (followed audience) script before after → AppendsWholePrefix (followed audience) script before after
   prefix_of_all None before after all = tt
-  prefix_of_all (Some bytes) before after all = AppendsPrefixOf-from before (output_by (followed audience) bytes) (output_by (followed audience) bytes) [] after
-      (sym (append-nil (output_by (followed audience) bytes))) all
+  prefix_of_all (Some bytes) before after all = AppendsPrefixOf-from before (whole_by (followed audience) bytes) (whole_by (followed audience) bytes) [] after
+      (sym (append-nil (whole_by (followed audience) bytes))) all
 
-  -- and so it is of the output, at the answer to a line
+  -- a part of an answer, after those before it, is one of the whole
   part_at_line : (bytes now after : List ℕ) (first : Option (List ℕ)) (bench : Bench) (who : Audience) (refused : Bool) (mark : Mark) (long : Bool) (shown : List ℕ) (ended : Bool)
       (written written' : Option (List ℕ)) → GivenAs mark long → GivesNextOf mark shown ended (Some now) (Some after)
       → GoesOn audience bytes first bench who refused false (Some now) written → AppendsProperPrefix written (follows_to bench who shown long).reaction.answer written'
-      → AppendsProperPrefix first (output_by (followed audience) bytes) written'
+      → AppendsProperPrefix first (whole_by (followed audience) bytes) written'
   part_at_line bytes now after first bench who refused mark long shown ended written written' as_given next on part =
       let given = gives mark long shown ended now after as_given next in
       let same : now ≡ on.left = some_same (Some now) refl on.rest_is in
       let cut : lines bytes ≡ on.given ++ given.line ∷ lines after = on.cut ∙ ap (λ xs. on.given ++ lines xs) (sym same) ∙ ap (λ ls. on.given ++ ls) given.cut in
-      let whole = output_from audience bytes on.given given.line (lines after) cut in
-      prefix_between first written written' (answers_by (followed audience) on.given) _ _ (output_by (followed audience) bytes) whole on.appended
+      let whole = whole_from audience bytes on.given given.line (lines after) cut in
+      prefix_between first written written' (answers_by (followed audience) on.given) _ whole.0 (whole_by (followed audience) bytes) whole.1 on.appended
       (subst (λ (t : Turn). AppendsProperPrefix written t.reaction.answer written')
       (sym (ap (λ b. follows b (audience_after empty_bench audience on.given) given.line) on.bench_is ∙ ap (λ w. follows bench w given.line) on.audience_is ∙ given.turn bench who)) part)
 
   pub part_in_line : (script first : Option (List ℕ)) (bench : Bench) (who : Audience) (refused : Bool) (mark : Mark) (long : Bool) (shown : List ℕ) (ended : Bool)
       (rest rest' written written' : Option (List ℕ)) → GivenAs mark long → GivesNextOf mark shown ended rest rest'
       → ((bytes : List ℕ) → script ≡ Some bytes → GoesOn audience bytes first bench who refused false rest written)
-      → AppendsProperPrefix written (follows_to bench who shown long).reaction.answer written' → AppendsProperOutputPrefix (followed audience) script first written'
+      → AppendsProperPrefix written (follows_to bench who shown long).reaction.answer written' → AppendsWholePart (followed audience) script first written'
   part_in_line None first bench who refused mark long shown ended rest rest' written written' as_given next on part = tt
   part_in_line (Some bytes) first bench who refused mark long shown ended None rest' written written' as_given next on part =
       absurd (none_is_not_some (on bytes refl).rest_is)
   part_in_line (Some bytes) first bench who refused mark long shown ended (Some now) None written written' as_given next on part = absurd next
   part_in_line (Some bytes) first bench who refused mark long shown ended (Some now) (Some after) written written' as_given next on part =
       part_at_line bytes now after first bench who refused mark long shown ended written written' as_given next (on bytes refl) part
-
-  -- and such a prefix is one
-  pub prefix_of_part : (script before after : Option (List ℕ)) → AppendsProperOutputPrefix (followed audience) script before after → AppendsOutputPrefix (followed audience) script before after
-  prefix_of_part None before after part = tt
-  prefix_of_part (Some bytes) before after part =
-      let parts = AppendsPrefixOf-parts before (without_last (output_by (followed audience) bytes)) after part.1 in
-      let last = drop (length (output_by (followed audience) bytes) - 1) (output_by (followed audience) bytes) in
-      AppendsPrefixOf-from before (output_by (followed audience) bytes) parts.0 (parts.1 ++ last) after
-      (sym (take-append-drop (length (output_by (followed audience) bytes) - 1) (output_by (followed audience) bytes)) ∙ ap (λ xs. xs ++ last) parts.2 ∙ append_assoc parts.0 parts.1 last) parts.3
 
   pub nothing_left : (shown : List ℕ) (ended : Bool) (rest rest' : Option (List ℕ)) (left : List ℕ) → GivesNextOf End shown ended rest rest' → rest ≡ Some left → rest ≡ Some []
   nothing_left shown ended None rest' left next e = absurd (none_is_not_some e)
@@ -178,13 +173,13 @@ module _ (audience : Audience) where
   -- or a first part of it, where the write failed
   pub part_at_end : (script first : Option (List ℕ)) (bench : Bench) (who : Audience) (refused ended : Bool) (rest rest' written written' : Option (List ℕ)) (shown : List ℕ)
       (has_ended : Bool) → ((bytes : List ℕ) → script ≡ Some bytes → GoesOn audience bytes first bench who refused ended rest written)
-      → GivesNextOf End shown has_ended rest rest' → AppendsProperPrefix written (closing bench).answer written' → AppendsProperOutputPrefix (followed audience) script first written'
+      → GivesNextOf End shown has_ended rest rest' → AppendsProperPrefix written (closing bench).answer written' → AppendsWholePart (followed audience) script first written'
   part_at_end None first bench who refused ended rest rest' written written' shown has_ended on next part = tt
   part_at_end (Some bytes) first bench who refused ended rest rest' written written' shown has_ended on next part =
       let all = given_at_end bytes first bench who refused ended rest rest' written shown has_ended (on bytes refl) next in
       let close : closing bench ≡ close_of (lines bytes) = ap closing (sym all.bench_is) in
-      prefix_between first written written' (answers_by (followed audience) (lines bytes)) (close_of (lines bytes)).answer []
-      (output_by (followed audience) bytes) (sym (append-nil (output_by (followed audience) bytes))) all.appended
+      prefix_between first written written' (answers_by (followed audience) (lines bytes)) (close_of (lines bytes)).answer (report_lines 0 (reports_of audience bytes))
+      (whole_by (followed audience) bytes) (with_reports-is (output_by (followed audience) bytes) (reports_of audience bytes)) all.appended
       (subst (λ (r : Reaction). AppendsProperPrefix written r.answer written') close part)
 
   -- at a read that failed all is answered whose line feed was taken
@@ -239,30 +234,9 @@ module _ (audience : Audience) where
       up_to-unbroken here.past (held ++ last) here.given (here.whole refl) (unbroken-append held last unbroken unbroken') in
       subst (λ ls. Appends first (answers_by (followed audience) ls) written) (sym (ap (λ xs. lines (up_to_last_feed xs)) prefix ∙ given)) here.appended
 
-  module _ {K : Type 0} (G : Ghosts K) (sends : Sends K) where
-    -- whatever stands is a prefix of the output
-    pub prefix_that_stands : (script left : Option (List ℕ)) (limit : ℕ) (before after : K) (stop : Stop) → Stands G sends (followed audience) script left before after limit stop
-        → AppendsOutputPrefix (followed audience) script (G.written before) (G.written after)
-    prefix_that_stands script left limit before after stops.ReadFault stands = prefix_of_answers script (G.written before) (G.written after) stands.0.whole
-    prefix_that_stands script left limit before after stops.TooLong stands = prefix_of_answers script (G.written before) (G.written after) stands.0.whole
-    prefix_that_stands script left limit before after stops.NoMemory stands = prefix_of_answers script (G.written before) (G.written after) stands.whole
-    prefix_that_stands script left limit before after stops.WriteFault (inl (inl part)) = prefix_of_part script (G.written before) (G.written after) part.0
-    prefix_that_stands script left limit before after stops.WriteFault (inl (inr all)) = prefix_of_all script (G.written before) (G.written after) all.0
-    prefix_that_stands script left limit before after stops.WriteFault (inr sent) =
-        prefix_of_answers script (G.written before) (G.written after) sent.0
-
 -- however lines are answered
 module _ (answering : Answering) where
   module _ {K : Type 0} (G : Ghosts K) (sends : Sends K) where
-    -- what stands where lines are answered no further stands where the run stops
-    pub stands_of_lines : (script left : Option (List ℕ)) (limit : ℕ) (before after : K) (stop : Stop) → LinesStand G sends answering script left before after limit stop
-        → Stands G sends answering script left before after limit stop
-    stands_of_lines script left limit before after stops.ReadFault stands = stands
-    stands_of_lines script left limit before after stops.TooLong stands = stands
-    stands_of_lines script left limit before after stops.NoMemory stands = stands
-    stands_of_lines script left limit before after stops.WriteFault (inl part) = inl (inl part)
-    stands_of_lines script left limit before after stops.WriteFault (inr sent) = inr sent
-
     -- where no next line was given
     pub stands_at_error : (script left : Option (List ℕ)) (limit : ℕ) (before after : K) (error : ReadError) (stop : Stop) → StopsAt error stop
         → AppendsFirstAnswers answering script (G.written before) (G.written after) → StaysUnflushed G sends before after
@@ -279,7 +253,7 @@ module _ (answering : Answering) where
         → AppendsFirstAnswers answering script (G.written before) (G.written middle) → StaysUnflushed G sends before middle
         → (stops_at_write (stop_at stop) ≡ false → after ≡ middle)
         → (stop_at stop ≡ stop_at stops.ReadFault → ⊥) × (stop_at stop ≡ stop_at stops.TooLong → ⊥)
-        → (stop_at stop ≡ stop_at stops.WriteFault → AppendsProperOutputPrefix answering script (G.written before) (G.written after))
+        → (stop_at stop ≡ stop_at stops.WriteFault → AppendsWholePart answering script (G.written before) (G.written after))
         → (stop_at stop ≡ stop_at stops.WriteFault → EndsWithFailedWrite G sends middle after)
         → LinesStand G sends answering script left before after limit stop
     stands_at_answer script left limit before middle after stops.ReadFault whole unflushed same reads part last = absurd (reads.0 refl)
@@ -294,12 +268,4 @@ module _ (answering : Answering) where
         → StaysUnflushed G sends before middle → G.written after ≡ G.written middle → EndsWithFailedSend G sends middle after
         → LinesStand G sends answering script left before after limit stops.WriteFault
     stands_at_send script left limit before middle after whole unflushed same last =
-        inr (subst (λ w. AppendsFirstAnswers answering script (G.written before) w) (sym same) whole, EndsWithFailedSend-more G sends before middle after unflushed last)
-
-    -- where memory was short, and then all that waits went on
-    pub ends_sent : (script left left' : Option (List ℕ)) (before middle after : K) → EndsAfterLine G sends answering script left before middle
-        → G.written after ≡ G.written middle → StaysUnflushed G sends middle after → EndsAfterLine G sends answering script left' before after
-    ends_sent script left left' before middle after ends same sent = record {
-      whole = subst (λ w. AppendsFirstAnswers answering script (G.written before) w) (sym same) ends.whole;
-      unflushed = StaysUnflushed-more G sends before middle after ends.unflushed sent;
-    }
+        inr (inl (subst (λ w. AppendsFirstAnswers answering script (G.written before) w) (sym same) whole), EndsWithFailedSend-more G sends before middle after unflushed last)

@@ -17,8 +17,7 @@ use Rattle.workbench.specs.Bench.{Bench, NamedTimeline, OpenBlock, empty_bench}
 use Rattle.workbench.specs.Outcome.{refusal_text, reply_text}
 use Rattle.workbench.specs.Reaction.{Reaction, happens, outside, reacts, spelled}
 use Rattle.retro_cli.specs.Audience.{Audience, after_events, audience_after, follower_at, follows, hears, mutes, number_muted, turn, turn_with, without}
-use Rattle.retro_cli.specs.Events.{events_among, events_spelled}
-use Rattle.retro_cli.specs.Followed.{events}
+use Rattle.retro_cli.specs.Events.{events, events_among, events_spelled}
 use Rattle.retro_cli.specs.Heard.{HasHeard, MirrorsReportThePresent, WhoIsLeftHasHeardAll}
 use Rattle.retro_cli.specs.Mirrored.{ChangesAloneHoldThePresent}
 use Rattle.retro_cli.proofs.accepted.Passing.{begins_other}

@@ -18,8 +18,7 @@ pub mod Unhidden
 pub mod AnswerLines
 pub mod Handed
 pub mod Reports
-pub mod FollowedEnds
-pub mod FollowedStatuses
+pub mod Reported
 pub mod Behind
 pub mod Numbered
 pub mod Muted

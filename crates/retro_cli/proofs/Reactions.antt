@@ -10,8 +10,9 @@ use Rattle.std.proofs.lemmas.List.Folds.{concat-append, list_any-append}
 use Rattle.workbench.specs.Answers.{reactions, bench_after}
 use Rattle.workbench.specs.Bench.{Bench, empty_bench}
 use Rattle.workbench.specs.Reaction.{Reaction, reacts}
-use Rattle.retro_cli.specs.Audience.{Audience, audience_after, followed, followed_from, follows, turn}
-use Rattle.retro_cli.specs.Output.{alone, answers_by, close_of, output_by, refuses_by}
+use Rattle.retro_cli.specs.Audience.{Audience, audience_after, followed, followed_from, follows, texts_of, turn}
+use Rattle.retro_cli.specs.Events.{report_lines, with_reports}
+use Rattle.retro_cli.specs.Output.{Answering, alone, answers_by, close_of, output_by, refuses_by, whole_by}
 use Rattle.retro_io.specs.Lines.{lines}
 
 -- what reactions append, one after the other
@@ -38,8 +39,23 @@ alone_from bench [] = refl
 alone_from bench (line ∷ first) =
     rw (nobody_mutes _ (reacts bench line)) (ap (λ rs. reacts bench line ∷ rs) (alone_from (reacts bench line).bench first))
 
+nobody_left : (bench : Bench) (all : List (List ℕ)) → texts_of (audience_after bench [] all) ≡ []
+unfolding audience_after
+nobody_left bench [] = refl
+nobody_left bench (line ∷ all) = rw (nobody_mutes _ (reacts bench line)) (nobody_left (reacts bench line).bench all)
+
+abbrev answered_so : (List (List ℕ) → List Reaction) → (List (List ℕ) → List (Option (List ℕ))) → Answering
+answered_so reactions_to reports_after = record { reactions_to = reactions_to; reports_after = reports_after }
+
 pub nobody_follows : followed [] ≡ alone
-nobody_follows = fun_ext (alone_from empty_bench)
+nobody_follows =
+    ap (λ to. answered_so to (λ all. texts_of (audience_after empty_bench [] all))) (fun_ext (alone_from empty_bench))
+    ∙ ap (λ after. answered_so (λ first. reactions empty_bench first) after) (fun_ext (nobody_left empty_bench))
+
+-- where there are no reports, nothing is appended for them
+pub with_reports-is : (text : List ℕ) (reports : List (Option (List ℕ))) → with_reports text reports ≡ text ++ report_lines 0 reports
+with_reports-is text [] = sym (append-nil text)
+with_reports-is text (report ∷ reports) = refl
 
 -- the bench that one more line leaves
 pub bench_after-line : (bench : Bench) (first : List (List ℕ)) (line : List ℕ) → bench_after bench (first ++ line ∷ []) ≡ (reacts (bench_after bench first) line).bench
@@ -85,7 +101,7 @@ module _ (audience : Audience) where
       ≡ (answers_by (followed audience) first ++ (next_reaction first line).answer) ++ texts (after_next first line more)
   unfolding followed_from
   answers_from first line more =
-      ap texts (followed-append empty_bench audience first (line ∷ more)) ∙ texts-append (followed audience first) (followed_from (bench_of first) (audience_at first) (line ∷ more))
+      ap texts (followed-append empty_bench audience first (line ∷ more)) ∙ texts-append (followed_from empty_bench audience first) (followed_from (bench_of first) (audience_at first) (line ∷ more))
       ∙ sym (append_assoc (answers_by (followed audience) first) (next_reaction first line).answer _)
 
   pub answers_by-line : (first : List (List ℕ)) (line : List ℕ) → answers_by (followed audience) (first ++ line ∷ []) ≡ answers_by (followed audience) first ++ (next_reaction first line).answer
@@ -104,26 +120,47 @@ module _ (audience : Audience) where
   unfolding followed_from
   refuses_by-line first line =
       ap refuses (followed-append empty_bench audience first (line ∷ []))
-      ∙ list_any-append (λ (reaction : Reaction). reaction.refused) (followed audience first) (followed_from (bench_of first) (audience_at first) (line ∷ []))
+      ∙ list_any-append (λ (reaction : Reaction). reaction.refused) (followed_from empty_bench audience first) (followed_from (bench_of first) (audience_at first) (line ∷ []))
       ∙ ap (λ b. refuses_by (followed audience) first || b) (or-false (next_reaction first line).refused)
 
+  -- the reports after all lines
+  abbrev pub reports_of : List ℕ → List (Option (List ℕ))
+  reports_of bytes = texts_of (audience_at (lines bytes))
+
   -- the output, where some first lines are answered
-  pub output_after : (bytes : List ℕ) (first more : List (List ℕ)) → lines bytes ≡ first ++ more
+  output_after : (bytes : List ℕ) (first more : List (List ℕ)) → lines bytes ≡ first ++ more
       → output_by (followed audience) bytes
       ≡ answers_by (followed audience) first ++ (texts (followed_from (bench_of first) (audience_at first) more) ++ (close_of (lines bytes)).answer)
   output_after bytes first more cut =
       ap (λ xs. xs ++ (close_of (lines bytes)).answer)
       (ap (answers_by (followed audience)) cut ∙ ap texts (followed-append empty_bench audience first more)
-      ∙ texts-append (followed audience first) (followed_from (bench_of first) (audience_at first) more))
+      ∙ texts-append (followed_from empty_bench audience first) (followed_from (bench_of first) (audience_at first) more))
       ∙ append_assoc (answers_by (followed audience) first) _ _
 
+  -- and the whole
+  pub whole_after : (bytes : List ℕ) (first more : List (List ℕ)) → lines bytes ≡ first ++ more
+      → (later : List ℕ) × (whole_by (followed audience) bytes ≡ answers_by (followed audience) first ++ later)
+  whole_after bytes first more cut = (
+    (texts (followed_from (bench_of first) (audience_at first) more) ++ (close_of (lines bytes)).answer) ++ report_lines 0 (reports_of bytes),
+    with_reports-is (output_by (followed audience) bytes) (reports_of bytes) ∙ ap (λ xs. xs ++ report_lines 0 (reports_of bytes)) (output_after bytes first more cut)
+        ∙ append_assoc (answers_by (followed audience) first) _ _,
+  )
+
   -- and then one more
-  pub output_from : (bytes : List ℕ) (first : List (List ℕ)) (line : List ℕ) (more : List (List ℕ)) → lines bytes ≡ first ++ line ∷ more
+  output_from : (bytes : List ℕ) (first : List (List ℕ)) (line : List ℕ) (more : List (List ℕ)) → lines bytes ≡ first ++ line ∷ more
       → output_by (followed audience) bytes ≡ (answers_by (followed audience) first ++ (next_reaction first line).answer)
       ++ (texts (after_next first line more) ++ (close_of (lines bytes)).answer)
   output_from bytes first line more cut =
       ap (λ xs. xs ++ (close_of (lines bytes)).answer) (ap (answers_by (followed audience)) cut ∙ answers_from first line more)
       ∙ append_assoc (answers_by (followed audience) first ++ (next_reaction first line).answer) _ _
+
+  pub whole_from : (bytes : List ℕ) (first : List (List ℕ)) (line : List ℕ) (more : List (List ℕ)) → lines bytes ≡ first ++ line ∷ more
+      → (later : List ℕ) × (whole_by (followed audience) bytes ≡ (answers_by (followed audience) first ++ (next_reaction first line).answer) ++ later)
+  whole_from bytes first line more cut = (
+    (texts (after_next first line more) ++ (close_of (lines bytes)).answer) ++ report_lines 0 (reports_of bytes),
+    with_reports-is (output_by (followed audience) bytes) (reports_of bytes) ∙ ap (λ xs. xs ++ report_lines 0 (reports_of bytes)) (output_from bytes first line more cut)
+        ∙ append_assoc (answers_by (followed audience) first ++ (next_reaction first line).answer) _ _,
+  )
 
 -- a prefix that is not the whole is one of all but the last
 pub before_last : (all prefix rest : List ℕ) → all ≡ prefix ++ rest → 0 < length rest

@@ -10,7 +10,7 @@ use Rattle.retro_io.specs.Sink.{Appends, AppendsProperPrefix}
 use Rattle.followers.specs.Followers.{Reporting}
 use Rattle.retro_cli.specs.declared.stop.Stop.{Stop}
 use Rattle.retro_cli.specs.declared.stop.Stop.TheVariants as stops
-use Rattle.retro_cli.specs.Followed.{texts_of}
+use Rattle.retro_cli.specs.Audience.{texts_of}
 use Rattle.retro_cli.specs.Events.{ReportsStand, line_of, report_lines}
 use Rattle.retro_cli.specs.Stop.{stops_at_write}
 use Rattle.retro_cli.proofs.Ends.{prefix_between}

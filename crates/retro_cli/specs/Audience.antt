@@ -1,5 +1,5 @@
 -- Who follows a script, and how its lines are answered then: the bench answers each line but those that mute a follower.
-use Rattle.std.specs.Prelude.{ℕ, zero, suc, Bool, false, List, [], ◌∷◌, ◌++◌, map, Option, None, Some, option_map, Result, Ok}
+use Rattle.std.specs.Prelude.{◌≡◌, ℕ, zero, suc, Bool, false, List, [], ◌∷◌, ◌++◌, map, Option, None, Some, option_map, Result, Ok}
 use Rattle.retro_base.specs.LineLength.{is_long}
 use Rattle.evidence.specs.declared.evidence.Evidence.{Evidence}
 use Rattle.followers.specs.Followers.{Reporting}
@@ -8,7 +8,9 @@ use Rattle.script_grammar.specs.declared.command.Command.TheVariants.{Mute}
 use Rattle.script_grammar.specs.declared.command.LineError.{LineError}
 use Rattle.workbench.specs.Bench.{Bench, OpenBlock, empty_bench}
 use Rattle.workbench.specs.Reaction.{Reaction, reacts, reacts_to, spelled}
+use Rattle.retro_io.specs.Lines.{lines}
 use Rattle.retro_cli.specs.Events.{events_among, report_line}
+use Rattle.retro_cli.specs.Output.{Answering}
 
 -- the followers by their numbers, each by what it reports after further events; none under the number of one that was muted
 abbrev pub Audience : Type 0
@@ -17,6 +19,10 @@ Audience = List (Option Reporting)
 -- the followers as they are handed in
 abbrev pub audience_of : List Reporting → Audience
 audience_of followers = map (λ report. Some report) followers
+
+-- those who are left of some followers, each seen by what it reports
+abbrev pub audience_by : {F : Type 0} → (F → Reporting) → List (Option F) → Audience
+audience_by seen followers = map (option_map seen) followers
 
 -- a follower that has taken events
 abbrev pub after_events : List Evidence → Reporting → Reporting
@@ -93,6 +99,18 @@ unfoldable pub audience_after : Bench → Audience → List (List ℕ) → Audie
 audience_after bench audience [] = audience
 audience_after bench audience (line ∷ more) = audience_after (reacts bench line).bench (follows bench audience line).audience more
 
--- the reactions to the first lines of a script that these follow
-abbrev pub followed : Audience → List (List ℕ) → List Reaction
-followed audience first = followed_from empty_bench audience first
+-- followers have seen a script, where the source tells it
+abbrev pub HaveFollowed : Option (List ℕ) → Audience → Audience → Type 0
+HaveFollowed None before after = Unit {0}
+HaveFollowed (Some bytes) before after = after ≡ audience_after empty_bench before (lines bytes)
+
+-- what those who are left report, each under its number
+abbrev pub texts_of : Audience → List (Option (List ℕ))
+texts_of audience = map (option_map (λ (report : Reporting). report [])) audience
+
+-- a script that these follow is answered so
+abbrev pub followed : Audience → Answering
+followed audience = record {
+  reactions_to = λ first. followed_from empty_bench audience first;
+  reports_after = λ all. texts_of (audience_after empty_bench audience all);
+}

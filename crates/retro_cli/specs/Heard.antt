@@ -6,7 +6,7 @@ use Rattle.followers.specs.Mirrors.{held, mirror_text}
 use Rattle.workbench.specs.Answers.{bench_after}
 use Rattle.workbench.specs.Bench.{empty_bench}
 use Rattle.retro_cli.specs.Audience.{Audience, after_events, audience_after, follower_at}
-use Rattle.retro_cli.specs.Followed.{events}
+use Rattle.retro_cli.specs.Events.{events}
 use Rattle.retro_cli.specs.Mirrored.{entries_named}
 
 -- the follower with this number was there from the start, and has taken these events since

@@ -17,7 +17,6 @@ pub mod Summary
 pub mod Program
 pub mod Events
 pub mod Audience
-pub mod Followed
 pub mod FollowedProgram
 pub mod Unsent
 pub mod Mirrored

@@ -8,7 +8,7 @@ use Rattle.retro_base.specs.Bridges.{survivors}
 use Rattle.followers.specs.Mirrors.{held}
 use Rattle.workbench.specs.Answers.{bench_after}
 use Rattle.workbench.specs.Bench.{Bench, NamedTimeline, empty_bench, timeline_of}
-use Rattle.retro_cli.specs.Followed.{events}
+use Rattle.retro_cli.specs.Events.{events}
 
 -- the entries of the present of rows: a priority queue has them, and no other kind
 abbrev pub present_entries : Kind → List Row → List Entry

@@ -1,30 +1,32 @@
--- What a script gives: the answers to its lines, in their order, from a bench without a timeline, and that of its close. How its lines
--- are answered is left open first: by the bench alone, or by the bench and those who follow the script.
-use Rattle.std.specs.Prelude.{ℕ, Bool, ◌||◌, List, [], ◌∷◌, ◌++◌, map, if◌then◌else◌}
+-- What a script gives: the answers to its lines, in their order, from a bench without a timeline, that of its close, and what is reported
+-- after them. How its lines are answered is left open first: by the bench alone, or by the bench and those who follow the script.
+use Rattle.std.specs.Prelude.{ℕ, Bool, ◌||◌, List, [], ◌∷◌, ◌++◌, map, Option, if◌then◌else◌}
 use Rattle.std.specs.List.{concat, list_any}
 use Rattle.retro_io.specs.Lines.{lines, has_line_feed}
 use Rattle.workbench.specs.Answers.{reactions, bench_after}
 use Rattle.workbench.specs.Bench.{empty_bench}
 use Rattle.workbench.specs.Reaction.{Reaction, closing}
+use Rattle.retro_cli.specs.Events.{with_reports}
 
--- how the first lines of a script are answered
-abbrev pub Answering : Type 0
-Answering = List (List ℕ) → List Reaction
+-- how a script is answered: the reactions to its first lines, and what is reported after all of them, under each number
+pub record Answering : Type 0 where
+  pub reactions_to : List (List ℕ) → List Reaction
+  pub reports_after : List (List ℕ) → List (Option (List ℕ))
 
--- by the bench alone
+-- by the bench alone, and nobody reports
 abbrev pub alone : Answering
-alone = λ first. reactions empty_bench first
+alone = record { reactions_to = λ first. reactions empty_bench first; reports_after = λ all. [] }
 
 -- the answers to the first lines of a script, one after the other
 abbrev pub answers_by : Answering → List (List ℕ) → List ℕ
-answers_by answering first = concat (map (λ (reaction : Reaction). reaction.answer) (answering first))
+answers_by answering first = concat (map (λ (reaction : Reaction). reaction.answer) (answering.reactions_to first))
 
 abbrev pub answers_to : List (List ℕ) → List ℕ
 answers_to first = answers_by alone first
 
 -- one of the first lines of a script is refused
 abbrev pub refuses_by : Answering → List (List ℕ) → Bool
-refuses_by answering first = list_any (λ (reaction : Reaction). reaction.refused) (answering first)
+refuses_by answering first = list_any (λ (reaction : Reaction). reaction.refused) (answering.reactions_to first)
 
 -- the reaction to the end of the input, after all lines of a script
 abbrev pub close_of : List (List ℕ) → Reaction
@@ -36,6 +38,10 @@ output_by answering bytes = answers_by answering (lines bytes) ++ (close_of (lin
 
 abbrev pub output : List ℕ → List ℕ
 output bytes = output_by alone bytes
+
+-- the whole that a script gives: its output, and the reports after it; of the bench alone it is the output
+abbrev pub whole_by : Answering → List ℕ → List ℕ
+whole_by answering bytes = with_reports (output_by answering bytes) (answering.reports_after (lines bytes))
 
 -- a script has a line that is refused, or its close is
 abbrev pub has_refusal_by : Answering → List ℕ → Bool

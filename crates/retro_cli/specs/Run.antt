@@ -1,12 +1,13 @@
 -- What is claimed of a run of the program.
-use Rattle.std.specs.Prelude.{◌≡◌, ℕ, Bool, true, false, ◌<◌, List, ◌++◌, length, take}
-use Rattle.std.specs.Prelude.{Option, Some, None}
+use Rattle.std.specs.Prelude.{◌≡◌, ◌⊎◌, ℕ, Bool, true, false, ◌<◌, List, ◌++◌, get_or, length, take}
+use Rattle.std.specs.Prelude.{Option, Some, None, IfSome, IsSome}
 use Rattle.retro_base.specs.Limits.{most_bytes}
 use Rattle.retro_io.specs.Lines.{lines}
 use Rattle.retro_io.specs.Sink.{Appends, AppendsPrefixOf, AppendsProperPrefix}
 use Rattle.retro_cli.specs.declared.status.Status.{Status}
 use Rattle.retro_cli.specs.declared.status.Status.TheVariants as statuses
-use Rattle.retro_cli.specs.Output.{Answering, answers_by, has_refusal_by, output_by, up_to_last_feed}
+use Rattle.retro_cli.specs.Events.{report_lines}
+use Rattle.retro_cli.specs.Output.{Answering, answers_by, has_refusal_by, output_by, up_to_last_feed, whole_by}
 
 -- the input was read to its end and answered
 abbrev pub HasAnswered : Status → Type 0
@@ -34,15 +35,17 @@ abbrev pub AppendsOutput : Answering → Option (List ℕ) → Option (List ℕ)
 AppendsOutput answering None before after = Unit {0}
 AppendsOutput answering (Some bytes) before after = Appends before (output_by answering bytes) after
 
--- a prefix of the output was appended, where the source tells the script and the sink what was written
-abbrev pub AppendsOutputPrefix : Answering → Option (List ℕ) → Option (List ℕ) → Option (List ℕ) → Type 0
-AppendsOutputPrefix answering None before after = Unit {0}
-AppendsOutputPrefix answering (Some bytes) before after = AppendsPrefixOf before (output_by answering bytes) after
+-- exactly the whole was appended that the script gives
+abbrev pub AppendsWhole : Answering → Option (List ℕ) → Option (List ℕ) → Option (List ℕ) → Type 0
+AppendsWhole answering script before after = IfSome script (λ bytes. Appends before (whole_by answering bytes) after)
 
--- the same of a prefix that is not the whole output
-abbrev pub AppendsProperOutputPrefix : Answering → Option (List ℕ) → Option (List ℕ) → Option (List ℕ) → Type 0
-AppendsProperOutputPrefix answering None before after = Unit {0}
-AppendsProperOutputPrefix answering (Some bytes) before after = AppendsProperPrefix before (output_by answering bytes) after
+-- a prefix of it was appended
+abbrev pub AppendsWholePrefix : Answering → Option (List ℕ) → Option (List ℕ) → Option (List ℕ) → Type 0
+AppendsWholePrefix answering script before after = IfSome script (λ bytes. AppendsPrefixOf before (whole_by answering bytes) after)
+
+-- the same of a prefix that is not all of it
+abbrev pub AppendsWholePart : Answering → Option (List ℕ) → Option (List ℕ) → Option (List ℕ) → Type 0
+AppendsWholePart answering script before after = IfSome script (λ bytes. AppendsProperPrefix before (whole_by answering bytes) after)
 
 -- the whole answers to some first lines of the script were appended
 pub record AppendsAnswersTo (answering : Answering) (bytes : List ℕ) (before after : Option (List ℕ)) : Type 0 where
@@ -55,6 +58,20 @@ pub record AppendsAnswersTo (answering : Answering) (bytes : List ℕ) (before a
 abbrev pub AppendsFirstAnswers : Answering → Option (List ℕ) → Option (List ℕ) → Option (List ℕ) → Type 0
 AppendsFirstAnswers answering None before after = Unit {0}
 AppendsFirstAnswers answering (Some bytes) before after = AppendsAnswersTo answering bytes before after
+
+-- the output was appended, and the whole lines of some first reports, up to one that is still to be made
+pub record AppendsReportsToOne (answering : Answering) (bytes : List ℕ) (before after : Option (List ℕ)) : Type 0 where
+  pub count : ℕ
+  pub asked : IsSome (get_or (answering.reports_after (lines bytes)) count None)
+  pub appended : Appends before (output_by answering bytes ++ report_lines 0 (take count (answering.reports_after (lines bytes)))) after
+
+-- the same where the source tells the script
+abbrev pub AppendsSomeReports : Answering → Option (List ℕ) → Option (List ℕ) → Option (List ℕ) → Type 0
+AppendsSomeReports answering script before after = IfSome script (λ bytes. AppendsReportsToOne answering bytes before after)
+
+-- whole lines alone were appended: the answers to some first lines, or the output and some reports, of which a run has none that nobody follows
+abbrev pub AppendsWholeLines : Answering → Option (List ℕ) → Option (List ℕ) → Option (List ℕ) → Type 0
+AppendsWholeLines answering script before after = AppendsFirstAnswers answering script before after ⊎ AppendsSomeReports answering script before after
 
 -- the answers to all lines of some bytes up to their last line feed, which ends a line
 abbrev pub whole_answers : Answering → List ℕ → List ℕ

@@ -6,9 +6,8 @@ use Rattle.retro_io.specs.declared.source.Source as sources
 use Rattle.retro_io.specs.Flushes.{no_sends}
 use Rattle.retro_cli.specs.declared.form.Form.{Form}
 use Rattle.retro_cli.specs.declared.form.Form.TheVariants.{Run}
-use Rattle.retro_cli.specs.Audience.{Audience}
+use Rattle.retro_cli.specs.Audience.{Audience, followed}
 use Rattle.retro_cli.specs.Ends.{EndsAtSink}
-use Rattle.retro_cli.specs.Followed.{EndsAtFault}
 use Rattle.retro_cli.specs.Output.{alone}
 
 -- the source before and after, and the sink before and after
@@ -20,5 +19,5 @@ module _ {S K : Type 0} (I : sources.Ghosts S) (O : sinks.Ghosts K) (source sour
 
   -- where they may be those of a followed run
   abbrev pub EndsUnsentBy : Audience → Bool → Option Form → Type 0
-  EndsUnsentBy audience true form = EndsAtFault I O no_sends audience source source' sink sink'
+  EndsUnsentBy audience true form = EndsAtSink O no_sends (followed audience) (I.left source) (I.left source') sink sink'
   EndsUnsentBy audience false form = EndsUnsent form

@@ -1,14 +1,13 @@
 //! What followers are handed, and what they report.
 
-ghost use Rattle.std.specs.Prelude.{◌≡◌, ◌<◌, ◌≤◌, ◌==◌, ◌∷◌, [], ◌++◌, false, length, map, option_map, IfErr, IsErrOf, IsSome, OnErr, OnOk};
+ghost use Rattle.std.specs.Prelude.{◌≡◌, ◌<◌, ◌≤◌, ◌==◌, ◌∷◌, [], ◌++◌, false, length, option_map, IfErr, IsErrOf, IsSome, OnErr, OnOk};
 ghost use Rattle.retro_io.specs.Faults.{CountsFaults};
 ghost use Rattle.retro_io.specs.Flushes.{EndsWithFailedWrite, StaysUnflushed};
 ghost use Rattle.std.specs.List.{position_or_len};
 ghost use Rattle.retro_io.specs.Lines.{line_feed, lines, without_return};
 ghost use Rattle.retro_io.specs.Sink.{Appends, AppendsProperPrefix};
-ghost use Rattle.retro_cli.specs.Audience.{after_events, hears};
+ghost use Rattle.retro_cli.specs.Audience.{after_events, audience_by, hears, texts_of};
 ghost use Rattle.retro_cli.specs.Events.{ReportsStand, events_among, events_spelled, line_of, report_line, report_lines};
-ghost use Rattle.retro_cli.specs.Followed.{texts_of};
 ghost use Rattle.retro_cli.specs.Stop.{stops_at_write};
 
 use crate::deliver::append;
@@ -25,7 +24,7 @@ pub(crate) fn hand_on(
     answer: &[u8],
     followers: &mut [Option<Box<dyn Follower>>],
 ) -> Result<(), NoMemory>
-    ensures { OnOk result (map (option_map (λ f. report_after f)) followers.new ≡ hears (events_among answer.now) (map (option_map (λ f. report_after f)) followers.old)) }
+    ensures { OnOk result (audience_by report_after followers.new ≡ hears (events_among answer.now) (audience_by report_after followers.old)) }
 {
     if followers.is_empty() {
         return Ok(());
@@ -35,7 +34,7 @@ pub(crate) fn hand_on(
 
 /// Hands the events among the lines of an answer on, line by line.
 fn hand_on_lines(answer: &[u8], followers: &mut [Option<Box<dyn Follower>>]) -> Result<(), NoMemory>
-    ensures { OnOk result (map (option_map (λ f. report_after f)) followers.new ≡ hears (events_among answer.now) (map (option_map (λ f. report_after f)) followers.old)) }
+    ensures { OnOk result (audience_by report_after followers.new ≡ hears (events_among answer.now) (audience_by report_after followers.old)) }
 {
     let mut rest = answer;
     while !rest.is_empty() {
@@ -48,7 +47,7 @@ fn hand_on_lines(answer: &[u8], followers: &mut [Option<Box<dyn Follower>>]) -> 
 
 /// Hands the event that a line spells to the followers, if it spells one.
 fn hand_on_line(line: &[u8], followers: &mut [Option<Box<dyn Follower>>]) -> Result<(), NoMemory>
-    ensures { OnOk result (map (option_map (λ f. report_after f)) followers.new ≡ hears (events_spelled (line.now ∷ [])) (map (option_map (λ f. report_after f)) followers.old)) }
+    ensures { OnOk result (audience_by report_after followers.new ≡ hears (events_spelled (line.now ∷ [])) (audience_by report_after followers.old)) }
 {
     match read_evidence(line) {
         Some(event) => hand_out(&event, followers),
@@ -59,7 +58,7 @@ fn hand_on_line(line: &[u8], followers: &mut [Option<Box<dyn Follower>>]) -> Res
 /// Lets each follower that is left take an event, in their order, as `followers::feed` does. It stands here, since a function that hands boxed
 /// followers by `&mut` to another crate would hide from the check what that crate may put among them.
 fn hand_out(event: &Evidence, followers: &mut [Option<Box<dyn Follower>>]) -> Result<(), NoMemory>
-    ensures { OnOk result (map (option_map (λ f. report_after f)) followers.new ≡ hears (event.now ∷ []) (map (option_map (λ f. report_after f)) followers.old)) }
+    ensures { OnOk result (audience_by report_after followers.new ≡ hears (event.now ∷ []) (audience_by report_after followers.old)) }
 {
     for follower in followers {
         hand_to(follower, event)?;
@@ -69,7 +68,7 @@ fn hand_out(event: &Evidence, followers: &mut [Option<Box<dyn Follower>>]) -> Re
 
 /// Lets a follower take an event, if it is left.
 fn hand_to(follower: &mut Option<Box<dyn Follower>>, event: &Evidence) -> Result<(), NoMemory>
-    ensures { OnOk result (option_map (λ f. report_after f) follower.new ≡ option_map (after_events (event.now ∷ [])) (option_map (λ f. report_after f) follower.old)) }
+    ensures { OnOk result (option_map report_after follower.new ≡ option_map (after_events (event.now ∷ [])) (option_map report_after follower.old)) }
 {
     match follower {
         Some(left) => hand_to_one(left, event),
@@ -124,9 +123,9 @@ pub(crate) fn write_reports<K: SendingSink>(
     followers: &[Option<Box<dyn Follower>>],
     sink: &mut K,
 ) -> Result<(), Stop>
-    ensures appended { OnOk result (Appends (K.written sink.old) (report_lines 0 (texts_of (map (option_map (λ f. report_after f)) followers.now))) (K.written sink.new)) }
+    ensures appended { OnOk result (Appends (K.written sink.old) (report_lines 0 (texts_of (audience_by report_after followers.now))) (K.written sink.new)) }
     ensures unflushed { OnOk result (StaysUnflushed ⟦<K as Sink>⟧ K.sends sink.old sink.new) }
-    ensures stands { IfErr result (ReportsStand ⟦<K as Sink>⟧ K.sends (texts_of (map (option_map (λ f. report_after f)) followers.now)) sink.old sink.new) }
+    ensures stands { IfErr result (ReportsStand ⟦<K as Sink>⟧ K.sends (texts_of (audience_by report_after followers.now)) sink.old sink.new) }
     ensures sink_faults { CountsFaults (stops_at_write result) (K.faults sink.old) (K.faults sink.new) }
 {
     for (number, follower) in followers.iter().enumerate() {
@@ -142,9 +141,9 @@ fn write_report_left<K: SendingSink>(
     follower: &Option<Box<dyn Follower>>,
     sink: &mut K,
 ) -> Result<(), Stop>
-    ensures appended { OnOk result (Appends (K.written sink.old) (line_of number (option_map (λ report. report []) (option_map (λ f. report_after f) follower.now))) (K.written sink.new)) }
-    ensures part { IsErrOf result Stop.WriteFault → AppendsProperPrefix (K.written sink.old) (line_of number (option_map (λ report. report []) (option_map (λ f. report_after f) follower.now))) (K.written sink.new) }
-    ensures asked { OnErr result (IsSome (option_map (λ report. report []) (option_map (λ f. report_after f) follower.now))) }
+    ensures appended { OnOk result (Appends (K.written sink.old) (line_of number (option_map (λ report. report []) (option_map report_after follower.now))) (K.written sink.new)) }
+    ensures part { IsErrOf result Stop.WriteFault → AppendsProperPrefix (K.written sink.old) (line_of number (option_map (λ report. report []) (option_map report_after follower.now))) (K.written sink.new) }
+    ensures asked { OnErr result (IsSome (option_map (λ report. report []) (option_map report_after follower.now))) }
     ensures untouched { OnErr result (stops_at_write result ≡ false → sink.new ≡ sink.old) }
     ensures unflushed { OnOk result (StaysUnflushed ⟦<K as Sink>⟧ K.sends sink.old sink.new) }
     ensures last { IsErrOf result Stop.WriteFault → EndsWithFailedWrite ⟦<K as Sink>⟧ K.sends sink.old sink.new }

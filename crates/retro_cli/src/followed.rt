@@ -1,13 +1,13 @@
 //! A followed script.
 
-ghost use Rattle.std.specs.Prelude.{◌≡◌, [], ◌-◌, ◌<◌, ◌↔◌, false, true, map, option_map, IfErr, IfOk, IsErrOf, OnOk};
+ghost use Rattle.std.specs.Prelude.{◌≡◌, [], ◌-◌, ◌<◌, ◌↔◌, Err, false, true, map, IfErr, IfOk, IsErrOf, OnOk};
 ghost use Rattle.retro_base.specs.Limits.{most_bytes};
 ghost use Rattle.retro_io.specs.Faults.{CountsFaults, last_count};
 ghost use Rattle.retro_io.specs.Flushes.{StaysUnflushed};
-ghost use Rattle.retro_cli.specs.Audience.{audience_of, followed};
-ghost use Rattle.retro_cli.specs.Followed.{AnswersFollowed, AppendsFollowed, FollowedStands};
-ghost use Rattle.retro_cli.specs.Run.{MatchesRefusal, MayBeTooLong};
-ghost use Rattle.retro_cli.specs.Stop.{StopsReading, stops_at_read, stops_at_write};
+ghost use Rattle.retro_cli.specs.Audience.{audience_by, audience_of, followed};
+ghost use Rattle.retro_cli.specs.Ends.{ScriptStands};
+ghost use Rattle.retro_cli.specs.Run.{AppendsWhole, MatchesRefusal, MayBeTooLong};
+ghost use Rattle.retro_cli.specs.Stop.{StopsReading, status_after, stops_at_read, stops_at_write};
 
 use crate::deliver::send;
 use crate::follow::write_reports;
@@ -26,11 +26,11 @@ fn answer_and_report<S: Source, K: SendingSink>(
     sink: &mut K,
 ) -> Result<bool, Stop>
     ensures ended { OnOk result (S.ended source.new ≡ true) }
-    ensures output { OnOk result (AppendsFollowed (map (option_map (λ f. report_after f)) followers.old) (S.left source.old) (K.written sink.old) (K.written sink.new)) }
-    ensures refusal { IfOk result (MatchesRefusal (followed (map (option_map (λ f. report_after f)) followers.old)) (S.left source.old)) }
+    ensures output { OnOk result (AppendsWhole (followed (audience_by report_after followers.old)) (S.left source.old) (K.written sink.old) (K.written sink.new)) }
+    ensures refusal { IfOk result (MatchesRefusal (followed (audience_by report_after followers.old)) (S.left source.old)) }
     ensures unflushed { OnOk result (StaysUnflushed ⟦<K as Sink>⟧ K.sends sink.old sink.new) }
-    ensures stands { IfErr result (FollowedStands ⟦<S as Source>⟧ ⟦<K as Sink>⟧ K.sends (map (option_map (λ f. report_after f)) followers.old)
-        source.old source.new sink.old sink.new) }
+    ensures stands { IfErr result (λ stop. ScriptStands ⟦<S as Source>⟧ ⟦<K as Sink>⟧ K.sends (followed (audience_by report_after followers.old))
+        source.old source.new sink.old sink.new (status_after (Err stop))) }
     ensures source_faults { CountsFaults (stops_at_read result) (S.faults source.old) (S.faults source.new) }
     ensures sink_faults { CountsFaults (stops_at_write result) (K.faults sink.old) (K.faults sink.new) }
     ensures too_long { S.taken source.new < last_count → (IsErrOf result Stop.TooLong ↔ (most_bytes < S.taken source.new - S.taken source.old)) }
@@ -50,11 +50,8 @@ pub(crate) fn follow_script<S: Source, K: SendingSink>(
     followers: &mut [Option<Box<dyn Follower>>],
     sink: &mut K,
 ) -> Result<bool, Stop>
-    ensures ended { OnOk result ((S.ended source.new ≡ true) × (K.flushed sink.new ≡ true)) }
-    ensures answers { IfOk result (AnswersFollowed ⟦<S as Source>⟧ ⟦<K as Sink>⟧ K.sends (map (option_map (λ f. report_after f)) followers.old)
-        source.old source.new sink.old sink.new) }
-    ensures stands { IfErr result (FollowedStands ⟦<S as Source>⟧ ⟦<K as Sink>⟧ K.sends (map (option_map (λ f. report_after f)) followers.old)
-        source.old source.new sink.old sink.new) }
+    ensures stands { ScriptStands ⟦<S as Source>⟧ ⟦<K as Sink>⟧ K.sends (followed (audience_by report_after followers.old))
+        source.old source.new sink.old sink.new (status_after result) }
     ensures source_faults { CountsFaults (stops_at_read result) (S.faults source.old) (S.faults source.new) }
     ensures sink_faults { CountsFaults (stops_at_write result) (K.faults sink.old) (K.faults sink.new) }
     ensures too_long { S.taken source.new < last_count → (IsErrOf result Stop.TooLong ↔ (most_bytes < S.taken source.new - S.taken source.old)) }
@@ -83,11 +80,8 @@ pub(crate) fn follow_from_start<S: Source, K: SendingSink>(
     followers: Vec<Box<dyn Follower>>,
     sink: &mut K,
 ) -> Result<bool, Stop>
-    ensures ended { OnOk result ((S.ended source.new ≡ true) × (K.flushed sink.new ≡ true)) }
-    ensures answers { IfOk result (AnswersFollowed ⟦<S as Source>⟧ ⟦<K as Sink>⟧ K.sends (audience_of (map (λ f. report_after f) followers.items))
-        source.old source.new sink.old sink.new) }
-    ensures stands { IfErr result (FollowedStands ⟦<S as Source>⟧ ⟦<K as Sink>⟧ K.sends (audience_of (map (λ f. report_after f) followers.items))
-        source.old source.new sink.old sink.new) }
+    ensures stands { ScriptStands ⟦<S as Source>⟧ ⟦<K as Sink>⟧ K.sends (followed (audience_of (map (λ f. report_after f) followers.items)))
+        source.old source.new sink.old sink.new (status_after result) }
     ensures source_faults { CountsFaults (stops_at_read result) (S.faults source.old) (S.faults source.new) }
     ensures sink_faults { CountsFaults (stops_at_write result) (K.faults sink.old) (K.faults sink.new) }
     ensures too_long { S.taken source.new < last_count → (IsErrOf result Stop.TooLong ↔ (most_bytes < S.taken source.new - S.taken source.old)) }
@@ -103,7 +97,7 @@ fn all_left(
     alloc: Global,
     followers: Vec<Box<dyn Follower>>,
 ) -> Result<Vec<Option<Box<dyn Follower>>>, NoMemory>
-    ensures { IfOk result (λ numbered. map (option_map (λ f. report_after f)) numbered.items ≡ audience_of (map (λ f. report_after f) followers.items)) }
+    ensures { IfOk result (λ numbered. audience_by report_after numbered.items ≡ audience_of (map (λ f. report_after f) followers.items)) }
 {
     let mut numbered = Vec::new(alloc);
     for follower in followers {

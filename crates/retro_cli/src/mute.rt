@@ -1,12 +1,12 @@
 //! The line that lets a follower go.
 
-ghost use Rattle.std.specs.Prelude.{◌≡◌, ◌≤◌, [], None, Some, false, length, map, option_map, IfOk, IfSome, IsErrOf, IsSome, IsTrue, OnErr, OnOk};
+ghost use Rattle.std.specs.Prelude.{◌≡◌, ◌≤◌, [], None, Some, false, length, option_map, IfOk, IfSome, IsErrOf, IsSome, IsTrue, OnErr, OnOk};
 ghost use Rattle.retro_base.specs.Limits.{longest_line};
 ghost use Rattle.retro_io.specs.Faults.{CountsFaults};
 ghost use Rattle.retro_io.specs.Flushes.{EndsWithFailedWrite, StaysUnflushed};
 ghost use Rattle.retro_io.specs.Sink.{Appends, AppendsProperPrefix};
 ghost use Rattle.workbench.specs.Reaction.{reacts_to};
-ghost use Rattle.retro_cli.specs.Audience.{answers, follower_at, follows_to, mutes, without};
+ghost use Rattle.retro_cli.specs.Audience.{answers, audience_by, follower_at, follows_to, mutes, without};
 ghost use Rattle.retro_cli.specs.Events.{report_line};
 ghost use Rattle.retro_cli.specs.Stop.{stops_at_write};
 
@@ -29,9 +29,9 @@ pub(crate) fn muted(
     requires full { IsTrue long → length line.now ≡ longest_line }
     requires unspent { bench.now.spent ≡ false }
     ensures speaks { IfSome result (λ number. (mutes bench.now.bench.block line.now long ≡ Some number)
-        × IsSome (follower_at (map (option_map (λ f. report_after f)) followers.now) number)) }
-    ensures silent { result ≡ None → follows_to bench.now.bench (map (option_map (λ f. report_after f)) followers.now) line.now long
-        ≡ answers (map (option_map (λ f. report_after f)) followers.now) (reacts_to bench.now.bench line.now long) }
+        × IsSome (follower_at (audience_by report_after followers.now) number)) }
+    ensures silent { result ≡ None → follows_to bench.now.bench (audience_by report_after followers.now) line.now long
+        ≡ answers (audience_by report_after followers.now) (reacts_to bench.now.bench line.now long) }
 {
     if followers.is_empty() {
         return None;
@@ -62,7 +62,7 @@ fn number_muted(line: &[u8], long: bool, bench: &Bench) -> Option<u32>
 
 /// The follower with this number, if it is left.
 fn follower_left(followers: &[Option<Box<dyn Follower>>], number: u32) -> Option<&Box<dyn Follower>>
-    ensures { option_map (λ f. report_after f.now) result ≡ follower_at (map (option_map (λ f. report_after f)) followers.now) number }
+    ensures { option_map (λ f. report_after f.now) result ≡ follower_at (audience_by report_after followers.now) number }
 {
     if (number as usize) < followers.len() {
         as_left(&followers[number as usize])
@@ -73,7 +73,7 @@ fn follower_left(followers: &[Option<Box<dyn Follower>>], number: u32) -> Option
 
 /// A follower, if it is left.
 fn as_left(follower: &Option<Box<dyn Follower>>) -> Option<&Box<dyn Follower>>
-    ensures { option_map (λ f. report_after f.now) result ≡ option_map (λ f. report_after f) follower.now }
+    ensures { option_map (λ f. report_after f.now) result ≡ option_map report_after follower.now }
 {
     match follower {
         Some(left) => Some(left),
@@ -88,10 +88,10 @@ pub(crate) fn answer_by_follower<K: SendingSink>(
     followers: &mut [Option<Box<dyn Follower>>],
     sink: &mut K,
 ) -> Result<bool, Stop>
-    ensures answered { IfOk result (λ refused. IfSome (follower_at (map (option_map (λ f. report_after f)) followers.old) number) (λ report. (refused ≡ false)
+    ensures answered { IfOk result (λ refused. IfSome (follower_at (audience_by report_after followers.old) number) (λ report. (refused ≡ false)
         × Appends (K.written sink.old) (report_line number (report [])) (K.written sink.new)
-        × (map (option_map (λ f. report_after f)) followers.new ≡ without (map (option_map (λ f. report_after f)) followers.old) number))) }
-    ensures part { IsErrOf result Stop.WriteFault → IfSome (follower_at (map (option_map (λ f. report_after f)) followers.old) number) (λ report.
+        × (audience_by report_after followers.new ≡ without (audience_by report_after followers.old) number))) }
+    ensures part { IsErrOf result Stop.WriteFault → IfSome (follower_at (audience_by report_after followers.old) number) (λ report.
         AppendsProperPrefix (K.written sink.old) (report_line number (report [])) (K.written sink.new)) }
     ensures untouched { OnErr result (stops_at_write result ≡ false → sink.new ≡ sink.old) }
     ensures unflushed { OnOk result (StaysUnflushed ⟦<K as Sink>⟧ K.sends sink.old sink.new) }
@@ -109,7 +109,7 @@ pub(crate) fn answer_by_follower<K: SendingSink>(
 
 /// Lets the follower with this number go; the others keep their numbers.
 fn let_go(followers: &mut [Option<Box<dyn Follower>>], number: u32)
-    ensures { map (option_map (λ f. report_after f)) followers.new ≡ without (map (option_map (λ f. report_after f)) followers.old) number }
+    ensures { audience_by report_after followers.new ≡ without (audience_by report_after followers.old) number }
 {
     if (number as usize) < followers.len() {
         followers[number as usize] = None;

@@ -14,10 +14,9 @@ ghost use Rattle.retro_cli.specs.Unsent.{EndsUnsent, EndsUnsentBy};
 
 use crate::check::run_check;
 use crate::direct::{follow_direct, run_direct};
-use crate::followed::follow_from_start;
+use crate::followed::{follow_from_start, follow_script};
 use crate::form::{Form, form_of, is_follow};
 use crate::generated::run_generated;
-use crate::script::run_script;
 use crate::stop::Stop;
 use crate::{Status, Words};
 use followers::Follower;
@@ -164,7 +163,7 @@ pub(crate) fn run_by_form<S: Source, K: SendingSink>(
     ensures sent { K.waiting sink.old ≡ [] → is_write_fault result ≡ false → K.waiting sink.new ≡ [] }
 {
     match form_of(words) {
-        Some(Form::Run) => status_after(run_script(alloc, source, sink)),
+        Some(Form::Run) => status_after(follow_script(alloc, source, &mut [], sink)),
         Some(Form::Check) => status_after(run_check(alloc, source, sink)),
         Some(Form::Gen { kind, lines, start }) => {
             status_after(run_generated(alloc, kind, lines, start, sink))

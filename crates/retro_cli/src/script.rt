@@ -1,18 +1,16 @@
 //! A script is answered, line by line.
 
-ghost use Rattle.std.specs.Prelude.{◌≡◌, [], ◌+◌, ◌-◌, ◌<◌, ◌↔◌, ◌≤◌, false, true, IsTrue, IfOk, IfErr, OnErr, OnOk, IsErrOf, length, map, option_map};
+ghost use Rattle.std.specs.Prelude.{◌≡◌, [], ◌+◌, ◌-◌, ◌<◌, ◌↔◌, ◌≤◌, false, true, IsTrue, IfOk, IfErr, OnErr, OnOk, IsErrOf, length};
 ghost use Rattle.retro_base.specs.Limits.{longest_line, most_bytes};
 ghost use Rattle.retro_io.specs.Faults.{CountsFaults, last_count};
 ghost use Rattle.retro_io.specs.Sink.{Appends, AppendsProperPrefix};
 ghost use Rattle.retro_io.specs.Flushes.{EndsWithFailedSend, EndsWithFailedWrite, StaysUnflushed};
 ghost use Rattle.retro_io.specs.LineReader.{MovesOn, given, has_failed, held, limit_of, rest_of, source_of, taken};
 ghost use Rattle.retro_io.specs.Lines.{has_line_feed};
-ghost use Rattle.retro_cli.specs.Ends.{Answers, LinesStand, Stands};
-ghost use Rattle.retro_cli.specs.Audience.{followed, follows_to, hears};
+ghost use Rattle.retro_cli.specs.Ends.{LinesStand};
+ghost use Rattle.retro_cli.specs.Audience.{HaveFollowed, audience_by, followed, follows_to, hears};
 ghost use Rattle.retro_cli.specs.Events.{events_among};
-ghost use Rattle.retro_cli.specs.Followed.{HaveFollowed};
 ghost use Rattle.retro_cli.specs.OutOfMemory.{AppendsAnswersOfEarlier};
-ghost use Rattle.retro_cli.specs.Output.{alone};
 ghost use Rattle.retro_cli.specs.Run.{AppendsOutput, MayBeTooLong, MatchesRefusal};
 ghost use Rattle.retro_cli.specs.Stop.{StopsReading, stops_at_read, stops_at_write};
 ghost use Rattle.workbench.specs.Reaction.{closing, reacts_to};
@@ -24,7 +22,7 @@ use crate::mute::{answer_by_follower, muted};
 use crate::sent_reader::SentReader;
 use crate::stop::Stop;
 use followers::Follower;
-use retro_io::{Failed, LineBuffer, LineReader, Mark, SendingSink, Sink, Source};
+use retro_io::{LineBuffer, LineReader, Mark, SendingSink, Sink, Source};
 use std::alloc::Global;
 use workbench::Bench;
 
@@ -40,11 +38,11 @@ fn answer_line<K: SendingSink>(
     requires within { length line.now ≤ longest_line }
     requires full { IsTrue long → length line.now ≡ longest_line }
     requires unspent { bench.old.spent ≡ false }
-    ensures answered { IfOk result (λ refused. let turn = follows_to bench.old.bench (map (option_map (λ f. report_after f)) followers.old) line.now long in
+    ensures answered { IfOk result (λ refused. let turn = follows_to bench.old.bench (audience_by report_after followers.old) line.now long in
         (bench.new ≡ record { bench = turn.reaction.bench; spent = false }) × (refused ≡ turn.reaction.refused)
         × Appends (K.written sink.old) turn.reaction.answer (K.written sink.new)
-        × (map (option_map (λ f. report_after f)) followers.new ≡ turn.audience)) }
-    ensures part { IsErrOf result Stop.WriteFault → (let turn = follows_to bench.old.bench (map (option_map (λ f. report_after f)) followers.old) line.now long in
+        × (audience_by report_after followers.new ≡ turn.audience)) }
+    ensures part { IsErrOf result Stop.WriteFault → (let turn = follows_to bench.old.bench (audience_by report_after followers.old) line.now long in
         AppendsProperPrefix (K.written sink.old) turn.reaction.answer (K.written sink.new)) }
     ensures untouched { OnErr result (stops_at_write result ≡ false → sink.new ≡ sink.old) }
     ensures unflushed { OnOk result (StaysUnflushed ⟦<K as Sink>⟧ K.sends sink.old sink.new) }
@@ -72,8 +70,8 @@ fn answer_by_bench<K: SendingSink>(
     ensures answered { IfOk result (λ refused. let reaction = reacts_to bench.old.bench line.now long in
         (bench.new ≡ record { bench = reaction.bench; spent = false }) × (refused ≡ reaction.refused)
         × Appends (K.written sink.old) reaction.answer (K.written sink.new)) }
-    ensures handed { OnOk result (map (option_map (λ f. report_after f)) followers.new
-        ≡ hears (events_among (reacts_to bench.old.bench line.now long).answer) (map (option_map (λ f. report_after f)) followers.old)) }
+    ensures handed { OnOk result (audience_by report_after followers.new
+        ≡ hears (events_among (reacts_to bench.old.bench line.now long).answer) (audience_by report_after followers.old)) }
     ensures part { IsErrOf result Stop.WriteFault → (let reaction = reacts_to bench.old.bench line.now long in
         AppendsProperPrefix (K.written sink.old) reaction.answer (K.written sink.new)) }
     ensures untouched { OnErr result (stops_at_write result ≡ false → sink.new ≡ sink.old) }
@@ -137,13 +135,13 @@ fn answer_lines<S: Source, K: SendingSink>(
     requires fresh { held reader.old.reader ≡ [] }
     ensures moves { MovesOn reader.old.reader reader.new.reader }
     ensures ended { OnOk result (S.ended (source_of reader.new.reader) ≡ true) }
-    ensures output { OnOk result (AppendsOutput (followed (map (option_map (λ f. report_after f)) followers.old)) (rest_of reader.old.reader) (K.written sink.old) (K.written sink.new)) }
-    ensures refusal { IfOk result (MatchesRefusal (followed (map (option_map (λ f. report_after f)) followers.old)) (rest_of reader.old.reader)) }
-    ensures handed { OnOk result (HaveFollowed (rest_of reader.old.reader) (map (option_map (λ f. report_after f)) followers.old) (map (option_map (λ f. report_after f)) followers.new)) }
+    ensures output { OnOk result (AppendsOutput (followed (audience_by report_after followers.old)) (rest_of reader.old.reader) (K.written sink.old) (K.written sink.new)) }
+    ensures refusal { IfOk result (MatchesRefusal (followed (audience_by report_after followers.old)) (rest_of reader.old.reader)) }
+    ensures handed { OnOk result (HaveFollowed (rest_of reader.old.reader) (audience_by report_after followers.old) (audience_by report_after followers.new)) }
     ensures unflushed { OnOk result (StaysUnflushed ⟦<K as Sink>⟧ K.sends sink.old sink.new) }
-    ensures stands { IfErr result (LinesStand ⟦<K as Sink>⟧ K.sends (followed (map (option_map (λ f. report_after f)) followers.old)) (rest_of reader.old.reader) (S.left (source_of reader.new.reader)) sink.old sink.new
+    ensures stands { IfErr result (LinesStand ⟦<K as Sink>⟧ K.sends (followed (audience_by report_after followers.old)) (rest_of reader.old.reader) (S.left (source_of reader.new.reader)) sink.old sink.new
         (limit_of reader.old.reader - given reader.old.reader)) }
-    ensures earlier { IsErrOf result Stop.NoMemory → AppendsAnswersOfEarlier ⟦<S as Source>⟧ (followed (map (option_map (λ f. report_after f)) followers.old)) (source_of reader.old.reader) (source_of reader.new.reader)
+    ensures earlier { IsErrOf result Stop.NoMemory → AppendsAnswersOfEarlier ⟦<S as Source>⟧ (followed (audience_by report_after followers.old)) (source_of reader.old.reader) (source_of reader.new.reader)
         (S.left (source_of reader.old.reader)) (S.left (source_of reader.new.reader)) (K.written sink.old) (K.written sink.new) }
     ensures source_faults { CountsFaults (stops_at_read result) (S.faults (source_of reader.old.reader)) (S.faults (source_of reader.new.reader)) }
     ensures sink_faults { CountsFaults (stops_at_write result) (K.faults sink.old) (K.faults sink.new) }
@@ -174,12 +172,12 @@ pub(crate) fn answer_source<S: Source, K: SendingSink>(
     sink: &mut K,
 ) -> Result<bool, Stop>
     ensures ended { OnOk result (S.ended source.new ≡ true) }
-    ensures output { OnOk result (AppendsOutput (followed (map (option_map (λ f. report_after f)) followers.old)) (S.left source.old) (K.written sink.old) (K.written sink.new)) }
-    ensures refusal { IfOk result (MatchesRefusal (followed (map (option_map (λ f. report_after f)) followers.old)) (S.left source.old)) }
-    ensures handed { OnOk result (HaveFollowed (S.left source.old) (map (option_map (λ f. report_after f)) followers.old) (map (option_map (λ f. report_after f)) followers.new)) }
+    ensures output { OnOk result (AppendsOutput (followed (audience_by report_after followers.old)) (S.left source.old) (K.written sink.old) (K.written sink.new)) }
+    ensures refusal { IfOk result (MatchesRefusal (followed (audience_by report_after followers.old)) (S.left source.old)) }
+    ensures handed { OnOk result (HaveFollowed (S.left source.old) (audience_by report_after followers.old) (audience_by report_after followers.new)) }
     ensures unflushed { OnOk result (StaysUnflushed ⟦<K as Sink>⟧ K.sends sink.old sink.new) }
-    ensures stands { IfErr result (LinesStand ⟦<K as Sink>⟧ K.sends (followed (map (option_map (λ f. report_after f)) followers.old)) (S.left source.old) (S.left source.new) sink.old sink.new most_bytes) }
-    ensures earlier { IsErrOf result Stop.NoMemory → AppendsAnswersOfEarlier ⟦<S as Source>⟧ (followed (map (option_map (λ f. report_after f)) followers.old)) source.old source.new (S.left source.old) (S.left source.new)
+    ensures stands { IfErr result (LinesStand ⟦<K as Sink>⟧ K.sends (followed (audience_by report_after followers.old)) (S.left source.old) (S.left source.new) sink.old sink.new most_bytes) }
+    ensures earlier { IsErrOf result Stop.NoMemory → AppendsAnswersOfEarlier ⟦<S as Source>⟧ (followed (audience_by report_after followers.old)) source.old source.new (S.left source.old) (S.left source.new)
         (K.written sink.old) (K.written sink.new) }
     ensures source_faults { CountsFaults (stops_at_read result) (S.faults source.old) (S.faults source.new) }
     ensures sink_faults { CountsFaults (stops_at_write result) (K.faults sink.old) (K.faults sink.new) }
@@ -193,59 +191,4 @@ pub(crate) fn answer_source<S: Source, K: SendingSink>(
     // Its clause says what became of the source.
     let _source = reader.into_inner();
     answered
-}
-
-/// Reads a script and answers its lines; nobody follows it.
-fn answer_alone<S: Source, K: SendingSink>(
-    alloc: Global,
-    source: &mut S,
-    sink: &mut K,
-) -> Result<bool, Stop>
-    ensures ended { OnOk result (S.ended source.new ≡ true) }
-    ensures output { OnOk result (AppendsOutput alone (S.left source.old) (K.written sink.old) (K.written sink.new)) }
-    ensures refusal { IfOk result (MatchesRefusal alone (S.left source.old)) }
-    ensures unflushed { OnOk result (StaysUnflushed ⟦<K as Sink>⟧ K.sends sink.old sink.new) }
-    ensures stands { IfErr result (LinesStand ⟦<K as Sink>⟧ K.sends alone (S.left source.old) (S.left source.new) sink.old sink.new most_bytes) }
-    ensures earlier { IsErrOf result Stop.NoMemory → AppendsAnswersOfEarlier ⟦<S as Source>⟧ alone source.old source.new (S.left source.old) (S.left source.new)
-        (K.written sink.old) (K.written sink.new) }
-    ensures source_faults { CountsFaults (stops_at_read result) (S.faults source.old) (S.faults source.new) }
-    ensures sink_faults { CountsFaults (stops_at_write result) (K.faults sink.old) (K.faults sink.new) }
-    ensures too_long { S.taken source.new < last_count → (IsErrOf result Stop.TooLong ↔ (most_bytes < S.taken source.new - S.taken source.old)) }
-    ensures longer { IsErrOf result Stop.TooLong → MayBeTooLong (S.left source.old) }
-    ensures sent { IfErr result (λ stop. StopsReading stop → K.waiting sink.new ≡ []) }
-{
-    answer_source(alloc, source, &mut [], sink)
-}
-
-/// Reads a script, answers its lines and sees to it that the answers arrive. Where it ends early, the whole answers before have
-/// gone on, unless the sink fails.
-pub(crate) fn run_script<S: Source, K: SendingSink>(
-    alloc: Global,
-    source: &mut S,
-    sink: &mut K,
-) -> Result<bool, Stop>
-    ensures ended { OnOk result ((S.ended source.new ≡ true) × (K.flushed sink.new ≡ true)) }
-    ensures answers { IfOk result (Answers ⟦<K as Sink>⟧ K.sends alone (S.left source.old) (S.left source.new) sink.old sink.new) }
-    ensures stands { IfErr result (Stands ⟦<K as Sink>⟧ K.sends alone (S.left source.old) (S.left source.new) sink.old sink.new most_bytes) }
-    ensures earlier { IsErrOf result Stop.NoMemory → AppendsAnswersOfEarlier ⟦<S as Source>⟧ alone source.old source.new (S.left source.old) (S.left source.new)
-        (K.written sink.old) (K.written sink.new) }
-    ensures source_faults { CountsFaults (stops_at_read result) (S.faults source.old) (S.faults source.new) }
-    ensures sink_faults { CountsFaults (stops_at_write result) (K.faults sink.old) (K.faults sink.new) }
-    ensures too_long { S.taken source.new < last_count → (IsErrOf result Stop.TooLong ↔ (most_bytes < S.taken source.new - S.taken source.old)) }
-    ensures longer { IsErrOf result Stop.TooLong → MayBeTooLong (S.left source.old) }
-    ensures sent { K.waiting sink.old ≡ [] → stops_at_write result ≡ false → K.waiting sink.new ≡ [] }
-{
-    let answered = answer_alone(alloc, source, sink);
-    let refused = match answered {
-        Ok(refused) => refused,
-        Err(Stop::NoMemory) => {
-            send(sink)?;
-            return Err(Stop::NoMemory);
-        }
-        Err(stop) => return Err(stop),
-    };
-    match sink.flush() {
-        Ok(()) => Ok(refused),
-        Err(Failed) => Err(Stop::WriteFault),
-    }
 }

@@ -13,8 +13,7 @@ use Rattle.timeline_undo.specs.Back.{ShiftsCanBeMade}
 use Rattle.workbench.specs.Answers.{bench_after, reactions}
 use Rattle.workbench.specs.Bench.{Bench, empty_bench}
 use Rattle.workbench.specs.Reaction.{Reaction, reacts}
-use Rattle.retro_cli.specs.Events.{events_among, events_spelled}
-use Rattle.retro_cli.specs.Followed.{events}
+use Rattle.retro_cli.specs.Events.{events, events_among, events_spelled}
 use Rattle.retro_cli.specs.Mirrored.{ChangesAloneHoldThePresent}
 use Rattle.retro_cli.proofs.accepted.Benches.{IsKept, StaysKept, happens_kept}
 use Rattle.retro_cli.proofs.accepted.ReadLines.{Reads}

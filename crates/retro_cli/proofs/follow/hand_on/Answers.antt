@@ -1,5 +1,5 @@
 -- Where nobody follows, nobody hears anything.
-use Rattle.std.proofs.Common.{◌≡◌, [], refl, sym, ◌∙◌}
+use Rattle.std.proofs.Common.{refl, sym, ◌∙◌}
 use Rattle.std.proofs.lemmas.Bool.{eqb-true}
 use Rattle.std.proofs.lemmas.List.{nil_from_length}
 use Rattle.retro_cli.proofs.follow.hand_on.Goals as goal

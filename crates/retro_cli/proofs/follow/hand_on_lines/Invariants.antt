@@ -1,12 +1,12 @@
-use Rattle.std.proofs.Common.{map, length}
-use Rattle.std.specs.Prelude.{option_map}
+use Rattle.std.proofs.Common.{length}
+use Rattle.retro_cli.specs.Audience.{audience_by}
 use Rattle.retro_cli.proofs.Handed.{HandsOn}
 use Rattle.retro_cli.proofs.follow.hand_on_lines.Given as goal
 
 abbrev pub invariant-loop-rest : goal.invariant-loop-rest
 invariant-loop-rest g l =
-    HandsOn l.fn.answer l.rest (map (λ f. option_map (λ b. (goal.Follower-dyn g (b.vtable, b.value)).report_after b.value) f) l.fn.followers)
-    (map (λ f. option_map (λ b. (goal.Follower-dyn g (b.vtable, b.value)).report_after b.value) f) l.followers)
+    HandsOn l.fn.answer l.rest (audience_by (λ b. (goal.Follower-dyn g (b.vtable, b.value)).report_after b.value) l.fn.followers)
+    (audience_by (λ b. (goal.Follower-dyn g (b.vtable, b.value)).report_after b.value) l.followers)
 
 abbrev pub decreases-loop-rest : goal.decreases-loop-rest
 decreases-loop-rest g l = length l.rest

@@ -5,6 +5,6 @@ use Rattle.retro_cli.proofs.follow.hand_out.Given as goal
 
 abbrev pub invariant-loop-follower : goal.invariant-loop-follower
 invariant-loop-follower g l = record {
-  taken : HaveTaken (λ f. option_map (λ b. (goal.Follower-dyn g (b.vtable, b.value)).report_after b.value) f) l.event (take l.follower-index l.fn.followers) (take l.follower-index l.follower-items);
+  taken : HaveTaken (option_map (λ b. (goal.Follower-dyn g (b.vtable, b.value)).report_after b.value)) l.event (take l.follower-index l.fn.followers) (take l.follower-index l.follower-items);
   others : drop l.follower-index l.follower-items ≡ drop l.follower-index l.fn.followers;
 }

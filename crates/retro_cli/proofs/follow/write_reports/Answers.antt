@@ -1,6 +1,5 @@
 -- One report after another is appended.
 use Rattle.std.proofs.Common.{sym, subst, rules, arith}
-use Rattle.std.specs.Prelude.{option_map}
 use Rattle.std.proofs.lemmas.Result.{err_from_is_err_and}
 use Rattle.retro_io.specs.FlushLaws.{StaysUnflushed-none, StaysUnflushed-more}
 use Rattle.retro_io.specs.Sink.{Appends}
@@ -14,7 +13,7 @@ loop-number-init g c = record { appended = Appends-none _; unflushed = StaysUnfl
 pub loop-number-preserved : goal.loop-number-preserved
 loop-number-preserved g c = record {
   appended = subst (λ text. Appends (g.K.Sink.written c.args.sink.now) text (g.K.Sink.written c.write_report_left.new.sink))
-      (sym (next_report (λ f. option_map (λ b. (goal.Follower-dyn g (b.vtable, b.value)).report_after b.value) f) c.args.followers.now c.loop-number.number c.index-followers-number.result
+      (sym (next_report _ c.args.followers.now c.loop-number.number c.index-followers-number.result
       (search rules) c.index-followers-number.is))
       (Appends-append _ (g.K.Sink.written c.loop-number.sink) _ _ _ c.loop-number.invariant.appended c.in_ok-write_report_left.ensures.appended);
   unflushed = StaysUnflushed-more g.K.Sink g.K.SendingSink.sends _ _ _ c.loop-number.invariant.unflushed c.in_ok-write_report_left.ensures.unflushed;
@@ -26,6 +25,6 @@ returns-in_err-write_report_left-clause-stands g c =
     let p = err_from_is_err_and c.from_residual.result c.from_residual.ensures.1 in
     let failed = c.in_err-write_report_left.ensures in
     rw (p.1, p.2)
-    (reports_stand (λ f. option_map (λ b. (goal.Follower-dyn g (b.vtable, b.value)).report_after b.value) f) c.args.followers.now c.loop-number.number c.index-followers-number.result
+    (reports_stand _ c.args.followers.now c.loop-number.number c.index-followers-number.result
     (search rules) c.index-followers-number.is g.K.Sink g.K.SendingSink.sends _ _ _ c.in_err-write_report_left.field-0.0 failed.asked c.loop-number.invariant.appended c.loop-number.invariant.unflushed
     failed.untouched failed.reads_nothing failed.part failed.last)

@@ -1,12 +1,11 @@
 -- Those that are numbered so far, and those to come, are all.
 use Rattle.std.proofs.Common.{◌≡◌, ◌++◌, map}
-use Rattle.std.specs.Prelude.{option_map}
 use Rattle.std.specs.Vec.Iter.{into_iter_items}
-use Rattle.retro_cli.specs.Audience.{audience_of}
+use Rattle.retro_cli.specs.Audience.{audience_by, audience_of}
 use Rattle.retro_cli.proofs.followed.all_left.Given as goal
 
 abbrev pub invariant-loop-follower : goal.invariant-loop-follower
 invariant-loop-follower g l =
-    map (λ f. option_map (λ b. (goal.Follower-dyn g (b.vtable, b.value)).report_after b.value) f) l.numbered.items
+    audience_by (λ b. (goal.Follower-dyn g (b.vtable, b.value)).report_after b.value) l.numbered.items
     ++ audience_of (map (λ b. (goal.Follower-dyn g (b.vtable, b.value)).report_after b.value) (into_iter_items l.follower-iterator))
     ≡ audience_of (map (λ b. (goal.Follower-dyn g (b.vtable, b.value)).report_after b.value) l.fn.followers.items)

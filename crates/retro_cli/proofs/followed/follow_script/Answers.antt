@@ -1,42 +1,46 @@
 -- All was written, and then one flush was made.
-use Rattle.std.proofs.Common.{map, refl, inl, inr, rules, Ok, Err}
-use Rattle.std.specs.Prelude.{option_map}
+use Rattle.std.proofs.Common.{refl, inl, inr, rules, Ok, Err}
 use Rattle.std.proofs.lemmas.Result.{err_from_is_err_and}
-use Rattle.retro_cli.specs.declared.stop.Stop.TheVariants as stops
-use Rattle.retro_cli.specs.Followed.{AppendsFollowed, FollowedStands}
-use Rattle.retro_cli.proofs.FollowedEnds.{stands_sent, stands_unsent}
+use Rattle.retro_cli.specs.declared.status.Status.TheVariants as statuses
+use Rattle.retro_cli.specs.Audience.{audience_by, followed}
+use Rattle.retro_cli.specs.Ends.{ScriptStands}
+use Rattle.retro_cli.specs.Run.{AppendsWhole}
+use Rattle.retro_cli.proofs.Reported.{stands_answered, stands_sent, stands_unsent}
 use Rattle.retro_cli.proofs.followed.follow_script.Goals as goal
 
 pub returns-in-Err-NoMemory-clause-stands : goal.returns-in-Err-NoMemory-clause-stands
 returns-in-Err-NoMemory-clause-stands g c =
-    let at : FollowedStands g.S.Source g.K.Sink g.K.SendingSink.sends (map (λ f. option_map (λ b. (goal.Follower-dyn g (b.vtable, b.value)).report_after b.value) f) c.args.followers.now)
-    c.args.source.now c.answer_and_report-answered.new.source c.args.sink.now c.answer_and_report-answered.new.sink stops.NoMemory = search rules in
+    let at : ScriptStands g.S.Source g.K.Sink g.K.SendingSink.sends (followed (audience_by (λ b. (goal.Follower-dyn g (b.vtable, b.value)).report_after b.value) c.args.followers.now))
+    c.args.source.now c.answer_and_report-answered.new.source c.args.sink.now c.answer_and_report-answered.new.sink statuses.NoMemory = search rules in
     stands_sent g.S.Source g.K.Sink g.K.SendingSink.sends _ _ _ _ _ _ at c.send.ensures.written c.in_ok-send-in-Err-NoMemory.ensures.unflushed
 
 pub returns-in_err-send-in-Err-NoMemory-clause-stands : goal.returns-in_err-send-in-Err-NoMemory-clause-stands
 returns-in_err-send-in-Err-NoMemory-clause-stands g c =
-    let at : FollowedStands g.S.Source g.K.Sink g.K.SendingSink.sends (map (λ f. option_map (λ b. (goal.Follower-dyn g (b.vtable, b.value)).report_after b.value) f) c.args.followers.now)
-    c.args.source.now c.answer_and_report-answered.new.source c.args.sink.now c.answer_and_report-answered.new.sink stops.NoMemory = search rules in
+    let at : ScriptStands g.S.Source g.K.Sink g.K.SendingSink.sends (followed (audience_by (λ b. (goal.Follower-dyn g (b.vtable, b.value)).report_after b.value) c.args.followers.now))
+    c.args.source.now c.answer_and_report-answered.new.source c.args.sink.now c.answer_and_report-answered.new.sink statuses.NoMemory = search rules in
     let failed = c.in_err-send-in-Err-NoMemory.ensures in
     let p = err_from_is_err_and c.from_residual.result c.from_residual.ensures.1 in
     rw (p.1, p.2, failed.failed) (stands_unsent g.S.Source g.K.Sink g.K.SendingSink.sends _ _ _ _ _ _ at failed.written failed.last)
 
-pub returns-in-Ok-flush-clause-answers : goal.returns-in-Ok-flush-clause-answers
-returns-in-Ok-flush-clause-answers g c = record {
-  output = search rules;
-  flush = record {
-    middle = c.answer_and_report-answered.new.sink;
-    wrote = c.in-Ok.ensures.unflushed;
-    answer = Ok c.in-Ok-flush.field-0;
-    is = refl;
-    flush = c.in-Ok-flush.ensures.does;
-  };
-  refusal = search rules;
-}
+pub returns-in-Ok-flush-clause-stands : goal.returns-in-Ok-flush-clause-stands
+returns-in-Ok-flush-clause-stands g c =
+    stands_answered g.S.Source g.K.Sink g.K.SendingSink.sends _ _ _ _ _ _ record {
+      ended = search rules;
+      output = search rules;
+      flush = record {
+        middle = c.answer_and_report-answered.new.sink;
+        wrote = c.in-Ok.ensures.unflushed;
+        answer = Ok c.in-Ok-flush.field-0;
+        is = refl;
+        flush = c.in-Ok-flush.ensures.does;
+      };
+      flushed = search rules;
+      refusal = search rules;
+    }
 
 pub returns-in-Err-flush-clause-stands : goal.returns-in-Err-flush-clause-stands
 returns-in-Err-flush-clause-stands g c =
-    let all : AppendsFollowed (map (λ f. option_map (λ b. (goal.Follower-dyn g (b.vtable, b.value)).report_after b.value) f) c.args.followers.now) (g.S.Source.left c.args.source.now)
+    let all : AppendsWhole (followed (audience_by (λ b. (goal.Follower-dyn g (b.vtable, b.value)).report_after b.value) c.args.followers.now)) (g.S.Source.left c.args.source.now)
     (g.K.Sink.written c.args.sink.now) (g.K.Sink.written c.flush.new.self) = search rules in
     inl (inr (
       all,

@@ -1,12 +1,11 @@
 use Rattle.std.proofs.Common.{rules, sym, ◌∙◌}
-use Rattle.std.specs.Prelude.{option_map}
 use Rattle.retro_cli.proofs.Numbered.{past_all, there}
 use Rattle.retro_cli.proofs.mute.follower_left.Goals as goal
 
 pub returns-then-number-followers : goal.returns-then-number-followers
 returns-then-number-followers g c =
-    c.as_left.ensures ∙ sym (there (λ f. option_map (λ b. (goal.Follower-dyn g (b.vtable, b.value)).report_after b.value) f) c.args.followers.now c.args.number
+    c.as_left.ensures ∙ sym (there _ c.args.followers.now c.args.number
     c.index-followers-number.result (search rules) c.index-followers-number.is)
 
 pub returns-else-number-followers : goal.returns-else-number-followers
-returns-else-number-followers g c = sym (past_all (λ f. option_map (λ b. (goal.Follower-dyn g (b.vtable, b.value)).report_after b.value) f) c.args.followers.now c.args.number (search rules))
+returns-else-number-followers g c = sym (past_all _ c.args.followers.now c.args.number (search rules))
