@@ -82,6 +82,27 @@ impl Bench {
         reply
     }
 
+    /// Does what a line asks for, as `line` does. The lines that answer it take the place of what `answer` holds, and the
+    /// result is whether the line was refused.
+    pub fn line_into(
+        &mut self,
+        line: &[u8],
+        long: bool,
+        answer: &mut Text,
+    ) -> Result<bool, NoMemory>
+        requires within { length line.now ≤ longest_line }
+        requires full { IsTrue long → length line.now ≡ longest_line }
+        requires unspent { self.old.spent ≡ false }
+        ensures reacts { IfOk result (λ refused. reacts_to self.old.bench line.now long
+            ≡ record { bench = self.new.bench; answer = answer.new; refused = refused }) }
+        ensures keeps { IfOk result (λ refused. refused ≡ true → self.new.bench ≡ without_block self.old.bench) }
+        ensures spent { self.new.spent ≡ is_err result }
+    {
+        let Reply { text, refused } = self.line(line, long)?;
+        *answer = text;
+        Ok(refused)
+    }
+
     /// Closes the block that is being read, as the end of the input does. Without one nothing is answered.
     pub fn end(&mut self) -> Result<Reply, NoMemory>
         requires { self.old.spent ≡ false }
