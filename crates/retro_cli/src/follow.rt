@@ -128,17 +128,18 @@ pub(crate) fn write_reports<K: SendingSink>(
     ensures stands { IfErr result (ReportsStand ⟦<K as Sink>⟧ K.sends (texts_of (audience_by report_after followers.now)) sink.old sink.new) }
     ensures sink_faults { CountsFaults (stops_at_write result) (K.faults sink.old) (K.faults sink.new) }
 {
+    let mut line = Text::new(alloc);
     for (number, follower) in followers.iter().enumerate() {
-        write_report_left(alloc, number, follower, sink)?;
+        write_report_left(number, follower, &mut line, sink)?;
     }
     Ok(())
 }
 
 /// Writes the line of one follower, if it is left.
 fn write_report_left<K: SendingSink>(
-    alloc: Global,
     number: usize,
     follower: &Option<Box<dyn Follower>>,
+    line: &mut Text,
     sink: &mut K,
 ) -> Result<(), Stop>
     ensures appended { OnOk result (Appends (K.written sink.old) (line_of number (option_map (λ report. report []) (option_map report_after follower.now))) (K.written sink.new)) }
@@ -151,16 +152,16 @@ fn write_report_left<K: SendingSink>(
     ensures reads_nothing { (IsErrOf result Stop.ReadFault → ⊥) × (IsErrOf result Stop.TooLong → ⊥) }
 {
     match follower {
-        Some(left) => write_report(alloc, number, left, sink),
+        Some(left) => write_report(number, left, line, sink),
         None => Ok(()),
     }
 }
 
-/// Writes the line of one follower.
+/// Writes the line of one follower. It takes the place of what `line` holds.
 pub(crate) fn write_report<K: SendingSink>(
-    alloc: Global,
     number: usize,
     follower: &Box<dyn Follower>,
+    line: &mut Text,
     sink: &mut K,
 ) -> Result<(), Stop>
     ensures appended { OnOk result (Appends (K.written sink.old) (report_line number (report_after follower.now [])) (K.written sink.new)) }
@@ -171,8 +172,8 @@ pub(crate) fn write_report<K: SendingSink>(
     ensures sink_faults { CountsFaults (stops_at_write result) (K.faults sink.old) (K.faults sink.new) }
     ensures reads_nothing { (IsErrOf result Stop.ReadFault → ⊥) × (IsErrOf result Stop.TooLong → ⊥) }
 {
-    let mut line = Text::new(alloc);
-    print_report(number, follower, &mut line)?;
+    line.clear();
+    print_report(number, follower, line)?;
     append(line.as_bytes(), sink)
 }
 

@@ -13,9 +13,9 @@ ghost use Rattle.retro_cli.specs.Stop.{stops_at_write};
 use crate::follow::write_report;
 use crate::stop::Stop;
 use followers::Follower;
+use retro_base::Text;
 use retro_io::{SendingSink, Sink};
 use script_grammar::{Command, read_line};
-use std::alloc::Global;
 use workbench::Bench;
 
 /// The number of the follower that a line mutes, if that is left; none where the bench answers the line.
@@ -81,11 +81,11 @@ fn as_left(follower: &Option<Box<dyn Follower>>) -> Option<&Box<dyn Follower>>
     }
 }
 
-/// Writes what the follower with this number reports, if it is left, and lets it go. The answer tells that no line was refused.
+/// Writes what the follower with this number reports, if it is left, and lets it go. The result tells that no line was refused.
 pub(crate) fn answer_by_follower<K: SendingSink>(
-    alloc: Global,
     number: u32,
     followers: &mut [Option<Box<dyn Follower>>],
+    answer: &mut Text,
     sink: &mut K,
 ) -> Result<bool, Stop>
     ensures answered { IfOk result (λ refused. IfSome (follower_at (audience_by report_after followers.old) number) (λ report. (refused ≡ false)
@@ -100,7 +100,7 @@ pub(crate) fn answer_by_follower<K: SendingSink>(
     ensures reads_nothing { (IsErrOf result Stop.ReadFault → ⊥) × (IsErrOf result Stop.TooLong → ⊥) }
 {
     match follower_left(followers, number) {
-        Some(follower) => write_report(alloc, number as usize, follower, sink)?,
+        Some(follower) => write_report(number as usize, follower, answer, sink)?,
         None => return Ok(false),
     }
     let_go(followers, number);

@@ -22,17 +22,19 @@ use crate::mute::{answer_by_follower, muted};
 use crate::sent_reader::SentReader;
 use crate::stop::Stop;
 use followers::Follower;
+use retro_base::Text;
 use retro_io::{LineBuffer, LineReader, Mark, SendingSink, Sink, Source};
 use std::alloc::Global;
 use workbench::Bench;
 
-/// Answers one line: by the follower that it mutes, or by the bench, whose events the followers are handed.
+/// Answers one line: by the follower that it mutes, or by the bench, whose events the followers are handed. The answer takes the place
+/// of what `answer` holds.
 fn answer_line<K: SendingSink>(
-    alloc: Global,
     line: &[u8],
     long: bool,
     bench: &mut Bench,
     followers: &mut [Option<Box<dyn Follower>>],
+    answer: &mut Text,
     sink: &mut K,
 ) -> Result<bool, Stop>
     requires within { length line.now ≤ longest_line }
@@ -51,8 +53,8 @@ fn answer_line<K: SendingSink>(
     ensures reads_nothing { (IsErrOf result Stop.ReadFault → ⊥) × (IsErrOf result Stop.TooLong → ⊥) }
 {
     match muted(line, long, bench, followers) {
-        Some(number) => answer_by_follower(alloc, number, followers, sink),
-        None => answer_by_bench(line, long, bench, followers, sink),
+        Some(number) => answer_by_follower(number, followers, answer, sink),
+        None => answer_by_bench(line, long, bench, followers, answer, sink),
     }
 }
 
@@ -62,6 +64,7 @@ fn answer_by_bench<K: SendingSink>(
     long: bool,
     bench: &mut Bench,
     followers: &mut [Option<Box<dyn Follower>>],
+    answer: &mut Text,
     sink: &mut K,
 ) -> Result<bool, Stop>
     requires within { length line.now ≤ longest_line }
@@ -80,10 +83,10 @@ fn answer_by_bench<K: SendingSink>(
     ensures sink_faults { CountsFaults (stops_at_write result) (K.faults sink.old) (K.faults sink.new) }
     ensures reads_nothing { (IsErrOf result Stop.ReadFault → ⊥) × (IsErrOf result Stop.TooLong → ⊥) }
 {
-    let reply = bench.line(line, long)?;
-    hand_on(reply.text.as_bytes(), followers)?;
-    append(reply.text.as_bytes(), sink)?;
-    Ok(reply.refused)
+    let refused = bench.line_into(line, long, answer)?;
+    hand_on(answer.as_bytes(), followers)?;
+    append(answer.as_bytes(), sink)?;
+    Ok(refused)
 }
 
 /// Closes the block that is being read, if there is one, and writes the answer.
@@ -124,7 +127,7 @@ fn send_before_read<S: Source, K: SendingSink>(
 }
 
 /// Answers the lines that a reader gives, up to the end of the input. The answer to each is written before the next one is read,
-/// and where the source is read for that, it is sent before.
+/// and where the source is read for that, it is sent before. One text holds each answer in its turn.
 fn answer_lines<S: Source, K: SendingSink>(
     alloc: Global,
     reader: &mut SentReader<'_, S>,
@@ -149,6 +152,7 @@ fn answer_lines<S: Source, K: SendingSink>(
     ensures sent { IfErr result (λ stop. StopsReading stop → K.waiting sink.new ≡ []) }
 {
     let mut bench = Bench::new(alloc);
+    let mut text = Text::new(alloc);
     let mut refused = false;
     loop {
         send_before_read(reader, sink)?;
@@ -160,7 +164,7 @@ fn answer_lines<S: Source, K: SendingSink>(
                 return Ok(refused);
             }
         };
-        refused |= answer_line(alloc, reader.line(), long, &mut bench, followers, sink)?;
+        refused |= answer_line(reader.line(), long, &mut bench, followers, &mut text, sink)?;
     }
 }
 

@@ -12,45 +12,45 @@ use Rattle.retro_cli.proofs.script.answer_lines.Goals as goal
 use Rattle.retro_cli.proofs.script.answer_lines.Goals.{in-Whole, in-Long}
 
 pub returns-in_err-next_line-clause-moves : goal.returns-in_err-next_line-clause-moves
-returns-in_err-next_line-clause-moves g c = MovesOn-then c.args.reader.now.reader c.loop-bench.reader.reader c.next_line.new.self.reader c.loop-bench.invariant.moves c.next_line.ensures.moves
+returns-in_err-next_line-clause-moves g c = MovesOn-then c.args.reader.now.reader c.loop-text.reader.reader c.next_line.new.self.reader c.loop-text.invariant.moves c.next_line.ensures.moves
 
 pub returns-in-End-clause-moves : goal.returns-in-End-clause-moves
-returns-in-End-clause-moves g c = MovesOn-then c.args.reader.now.reader c.loop-bench.reader.reader c.next_line.new.self.reader c.loop-bench.invariant.moves c.in_ok-next_line.ensures.moves
+returns-in-End-clause-moves g c = MovesOn-then c.args.reader.now.reader c.loop-text.reader.reader c.next_line.new.self.reader c.loop-text.invariant.moves c.in_ok-next_line.ensures.moves
 
 pub returns-in_err-refused-clause-moves : goal.returns-in_err-refused-clause-moves
-returns-in_err-refused-clause-moves g c = MovesOn-then c.args.reader.now.reader c.loop-bench.reader.reader c.next_line.new.self.reader c.loop-bench.invariant.moves c.in_ok-next_line.ensures.moves
+returns-in_err-refused-clause-moves g c = MovesOn-then c.args.reader.now.reader c.loop-text.reader.reader c.next_line.new.self.reader c.loop-text.invariant.moves c.in_ok-next_line.ensures.moves
 
 pub returns-in_err-next_line-clause-stands : goal.returns-in_err-next_line-clause-stands
 returns-in_err-next_line-clause-stands g c =
     let p = err_from_is_err_and c.from_residual-in_err-next_line.result c.from_residual-in_err-next_line.ensures.1 in
     let stops = c.in_err-next_line.ensures.stops in
-    let moves = c.loop-bench.invariant.moves in
-    let not_ended : has_ended c.loop-bench.reader.reader ≡ false = open_before_error _ _ c.in_err-next_line.ensures.kept.end in
-    let answers = before_end _ _ _ _ _ _ _ _ _ not_ended (goes_on_sent _ _ _ _ _ _ _ _ _ _ c.send_before_read.ensures.written c.loop-bench.invariant.answers) in
+    let moves = c.loop-text.invariant.moves in
+    let not_ended : has_ended c.loop-text.reader.reader ≡ false = open_before_error _ _ c.in_err-next_line.ensures.kept.end in
+    let answers = before_end _ _ _ _ _ _ _ _ _ not_ended (goes_on_sent _ _ _ _ _ _ _ _ _ _ c.send_before_read.ensures.written c.loop-text.invariant.answers) in
     rw p.1
     (stands_at_error _ g.K.Sink g.K.SendingSink.sends _ _ _ _ _ c.in_err-next_line.field-0.0 p.0 p.2
-    (first_answers _ _ _ _ _ _ _ _ _ (goes_on_sent _ _ _ _ _ _ _ _ _ _ c.send_before_read.ensures.written c.loop-bench.invariant.answers))
-    (StaysUnflushed-more g.K.Sink g.K.SendingSink.sends _ _ _ c.loop-bench.invariant.unflushed c.in_ok-send_before_read.ensures.unflushed)
-    (λ fault. answers_of_taken _ _ _ _ _ _ (held c.loop-bench.reader.reader) _ _ _ _ answers stops.unbroken c.in_err-next_line.ensures.moves.left (stops.unbroken_taken fault))
+    (first_answers _ _ _ _ _ _ _ _ _ (goes_on_sent _ _ _ _ _ _ _ _ _ _ c.send_before_read.ensures.written c.loop-text.invariant.answers))
+    (StaysUnflushed-more g.K.Sink g.K.SendingSink.sends _ _ _ c.loop-text.invariant.unflushed c.in_ok-send_before_read.ensures.unflushed)
+    (λ fault. answers_of_taken _ _ _ _ _ _ (held c.loop-text.reader.reader) _ _ _ _ answers stops.unbroken c.in_err-next_line.ensures.moves.left (stops.unbroken_taken fault))
     (λ too_long. rw (← moves.limit)
-    (answers_of_first _ _ _ _ _ (held c.args.reader.now.reader) (held c.loop-bench.reader.reader) _ _ (taken c.args.reader.now.reader) (taken c.loop-bench.reader.reader) _ _
+    (answers_of_first _ _ _ _ _ (held c.args.reader.now.reader) (held c.loop-text.reader.reader) _ _ (taken c.args.reader.now.reader) (taken c.loop-text.reader.reader) _ _
     answers stops.unbroken moves.more moves.left
-    c.args.reader.now.reader.counted c.loop-bench.reader.reader.counted (c.loop-bench.reader.reader.in_limit c.loop-bench.invariant.failed) (stops.unbroken_first too_long))))
+    c.args.reader.now.reader.counted c.loop-text.reader.reader.counted (c.loop-text.reader.reader.in_limit c.loop-text.invariant.failed) (stops.unbroken_first too_long))))
 
 pub returns-in_err-refused-clause-stands : goal.returns-in_err-refused-clause-stands
 returns-in_err-refused-clause-stands g c =
     let p = err_from_is_err_and c.from_residual-in_err-refused.result c.from_residual-in_err-refused.ensures.1 in
     let as_given : GivenAs c.in_ok-next_line.field-0 c.match-branch-3.long =
     elim c.match-branch-3.branch [ in-Whole w ↦ rw w.in-Whole.is w.long-is | in-Long w ↦ rw w.in-Long.is w.long-is ] in
-    let not_ended : has_ended c.loop-bench.reader.reader ≡ false = open_before_line _ _ _ as_given c.in_ok-next_line.ensures.kept.end in
+    let not_ended : has_ended c.loop-text.reader.reader ≡ false = open_before_line _ _ _ as_given c.in_ok-next_line.ensures.kept.end in
     rw (p.1, p.2)
     (stands_at_answer _ g.K.Sink g.K.SendingSink.sends _ _ _ _ _ _ c.in_err-refused.field-0.0
-    (first_answers _ _ _ _ _ _ _ _ _ (goes_on_sent _ _ _ _ _ _ _ _ _ _ c.send_before_read.ensures.written c.loop-bench.invariant.answers))
-    (StaysUnflushed-more g.K.Sink g.K.SendingSink.sends _ _ _ c.loop-bench.invariant.unflushed c.in_ok-send_before_read.ensures.unflushed) c.in_err-refused.ensures.untouched
+    (first_answers _ _ _ _ _ _ _ _ _ (goes_on_sent _ _ _ _ _ _ _ _ _ _ c.send_before_read.ensures.written c.loop-text.invariant.answers))
+    (StaysUnflushed-more g.K.Sink g.K.SendingSink.sends _ _ _ c.loop-text.invariant.unflushed c.in_ok-send_before_read.ensures.unflushed) c.in_err-refused.ensures.untouched
     c.in_err-refused.ensures.reads_nothing
     (λ is. part_in_line _ _ _ _ _ _ c.in_ok-next_line.field-0 c.match-branch-3.long (line_of c.next_line.new.self.reader) (has_ended c.next_line.new.self.reader) _ _ _ _
     as_given c.in_ok-next_line.ensures.gives.lines (before_end _ _ _ _ _ _ _ _ _ not_ended
-    (goes_on_sent _ _ _ _ _ _ _ _ _ _ c.send_before_read.ensures.written c.loop-bench.invariant.answers))
+    (goes_on_sent _ _ _ _ _ _ _ _ _ _ c.send_before_read.ensures.written c.loop-text.invariant.answers))
     (rw c.line.ensures at (c.in_err-refused.ensures.part is)))
     c.in_err-refused.ensures.last)
 
@@ -60,9 +60,9 @@ returns-in_err-refused-in-End-clause-stands g c =
     let failed = c.in_err-refused-in-End.ensures in
     rw (p.1, p.2)
     (stands_at_answer _ g.K.Sink g.K.SendingSink.sends _ _ _ _ _ _ c.in_err-refused-in-End.field-0.0
-    (first_answers _ _ _ _ _ _ _ _ _ (goes_on_sent _ _ _ _ _ _ _ _ _ _ c.send_before_read.ensures.written c.loop-bench.invariant.answers))
-    (StaysUnflushed-more g.K.Sink g.K.SendingSink.sends _ _ _ c.loop-bench.invariant.unflushed c.in_ok-send_before_read.ensures.unflushed) failed.untouched failed.reads_nothing
-    (λ is. part_at_end _ _ _ _ _ _ _ _ _ _ _ (line_of c.next_line.new.self.reader) (has_ended c.next_line.new.self.reader) (goes_on_sent _ _ _ _ _ _ _ _ _ _ c.send_before_read.ensures.written c.loop-bench.invariant.answers)
+    (first_answers _ _ _ _ _ _ _ _ _ (goes_on_sent _ _ _ _ _ _ _ _ _ _ c.send_before_read.ensures.written c.loop-text.invariant.answers))
+    (StaysUnflushed-more g.K.Sink g.K.SendingSink.sends _ _ _ c.loop-text.invariant.unflushed c.in_ok-send_before_read.ensures.unflushed) failed.untouched failed.reads_nothing
+    (λ is. part_at_end _ _ _ _ _ _ _ _ _ _ _ (line_of c.next_line.new.self.reader) (has_ended c.next_line.new.self.reader) (goes_on_sent _ _ _ _ _ _ _ _ _ _ c.send_before_read.ensures.written c.loop-text.invariant.answers)
     (rw c.in-End.is at c.in_ok-next_line.ensures.gives.lines) (failed.part is))
     failed.last)
 
@@ -79,16 +79,16 @@ returns-in_err-send_before_read-clause-earlier g c =
 pub returns-in_err-refused-clause-earlier : goal.returns-in_err-refused-clause-earlier
 returns-in_err-refused-clause-earlier g c =
     let p = err_from_is_err_and c.from_residual-in_err-refused.result c.from_residual-in_err-refused.ensures.1 in
-    let before = c.loop-bench.invariant in
+    let before = c.loop-text.invariant in
     let now = c.next_line.new.self.reader in
     let as_given : GivenAs c.in_ok-next_line.field-0 c.match-branch-3.long =
     elim c.match-branch-3.branch [ in-Whole w ↦ rw w.in-Whole.is w.long-is | in-Long w ↦ rw w.in-Long.is w.long-is ] in
-    let not_ended : has_ended c.loop-bench.reader.reader ≡ false = open_before_line _ _ _ as_given c.in_ok-next_line.ensures.kept.end in
+    let not_ended : has_ended c.loop-text.reader.reader ≡ false = open_before_line _ _ _ as_given c.in_ok-next_line.ensures.kept.end in
     λ short.
     rw (c.in_err-refused.ensures.untouched (unwritten c.in_err-refused.field-0.0 (sym p.2 ∙ memory_is c.from_residual-in_err-refused.result p.0 p.1 short)))
     (answers_of_earlier g.S.Source _ _ _ _ _ _ _ (λ script from.
-    let at = at_line g.S.Source _ (source_of c.args.reader.now.reader) (source_of c.loop-bench.reader.reader) (source_of now) _ _ script (held c.loop-bench.reader.reader) (held now)
-    (line_of now) c.in_ok-next_line.field-0 c.match-branch-3.long _ (has_ended c.loop-bench.reader.reader) (has_ended now) _ _ _ _
+    let at = at_line g.S.Source _ (source_of c.args.reader.now.reader) (source_of c.loop-text.reader.reader) (source_of now) _ _ script (held c.loop-text.reader.reader) (held now)
+    (line_of now) c.in_ok-next_line.field-0 c.match-branch-3.long _ (has_ended c.loop-text.reader.reader) (has_ended now) _ _ _ _
     (before_end _ _ _ _ _ _ _ _ _ not_ended (goes_on_sent _ _ _ _ _ _ _ _ _ _ c.send_before_read.ensures.written before.answers) script
     (all_left (held c.args.reader.now.reader) _ script c.requires.fresh from))
     (λ left at. before.so_far script left from at) as_given c.in_ok-next_line.ensures.took now.none_left in
@@ -97,14 +97,14 @@ returns-in_err-refused-clause-earlier g c =
 pub returns-in_err-refused-in-End-clause-earlier : goal.returns-in_err-refused-in-End-clause-earlier
 returns-in_err-refused-in-End-clause-earlier g c =
     let p = err_from_is_err_and c.from_residual-in_err-refused-in-End.result c.from_residual-in_err-refused-in-End.ensures.1 in
-    let before = c.loop-bench.invariant in
+    let before = c.loop-text.invariant in
     let now = c.next_line.new.self.reader in
     λ short.
     rw (c.in_err-refused-in-End.ensures.untouched
     (unwritten c.in_err-refused-in-End.field-0.0 (sym p.2 ∙ memory_is c.from_residual-in_err-refused-in-End.result p.0 p.1 short)))
     (answers_of_earlier g.S.Source _ _ _ _ _ _ _ (λ script from.
-    let at = at_close g.S.Source _ (source_of c.args.reader.now.reader) (source_of c.loop-bench.reader.reader) (source_of now) _ _ script (held c.loop-bench.reader.reader) (held now)
-    (line_of now) _ (has_ended c.loop-bench.reader.reader) _ (has_ended now) _ _ _ _
+    let at = at_close g.S.Source _ (source_of c.args.reader.now.reader) (source_of c.loop-text.reader.reader) (source_of now) _ _ script (held c.loop-text.reader.reader) (held now)
+    (line_of now) _ (has_ended c.loop-text.reader.reader) _ (has_ended now) _ _ _ _
     (goes_on_sent _ _ _ _ _ _ _ _ _ _ c.send_before_read.ensures.written before.answers script
     (all_left (held c.args.reader.now.reader) _ script c.requires.fresh from))
     (rw c.in-End.is at c.in_ok-next_line.ensures.took) now.none_left now.at_end in
@@ -112,36 +112,36 @@ returns-in_err-refused-in-End-clause-earlier g c =
 
 pub returns-in-End-clause-output : goal.returns-in-End-clause-output
 returns-in-End-clause-output g c =
-    (appends_output _ _ _ _ _ _ _ _ _ _ _ (line_of c.next_line.new.self.reader) (has_ended c.next_line.new.self.reader) (goes_on_sent _ _ _ _ _ _ _ _ _ _ c.send_before_read.ensures.written c.loop-bench.invariant.answers)
+    (appends_output _ _ _ _ _ _ _ _ _ _ _ (line_of c.next_line.new.self.reader) (has_ended c.next_line.new.self.reader) (goes_on_sent _ _ _ _ _ _ _ _ _ _ c.send_before_read.ensures.written c.loop-text.invariant.answers)
     (rw c.in-End.is at c.in_ok-next_line.ensures.gives.lines) c.in_ok-refused-in-End.ensures.answered.1).0
 
 pub returns-in-End-clause-refusal : goal.returns-in-End-clause-refusal
 returns-in-End-clause-refusal g c =
     rw c.in_ok-refused-in-End.ensures.answered.0
-    (appends_output _ _ _ _ _ _ _ _ _ _ _ (line_of c.next_line.new.self.reader) (has_ended c.next_line.new.self.reader) (goes_on_sent _ _ _ _ _ _ _ _ _ _ c.send_before_read.ensures.written c.loop-bench.invariant.answers)
+    (appends_output _ _ _ _ _ _ _ _ _ _ _ (line_of c.next_line.new.self.reader) (has_ended c.next_line.new.self.reader) (goes_on_sent _ _ _ _ _ _ _ _ _ _ c.send_before_read.ensures.written c.loop-text.invariant.answers)
     (rw c.in-End.is at c.in_ok-next_line.ensures.gives.lines) c.in_ok-refused-in-End.ensures.answered.1).1
 
 pub returns-in-End-clause-handed : goal.returns-in-End-clause-handed
 returns-in-End-clause-handed g c =
     all_followed _ _ _ _ _ _ _ _ _ _ (line_of c.next_line.new.self.reader) (has_ended c.next_line.new.self.reader)
-    (goes_on_sent _ _ _ _ _ _ _ _ _ _ c.send_before_read.ensures.written c.loop-bench.invariant.answers) (rw c.in-End.is at c.in_ok-next_line.ensures.gives.lines)
+    (goes_on_sent _ _ _ _ _ _ _ _ _ _ c.send_before_read.ensures.written c.loop-text.invariant.answers) (rw c.in-End.is at c.in_ok-next_line.ensures.gives.lines)
 
 pub returns-in-End-clause-unflushed : goal.returns-in-End-clause-unflushed
 returns-in-End-clause-unflushed g c = StaysUnflushed-more g.K.Sink g.K.SendingSink.sends _ _ _
-    (StaysUnflushed-more g.K.Sink g.K.SendingSink.sends _ _ _ c.loop-bench.invariant.unflushed c.in_ok-send_before_read.ensures.unflushed) c.in_ok-refused-in-End.ensures.unflushed
+    (StaysUnflushed-more g.K.Sink g.K.SendingSink.sends _ _ _ c.loop-text.invariant.unflushed c.in_ok-send_before_read.ensures.unflushed) c.in_ok-refused-in-End.ensures.unflushed
 
 pub returns-in_err-send_before_read-clause-stands : goal.returns-in_err-send_before_read-clause-stands
 returns-in_err-send_before_read-clause-stands g c =
     let p = err_from_is_err_and c.from_residual.result c.from_residual.ensures.1 in
     let failed = c.in_err-send_before_read.ensures in
     rw (p.1, p.2, failed.failed)
-    (stands_at_send _ g.K.Sink g.K.SendingSink.sends _ None 0 _ _ _ (first_answers _ _ _ _ _ _ _ _ _ c.loop-bench.invariant.answers) c.loop-bench.invariant.unflushed failed.written failed.last)
+    (stands_at_send _ g.K.Sink g.K.SendingSink.sends _ None 0 _ _ _ (first_answers _ _ _ _ _ _ _ _ _ c.loop-text.invariant.answers) c.loop-text.invariant.unflushed failed.written failed.last)
 
 pub next_line-requires-clause-sent : goal.next_line-requires-clause-sent
 next_line-requires-clause-sent g c = c.in_ok-send_before_read.ensures.sent
 
-pub loop-bench-init : goal.loop-bench-init
-loop-bench-init g c = record {
+pub loop-text-init : goal.loop-text-init
+loop-text-init g c = record {
   moves = MovesOn-none c.args.reader.now.reader c.args.reader.now.reader.within;
   unspent = rw c.new-bench.ensures refl;
   failed = c.requires.open;
@@ -152,29 +152,29 @@ loop-bench-init g c = record {
   so_far = λ script left from at. inl (refl, c.requires.fresh);
 }
 
-pub loop-bench-preserved : goal.loop-bench-preserved
-loop-bench-preserved g c =
+pub loop-text-preserved : goal.loop-text-preserved
+loop-text-preserved g c =
     let as_given : GivenAs c.in_ok-next_line.field-0 c.match-branch-3.long =
     elim c.match-branch-3.branch [ in-Whole w ↦ rw w.in-Whole.is w.long-is | in-Long w ↦ rw w.in-Long.is w.long-is ] in
-    let not_ended : has_ended c.loop-bench.reader.reader ≡ false = open_before_line _ _ _ as_given c.in_ok-next_line.ensures.kept.end in
+    let not_ended : has_ended c.loop-text.reader.reader ≡ false = open_before_line _ _ _ as_given c.in_ok-next_line.ensures.kept.end in
     let answered = rw c.line.ensures at c.in_ok-refused.ensures.answered in
     record {
-      moves = MovesOn-then c.args.reader.now.reader c.loop-bench.reader.reader c.next_line.new.self.reader c.loop-bench.invariant.moves c.in_ok-next_line.ensures.moves;
+      moves = MovesOn-then c.args.reader.now.reader c.loop-text.reader.reader c.next_line.new.self.reader c.loop-text.invariant.moves c.in_ok-next_line.ensures.moves;
       unspent = rw answered.0 refl;
       failed = c.in_ok-next_line.ensures.shows.0;
-      source_faults = omega (arith, c.in_ok-next_line.ensures.source_faults, c.loop-bench.invariant.source_faults);
-      sink_faults = omega (arith, c.in_ok-refused.ensures.sink_faults, c.in_ok-send_before_read.ensures.sink_faults, c.loop-bench.invariant.sink_faults);
-      unflushed = StaysUnflushed-more g.K.Sink g.K.SendingSink.sends _ _ _ (StaysUnflushed-more g.K.Sink g.K.SendingSink.sends _ _ _ c.loop-bench.invariant.unflushed c.in_ok-send_before_read.ensures.unflushed) c.in_ok-refused.ensures.unflushed;
+      source_faults = omega (arith, c.in_ok-next_line.ensures.source_faults, c.loop-text.invariant.source_faults);
+      sink_faults = omega (arith, c.in_ok-refused.ensures.sink_faults, c.in_ok-send_before_read.ensures.sink_faults, c.loop-text.invariant.sink_faults);
+      unflushed = StaysUnflushed-more g.K.Sink g.K.SendingSink.sends _ _ _ (StaysUnflushed-more g.K.Sink g.K.SendingSink.sends _ _ _ c.loop-text.invariant.unflushed c.in_ok-send_before_read.ensures.unflushed) c.in_ok-refused.ensures.unflushed;
       answers = λ bytes e.
           goes_on_answered _ c.in_ok-next_line.field-0 c.match-branch-3.long (line_of c.next_line.new.self.reader) (has_ended c.next_line.new.self.reader) bytes _ _ _ _ _ _ _ _
           c.answer_line.new.bench _ _ as_given c.in_ok-next_line.ensures.gives.lines
-          (before_end _ _ _ _ _ _ _ _ _ not_ended (goes_on_sent _ _ _ _ _ _ _ _ _ _ c.send_before_read.ensures.written c.loop-bench.invariant.answers) bytes e) answered;
+          (before_end _ _ _ _ _ _ _ _ _ not_ended (goes_on_sent _ _ _ _ _ _ _ _ _ _ c.send_before_read.ensures.written c.loop-text.invariant.answers) bytes e) answered;
       so_far = λ script left from is.
           let now = c.next_line.new.self.reader in
-          let at = at_line g.S.Source _ (source_of c.args.reader.now.reader) (source_of c.loop-bench.reader.reader) (source_of now) _ _ script (held c.loop-bench.reader.reader) (held now)
-          (line_of now) c.in_ok-next_line.field-0 c.match-branch-3.long _ (has_ended c.loop-bench.reader.reader) (has_ended now) _ _ _ _
-          (before_end _ _ _ _ _ _ _ _ _ not_ended (goes_on_sent _ _ _ _ _ _ _ _ _ _ c.send_before_read.ensures.written c.loop-bench.invariant.answers) script
+          let at = at_line g.S.Source _ (source_of c.args.reader.now.reader) (source_of c.loop-text.reader.reader) (source_of now) _ _ script (held c.loop-text.reader.reader) (held now)
+          (line_of now) c.in_ok-next_line.field-0 c.match-branch-3.long _ (has_ended c.loop-text.reader.reader) (has_ended now) _ _ _ _
+          (before_end _ _ _ _ _ _ _ _ _ not_ended (goes_on_sent _ _ _ _ _ _ _ _ _ _ c.send_before_read.ensures.written c.loop-text.invariant.answers) script
           (all_left (held c.args.reader.now.reader) _ script c.requires.fresh from))
-          (λ left at. c.loop-bench.invariant.so_far script left from at) as_given c.in_ok-next_line.ensures.took now.none_left in
+          (λ left at. c.loop-text.invariant.so_far script left from at) as_given c.in_ok-next_line.ensures.took now.none_left in
           inr (subst (λ xs. IsRead g.S.Source (source_of now) script xs (held now ++ xs)) (some_same (g.S.Source.left (source_of now)) at.is is) at.read);
     }

@@ -7,8 +7,8 @@ use Rattle.retro_cli.proofs.GoesOn.{GoesOn}
 use Rattle.retro_cli.proofs.ReadSoFar.{IsReadSoFar}
 use Rattle.retro_cli.proofs.script.answer_lines.Given as goal
 
-abbrev pub invariant-loop-bench : goal.invariant-loop-bench
-invariant-loop-bench g l = record {
+abbrev pub invariant-loop-text : goal.invariant-loop-text
+invariant-loop-text g l = record {
   moves : MovesOn l.fn.reader.reader l.reader.reader;
   unspent : l.bench.spent ≡ false;
   failed : has_failed l.reader.reader ≡ false;
@@ -23,5 +23,5 @@ invariant-loop-bench g l = record {
       → IsReadSoFar g.S.Source (source_of l.fn.reader.reader) (source_of l.reader.reader) script left (held l.reader.reader);
 }
 
-abbrev pub decreases-loop-bench : goal.decreases-loop-bench
-decreases-loop-bench g l = limit_of l.reader.reader + 1 - given l.reader.reader
+abbrev pub decreases-loop-text : goal.decreases-loop-text
+decreases-loop-text g l = limit_of l.reader.reader + 1 - given l.reader.reader
