@@ -1,5 +1,5 @@
 -- The timelines as the bench keeps them: what is seen of one that was changed, and that none is of a spent session.
-use Rattle.std.proofs.Common.{◌≡◌, ℕ, zero, suc, ◌+◌, ◌<◌, true, false, List, [], ◌∷◌, ◌++◌, length, get_or, set, position, refl, sym, ◌∙◌, ap, subst, arith, Some, Result, Ok, Err, IfOk, OnErr, OnOk}
+use Rattle.std.proofs.Common.{◌≡◌, ℕ, zero, suc, ◌+◌, ◌<◌, Bool, true, false, List, [], ◌∷◌, ◌++◌, length, get_or, set, position, refl, sym, ◌∙◌, ap, subst, arith, Some, Result, Ok, Err, IfOk, OnErr, OnOk}
 use Rattle.std.specs.List.{list_any, position_from, remove, AllByRecursion}
 use Rattle.std.specs.Prelude.{slice_get, IfSome, ◌||◌}
 use Rattle.std.proofs.lemmas.List.{get_or-map, map-set, length-map}
@@ -8,10 +8,12 @@ use Rattle.std.proofs.lemmas.Iterator.Adapters.{position_from-zero}
 use Rattle.timeline_undo.specs.Session.{SessionState}
 use Rattle.workbench.specs.declared.outcome.Outcome.{Outcome}
 use Rattle.workbench.specs.Bench.{KeptTimeline, NamedTimeline, IsUnspent, has_timeline, is_kept_as, is_named, kept_over, named, shown, timeline_of}
-use Rattle.workbench.specs.Outcome.{is_refusal}
+use Rattle.workbench.specs.Outcome.{is_refusal, reply_text}
 use Rattle.workbench.specs.Reaction.{on_named}
 use Rattle.workbench.specs.TimelineEffects.{TimelineEffect, unchanged}
+use Rattle.workbench.specs.Told.{told}
 use Rattle.workbench.proofs.Named.{asked, changed, on_named_found, reported, session_found}
+use Rattle.workbench.proofs.Told.{told_by}
 
 abbrev seen_of : KeptTimeline → NamedTimeline
 seen_of kept = kept.timeline
@@ -44,6 +46,16 @@ kept_asked result name answer_at kept index there after at is same answer =
     rw (map-set (λ (k : KeptTimeline). k.timeline) kept index after)
     (asked result name answer_at (shown kept) index there.timeline after.timeline at (seen_there kept index there (found_below name kept index there at) is)
     (ap (λ (k : KeptTimeline). k.timeline) same) answer)
+
+-- what is told of it
+pub kept_told : {E : Type 0} (result : Result Bool E) (name : List ℕ) (answer_at : NamedTimeline → Outcome) (kept : List KeptTimeline) (index : ℕ) (there after : KeptTimeline) (text : List ℕ)
+    → Some index ≡ position (is_named name) (shown kept) → there ≡ get_or kept index there → after ≡ there
+    → OnOk result (text ≡ reply_text (answer_at there.timeline)) → IfOk result (λ refused. refused ≡ is_refusal (answer_at there.timeline))
+    → IfOk result (λ refused. told (on_named name (λ timeline. unchanged timeline (answer_at timeline)) (shown kept))
+    ≡ record { timelines = shown (set kept index after); answer = text; refused = refused })
+kept_told result name answer_at kept index there after text at is same is_text is_refused =
+    told_by result (on_named name (λ timeline. unchanged timeline (answer_at timeline)) (shown kept)) (shown (set kept index after)) (answer_at there.timeline) text
+    (kept_asked {E = Unit {0}} (Ok (answer_at there.timeline)) name answer_at kept index there after at is same refl) is_text is_refused
 
 -- and after one that only reads it
 pub kept_reported : {E : Type 0} (result : Result Outcome E) (name : List ℕ) (answer_at : NamedTimeline → Outcome) (kept : List KeptTimeline) (index : ℕ) (there : KeptTimeline)

@@ -1,4 +1,5 @@
 pub mod Named
+pub mod Told
 pub mod Kept
 pub mod TimelineEffects
 pub mod Memory

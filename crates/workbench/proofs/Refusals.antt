@@ -19,14 +19,13 @@ use Rattle.timeline_file.specs.Block.{finished}
 use Rattle.std.specs.Prelude.{not, ◌&&◌, if◌then◌else◌}
 use Rattle.script_grammar.specs.declared.command.Spot.{Spot}
 use Rattle.retro_base.specs.Limits.{most_timelines}
-use Rattle.workbench.specs.declared.bench.Reply.{Reply}
 use Rattle.workbench.specs.declared.outcome.Outcome.{Outcome}
 use Rattle.workbench.specs.declared.outcome.Outcome.TheVariants.{Silent, Accepted, Inserted, Refused}
 use Rattle.workbench.specs.declared.outcome.Refusal.TheVariants as refusals
 use Rattle.workbench.specs.declared.position.Position.{Position}
 use Rattle.workbench.specs.Bench.{NamedTimeline, OpenBlock, Bench, fresh, is_named, has_timeline}
 use Rattle.workbench.specs.Outcome.{is_refusal}
-use Rattle.workbench.specs.Reaction.{Effect, BenchEffect, leaves, if_startable, with_timeline, on_named, obeys, opened, outside, happens, loads, closes, ends, with_line, with_block, without_block}
+use Rattle.workbench.specs.Reaction.{Effect, BenchEffect, Reaction, reaction_of, leaves, if_startable, with_timeline, on_named, obeys, opened, outside, happens, loads, closes, ends, with_line, with_block, without_block}
 use Rattle.workbench.specs.TimelineEffects.{TimelineEffect, refuses, accepted_or_refused, after_step, makes, edits, tells, new_row, row_named, position_of}
 use Rattle.workbench.specs.TimelineEffects.{inserts_there, inserts_at, cut_of, deletes_by, inserts, deletes, shift_of_row, shifts_there, shifts_by, shifts}
 use Rattle.workbench.specs.TimelineEffects.{moves, changes, unchanged, answers, answers_fate, undoes_step, undoes, redoes_step, redoes, saves}
@@ -232,25 +231,25 @@ happens_keeps timelines (Some unclosed) bytes long =
     bench_if (not long && is_end bytes) timelines (ends timelines (Some unclosed) true) (with_block (Some (with_line unclosed bytes long)) (leaves timelines Silent))
     (ends_keeps timelines (Some unclosed) true) (λ refused. absurd (not_both false refl refused))
 
+-- so it is where the effect is told
+told_keeps : {E : Type 0} (result : Result Bool E) (bench after : Bench) (answer : List ℕ) (effect : BenchEffect) → KeepsBench bench.timelines effect
+    → IfOk result (λ refused. reaction_of effect ≡ record { bench = after; answer = answer; refused = refused })
+    → IfOk result (λ refused. refused ≡ true → after ≡ without_block bench)
+told_keeps (Ok refused) bench after answer effect keeps told =
+    let same : reaction_of effect ≡ record { bench = after; answer = answer; refused = refused } = told in
+    λ refuses. sym (ap (λ (r : Reaction). r.bench) same) ∙ keeps (ap (λ (r : Reaction). r.refused) same ∙ refuses)
+told_keeps (Err e) bench after answer effect keeps told = tt
+
 -- a refused line leaves the timelines as they were, and no block to be closed
-kept : (timelines : List NamedTimeline) (block : Option OpenBlock) (bytes : List ℕ) (long : Bool) (after : Bench) (outcome : Outcome)
-    → happens timelines block bytes long ≡ record { bench = after; outcome = outcome } → is_refusal outcome ≡ true → after ≡ record { timelines = timelines; block = None }
-kept timelines block bytes long after outcome done refused = rw done at (happens_keeps timelines block bytes long (rw done refused))
+pub kept_after : {E : Type 0} (result : Result Bool E) (bench after : Bench) (answer bytes : List ℕ) (long : Bool)
+    → IfOk result (λ refused. reaction_of (happens bench.timelines bench.block bytes long) ≡ record { bench = after; answer = answer; refused = refused })
+    → IfOk result (λ refused. refused ≡ true → after ≡ without_block bench)
+kept_after result bench after answer bytes long told =
+    told_keeps result bench after answer (happens bench.timelines bench.block bytes long) (happens_keeps bench.timelines bench.block bytes long) told
 
 -- and so does a refused end
-kept_at_end : (timelines : List NamedTimeline) (block : Option OpenBlock) (ended : Bool) (after : Bench) (outcome : Outcome)
-    → ends timelines block ended ≡ record { bench = after; outcome = outcome } → is_refusal outcome ≡ true → after ≡ record { timelines = timelines; block = None }
-kept_at_end timelines block ended after outcome done refused = rw done at (ends_keeps timelines block ended (rw done refused))
-
--- so it is where the outcome is reported by a reply
-pub kept_after : {E : Type 0} (result : Result Reply E) (bench after : Bench) (bytes : List ℕ) (long : Bool) (outcome : Outcome)
-    → happens bench.timelines bench.block bytes long ≡ record { bench = after; outcome = outcome }
-    → IfOk result (λ reply. reply.refused ≡ is_refusal outcome) → IfOk result (λ reply. reply.refused ≡ true → after ≡ without_block bench)
-kept_after (Ok reply) bench after bytes long outcome done reported = λ refused. kept bench.timelines bench.block bytes long after outcome done (sym reported ∙ refused)
-kept_after (Err e) bench after bytes long outcome done reported = tt
-
-pub kept_after_end : {E : Type 0} (result : Result Reply E) (bench after : Bench) (ended : Bool) (outcome : Outcome)
-    → ends bench.timelines bench.block ended ≡ record { bench = after; outcome = outcome }
-    → IfOk result (λ reply. reply.refused ≡ is_refusal outcome) → IfOk result (λ reply. reply.refused ≡ true → after ≡ without_block bench)
-kept_after_end (Ok reply) bench after ended outcome done reported = λ refused. kept_at_end bench.timelines bench.block ended after outcome done (sym reported ∙ refused)
-kept_after_end (Err e) bench after ended outcome done reported = tt
+pub kept_after_end : {E : Type 0} (result : Result Bool E) (bench after : Bench) (answer : List ℕ) (ended : Bool)
+    → IfOk result (λ refused. reaction_of (ends bench.timelines bench.block ended) ≡ record { bench = after; answer = answer; refused = refused })
+    → IfOk result (λ refused. refused ≡ true → after ≡ without_block bench)
+kept_after_end result bench after answer ended told =
+    told_keeps result bench after answer (ends bench.timelines bench.block ended) (ends_keeps bench.timelines bench.block ended) told

@@ -1,15 +1,13 @@
 //! The bench: lines are done and answered.
 
-ghost use Rattle.std.specs.Prelude.{◌≡◌, ◌≤◌, ◌⊎◌, length, is_err, is_some, true, false, None, Some, IsTrue, IfOk, OnOk, OnErr, MatchOption, option_map};
+ghost use Rattle.std.specs.Prelude.{◌≡◌, ◌≤◌, ◌⊎◌, [], length, is_err, is_some, true, false, None, Some, IsTrue, IfOk, OnOk, OnErr, MatchOption, option_map};
 ghost use Rattle.retro_base.specs.Limits.{longest_line};
 ghost use Rattle.script_grammar.specs.Command.{IsProper};
 ghost use Rattle.retro_base.specs.Replay.{present};
 ghost use Rattle.workbench.specs.Bench.{NamedTimeline, empty_bench, named, present_size, size_of, timeline_of};
-ghost use Rattle.workbench.specs.Outcome.{is_refusal, reply_text};
-ghost use Rattle.workbench.specs.Reaction.{closing, ends, happens, opened, outside, reacts_to, with_line, without_block};
+ghost use Rattle.workbench.specs.Reaction.{closing, ends, happens, opened, outside, reaction_of, reacts_to, with_line, without_block};
 
 use crate::open_block::OpenBlock;
-use crate::outcome::Outcome;
 use crate::timelines::Timelines;
 use engine::Engine;
 use retro_base::{Answer, Name, NoMemory, Question, Text};
@@ -77,13 +75,13 @@ impl Bench {
         ensures keeps { IfOk result (λ reply. reply.refused ≡ true → self.new.bench ≡ without_block self.old.bench) }
         ensures spent { self.new.spent ≡ is_err result }
     {
-        let reply = self.react(line, long);
-        self.spent = reply.is_err();
-        reply
+        let mut text = Text::new(self.alloc);
+        let refused = self.line_into(line, long, &mut text)?;
+        Ok(Reply { text, refused })
     }
 
-    /// Does what a line asks for, as `line` does. The lines that answer it take the place of what `answer` holds, and the
-    /// result is whether the line was refused.
+    /// Does what `line` does. The lines that answer take the place of what `answer` holds, and the result is whether the
+    /// line was refused.
     pub fn line_into(
         &mut self,
         line: &[u8],
@@ -98,9 +96,10 @@ impl Bench {
         ensures keeps { IfOk result (λ refused. refused ≡ true → self.new.bench ≡ without_block self.old.bench) }
         ensures spent { self.new.spent ≡ is_err result }
     {
-        let Reply { text, refused } = self.line(line, long)?;
-        *answer = text;
-        Ok(refused)
+        answer.clear();
+        let refused = self.obey(line, long, answer);
+        self.spent = refused.is_err();
+        refused
     }
 
     /// Closes the block that is being read, as the end of the input does. Without one nothing is answered.
@@ -113,9 +112,26 @@ impl Bench {
         ensures err { OnErr result ((self.new.bench.timelines ≡ self.old.bench.timelines)
             ⊎ (self.new.bench.timelines ≡ (closing self.old.bench).bench.timelines)) }
     {
-        let reply = self.react_to_end();
-        self.spent = reply.is_err();
-        reply
+        let mut text = Text::new(self.alloc);
+        let refused = self.end_into(&mut text)?;
+        Ok(Reply { text, refused })
+    }
+
+    /// Does what `end` does. The lines that answer take the place of what `answer` holds, and the result is whether the
+    /// block was refused.
+    pub fn end_into(&mut self, answer: &mut Text) -> Result<bool, NoMemory>
+        requires { self.old.spent ≡ false }
+        ensures reacts { IfOk result (λ refused. closing self.old.bench
+            ≡ record { bench = self.new.bench; answer = answer.new; refused = refused }) }
+        ensures keeps { IfOk result (λ refused. refused ≡ true → self.new.bench ≡ without_block self.old.bench) }
+        ensures spent { self.new.spent ≡ is_err result }
+        ensures err { OnErr result ((self.new.bench.timelines ≡ self.old.bench.timelines)
+            ⊎ (self.new.bench.timelines ≡ (closing self.old.bench).bench.timelines)) }
+    {
+        answer.clear();
+        let refused = self.close(false, answer);
+        self.spent = refused.is_err();
+        refused
     }
 
     /// Whether a block is being read.
@@ -132,7 +148,7 @@ impl Bench {
         ensures { MatchOption result (timeline_of name.now self.now.bench.timelines ≡ None)
             (λ session. (timeline_of name.now self.now.bench.timelines ≡ Some (named name.now session.now)) × (session.now.spent ≡ false)) }
     {
-        self.timelines.session(*name)
+        self.timelines.session(name)
     }
 
     /// How many rows the timeline of this name has; none where no timeline has it.
@@ -157,58 +173,38 @@ impl Bench {
         }
     }
 
-    /// Does what a line asks for, and tells its answer.
-    fn react(&mut self, line: &[u8], long: bool) -> Result<Reply, NoMemory>
+    /// Does what a line asks for, and writes the answer.
+    fn obey(&mut self, line: &[u8], long: bool, answer: &mut Text) -> Result<bool, NoMemory>
         requires within { length line.now ≤ longest_line }
         requires full { IsTrue long → length line.now ≡ longest_line }
-        ensures reacts { IfOk result (λ reply. reacts_to self.old.bench line.now long
-            ≡ record { bench = self.new.bench; answer = reply.text; refused = reply.refused }) }
-        ensures keeps { IfOk result (λ reply. reply.refused ≡ true → self.new.bench ≡ without_block self.old.bench) }
-    {
-        let outcome = self.obey(line, long)?;
-        tell(self.alloc, &outcome)
-    }
-
-    /// Closes the block that is being read, and tells the answer.
-    fn react_to_end(&mut self) -> Result<Reply, NoMemory>
-        ensures reacts { IfOk result (λ reply. closing self.old.bench
-            ≡ record { bench = self.new.bench; answer = reply.text; refused = reply.refused }) }
-        ensures keeps { IfOk result (λ reply. reply.refused ≡ true → self.new.bench ≡ without_block self.old.bench) }
-        ensures err { OnErr result ((self.new.bench.timelines ≡ self.old.bench.timelines)
-            ⊎ (self.new.bench.timelines ≡ (closing self.old.bench).bench.timelines)) }
-    {
-        let outcome = self.close(false)?;
-        tell(self.alloc, &outcome)
-    }
-
-    /// Does what a line asks for.
-    fn obey(&mut self, line: &[u8], long: bool) -> Result<Outcome, NoMemory>
-        requires within { length line.now ≤ longest_line }
-        requires full { IsTrue long → length line.now ≡ longest_line }
-        ensures ok { IfOk result (λ outcome. happens self.old.bench.timelines self.old.bench.block line.now long
-            ≡ record { bench = self.new.bench; outcome = outcome }) }
-        ensures memory { OnErr result (is_refusal (happens self.old.bench.timelines self.old.bench.block line.now long).outcome ≡ false) }
+        requires empty { answer.old ≡ [] }
+        ensures { IfOk result (λ refused. reaction_of (happens self.old.bench.timelines self.old.bench.block line.now long)
+            ≡ record { bench = self.new.bench; answer = answer.new; refused = refused }) }
     {
         if self.block.is_none() {
-            return self.obey_outside(read_line(line, long));
+            return self.obey_outside(&read_line(line, long), answer);
         }
         if !long && is_end(line) {
-            return self.close(true);
+            return self.close(true, answer);
         }
         self.take(line, long)?;
-        Ok(Outcome::Silent)
+        Ok(false)
     }
 
-    /// Does what a line outside a block asks for.
-    fn obey_outside(&mut self, line: Result<Command, LineError>) -> Result<Outcome, NoMemory>
-        requires proper { IfOk line IsProper }
+    /// Does what a line outside a block asks for, and writes the answer.
+    fn obey_outside(
+        &mut self,
+        line: &Result<Command, LineError>,
+        answer: &mut Text,
+    ) -> Result<bool, NoMemory>
+        requires proper { IfOk line.now IsProper }
         requires no_block { self.old.bench.block ≡ None }
-        ensures ok { IfOk result (λ outcome. outside self.old.bench.timelines line
-            ≡ record { bench = self.new.bench; outcome = outcome }) }
-        ensures memory { OnErr result (is_refusal (outside self.old.bench.timelines line).outcome ≡ false) }
+        requires empty { answer.old ≡ [] }
+        ensures { IfOk result (λ refused. reaction_of (outside self.old.bench.timelines line.now)
+            ≡ record { bench = self.new.bench; answer = answer.new; refused = refused }) }
     {
-        self.begin_block(&line);
-        self.timelines.obey(line)
+        self.begin_block(line);
+        self.timelines.obey(line, answer)
     }
 
     /// Begins the block that a line opens, if it is a header.
@@ -231,16 +227,17 @@ impl Bench {
         }
     }
 
-    /// Closes the block that is being read, if there is one: `ended` says that its `end` line came.
-    fn close(&mut self, ended: bool) -> Result<Outcome, NoMemory>
-        ensures ok { IfOk result (λ outcome. ends self.old.bench.timelines self.old.bench.block ended
-            ≡ record { bench = self.new.bench; outcome = outcome }) }
-        ensures err { OnErr result (self.new.bench.timelines ≡ self.old.bench.timelines) }
-        ensures memory { OnErr result (is_refusal (ends self.old.bench.timelines self.old.bench.block ended).outcome ≡ false) }
+    /// Closes the block that is being read, if there is one, and writes the answer: `ended` says that its `end` line came.
+    fn close(&mut self, ended: bool, answer: &mut Text) -> Result<bool, NoMemory>
+        requires empty { answer.old ≡ [] }
+        ensures ok { IfOk result (λ refused. reaction_of (ends self.old.bench.timelines self.old.bench.block ended)
+            ≡ record { bench = self.new.bench; answer = answer.new; refused = refused }) }
+        ensures err { OnErr result ((self.new.bench.timelines ≡ self.old.bench.timelines)
+            ⊎ (self.new.bench.timelines ≡ (ends self.old.bench.timelines self.old.bench.block ended).bench.timelines)) }
     {
         match self.block.take() {
-            Some(unclosed) => self.timelines.close(unclosed, ended),
-            None => Ok(Outcome::Silent),
+            Some(unclosed) => self.timelines.close(unclosed, ended)?.tell(answer),
+            None => Ok(false),
         }
     }
 
@@ -269,17 +266,4 @@ fn size_of(session: &Session<Engine>) -> u32
         Answer::Number { value } => value as u32,
         _ => 0,
     }
-}
-
-/// The reply with this outcome.
-fn tell(alloc: Global, outcome: &Outcome) -> Result<Reply, NoMemory>
-    ensures text { IfOk result (λ reply. reply.text ≡ reply_text outcome.now) }
-    ensures refused { IfOk result (λ reply. reply.refused ≡ is_refusal outcome.now) }
-{
-    let mut text = Text::new(alloc);
-    outcome.print(&mut text)?;
-    Ok(Reply {
-        text,
-        refused: outcome.is_refusal(),
-    })
 }

@@ -43,7 +43,7 @@ impl Model for NamedTimeline {
 }
 
 impl NamedTimeline {
-    ghost use Rattle.workbench.specs.Bench.{fresh, kept_over, unspent};
+    ghost use Rattle.workbench.specs.Bench.{fresh, is_kept_as, kept_over, unspent};
 
     /// A timeline without rows. A fused one is a priority queue that is held as a product of pieces.
     pub(crate) fn new(
@@ -63,11 +63,11 @@ impl NamedTimeline {
         })
     }
 
-    /// The name.
-    pub(crate) fn name(&self) -> Name
-        ensures { result ≡ self.now.timeline.name }
+    /// Whether it has the name.
+    pub(crate) fn is_named(&self, name: &Name) -> bool
+        ensures { result ≡ is_kept_as name.now self.now }
     {
-        self.name
+        self.name == *name
     }
 
     /// The session that keeps and performs the rows.

@@ -1,6 +1,6 @@
 //! What a line is answered, and why one is refused.
 
-ghost use Rattle.std.specs.Prelude.{◌≡◌, ◌++◌, OnOk};
+ghost use Rattle.std.specs.Prelude.{◌≡◌, ◌++◌, OnOk, IfOk};
 ghost use Rattle.workbench.specs.Outcome.{block_refusal, cause_text, is_refusal, refusal_text, reply_text};
 ghost use Rattle.workbench.specs.declared.outcome.Outcome.TheVariants as outcomes;
 
@@ -115,8 +115,17 @@ impl Outcome {
         matches!(self, Outcome::Refused { .. })
     }
 
+    /// Appends the lines that answer, and gives whether they are a refusal.
+    pub(crate) fn tell(&self, answer: &mut Text) -> Result<bool, NoMemory>
+        ensures answer { OnOk result (answer.new ≡ answer.old ++ reply_text self.now) }
+        ensures refused { IfOk result (λ refused. refused ≡ is_refusal self.now) }
+    {
+        self.print(answer)?;
+        Ok(self.is_refusal())
+    }
+
     /// Appends the lines that answer.
-    pub(crate) fn print(&self, out: &mut Text) -> Result<(), NoMemory>
+    fn print(&self, out: &mut Text) -> Result<(), NoMemory>
         ensures { OnOk result (out.new ≡ out.old ++ reply_text self.now) }
     {
         match self {

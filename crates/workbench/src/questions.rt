@@ -1,6 +1,6 @@
 //! What is asked of a timeline, and what is saved of it.
 
-ghost use Rattle.std.specs.Prelude.{◌≡◌, ◌≤◌, true, false, length, IfOk, OnErr};
+ghost use Rattle.std.specs.Prelude.{◌≡◌, ◌≤◌, ◌++◌, true, false, length, IfOk, OnErr, OnOk};
 ghost use Rattle.retro_base.specs.Answers.{content};
 ghost use Rattle.retro_base.specs.Questions.{suits};
 ghost use Rattle.retro_base.specs.Replay.{state_at};
@@ -13,60 +13,93 @@ use crate::outcome::{Outcome, Refusal};
 use crate::position::{position_of, row_named};
 use fates::{Fate, fate_of};
 use order_timeline::Timeline;
-use retro_base::{NoMemory, Question, Row, Rows};
+use retro_base::{Answer, NoMemory, Question, Row, Rows, Text};
 use script_grammar::{Moment, Query, Spot};
 use std::alloc::Global;
 
 impl NamedTimeline {
     ghost use Rattle.workbench.specs.Bench.{IsUnspent};
-    ghost use Rattle.workbench.specs.Outcome.{is_refusal};
+    ghost use Rattle.workbench.specs.Outcome.{is_refusal, reply_text};
     ghost use Rattle.workbench.specs.TimelineEffects.{answers, answers_fate, saves};
+    ghost use Rattle.workbench.specs.Told.{found_or_refused};
 
-    /// The answer at a moment. The timeline stays as it is, whatever the answer.
-    pub(crate) fn ask(&mut self, moment: Moment, query: Query) -> Result<Outcome, NoMemory>
+    /// Writes the answer at a moment, and gives whether the question is refused. The timeline stays as it is, whatever the
+    /// answer.
+    pub(crate) fn ask(
+        &mut self,
+        moment: Moment,
+        query: Query,
+        answer: &mut Text,
+    ) -> Result<bool, NoMemory>
         requires unspent { IsUnspent self.old }
         ensures unchanged { self.new ≡ self.old }
-        ensures ok { IfOk result (λ outcome. outcome ≡ answers self.old.timeline moment query) }
-        ensures memory { OnErr result (is_refusal (answers self.old.timeline moment query) ≡ false) }
+        ensures answer { OnOk result (answer.new ≡ answer.old ++ reply_text (answers self.old.timeline moment query)) }
+        ensures refused { IfOk result (λ refused. refused ≡ is_refusal (answers self.old.timeline moment query)) }
     {
         match query {
-            Query::One { question } => self.ask_one(moment, question),
-            Query::All => self.list(moment),
+            Query::One { question } => self.ask_one(moment, question, answer),
+            Query::All => self.list(moment)?.tell(answer),
+        }
+    }
+
+    /// Writes the answer to one question, or why it has none.
+    fn ask_one(
+        &mut self,
+        moment: Moment,
+        question: Question,
+        answer: &mut Text,
+    ) -> Result<bool, NoMemory>
+        requires unspent { IsUnspent self.old }
+        ensures unchanged { self.new ≡ self.old }
+        ensures answer { OnOk result (answer.new ≡ answer.old ++ reply_text (answers self.old.timeline moment (One question))) }
+        ensures refused { IfOk result (λ refused. refused ≡ is_refusal (answers self.old.timeline moment (One question))) }
+    {
+        match self.answer_to(moment, question)? {
+            Ok(found) => Outcome::Answered { answer: found }.tell(answer),
+            Err(refusal) => Outcome::refused(refusal).tell(answer),
         }
     }
 
     /// The answer to one question, where it suits the kind. The present is answered from what is kept.
-    fn ask_one(&mut self, moment: Moment, question: Question) -> Result<Outcome, NoMemory>
+    fn answer_to(
+        &mut self,
+        moment: Moment,
+        question: Question,
+    ) -> Result<Result<Answer, Refusal>, NoMemory>
         requires unspent { IsUnspent self.old }
         ensures unchanged { self.new ≡ self.old }
-        ensures ok { IfOk result (λ outcome. outcome ≡ answers self.old.timeline moment (One question)) }
+        ensures ok { IfOk result (λ found. found_or_refused found ≡ answers self.old.timeline moment (One question)) }
         ensures memory { OnErr result (is_refusal (answers self.old.timeline moment (One question)) ≡ false) }
     {
         if !question.suits(self.session.kind()) {
-            return Ok(Outcome::refused(Refusal::Kind));
+            return Ok(Err(Refusal::Kind));
         }
         match moment {
-            Moment::Now => Ok(Outcome::Answered {
-                answer: self.session.ask_now(question),
-            }),
-            Moment::Then { spot } => self.ask_at(spot, question),
+            Moment::Now => Ok(Ok(self.session.ask_now(question))),
+            Moment::Then { spot } => self.answer_at(spot, question),
         }
     }
 
     /// The answer to a question about the past, where the spot has a place.
-    fn ask_at(&mut self, spot: Spot, question: Question) -> Result<Outcome, NoMemory>
+    fn answer_at(
+        &mut self,
+        spot: Spot,
+        question: Question,
+    ) -> Result<Result<Answer, Refusal>, NoMemory>
         requires unspent { IsUnspent self.old }
         requires suited { suits question self.old.timeline.kind ≡ true }
         ensures unchanged { self.new ≡ self.old }
-        ensures ok { IfOk result (λ outcome. outcome ≡ answers self.old.timeline (Then spot) (One question)) }
+        ensures ok { IfOk result (λ found. found_or_refused found ≡ answers self.old.timeline (Then spot) (One question)) }
         ensures memory { OnErr result (is_refusal (answers self.old.timeline (Then spot) (One question)) ≡ false) }
     {
         match position_of(self.session.timeline(), spot) {
             Some(position) => {
                 let answer = self.session.ask(position.place, question)?;
-                Ok(Outcome::Answered { answer })
+                Ok(Ok(answer))
             }
-            None => Ok(no_row(row_named(spot))),
+            None => Ok(Err(Refusal::NoRow {
+                number: row_named(spot),
+            })),
         }
     }
 

@@ -8,13 +8,14 @@ ghost use Rattle.timeline_file.specs.Block.{finished};
 ghost use Rattle.workbench.specs.Bench.{IsUnspent, has_timeline, is_kept_as, is_named, named, timeline_of};
 ghost use Rattle.workbench.specs.Outcome.{is_refusal};
 ghost use Rattle.workbench.specs.Reaction.{closes, loads, obeys, of_block, on_named, starts};
+ghost use Rattle.workbench.specs.Told.{told};
 ghost use Rattle.workbench.specs.TimelineEffects.{changes, moves, answers, answers_fate, deletes, inserts, redoes, saves, undoes, unchanged};
 
 use crate::named_timeline::NamedTimeline;
 use crate::open_block::OpenBlock;
 use crate::outcome::{Outcome, Refusal};
 use engine::Engine;
-use retro_base::{Kind, Name, NoMemory, Op};
+use retro_base::{Kind, Name, NoMemory, Op, Text};
 use script_grammar::{Command, LineError, Moment, Query, Spot};
 use std::alloc::Global;
 use std::marker::Model;
@@ -53,43 +54,52 @@ impl Timelines {
         }
     }
 
-    /// Does what a command asks for, or refuses a line that has none. After a refusal all is as before.
-    pub(crate) fn obey(&mut self, line: Result<Command, LineError>) -> Result<Outcome, NoMemory>
-        requires { IfOk line IsProper }
-        ensures ok { IfOk result (λ outcome. obeys self.old line ≡ record { timelines = self.new; outcome = outcome }) }
-        ensures memory { OnErr result (is_refusal (obeys self.old line).outcome ≡ false) }
+    /// Does what a command asks for, or refuses a line that has none; writes the answer, and gives whether it is a refusal. After a
+    /// refusal all is as before.
+    pub(crate) fn obey(
+        &mut self,
+        line: &Result<Command, LineError>,
+        answer: &mut Text,
+    ) -> Result<bool, NoMemory>
+        requires proper { IfOk line.now IsProper }
+        requires empty { answer.old ≡ [] }
+        ensures { IfOk result (λ refused. told (obeys self.old line.now) ≡ record { timelines = self.new; answer = answer.new; refused = refused }) }
     {
         match line {
-            Err(LineError::Long) => Ok(Outcome::refused(Refusal::Long)),
-            Err(LineError::Syntax) => Ok(Outcome::refused(Refusal::Syntax)),
-            Ok(command) => self.perform(&command),
+            Ok(command) => self.perform(command, answer),
+            Err(LineError::Long) => Outcome::refused(Refusal::Long).tell(answer),
+            Err(LineError::Syntax) => Outcome::refused(Refusal::Syntax).tell(answer),
         }
     }
 
     /// Does what a command asks for, by its form.
-    fn perform(&mut self, command: &Command) -> Result<Outcome, NoMemory>
-        requires { IsProper command.now }
-        ensures ok { IfOk result (λ outcome. obeys self.old (Ok command.now) ≡ record { timelines = self.new; outcome = outcome }) }
-        ensures memory { OnErr result (is_refusal (obeys self.old (Ok command.now)).outcome ≡ false) }
+    fn perform(&mut self, command: &Command, answer: &mut Text) -> Result<bool, NoMemory>
+        requires proper { IsProper command.now }
+        requires empty { answer.old ≡ [] }
+        ensures { IfOk result (λ refused. told (obeys self.old (Ok command.now)) ≡ record { timelines = self.new; answer = answer.new; refused = refused }) }
     {
         match command {
-            Command::Nothing => Ok(Outcome::Silent),
-            Command::New { name, kind, fused } => self.start(*name, *kind, *fused),
-            Command::Insert { name, spot, op } => self.insert(*name, *spot, *op),
-            Command::Delete { name, number } => self.delete(*name, *number),
-            Command::Move { name, number, time } => self.move_row(*name, *number, *time),
-            Command::Change { name, number, op } => self.change(*name, *number, *op),
-            Command::Fate { name, number } => Ok(self.fate(*name, *number)),
+            Command::Nothing => Ok(false),
+            Command::New { name, kind, fused } => self.start(*name, *kind, *fused)?.tell(answer),
+            Command::Insert { name, spot, op } => self.insert(name, *spot, *op)?.tell(answer),
+            Command::Delete { name, number } => self.delete(name, *number)?.tell(answer),
+            Command::Move { name, number, time } => self
+                .move_row(name, *number, *time)?
+                .tell(answer),
+            Command::Change { name, number, op } => self.change(name, *number, *op)?.tell(answer),
+            Command::Fate { name, number } => self.fate(name, *number).tell(answer),
             Command::Ask {
                 name,
                 moment,
                 query,
-            } => self.ask(*name, *moment, *query),
-            Command::Undo { name } => self.undo(*name),
-            Command::Redo { name } => self.redo(*name),
-            Command::Save { name } => self.save(*name),
-            Command::Mute { index } => Ok(Outcome::refused(Refusal::NoFollower { number: *index })),
-            Command::Header { .. } => Ok(Outcome::Silent),
+            } => self.ask(name, *moment, *query, answer),
+            Command::Undo { name } => self.undo(name)?.tell(answer),
+            Command::Redo { name } => self.redo(name)?.tell(answer),
+            Command::Save { name } => self.save(name)?.tell(answer),
+            Command::Mute { index } => Outcome::refused(Refusal::NoFollower {
+                number: *index,
+            }).tell(answer),
+            Command::Header { .. } => Ok(false),
         }
     }
 
@@ -100,7 +110,7 @@ impl Timelines {
         ensures err { OnErr result (self.new ≡ self.old) }
         ensures memory { OnErr result (is_refusal (starts self.old name kind).outcome ≡ false) }
     {
-        if self.has(name) {
+        if self.has(&name) {
             return Ok(Outcome::refused(Refusal::NameTaken));
         }
         if self.is_full() {
@@ -112,33 +122,33 @@ impl Timelines {
     }
 
     /// Puts a row into the timeline of this name.
-    fn insert(&mut self, name: Name, spot: Spot, op: Op) -> Result<Outcome, NoMemory>
-        ensures ok { IfOk result (λ outcome. on_named name (λ timeline. inserts timeline spot op) self.old ≡ record { timelines = self.new; outcome = outcome }) }
+    fn insert(&mut self, name: &Name, spot: Spot, op: Op) -> Result<Outcome, NoMemory>
+        ensures ok { IfOk result (λ outcome. on_named name.now (λ timeline. inserts timeline spot op) self.old ≡ record { timelines = self.new; outcome = outcome }) }
         ensures err { OnErr result (self.new ≡ self.old) }
-        ensures memory { OnErr result (is_refusal (on_named name (λ timeline. inserts timeline spot op) self.old).outcome ≡ false) }
+        ensures memory { OnErr result (is_refusal (on_named name.now (λ timeline. inserts timeline spot op) self.old).outcome ≡ false) }
     {
         match self.index_of(name) {
             Some(index) => self.timelines[index].insert(spot, op),
-            None => Ok(Outcome::refused(Refusal::NoTimeline { name })),
+            None => Ok(Outcome::refused(Refusal::NoTimeline { name: *name })),
         }
     }
 
     /// Takes a row out of the timeline of this name.
-    fn delete(&mut self, name: Name, number: u32) -> Result<Outcome, NoMemory>
-        ensures ok { IfOk result (λ outcome. on_named name (λ timeline. deletes timeline number) self.old ≡ record { timelines = self.new; outcome = outcome }) }
+    fn delete(&mut self, name: &Name, number: u32) -> Result<Outcome, NoMemory>
+        ensures ok { IfOk result (λ outcome. on_named name.now (λ timeline. deletes timeline number) self.old ≡ record { timelines = self.new; outcome = outcome }) }
         ensures err { OnErr result (self.new ≡ self.old) }
-        ensures memory { OnErr result (is_refusal (on_named name (λ timeline. deletes timeline number) self.old).outcome ≡ false) }
+        ensures memory { OnErr result (is_refusal (on_named name.now (λ timeline. deletes timeline number) self.old).outcome ≡ false) }
     {
         match self.index_of(name) {
             Some(index) => self.timelines[index].delete(number),
-            None => Ok(Outcome::refused(Refusal::NoTimeline { name })),
+            None => Ok(Outcome::refused(Refusal::NoTimeline { name: *name })),
         }
     }
 
     /// Puts a row of the timeline of this name at another time.
-    fn move_row(&mut self, name: Name, number: u32, time: u64) -> Result<Outcome, NoMemory>
-        ensures ok { IfOk result (λ outcome. on_named name (λ timeline. moves timeline number time) self.old ≡ record { timelines = self.new; outcome = outcome }) }
-        ensures memory { OnErr result (is_refusal (on_named name (λ timeline. moves timeline number time) self.old).outcome ≡ false) }
+    fn move_row(&mut self, name: &Name, number: u32, time: u64) -> Result<Outcome, NoMemory>
+        ensures ok { IfOk result (λ outcome. on_named name.now (λ timeline. moves timeline number time) self.old ≡ record { timelines = self.new; outcome = outcome }) }
+        ensures memory { OnErr result (is_refusal (on_named name.now (λ timeline. moves timeline number time) self.old).outcome ≡ false) }
     {
         match self.index_of(name) {
             Some(index) => {
@@ -146,14 +156,14 @@ impl Timelines {
                 let_go_if_spent(&mut self.timelines, index);
                 outcome
             }
-            None => Ok(Outcome::refused(Refusal::NoTimeline { name })),
+            None => Ok(Outcome::refused(Refusal::NoTimeline { name: *name })),
         }
     }
 
     /// Gives a row of the timeline of this name another operation.
-    fn change(&mut self, name: Name, number: u32, op: Op) -> Result<Outcome, NoMemory>
-        ensures ok { IfOk result (λ outcome. on_named name (λ timeline. changes timeline number op) self.old ≡ record { timelines = self.new; outcome = outcome }) }
-        ensures memory { OnErr result (is_refusal (on_named name (λ timeline. changes timeline number op) self.old).outcome ≡ false) }
+    fn change(&mut self, name: &Name, number: u32, op: Op) -> Result<Outcome, NoMemory>
+        ensures ok { IfOk result (λ outcome. on_named name.now (λ timeline. changes timeline number op) self.old ≡ record { timelines = self.new; outcome = outcome }) }
+        ensures memory { OnErr result (is_refusal (on_named name.now (λ timeline. changes timeline number op) self.old).outcome ≡ false) }
     {
         match self.index_of(name) {
             Some(index) => {
@@ -161,14 +171,14 @@ impl Timelines {
                 let_go_if_spent(&mut self.timelines, index);
                 outcome
             }
-            None => Ok(Outcome::refused(Refusal::NoTimeline { name })),
+            None => Ok(Outcome::refused(Refusal::NoTimeline { name: *name })),
         }
     }
 
     /// Undoes the newest step of the timeline of this name.
-    fn undo(&mut self, name: Name) -> Result<Outcome, NoMemory>
-        ensures ok { IfOk result (λ outcome. on_named name undoes self.old ≡ record { timelines = self.new; outcome = outcome }) }
-        ensures memory { OnErr result (is_refusal (on_named name undoes self.old).outcome ≡ false) }
+    fn undo(&mut self, name: &Name) -> Result<Outcome, NoMemory>
+        ensures ok { IfOk result (λ outcome. on_named name.now undoes self.old ≡ record { timelines = self.new; outcome = outcome }) }
+        ensures memory { OnErr result (is_refusal (on_named name.now undoes self.old).outcome ≡ false) }
     {
         match self.index_of(name) {
             Some(index) => {
@@ -176,14 +186,14 @@ impl Timelines {
                 let_go_if_spent(&mut self.timelines, index);
                 outcome
             }
-            None => Ok(Outcome::refused(Refusal::NoTimeline { name })),
+            None => Ok(Outcome::refused(Refusal::NoTimeline { name: *name })),
         }
     }
 
     /// Makes the step of the timeline of this name again that was undone last.
-    fn redo(&mut self, name: Name) -> Result<Outcome, NoMemory>
-        ensures ok { IfOk result (λ outcome. on_named name redoes self.old ≡ record { timelines = self.new; outcome = outcome }) }
-        ensures memory { OnErr result (is_refusal (on_named name redoes self.old).outcome ≡ false) }
+    fn redo(&mut self, name: &Name) -> Result<Outcome, NoMemory>
+        ensures ok { IfOk result (λ outcome. on_named name.now redoes self.old ≡ record { timelines = self.new; outcome = outcome }) }
+        ensures memory { OnErr result (is_refusal (on_named name.now redoes self.old).outcome ≡ false) }
     {
         match self.index_of(name) {
             Some(index) => {
@@ -191,29 +201,36 @@ impl Timelines {
                 let_go_if_spent(&mut self.timelines, index);
                 outcome
             }
-            None => Ok(Outcome::refused(Refusal::NoTimeline { name })),
+            None => Ok(Outcome::refused(Refusal::NoTimeline { name: *name })),
         }
     }
 
-    /// Asks the timeline of this name. Nothing changes.
-    fn ask(&mut self, name: Name, moment: Moment, query: Query) -> Result<Outcome, NoMemory>
-        ensures ok { IfOk result (λ outcome. on_named name (λ timeline. unchanged timeline (answers timeline moment query)) self.old ≡ record { timelines = self.new; outcome = outcome }) }
+    /// Asks the timeline of this name, and writes the answer. Nothing changes.
+    fn ask(
+        &mut self,
+        name: &Name,
+        moment: Moment,
+        query: Query,
+        answer: &mut Text,
+    ) -> Result<bool, NoMemory>
+        requires empty { answer.old ≡ [] }
+        ensures told { IfOk result (λ refused. told (on_named name.now (λ timeline. unchanged timeline (answers timeline moment query)) self.old)
+            ≡ record { timelines = self.new; answer = answer.new; refused = refused }) }
         ensures err { OnErr result (self.new ≡ self.old) }
-        ensures memory { OnErr result (is_refusal (on_named name (λ timeline. unchanged timeline (answers timeline moment query)) self.old).outcome ≡ false) }
     {
         match self.index_of(name) {
-            Some(index) => self.timelines[index].ask(moment, query),
-            None => Ok(Outcome::refused(Refusal::NoTimeline { name })),
+            Some(index) => self.timelines[index].ask(moment, query, answer),
+            None => Outcome::refused(Refusal::NoTimeline { name: *name }).tell(answer),
         }
     }
 
     /// What became of what a row of the timeline of this name put in. Nothing changes.
-    fn fate(&self, name: Name, number: u32) -> Outcome
-        ensures { on_named name (λ timeline. unchanged timeline (answers_fate timeline number)) self.now ≡ record { timelines = self.now; outcome = result } }
+    fn fate(&self, name: &Name, number: u32) -> Outcome
+        ensures { on_named name.now (λ timeline. unchanged timeline (answers_fate timeline number)) self.now ≡ record { timelines = self.now; outcome = result } }
     {
         match self.index_of(name) {
             Some(index) => self.timelines[index].fate(number),
-            None => Outcome::refused(Refusal::NoTimeline { name }),
+            None => Outcome::refused(Refusal::NoTimeline { name: *name }),
         }
     }
 
@@ -224,7 +241,7 @@ impl Timelines {
         ensures err { OnErr result (self.new ≡ self.old) }
         ensures memory { OnErr result (is_refusal (closes self.old unclosed ended).outcome ≡ false) }
     {
-        if self.has(unclosed.name()) {
+        if self.has(&unclosed.name()) {
             return Ok(Outcome::refused(Refusal::NameTaken));
         }
         if self.is_full() {
@@ -251,22 +268,22 @@ impl Timelines {
     }
 
     /// Asks for the text of the timeline of this name. Nothing changes.
-    fn save(&mut self, name: Name) -> Result<Outcome, NoMemory>
-        ensures ok { IfOk result (λ outcome. on_named name (λ timeline. unchanged timeline (saves timeline)) self.old ≡ record { timelines = self.new; outcome = outcome }) }
+    fn save(&mut self, name: &Name) -> Result<Outcome, NoMemory>
+        ensures ok { IfOk result (λ outcome. on_named name.now (λ timeline. unchanged timeline (saves timeline)) self.old ≡ record { timelines = self.new; outcome = outcome }) }
         ensures err { OnErr result (self.new ≡ self.old) }
-        ensures memory { OnErr result (is_refusal (on_named name (λ timeline. unchanged timeline (saves timeline)) self.old).outcome ≡ false) }
+        ensures memory { OnErr result (is_refusal (on_named name.now (λ timeline. unchanged timeline (saves timeline)) self.old).outcome ≡ false) }
     {
         let alloc = self.alloc;
         match self.index_of(name) {
             Some(index) => self.timelines[index].save(alloc),
-            None => Ok(Outcome::refused(Refusal::NoTimeline { name })),
+            None => Ok(Outcome::refused(Refusal::NoTimeline { name: *name })),
         }
     }
 
     /// The session of the timeline of this name.
-    pub(crate) fn session(&self, name: Name) -> Option<&Session<Engine>>
-        ensures { MatchOption result (timeline_of name self.now ≡ None)
-            (λ session. (timeline_of name self.now ≡ Some (named name session.now)) × (session.now.spent ≡ false)) }
+    pub(crate) fn session(&self, name: &Name) -> Option<&Session<Engine>>
+        ensures { MatchOption result (timeline_of name.now self.now ≡ None)
+            (λ session. (timeline_of name.now self.now ≡ Some (named name.now session.now)) × (session.now.spent ≡ false)) }
     {
         match self.index_of(name) {
             Some(index) => Some(self.timelines[index].session()),
@@ -275,8 +292,8 @@ impl Timelines {
     }
 
     /// Whether a timeline has the name.
-    fn has(&self, name: Name) -> bool
-        ensures { result ≡ has_timeline name self.now }
+    fn has(&self, name: &Name) -> bool
+        ensures { result ≡ has_timeline name.now self.now }
     {
         has_name(self.timelines.as_slice(), name)
     }
@@ -289,27 +306,27 @@ impl Timelines {
     }
 
     /// The index of the timeline that has the name.
-    fn index_of(&self, name: Name) -> Option<usize>
-        ensures { result ≡ position (is_named name) self.now }
+    fn index_of(&self, name: &Name) -> Option<usize>
+        ensures { result ≡ position (is_named name.now) self.now }
     {
         index_named(self.timelines.as_slice(), name)
     }
 }
 
 /// Whether one of the timelines has the name.
-fn has_name(timelines: &[NamedTimeline], name: Name) -> bool
-    ensures { result ≡ list_any (is_kept_as name) timelines.now }
+fn has_name(timelines: &[NamedTimeline], name: &Name) -> bool
+    ensures { result ≡ list_any (is_kept_as name.now) timelines.now }
 {
-    timelines.iter().any(|timeline| timeline.name() == name)
+    timelines.iter().any(|timeline| timeline.is_named(name))
 }
 
 /// The index of the first one that has it.
-fn index_named(timelines: &[NamedTimeline], name: Name) -> Option<usize>
-    ensures { result ≡ position (is_kept_as name) timelines.now }
+fn index_named(timelines: &[NamedTimeline], name: &Name) -> Option<usize>
+    ensures { result ≡ position (is_kept_as name.now) timelines.now }
 {
     timelines
         .iter()
-        .position(|timeline| timeline.name() == name)
+        .position(|timeline| timeline.is_named(name))
 }
 
 /// Lets a timeline go whose session met out of memory within a step: the bench is spent then, and nobody asks for it again.

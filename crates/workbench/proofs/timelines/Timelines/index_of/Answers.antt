@@ -6,4 +6,4 @@ use Rattle.workbench.proofs.timelines.Timelines.index_of.Goals as goal
 pub returns : goal.returns
 returns c =
     rw (← c.self.view_is)
-    (c.index_named.ensures ∙ ap (position (is_kept_as c.args.name)) c.as_slice.ensures.value ∙ index_shown c.args.name c.self.inside.timelines.items)
+    (c.index_named.ensures ∙ ap (position (is_kept_as c.args.name.now)) c.as_slice.ensures.value ∙ index_shown c.args.name.now c.self.inside.timelines.items)

@@ -9,16 +9,16 @@ let_go_if_spent-requires-clause-others c = unspent_others c.self.inside.timeline
 pub returns-in-Some-clause-ok : goal.returns-in-Some-clause-ok
 returns-in-Some-clause-ok c =
     rw (← c.self.view_is)
-    (kept_settled c.undo-outcome.result c.args.name undoes c.self.inside.timelines.items c.let_go_if_spent.new.timelines.items c.in-Some.index
+    (kept_settled c.undo-outcome.result c.args.name.now undoes c.self.inside.timelines.items c.let_go_if_spent.new.timelines.items c.in-Some.index
     c.index_mut.result.now c.undo-outcome.new.self
     (rw (← c.self.view_is) at c.in-Some.ensures) c.index_mut.ensures.value c.undo-outcome.ensures.ok c.undo-outcome.ensures.unspent c.let_go_if_spent.ensures.same)
 
 pub returns-in-Some-clause-memory : goal.returns-in-Some-clause-memory
 returns-in-Some-clause-memory c =
     rw (← c.self.view_is)
-    (kept_memory c.undo-outcome.result c.args.name undoes c.self.inside.timelines.items c.in-Some.index c.index_mut.result.now
+    (kept_memory c.undo-outcome.result c.args.name.now undoes c.self.inside.timelines.items c.in-Some.index c.index_mut.result.now
     (rw (← c.self.view_is) at c.in-Some.ensures) c.index_mut.ensures.value c.undo-outcome.ensures.memory)
 
 pub returns-in-None-clause-ok : goal.returns-in-None-clause-ok
 returns-in-None-clause-ok c =
-    rw c.refused.ensures (on_named_nowhere c.args.name undoes c.args.self.now c.in-None.ensures)
+    rw c.refused.ensures (on_named_nowhere c.args.name.now undoes c.args.self.now c.in-None.ensures)

@@ -2,12 +2,12 @@ use Rattle.std.proofs.Common.{◌≡◌, true, false, sym, ◌∙◌, ap}
 use Rattle.retro_base.specs.Questions.{suits}
 use Rattle.workbench.specs.declared.outcome.Outcome.TheVariants.{Answered}
 use Rattle.workbench.proofs.TimelineEffects.{answers_unsuited, answers_now}
-use Rattle.workbench.proofs.named_timeline.NamedTimeline.ask_one.Goals as goal
+use Rattle.workbench.proofs.named_timeline.NamedTimeline.answer_to.Goals as goal
 
 pub returns-then-not-suits-clause-ok : goal.returns-then-not-suits-clause-ok
 returns-then-not-suits-clause-ok c =
     let unsuited : suits c.args.question (c.self.inside.session.kind) ≡ false = rw c.kind.ensures at (sym c.suits.ensures ∙ c.if-not-suits.true) in
-    rw (← c.self.view_is, c.refused.ensures) (sym (answers_unsuited _ c.args.moment c.args.question unsuited))
+    rw (← c.self.view_is) (sym (answers_unsuited _ c.args.moment c.args.question unsuited))
 
 pub returns-in-Now-clause-ok : goal.returns-in-Now-clause-ok
 returns-in-Now-clause-ok c =

@@ -4,7 +4,7 @@ use Rattle.workbench.specs.TimelineEffects.{position_of}
 use Rattle.workbench.specs.Bench.{named}
 use Rattle.workbench.proofs.Memory.{never_refused}
 use Rattle.workbench.proofs.TimelineEffects.{answers_there, answers_nowhere}
-use Rattle.workbench.proofs.named_timeline.NamedTimeline.ask_at.Goals as goal
+use Rattle.workbench.proofs.named_timeline.NamedTimeline.answer_at.Goals as goal
 
 pub returns-in_ok-answer-in-Some-clause-ok : goal.returns-in_ok-answer-in-Some-clause-ok
 returns-in_ok-answer-in-Some-clause-ok c =
@@ -16,7 +16,7 @@ returns-in_ok-answer-in-Some-clause-ok c =
 pub returns-in-None-clause-ok : goal.returns-in-None-clause-ok
 returns-in-None-clause-ok c =
     let nowhere : position_of c.args.spot c.self.inside.session.rows ≡ None = rw c.timeline.ensures.rows at (sym c.position_of.ensures.position ∙ c.in-None.is) in
-    rw (← c.self.view_is, c.no_row.ensures, c.row_named.ensures)
+    rw (← c.self.view_is, c.row_named.ensures)
     (sym (answers_nowhere _ c.args.spot c.args.question (rw (← c.self.view_is) at c.requires.suited) nowhere))
 
 pub returns-in_err-answer-in-Some-clause-memory : goal.returns-in_err-answer-in-Some-clause-memory
