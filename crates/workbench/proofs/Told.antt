@@ -3,7 +3,7 @@ use Rattle.std.proofs.Common.{◌≡◌, ℕ, Bool, List, ap, refl, Option, Resu
 use Rattle.workbench.specs.declared.outcome.Outcome.{Outcome}
 use Rattle.workbench.specs.Bench.{NamedTimeline, OpenBlock}
 use Rattle.workbench.specs.Outcome.{is_refusal, reply_text}
-use Rattle.workbench.specs.Reaction.{Effect, Reaction, reaction_of, with_block}
+use Rattle.workbench.specs.Reaction.{Effect, reaction_of, with_block}
 use Rattle.workbench.specs.Told.{Told, told}
 
 -- the outcome of the effect was told

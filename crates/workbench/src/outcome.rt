@@ -116,9 +116,9 @@ impl Outcome {
     }
 
     /// Appends the lines that answer, and gives whether they are a refusal.
-    pub(crate) fn tell(&self, answer: &mut Text) -> Result<bool, NoMemory>
-        ensures answer { OnOk result (answer.new ≡ answer.old ++ reply_text self.now) }
-        ensures refused { IfOk result (λ refused. refused ≡ is_refusal self.now) }
+    pub(crate) fn tell(self, answer: &mut Text) -> Result<bool, NoMemory>
+        ensures answer { OnOk result (answer.new ≡ answer.old ++ reply_text self) }
+        ensures refused { IfOk result (λ refused. refused ≡ is_refusal self) }
     {
         self.print(answer)?;
         Ok(self.is_refusal())
