@@ -1,6 +1,7 @@
 pub mod Facts
 pub mod Limits
 pub mod Kind
+pub mod PackedRows
 pub mod Values
 pub mod Name
 pub mod State

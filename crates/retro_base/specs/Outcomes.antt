@@ -1,5 +1,5 @@
 -- Facts about the outcome of a replay: the state after the last row, or the index of the first one that fails.
-use Rattle.std.proofs.Common.{◌≡◌, ℕ, refl, ap, Option, Some, None, Result, Ok, Err}
+use Rattle.std.proofs.Common.{◌≡◌, ℕ, refl, ap, Some, None, Result, Ok, Err}
 use Rattle.std.specs.Result.{result_err, result_unwrap_or}
 use Rattle.retro_base.specs.Replay.{one_later}
 
