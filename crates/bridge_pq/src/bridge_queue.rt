@@ -101,7 +101,7 @@ impl Partial for BridgeQueue {
     }
 
     fn row_at<L: Ledger>(&self, place: u32, steps: &mut Steps<L>) -> Row {
-        self.rows.get(place, steps).row
+        self.rows.get(place, steps).row.row()
     }
 
     fn failure_after_insert<L: Ledger>(
@@ -141,7 +141,7 @@ impl Partial for BridgeQueue {
 
     fn remove<L: Ledger>(&mut self, place: u32, steps: &mut Steps<L>) -> (Row, Change) {
         let item = self.rows.get(place, steps);
-        let row = item.row;
+        let row = item.row.row();
         let (rows, entries) = (&mut self.rows, &mut self.entries);
         let change = match row.added_entry() {
             Some(own) if item.survives => remove_survivor(rows, entries, place, row, own, steps),

@@ -21,7 +21,7 @@ use crate::flip::Flip;
 use crate::marked_entry::MarkedEntry;
 use crate::marked_row::MarkedRow;
 use crate::row_search::mark_row;
-use retro_base::{Change, Entry, NoMemory, Row, Steps};
+use retro_base::{Change, Entry, NoMemory, PackedRow, Row, Steps};
 use std::sync::ledger::Ledger;
 use weighted_tree::Tree;
 
@@ -66,7 +66,14 @@ fn put_row_with_entry<L: Ledger>(
     ensures ok_visits { OnOk result (VisitsWithin 36 (length rows.new) steps.old steps.new) }
     ensures visits { VisitsWithin 72 (length rows.new) steps.old steps.new }
 {
-    rows.insert(place, MarkedRow { row, survives }, steps)?;
+    rows.insert(
+        place,
+        MarkedRow {
+            row: PackedRow::new(row),
+            survives,
+        },
+        steps,
+    )?;
     if let Err(error) = put_entry(entries, entry, survives, steps) {
         rows.remove(place, steps);
         return Err(error);
@@ -124,7 +131,7 @@ pub(crate) fn insert_taking<L: Ledger>(
 {
     let flip = lost_with(rows, place, row, steps);
     let item = MarkedRow {
-        row,
+        row: PackedRow::new(row),
         survives: false,
     };
     rows.insert(place, item, steps)?;

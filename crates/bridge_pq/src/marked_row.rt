@@ -2,12 +2,12 @@
 
 use crate::row_measure::RowMeasure;
 use monoid_laws::Measured;
-use retro_base::Row;
+use retro_base::PackedRow;
 
 /// A row, and whether the entry that it adds survives.
 #[derive(Clone, Copy)]
 pub(crate) struct MarkedRow {
-    pub(crate) row: Row,
+    pub(crate) row: PackedRow,
     pub(crate) survives: bool,
 }
 

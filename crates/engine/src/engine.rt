@@ -81,7 +81,7 @@ impl Engine {
 
     /// The answer to a question about the state at a place, after so many rows. The rows stay, whatever the answer.
     ///
-    /// A queue, a stack and a deque visit at most 144 nodes for each binary digit of one more than the number of rows, and
+    /// A queue, a stack and a deque visit at most 36 nodes for each binary digit of one more than the number of rows, and
     /// always answer. A priority queue whose checkpoints were made visits at most 432 for each row of their width and one
     /// more, and each digit, and no more than 432 for each row after the nearest checkpoint that is not later, and 144; right at
     /// a checkpoint and after all rows it always answers. The first question about its past makes them, and no question moves
@@ -100,7 +100,7 @@ impl Engine {
         ensures rows { rows_inside self.new ≡ rows_inside self.old }
         ensures answer { IfOk result (λ answer. answer ≡ answer_of (state_at (kind_inside self.old) (rows_inside self.old) place) question) }
         ensures line { is_line self.old ≡ true → IsOk result }
-        ensures line_visits { is_line self.old ≡ true → VisitsWithin 144 (length (rows_inside self.old)) steps.old steps.new }
+        ensures line_visits { is_line self.old ≡ true → VisitsWithin 36 (length (rows_inside self.old)) steps.old steps.new }
         ensures fused { is_fused self.old ≡ true → IsOk result }
         ensures fused_visits { is_fused self.old ≡ true → VisitsUpTo (25 * 64 * digits (length (rows_inside self.old) + 1) * digits (length (rows_inside self.old) + 1)) steps.old steps.new }
         ensures checkpoints { is_pq self.old ≡ true → OnOk result (MakesCheckpoints (seen_inside self.old) (seen_inside self.new)) }
@@ -158,7 +158,7 @@ impl Engine {
         ensures rows { rows_inside self.new ≡ rows_inside self.old }
         ensures answer { IfOk result (λ answer. answer ≡ answer_of (state_at (kind_inside self.old) (rows_inside self.old) place) question) }
         ensures line { is_line self.old ≡ true → IsOk result }
-        ensures line_visits { is_line self.old ≡ true → VisitsWithin 144 (length (rows_inside self.old)) steps.old steps.new }
+        ensures line_visits { is_line self.old ≡ true → VisitsWithin 36 (length (rows_inside self.old)) steps.old steps.new }
         ensures fused { is_fused self.old ≡ true → IsOk result }
         ensures fused_visits { is_fused self.old ≡ true → VisitsUpTo (25 * 64 * digits (length (rows_inside self.old) + 1) * digits (length (rows_inside self.old) + 1)) steps.old steps.new }
         ensures checkpoints { is_pq self.old ≡ true → OnOk result (MakesCheckpoints (seen_inside self.old) (seen_inside self.new)) }

@@ -6,7 +6,7 @@ use Rattle.std.specs.Ordering.{int_eq}
 use Rattle.std.proofs.lemmas.Bool.Decides.{Decides-int_eq}
 use Rattle.std.proofs.lemmas.Cmp.{int_eq_equiv}
 use Rattle.key_index.specs.KeyRows.{KeyRow, key_of, is_on, last_of}
-use Rattle.key_index.specs.Beside.{puts, takes_out, is_there, taken_at}
+use Rattle.key_index.specs.RowsBeside.{puts, takes_out, is_there, taken_at}
 use Rattle.key_index.proofs.Lists.{first_of}
 use Rattle.key_index.proofs.Replayed.{there_after, fails, nothing}
 

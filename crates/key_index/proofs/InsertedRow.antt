@@ -13,7 +13,7 @@ use Rattle.retro_base.specs.Kind.{kind_of}
 use Rattle.key_index.specs.declared.key_index.Bad.{Bad}
 use Rattle.key_index.specs.declared.key_index.Bad.TheVariants.{Inserted, Present}
 use Rattle.key_index.specs.KeyRows.{KeyRow, AreKeyRows, is_on, last_of, first_after, up_to, behind, with_row, named, bad_with, Replays}
-use Rattle.key_index.specs.Beside.{takes_out, is_there, taken_at, last_up_to}
+use Rattle.key_index.specs.RowsBeside.{takes_out, is_there, taken_at, last_up_to}
 use Rattle.key_index.proofs.InOrder.{parted}
 use Rattle.key_index.proofs.Lists.{filter_either, all-append, all_filter, first_of, find_is}
 use Rattle.key_index.proofs.Replayed.{there_after, fails, nothing, failure_is}

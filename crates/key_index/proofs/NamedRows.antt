@@ -9,7 +9,7 @@ use Rattle.retro_base.specs.declared.op.Op.{Op}
 use Rattle.retro_base.specs.Kind.{kind_of}
 use Rattle.key_index.specs.declared.key_index.Bad.TheVariants.{Inserted, Present}
 use Rattle.key_index.specs.KeyRows.{KeyRow, key_of, without, up_to, behind, with_row, named, bad_with, bad_label, failure_of, Replays}
-use Rattle.key_index.specs.Beside.{takes_out}
+use Rattle.key_index.specs.RowsBeside.{takes_out}
 use Rattle.key_index.proofs.Lists.{all-append, all_filter}
 use Rattle.key_index.proofs.Replayed.{there_after, fails, nothing, failure_is}
 use Rattle.retro_base.specs.Facts.{there_is_one}

@@ -9,8 +9,8 @@ use Rattle.std.proofs.lemmas.Bool.{ne_eqb}
 use Rattle.std.proofs.lemmas.Bool.Decides.{nat_tests}
 use Rattle.retro_base.specs.OrderLaws.{all_weaker}
 use Rattle.key_index.specs.KeyRows.{KeyRow, key_of, is_on, last_of, last_before, first_after}
-use Rattle.key_index.specs.declared.beside.Beside.{Beside}
-use Rattle.key_index.specs.Beside.{last_up_to, beside, around}
+use Rattle.key_index.specs.declared.rows_beside.RowsBeside.{RowsBeside}
+use Rattle.key_index.specs.RowsBeside.{last_up_to, beside, around}
 use Rattle.key_index.specs.Ordered.{AreByKey, pair_before, stands_before, reaches, if_on}
 use Rattle.key_index.proofs.Lists.{filter-yes, filter-no, none_pass, filter_passes, filter_both, filter-same, first_of, find_is, settled, all_but_last, take_less, first_at}
 use Rattle.key_index.proofs.InOrder.{by_key_filter, lt_is_not_le, pair_less, pair_below, pair_comes_before, pair_not_itself}
@@ -28,7 +28,7 @@ next_on k l j m key within on order up = grind (arith, ints, nat_tests)
 later_off : (k : ℤ) (l : ℕ) (j : ℤ) (m : ℕ) (key : ℤ) (within : Bool) → int_eq k key ≡ false → pair_in k within key ≡ false → pair_before k l j m ≡ true → int_eq j key ≡ false
 later_off k l j m key within off past order = grind (arith, ints, nat_tests)
 
-pub beside_is : {a b c d : Option KeyRow} → a ≡ b → c ≡ d → ◌≡◌ {A = Beside} (record { before = a; after = c }) (record { before = b; after = d })
+pub beside_is : {a b c d : Option KeyRow} → a ≡ b → c ≡ d → ◌≡◌ {A = RowsBeside} (record { before = a; after = c }) (record { before = b; after = d })
 beside_is e f = rw (e, f) refl
 
 module _ (key : ℤ) (within : ℕ → Bool) where

@@ -13,7 +13,7 @@ use Rattle.retro_base.specs.declared.op.Op.TheVariants.{Enq, Deq, Push, Pop, Pus
 use Rattle.retro_base.specs.Kind.{kind_of}
 use Rattle.retro_base.specs.OrderLaws.{all_weaker}
 use Rattle.key_index.specs.KeyRows.{KeyRow, AreKeyRows, is_on, last_of, last_before, first_after, op_at, without, bad_label, failure_of, Replays}
-use Rattle.key_index.specs.Beside.{is_there, taken_at}
+use Rattle.key_index.specs.RowsBeside.{is_there, taken_at}
 use Rattle.key_index.proofs.Lists.{filter_either, all-append, all_front, all_after, filter-no, none_pass, all_pass, first_of, find_is}
 use Rattle.key_index.proofs.Replayed.{there_after, fails, nothing, failure_is}
 use Rattle.key_index.proofs.Failing.{with_more, without_key, there_later, there_is, in_parts, front_goes, back_goes, row_goes, taken_name, name_after}

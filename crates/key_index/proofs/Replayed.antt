@@ -18,7 +18,7 @@ use Rattle.retro_base.specs.Kind.{kind_of}
 use Rattle.retro_base.specs.State.{State, pairs, perform, step, with_key}
 use Rattle.retro_base.specs.Replay.{one_later, fold_rows, run}
 use Rattle.key_index.specs.KeyRows.{KeyRow, key_of, is_on, as_row, failure_of}
-use Rattle.key_index.specs.Beside.{puts, takes_out}
+use Rattle.key_index.specs.RowsBeside.{puts, takes_out}
 use Rattle.retro_base.specs.lemmas.SortedPairs.{swapped}
 
 abbrev AreSorted : List (ℤ × ℤ) → Type 0

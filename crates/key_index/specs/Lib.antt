@@ -2,4 +2,4 @@ pub use Rattle.retro_base.specs.Replay
 pub mod KeyRows
 pub mod Relabelled
 pub mod Ordered
-pub mod Beside
+pub mod RowsBeside

@@ -3,13 +3,13 @@
 ghost use Rattle.std.specs.Prelude.{◌≡◌, [], length, Some, None, IfNone, IsSome, IfOk, OnOk, OnErr};
 ghost use Rattle.retro_base.specs.declared.kind.Kind.TheVariants.{Dict};
 ghost use Rattle.retro_base.specs.Kind.{kind_of};
-ghost use Rattle.key_index.specs.Beside.{beside};
+ghost use Rattle.key_index.specs.RowsBeside.{beside};
 ghost use Rattle.key_index.specs.KeyRows.{Replays, AreKeyRows, bad_label, bad_with, first_after, key_of, last_before, op_at, with_row, without};
 ghost use Rattle.key_index.specs.Relabelled.{Rise, HoldsLabels, relabelled};
 
-use crate::beside::{Beside, is_there, taken_at};
 use crate::labels::Labels2;
 use crate::row::KeyRow;
+use crate::rows_beside::{RowsBeside, is_there, taken_at};
 use crate::tree::{around, beside, first_above, op_of, put_in, relabel, take_out};
 use retro_base::{NoMemory, Op};
 use std::alloc::Global;
@@ -67,7 +67,7 @@ impl KeyIndex {
     }
 
     /// The same, and gives the rows beside the new one on its key.
-    pub fn insert_beside(&mut self, label: u64, op: Op) -> Result<Beside, NoMemory>
+    pub fn insert_beside(&mut self, label: u64, op: Op) -> Result<RowsBeside, NoMemory>
         requires fresh { op_at label self.old ≡ None }
         requires dict { kind_of op ≡ Dict }
         ensures ok { OnOk result (self.new ≡ with_row label op self.old) }
@@ -104,7 +104,7 @@ impl KeyIndex {
     }
 
     /// The rows on a key next to a label.
-    pub fn beside(&self, key: i64, label: u64) -> Beside
+    pub fn beside(&self, key: i64, label: u64) -> RowsBeside
         ensures { result ≡ beside key label self.now }
     {
         beside(&self.by_key, key, label)

@@ -19,20 +19,20 @@
 //! The two insertions take memory, for what one insertion into a tree takes, and leave all as it was where there is none; no other call of an index takes any, so a
 //! relabelling can be written last, once the two lists of labels and whatever else it needs are there.
 //!
-//! What the layer above may rely on: the definitions of specs/KeyRows.antt, specs/Beside.antt and specs/Relabelled.antt, over plain lists.
+//! What the layer above may rely on: the definitions of specs/KeyRows.antt, specs/RowsBeside.antt and specs/Relabelled.antt, over plain lists.
 //!
 //! - `key_index`: the type and its calls. `labels`: the labels before and after a relabelling.
 //! - `row`: what stands in the tree. `search`: how many rows stand up to a label on a key.
-//! - `tree`: what the calls do to the tree. `beside`: the rows beside an edit, and what they say.
+//! - `tree`: what the calls do to the tree. `rows_beside`: the rows beside an edit, and what they say.
 #![tactic(auto)]
 
-mod beside;
 mod key_index;
 mod labels;
 mod row;
+mod rows_beside;
 mod search;
 mod tree;
 
-pub use beside::Beside;
 pub use key_index::{Bad, KeyIndex};
 pub use labels::Labels2;
+pub use rows_beside::RowsBeside;

@@ -5,14 +5,14 @@ ghost use Rattle.std.specs.List.{filter};
 ghost use Rattle.std.specs.Option.{option_and_then};
 ghost use Rattle.retro_base.specs.declared.kind.Kind.TheVariants.{Dict};
 ghost use Rattle.retro_base.specs.Kind.{kind_of};
-ghost use Rattle.key_index.specs.Beside.{around, beside};
+ghost use Rattle.key_index.specs.RowsBeside.{around, beside};
 ghost use Rattle.key_index.specs.KeyRows.{first_after, key_of, last_before, last_of, op_at, with_row, without};
 ghost use Rattle.key_index.specs.Ordered.{AreByKey, IsIndex, by_label, if_on, reaches};
 ghost use Rattle.key_index.specs.Relabelled.{Rise, HoldsLabels, relabelled};
 
-use crate::beside::Beside;
 use crate::labels::Labels2;
 use crate::row::{KeyRow, key_of};
+use crate::rows_beside::RowsBeside;
 use crate::search::count_up_to;
 use retro_base::{NoMemory, Op};
 use weighted_tree::{Tree, uncounted};
@@ -68,24 +68,24 @@ fn last_below(by_key: &Tree<KeyRow>, key: i64, label: u64, count: u32) -> Option
 }
 
 /// The rows on a key next to a label.
-pub(crate) fn beside(by_key: &Tree<KeyRow>, key: i64, label: u64) -> Beside
+pub(crate) fn beside(by_key: &Tree<KeyRow>, key: i64, label: u64) -> RowsBeside
     requires ordered { AreByKey by_key.now }
     ensures { result ≡ beside key label by_key.now }
 {
     let count = count_up_to(by_key, key, label);
-    Beside {
+    RowsBeside {
         before: last_below(by_key, key, label, count),
         after: next_on(by_key, key, count),
     }
 }
 
 /// The last row on a key up to a label, and the first one above it.
-pub(crate) fn around(by_key: &Tree<KeyRow>, key: i64, label: u64) -> Beside
+pub(crate) fn around(by_key: &Tree<KeyRow>, key: i64, label: u64) -> RowsBeside
     requires ordered { AreByKey by_key.now }
     ensures { result ≡ around key label by_key.now }
 {
     let count = count_up_to(by_key, key, label);
-    Beside {
+    RowsBeside {
         before: last_on(by_key, key, count),
         after: next_on(by_key, key, count),
     }
@@ -115,7 +115,7 @@ pub(crate) fn op_of(by_key: &Tree<KeyRow>, label: u64) -> Option<Op>
 }
 
 /// Puts a row in, and gives the rows beside it on its key.
-pub(crate) fn put_in(by_key: &mut Tree<KeyRow>, label: u64, op: Op) -> Result<Beside, NoMemory>
+pub(crate) fn put_in(by_key: &mut Tree<KeyRow>, label: u64, op: Op) -> Result<RowsBeside, NoMemory>
     requires index { IsIndex by_key.old }
     requires fresh { op_at label (by_label by_key.old) ≡ None }
     requires dict { kind_of op ≡ Dict }
@@ -132,7 +132,7 @@ pub(crate) fn put_in(by_key: &mut Tree<KeyRow>, label: u64, op: Op) -> Result<Be
     let before = last_on(by_key, key, place);
     let after = next_on(by_key, key, place);
     uncounted::insert(by_key, place, KeyRow::new(label, op))?;
-    Ok(Beside { before, after })
+    Ok(RowsBeside { before, after })
 }
 
 /// Takes the row with a label and this operation out.

@@ -1,11 +1,11 @@
 -- What a read writes of the labels beside a place.
 use Rattle.std.proofs.Common.{◌≡◌, ℕ, zero, suc, ◌+◌, ◌-◌, ◌≤◌, min, List, [], ◌∷◌, length, map, take, drop, slice_index_or, refl, ap, sym, subst, ◌∙◌, arith}
 use borrow.Rule.Slice.PartMut.{mid_of, put_mid}
-use Rattle.order_labels.specs.declared.beside.Beside.{Beside}
+use Rattle.order_labels.specs.declared.labels_beside.LabelsBeside.{LabelsBeside}
 use Rattle.weighted_tree.specs.Reads.{overwritten}
 use Rattle.weighted_tree.specs.ReadLaws.{after_read, read_from}
 use Rattle.order_labels.specs.Labels.{label_before, label_after, label_limit}
-use Rattle.order_labels.specs.Beside.{IsBeside}
+use Rattle.order_labels.specs.LabelsBeside.{IsBeside}
 
 -- what stands there before
 abbrev ends : List ℕ
@@ -54,7 +54,7 @@ each_place labels (suc (suc place)) within =
     let later : suc (suc place) + 1 ≡ suc (suc (suc place)) = omega arith in
     rw (two, from, former, later) (later_place 0 labels place (omega arith))
 
-abbrev beside_of : List ℕ → Beside
+abbrev beside_of : List ℕ → LabelsBeside
 beside_of labels = record { former = slice_index_or labels 0 0; before = slice_index_or labels 1 0; after = slice_index_or labels 2 0; later = slice_index_or labels 3 0 }
 
 pub beside_read : (labels : List ℕ) (place count number : ℕ) (read : List ℕ) → place ≤ length labels → count ≡ min place 2 → number ≡ min (length labels - (place - count)) (length (lent count))

@@ -1,6 +1,6 @@
 pub use Rattle.retro_base.specs.Limits
 pub mod Labels
-pub mod Beside
+pub mod LabelsBeside
 pub mod LabelLaws
 pub mod Order
 pub mod CountLaws

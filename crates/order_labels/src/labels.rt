@@ -2,11 +2,11 @@
 
 ghost use Rattle.std.specs.Prelude.{◌≡◌, ◌+◌, false, true, ◌<◌, ◌≤◌, ◌==◌, [], length, slice_get, position, Some, IfSome, IfOk, OnOk, OnErr, not};
 ghost use Rattle.std.specs.List.{insert, remove};
-ghost use Rattle.order_labels.specs.Beside.{IsBeside};
+ghost use Rattle.order_labels.specs.LabelsBeside.{IsBeside};
 ghost use Rattle.order_labels.specs.Labels.{AreApart, AreLabels, has_room, inserted, label_before, label_after, label_limit, least_gap};
 ghost use Rattle.retro_base.specs.Limits.{most_rows};
 
-use crate::beside::{Beside, labels_beside};
+use crate::labels_beside::{LabelsBeside, labels_beside};
 use crate::spread::{Label, spread};
 use retro_base::NoMemory;
 use std::alloc::Global;
@@ -100,7 +100,7 @@ impl Labels {
     }
 
     /// The labels beside a place.
-    pub fn beside(&self, place: u32) -> Beside
+    pub fn beside(&self, place: u32) -> LabelsBeside
         requires { place ≤ length self.now }
         ensures { IsBeside self.now place result }
     {
@@ -129,7 +129,7 @@ fn put_in(rows: &mut Tree<Label>, place: u32) -> Result<Fresh, NoMemory>
     ensures length { OnOk result (length rows.new ≡ length rows.old + 1) }
     ensures err { OnErr result (rows.new ≡ rows.old) }
 {
-    let Beside { before, after, .. } = labels_beside(rows, place);
+    let LabelsBeside { before, after, .. } = labels_beside(rows, place);
     if after - before >= 2 {
         let label = (before + after) / 2;
         uncounted::insert(rows, place, Label::new(label))?;

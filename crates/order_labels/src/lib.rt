@@ -19,20 +19,20 @@
 //! as it was where there is none; no other call takes any.
 //!
 //! What the layer above may rely on: the rule of specs/Labels.antt, which says what the labels are after every insertion;
-//! specs/Beside.antt, which labels stand beside a place; specs/LabelLaws.antt, which says of a rule that many insertions
+//! specs/LabelsBeside.antt, which labels stand beside a place; specs/LabelLaws.antt, which says of a rule that many insertions
 //! lie between two relabellings; the law that it is so of the middle, and specs/RareLaws.antt for whoever proves it of
 //! another rule; specs/CountLaws.antt for a search of any tree whose items never fall in some number, as rows do in their
 //! time.
 //!
-//! - `labels`: the type and its calls. `beside`: the labels beside a place. `spread`: how all rows are relabelled. `laws`: how
+//! - `labels`: the type and its calls. `labels_beside`: the labels beside a place. `spread`: how all rows are relabelled. `laws`: how
 //!   far, and how often.
 #![tactic(auto)]
 
-mod beside;
 mod labels;
+mod labels_beside;
 pub mod laws;
 mod spread;
 
-pub use beside::Beside;
 pub use labels::{Fresh, Labels};
+pub use labels_beside::LabelsBeside;
 pub use spread::{gap_of, greatest_power};

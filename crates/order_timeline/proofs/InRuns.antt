@@ -14,7 +14,7 @@ use Rattle.order_timeline.specs.Rows.{MayCome}
 use Rattle.retro_base.specs.EditedLists.{remove-insert, get-insert}
 use Rattle.order_timeline.proofs.Rows.{ordered_more}
 use Rattle.order_timeline.proofs.Maps.{named_with, named_without, named_again}
-use Rattle.order_timeline.proofs.Beside.{length-beside, beside_with, beside_without, beside_gone, beside_divided}
+use Rattle.order_timeline.proofs.NamesOfRows.{length-beside, beside_with, beside_without, beside_gone, beside_divided}
 use Rattle.std.proofs.lemmas.Option.{slice_get_within}
 
 -- as many rows as the runs have

@@ -6,7 +6,7 @@ use Rattle.std.specs.List.{slice_range}
 use Rattle.monoid_laws.specs.Measure.{measure_of}
 use Rattle.weighted_tree.specs.Search.{IsRising, IsFirstOrNone}
 use Rattle.order_timeline.specs.Totals.{no_total, one_total, joined_total}
-use Rattle.order_timeline.specs.Runs.{rows_in, start_of, IsInRun}
+use Rattle.order_timeline.specs.Runs.{rows_in, start_of, IsInRun, TakesRow}
 
 pub total-rows : (runs : List ℕ) → (measure_of no_total joined_total one_total runs).rows ≡ rows_in runs
 total-rows [] = refl
@@ -63,3 +63,13 @@ pub run_within : (runs : List ℕ) (index count : ℕ) → slice_get runs index 
 run_within [] index count read = cc
 run_within (run ∷ runs) zero count read = let same : run ≡ count = cc in omega arith
 run_within (run ∷ runs) (suc index) count read = omega (arith, run_within runs index count read)
+
+-- behind all rows the last run takes one more
+takes_at_end : (runs : List ℕ) (index place : ℕ) → index + 1 ≡ length runs → place ≡ rows_in runs → TakesRow runs index place
+takes_at_end runs index place last end =
+    let all : start_of runs (suc index) ≡ rows_in runs = ap rows_in (take_all (suc index) runs (omega (arith, last))) in
+    let more = start_more runs index (omega (arith, last)) in
+    record { there = omega (arith, last); begun = omega (arith, all, more, end); lasts = omega (arith, all, more, end) }
+
+pub last_takes : (runs : List ℕ) (place : ℕ) → 0 < length runs → place ≡ rows_in runs → TakesRow runs (length runs - 1) place
+last_takes runs place some end = takes_at_end runs (length runs - 1) place (omega (arith, some)) end

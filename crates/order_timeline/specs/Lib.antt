@@ -6,4 +6,4 @@ pub mod Numbers
 pub mod Totals
 pub mod TotalLaws
 pub mod Runs
-pub mod Kept
+pub mod IndexedRows

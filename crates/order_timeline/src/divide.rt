@@ -1,10 +1,10 @@
 //! A full run in halves, before a row comes in.
 
 ghost use Rattle.std.specs.Prelude.{◌≡◌, ◌<◌, ◌≤◌, slice_get, Some, IfOk};
-ghost use Rattle.order_timeline.specs.Kept.{KeepsRows};
+ghost use Rattle.order_timeline.specs.IndexedRows.{KeepsRows};
 ghost use Rattle.order_timeline.specs.Runs.{divided};
 
-use crate::kept::Kept;
+use crate::indexed_rows::IndexedRows;
 use crate::numbers::write_run;
 use crate::run::Run;
 use crate::runs::start_of;
@@ -25,7 +25,7 @@ fn first_part(count: u32, is_last: bool) -> u32
 }
 
 /// Divides a run that has so many rows, and tells how many of them stay. After `NoMemory` all is as before.
-pub(crate) fn divide(kept: &mut Kept, run: u32, count: u32) -> Result<u32, NoMemory>
+pub(crate) fn divide(kept: &mut IndexedRows, run: u32, count: u32) -> Result<u32, NoMemory>
     requires kept { KeepsRows kept.old }
     requires there { slice_get kept.old.runs run ≡ Some count }
     requires more { 1 < count }

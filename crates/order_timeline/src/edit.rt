@@ -2,21 +2,21 @@
 
 ghost use Rattle.std.specs.Prelude.{◌≡◌, ◌<◌, ◌≤◌, length, slice_get, Some, IfOk, OnOk, OnErr};
 ghost use Rattle.std.specs.List.{insert, remove};
-ghost use Rattle.order_timeline.specs.Kept.{KeepsRows};
+ghost use Rattle.order_timeline.specs.IndexedRows.{KeepsRows};
 ghost use Rattle.order_timeline.specs.Runs.{HasRoom, TakesRow};
 ghost use Rattle.order_timeline.specs.Rows.{MayCome};
 
 use crate::divide::{LONGEST_RUN, divide};
-use crate::kept::Kept;
+use crate::indexed_rows::IndexedRows;
 use crate::numbers::{add, forget};
 use crate::run::Run;
 use crate::runs::{run_for, run_of, start_of};
 use monoid_laws::Counted;
-use retro_base::{NoMemory, Row};
+use retro_base::{NoMemory, PackedRow, Row};
 use weighted_tree::uncounted;
 
 /// Puts a row in at a place. After `NoMemory` the rows are as before.
-pub(crate) fn put_in(kept: &mut Kept, place: u32, row: Row) -> Result<(), NoMemory>
+pub(crate) fn put_in(kept: &mut IndexedRows, place: u32, row: Row) -> Result<(), NoMemory>
     requires kept { KeepsRows kept.old }
     requires comes { MayCome kept.old.rows place row }
     ensures kept { KeepsRows kept.new }
@@ -29,7 +29,7 @@ pub(crate) fn put_in(kept: &mut Kept, place: u32, row: Row) -> Result<(), NoMemo
 }
 
 /// Makes a run where there is none.
-fn first_run(kept: &mut Kept) -> Result<(), NoMemory>
+fn first_run(kept: &mut IndexedRows) -> Result<(), NoMemory>
     requires kept { KeepsRows kept.old }
     ensures kept { KeepsRows kept.new }
     ensures rows { kept.new.rows ≡ kept.old.rows }
@@ -47,7 +47,7 @@ fn first_run(kept: &mut Kept) -> Result<(), NoMemory>
 }
 
 /// The run that takes a row at a place. A full one is divided first, so that it has room.
-fn run_with_room(kept: &mut Kept, place: u32) -> Result<u32, NoMemory>
+fn run_with_room(kept: &mut IndexedRows, place: u32) -> Result<u32, NoMemory>
     requires kept { KeepsRows kept.old }
     requires some { 0 < length kept.old.runs }
     requires within { place ≤ length kept.old.rows }
@@ -56,7 +56,7 @@ fn run_with_room(kept: &mut Kept, place: u32) -> Result<u32, NoMemory>
     ensures run { IfOk result (λ run. TakesRow kept.new.runs run place) }
     ensures room { IfOk result (HasRoom kept.new.runs) }
 {
-    let run = run_for(&kept.runs, place);
+    let run = run_for(&kept.runs, kept.rows.len(), place);
     let count = uncounted::get(&kept.runs, run).rows();
     if count < LONGEST_RUN {
         return Ok(run);
@@ -71,7 +71,7 @@ fn run_with_room(kept: &mut Kept, place: u32) -> Result<u32, NoMemory>
 }
 
 /// Puts a row in at a place, in a run that has room for it.
-fn put_in_run(kept: &mut Kept, run: u32, place: u32, row: Row) -> Result<(), NoMemory>
+fn put_in_run(kept: &mut IndexedRows, run: u32, place: u32, row: Row) -> Result<(), NoMemory>
     requires kept { KeepsRows kept.old }
     requires comes { MayCome kept.old.rows place row }
     requires run { TakesRow kept.old.runs run place }
@@ -82,7 +82,7 @@ fn put_in_run(kept: &mut Kept, run: u32, place: u32, row: Row) -> Result<(), NoM
 {
     let name = kept.names.name_at(run);
     add(&mut kept.numbers, row.number, name)?;
-    if uncounted::insert(&mut kept.rows, place, Counted::new(row)).is_err() {
+    if uncounted::insert(&mut kept.rows, place, Counted::new(PackedRow::new(row))).is_err() {
         forget(&mut kept.numbers, row.number);
         return Err(NoMemory);
     }
@@ -92,7 +92,7 @@ fn put_in_run(kept: &mut Kept, run: u32, place: u32, row: Row) -> Result<(), NoM
 }
 
 /// Takes the row at a place out, and gives it back.
-pub(crate) fn take_out(kept: &mut Kept, place: u32) -> Row
+pub(crate) fn take_out(kept: &mut IndexedRows, place: u32) -> Row
     requires kept { KeepsRows kept.old }
     requires within { place < length kept.old.rows }
     ensures kept { KeepsRows kept.new }
@@ -100,7 +100,7 @@ pub(crate) fn take_out(kept: &mut Kept, place: u32) -> Row
     ensures rows { kept.new.rows ≡ remove kept.old.rows place }
 {
     let run = run_of(&kept.runs, place);
-    let row = uncounted::remove(&mut kept.rows, place).value();
+    let row = uncounted::remove(&mut kept.rows, place).value().row();
     forget(&mut kept.numbers, row.number);
     let count = uncounted::get(&kept.runs, run).rows();
     if count == 1 {

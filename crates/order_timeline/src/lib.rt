@@ -16,10 +16,10 @@
 //! |---|---|
 //! | `len` | constant |
 //! | `row_at`, `place_at`, `place_of`, `remove` | log n |
-//! | `read_rows` | log n, and one visit for each row that it copies |
+//! | `read_rows` | log n, and one step for each row that it copies |
 //! | `insert` | log n, and as much for each run where the runs are relabelled |
 //!
-//! - `timeline`: the type and its calls. `kept`: what it keeps of its rows. `edit`: a row comes or goes. `find`: rows, times and numbers.
+//! - `timeline`: the type and its calls. `indexed_rows`: what it keeps of its rows. `edit`: a row comes or goes. `find`: rows, times and numbers.
 //! - `runs`: which run has a place, and where a run begins. `divide`: a full run in halves, before a row comes in.
 //! - `names`: the names of the runs, found by labels. `table`: the label of each name. `numbers`, `page`: the name of each number's run.
 //! - `run`, `total`: a run of rows, and what runs add up to.
@@ -28,7 +28,7 @@
 mod divide;
 mod edit;
 mod find;
-mod kept;
+mod indexed_rows;
 mod names;
 mod numbers;
 mod page;

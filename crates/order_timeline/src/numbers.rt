@@ -7,7 +7,7 @@ ghost use Rattle.retro_base.specs.Timeline.{HaveOwnNumbers};
 
 use crate::page::{Page, SPAN};
 use monoid_laws::Counted;
-use retro_base::{NoMemory, Row};
+use retro_base::{NoMemory, PackedRow};
 use std::alloc::Global;
 use std::marker::Model;
 use weighted_tree::{Tree, uncounted};
@@ -120,7 +120,7 @@ pub(crate) fn forget(numbers: &mut Numbers, number: u32)
 /// Writes one name for each of `count` rows from a place on.
 pub(crate) fn write_run(
     numbers: &mut Numbers,
-    rows: &Tree<Counted<Row>>,
+    rows: &Tree<Counted<PackedRow>>,
     from: u32,
     count: u32,
     name: u32,
@@ -132,7 +132,7 @@ pub(crate) fn write_run(
     ensures { WritesRun rows.now from count name numbers.old numbers.new }
 {
     for place in from..from + count {
-        let number = uncounted::get(rows, place).value().number;
+        let number = uncounted::get(rows, place).value().number();
         write(numbers, number, name);
     }
 }

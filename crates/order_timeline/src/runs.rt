@@ -18,12 +18,17 @@ pub(crate) fn run_of(runs: &Tree<Run>, place: u32) -> u32
     }
 }
 
-/// The run that takes a row at a place: that of the row before it, or the first.
-pub(crate) fn run_for(runs: &Tree<Run>, place: u32) -> u32
+/// The run that takes a row at a place, where there are so many rows: the last one behind all rows, and else that of the row
+/// before the place, or the first.
+pub(crate) fn run_for(runs: &Tree<Run>, rows: u32, place: u32) -> u32
     requires some { 0 < length runs.now }
-    requires within { place ≤ rows_in runs.now }
+    requires told { rows ≡ rows_in runs.now }
+    requires within { place ≤ rows }
     ensures { TakesRow runs.now result place }
 {
+    if place == rows {
+        return runs.len() - 1;
+    }
     if place == 0 {
         return 0;
     }

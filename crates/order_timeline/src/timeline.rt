@@ -10,7 +10,7 @@ ghost use Rattle.order_timeline.specs.Rows.{IsOrdered};
 
 use crate::edit::{put_in, take_out};
 use crate::find::{place_of, read_from, rows_up_to};
-use crate::kept::Kept;
+use crate::indexed_rows::IndexedRows;
 use retro_base::{NoMemory, Row};
 use std::alloc::Global;
 use std::marker::Model;
@@ -19,13 +19,13 @@ use weighted_tree::uncounted;
 /// Rows in order of time, each with a number of its own.
 #[derive(Drop)]
 pub struct Timeline {
-    kept: Kept,
+    kept: IndexedRows,
 }
 
 impl Model for Timeline {
     ghost use Rattle.std.specs.Prelude.{List};
     ghost use Rattle.retro_base.specs.declared.row.Row.{Row};
-    ghost use Rattle.order_timeline.specs.Kept.{KeepsRows};
+    ghost use Rattle.order_timeline.specs.IndexedRows.{KeepsRows};
 
     ghost Value = { List Row };
 
@@ -40,7 +40,7 @@ impl Timeline {
         ensures { result ≡ [] }
     {
         Timeline {
-            kept: Kept::new(alloc),
+            kept: IndexedRows::new(alloc),
         }
     }
 
@@ -57,7 +57,7 @@ impl Timeline {
         requires { place < length self.now }
         ensures { slice_get self.now place ≡ Some result }
     {
-        uncounted::get(&self.kept.rows, place).value()
+        uncounted::get(&self.kept.rows, place).value().row()
     }
 
     /// Copies the rows from a place on into a slice, as many as fit or are there, and gives their number.

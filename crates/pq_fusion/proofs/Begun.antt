@@ -7,7 +7,7 @@ use Rattle.retro_base.specs.EntriesInOrder.{AreInOrder}
 use Rattle.retro_base.specs.State.{comes_before}
 use Rattle.pq_fusion.specs.Chunks.{AtHead, AreChunks, AreKept, BeginBefore, IsChunk, entries_of, starts_of}
 use Rattle.pq_fusion.specs.Searches.{SearchesWithin, VisitsUpTo}
-use Rattle.pq_fusion.specs.Tallies.{reaching}
+use Rattle.pq_fusion.specs.EntryCounts.{reaching}
 use Rattle.pq_fusion.proofs.Order.{not_earlier}
 use Rattle.pq_fusion.proofs.Split.{order_back, order_front}
 use Rattle.pq_fusion.proofs.Tallied.{reaching_all, reaching_few}

@@ -4,7 +4,7 @@ use Rattle.std.proofs.Math.Seq.{take-suc}
 use Rattle.retro_base.specs.declared.row.Entry.{Entry}
 use Rattle.retro_base.specs.declared.row.Row.{Row}
 use Rattle.pq_fusion.specs.Pieces.{PieceParts, after_rows, tolerant, fuse}
-use Rattle.pq_fusion.specs.Tallies.{Carries}
+use Rattle.pq_fusion.specs.EntryCounts.{Carries}
 use Rattle.pq_fusion.proofs.FromRows.{in_parts, rising_rows, fuse_tolerant, no_more}
 use Rattle.pq_fusion.proofs.Ranges.{take-later, take_all, take_none}
 

@@ -8,7 +8,7 @@ use Rattle.retro_base.specs.declared.row.Row.{Row}
 use Rattle.retro_base.specs.OrderLaws.{all_at}
 use Rattle.pq_fusion.specs.declared.span.Span.{Span}
 use Rattle.pq_fusion.specs.Pieces.{no_parts}
-use Rattle.pq_fusion.specs.Tallies.{left_by, reaching, LiesIn, LeadsSpan}
+use Rattle.pq_fusion.specs.EntryCounts.{left_by, reaching, LiesIn, LeadsSpan}
 use Rattle.pq_fusion.proofs.FromRows.{tolerant_rise}
 use Rattle.pq_fusion.proofs.Tallied.{rank_reached, rank_missed, key_reached, key_missed}
 

@@ -5,7 +5,7 @@ use Rattle.retro_base.specs.declared.row.Entry.{Entry}
 use Rattle.retro_base.specs.declared.row.Row.{Row}
 use Rattle.retro_base.specs.Limits.{most_rows}
 use Rattle.pq_fusion.specs.Pieces.{PieceParts, no_parts, size_of, tolerant, fuse}
-use Rattle.pq_fusion.specs.Tallies.{left_by}
+use Rattle.pq_fusion.specs.EntryCounts.{left_by}
 use Rattle.pq_fusion.proofs.FromRows.{no_more, rows_fuse}
 use Rattle.pq_fusion.proofs.Ranges.{take_none}
 use Rattle.pq_fusion.proofs.Sizes.{rows_size}

@@ -15,7 +15,7 @@ use Rattle.retro_base.specs.OrderLaws.{all_weaker}
 use Rattle.retro_base.specs.State.{comes_before, with_entry}
 use Rattle.pq_fusion.specs.declared.span.Span.{Span}
 use Rattle.pq_fusion.specs.Pieces.{PieceParts, no_parts, after_take, after_row, after_rows, tolerant, together, fuse}
-use Rattle.pq_fusion.specs.Tallies.{LiesIn, LeadsSpan}
+use Rattle.pq_fusion.specs.EntryCounts.{LiesIn, LeadsSpan}
 use Rattle.pq_fusion.proofs.Carried.{carries_piece}
 use Rattle.pq_fusion.proofs.FromRows.{in_parts}
 use Rattle.pq_fusion.proofs.Halved.{entry_at}

@@ -9,9 +9,9 @@ use Rattle.std.proofs.lemmas.List.{length-drop}
 use Rattle.retro_base.specs.declared.row.Entry.{Entry}
 use Rattle.retro_base.specs.EntriesInOrder.{AreInOrder}
 use Rattle.retro_base.specs.State.{comes_before, with_entry}
-use Rattle.pq_fusion.specs.declared.tally.Tally.{Tally}
+use Rattle.pq_fusion.specs.declared.entry_counts.EntryCounts.{EntryCounts}
 use Rattle.pq_fusion.specs.Pieces.{PieceParts, together, fuse}
-use Rattle.pq_fusion.specs.Tallies.{reaching}
+use Rattle.pq_fusion.specs.EntryCounts.{reaching}
 use Rattle.pq_fusion.proofs.Order.{IsLeast, not_earlier, length_together, order_together}
 
 -- no more reach than there are
@@ -86,7 +86,7 @@ fused_reaching bound a b order =
       length_together a.left b.removed,
     )
 
-pub same_tally : (k l m n : ℕ) → k ≡ l → m ≡ n → ◌≡◌ {A = Tally} (record { left = k; reaching = m }) (record { left = l; reaching = n })
+pub same_tally : (k l m n : ℕ) → k ≡ l → m ≡ n → ◌≡◌ {A = EntryCounts} (record { left = k; reaching = m }) (record { left = l; reaching = n })
 same_tally k l m n e f = rw (e, f) refl
 
 -- the entry at an index comes before a bound where too few reach it

@@ -10,7 +10,7 @@ pub mod WearLevels
 pub mod Roots
 pub mod NodesFall
 pub mod Passages
-pub mod Tallies
+pub mod EntryCounts
 pub mod Searches
 pub mod Chunks
 pub mod Bodies

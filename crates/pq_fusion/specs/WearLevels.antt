@@ -13,6 +13,6 @@ abbrev pub AnewOnLevels : WornRows → WornRows → ℕ → ℕ → Type 0
 AnewOnLevels before after counted now = (levels : ℕ) → IsWithinLevels (weight before.rows) levels → AnewUpTo (2 * levels + 65) before after counted now
 
 -- that is 6 rows for each digit of one more than there are before it, and 65. The empty queue has no wear, and no queue has less: so over any
--- history the rows that are made anew are at most the sum of this over all of its edits
+-- history of edits that find their memory the rows that are made anew are at most the sum of this over all of them
 abbrev pub AnewWithin : WornRows → WornRows → ℕ → ℕ → Type 0
 AnewWithin before after counted now = AnewUpTo (6 * digits (length before.rows + 1) + 65) before after counted now

@@ -5,7 +5,7 @@ ghost use Rattle.retro_base.specs.declared.question.Item.TheVariants.{Single};
 ghost use Rattle.retro_base.specs.Answers.{answer_of, content, number_of};
 ghost use Rattle.retro_base.specs.State.{entries};
 ghost use Rattle.pq_fusion.specs.Searches.{SeeksWithin};
-ghost use Rattle.pq_fusion.specs.Tallies.{left_by};
+ghost use Rattle.pq_fusion.specs.EntryCounts.{left_by};
 
 use crate::subtree::Subtree;
 use retro_base::{Answer, Entry, Item, Listing, NoMemory, Question, Steps};

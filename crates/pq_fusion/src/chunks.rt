@@ -7,13 +7,13 @@ ghost use Rattle.retro_base.specs.Limits.{most_rows};
 ghost use Rattle.pq_fusion.specs.Chunks.{AreChunks, BeginBefore, HoldsRank, entries_of, starts_of};
 ghost use Rattle.pq_fusion.specs.Exchanges.{IsExchange};
 ghost use Rattle.pq_fusion.specs.Searches.{SearchesWithin};
-ghost use Rattle.pq_fusion.specs.Tallies.{reaching};
+ghost use Rattle.pq_fusion.specs.EntryCounts.{reaching};
 ghost use Rattle.pq_fusion.specs.Windows.{AreLent};
 
 use crate::Bound;
 use crate::chunk_edits::{FULL, exchange_among};
+use crate::entry_counts::reaching;
 use crate::exchange::make_room;
-use crate::tally::reaching;
 use crate::window::Lent;
 use retro_base::{Entry, NoMemory, Steps};
 use std::alloc::Global;

@@ -7,14 +7,14 @@ ghost use Rattle.retro_base.specs.Limits.{most_rows};
 ghost use Rattle.pq_fusion.specs.Chunks.{entries_of};
 ghost use Rattle.pq_fusion.specs.Exchanges.{IsExchange};
 ghost use Rattle.pq_fusion.specs.Searches.{SearchesWithin};
-ghost use Rattle.pq_fusion.specs.Tallies.{reaching};
+ghost use Rattle.pq_fusion.specs.EntryCounts.{reaching};
 ghost use Rattle.pq_fusion.specs.Windows.{AreLent};
 
 use crate::Bound;
 use crate::chunk_edits::FULL;
 use crate::chunks::{Chunks, RoomyChunks, entry_at, last_of, reaching_in_chunks};
+use crate::entry_counts::reaching;
 use crate::exchange::{exchange, make_room};
-use crate::tally::reaching;
 use crate::window::Lent;
 use retro_base::{Entry, NoMemory, Steps};
 use std::alloc::Global;

@@ -24,9 +24,10 @@
 //!
 //! How rarely that is so, contracts say by the wear of the tree, which they see beside its rows (`specs/Wear.antt`): by how many rows more
 //! than one the sides of each pair differ. The empty queue has none. An edit that the pairs on its path bear adds one for each of them at
-//! most, and a part that is made anew has none left, and had so much that twice of it pays for its rows. So over any history the rows that
-//! come into a run that is made anew, which `insert_counted` and `remove_counted` count (`Anew`), are at most 6 for each digit of m + 1
-//! and 65 for each edit. A body that makes parts anew more often, or halves them unevenly, is not proved.
+//! most, and a part that is made anew has none left, and had so much that twice of it pays for its rows. So over any history of the calls
+//! `insert_counted` and `remove_counted` that find their memory, the rows that come into a run that is made anew, which these count
+//! (`Anew`), are at most 6 for each digit of m + 1 and 65 for each edit. A body that makes larger parts anew more often, or halves them
+//! unevenly, is not proved.
 //!
 //! | Call | Cost, with m rows | Memory |
 //! |---|---|---|
@@ -70,7 +71,7 @@
 //!   comes into one of these or goes. `node_piece`: a piece in two such lists. `exchange`: one entry of a list in the
 //!   place of another. `window`: where in a list a place may lie, while it is sought. `boundary`: the entry at a rank of two lists
 //!   together. `difference`: what passed, by comparing.
-//! - `tally`, `span`: how many entries are left after a path, how many of them reach a key, and between which keys they lie.
+//! - `entry_counts`, `span`: how many entries are left after a path, how many of them reach a key, and between which keys they lie.
 //!   `select`: the key at an index of what the first rows leave. `answer`: the answers of that. `fused_queue`.
 #![tactic(auto)]
 
@@ -82,6 +83,7 @@ mod chunk_edits;
 mod chunks;
 mod difference;
 mod edit;
+mod entry_counts;
 mod entry_list;
 mod exchange;
 mod fused_queue;
@@ -98,7 +100,6 @@ mod select;
 mod sides;
 mod span;
 mod subtree;
-mod tally;
 mod window;
 
 pub use anew::Anew;

@@ -10,19 +10,19 @@ ghost use Rattle.pq_fusion.specs.Pieces.{after_row, after_take, no_parts, size_o
 
 use crate::Piece;
 use crate::exchange::{make_room, put_uncounted};
-use retro_base::{Entry, NoMemory, Row};
+use retro_base::{Entry, NoMemory, PackedRow, Row};
 use std::alloc::Global;
 
 impl Piece {
     /// What these rows come to, row by row: it moves the entries behind a place for each.
-    pub(crate) fn of_rows(alloc: Global, rows: &[Row]) -> Result<Piece, NoMemory>
+    pub(crate) fn of_rows(alloc: Global, rows: &[PackedRow]) -> Result<Piece, NoMemory>
         requires of_kind { AreOfKind Pq rows.now }
         requires few { length rows.now ≤ most_rows }
         ensures { IfOk result (λ piece. piece ≡ tolerant rows.now) }
     {
         let mut piece = Piece::with_capacity(alloc, rows.len())?;
         for row in rows {
-            piece = piece.with_row(*row)?;
+            piece = piece.with_row(row.row())?;
         }
         Ok(piece)
     }

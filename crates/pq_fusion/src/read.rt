@@ -13,7 +13,7 @@ ghost use Rattle.pq_fusion.specs.Nodes.{weight, IsRun, IsWithinLevels};
 use crate::Piece;
 use crate::root::Root;
 use crate::subtree::{Run, Subtree};
-use retro_base::{NoMemory, Row, Steps};
+use retro_base::{NoMemory, PackedRow, Row, Steps};
 use std::alloc::Global;
 use std::sync::ledger::Ledger;
 
@@ -27,7 +27,7 @@ impl Subtree {
         steps.tick();
         match self.root() {
             Root::Nothing => unreachable!(),
-            Root::Run(run) => run.rows[place as usize],
+            Root::Run(run) => run.rows[place as usize].row(),
             Root::Pair(pair) => {
                 let before = pair.earlier.len();
                 if place < before {
@@ -123,7 +123,7 @@ impl Subtree {
     }
 
     /// Appends the rows to others.
-    pub(crate) fn append_to(&self, rows: &mut Vec<Row>) -> Result<(), NoMemory>
+    pub(crate) fn append_to(&self, rows: &mut Vec<PackedRow>) -> Result<(), NoMemory>
         ensures items { OnOk result (rows.new.items ≡ rows.old.items ++ self.now.rows) }
         ensures of_kind { AreOfKind Pq self.now.rows }
         ensures few { length self.now.rows ≤ most_rows }

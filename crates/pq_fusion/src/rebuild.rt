@@ -17,7 +17,7 @@ use crate::difference::difference;
 use crate::node_piece::NodePiece;
 use crate::subtree::{Pair, Run, Subtree};
 use crate::{Bound, Piece};
-use retro_base::{NoMemory, Row};
+use retro_base::{NoMemory, PackedRow, Row};
 use std::alloc::Global;
 use std::sync::ledger::Ledger;
 
@@ -25,7 +25,7 @@ impl Subtree {
     /// The subtree of a run of these rows.
     fn of_few<M: Ledger>(
         alloc: Global,
-        rows: &[Row],
+        rows: &[PackedRow],
         anew: &mut Anew<M>,
     ) -> Result<Subtree, NoMemory>
         requires of_kind { AreOfKind Pq rows.now }
@@ -69,7 +69,7 @@ impl Subtree {
     /// The subtree of these rows, halved until a run has no more than `longest`.
     fn of_rows<M: Ledger>(
         alloc: Global,
-        rows: &[Row],
+        rows: &[PackedRow],
         longest: usize,
         anew: &mut Anew<M>,
     ) -> Result<Subtree, NoMemory>
@@ -91,7 +91,7 @@ impl Subtree {
     }
 
     /// The rows and one more at a place.
-    fn rows_with(&self, alloc: Global, place: u32, row: Row) -> Result<Vec<Row>, NoMemory>
+    fn rows_with(&self, alloc: Global, place: u32, row: Row) -> Result<Vec<PackedRow>, NoMemory>
         requires within { place ≤ length self.now.rows }
         requires room { length self.now.rows < most_rows }
         requires of_kind { kind_of row.op ≡ Pq }
@@ -101,12 +101,12 @@ impl Subtree {
     {
         let mut rows = Vec::with_capacity(alloc, self.len() as usize + 1)?;
         self.append_to(&mut rows)?;
-        rows.insert(place as usize, row)?;
+        rows.insert(place as usize, PackedRow::new(row))?;
         Ok(rows)
     }
 
     /// The rows but the one at a place.
-    fn rows_without(&self, alloc: Global, place: u32) -> Result<Vec<Row>, NoMemory>
+    fn rows_without(&self, alloc: Global, place: u32) -> Result<Vec<PackedRow>, NoMemory>
         requires within { place < length self.now.rows }
         ensures rows { IfOk result (λ rows. rows.items ≡ remove self.now.rows place) }
         ensures of_kind { IfOk result (λ rows. AreOfKind Pq rows.items) }
@@ -122,7 +122,7 @@ impl Subtree {
     fn with_last<M: Ledger>(
         &self,
         alloc: Global,
-        rows: Vec<Row>,
+        rows: Vec<PackedRow>,
         row: Row,
         anew: &mut Anew<M>,
     ) -> Result<Subtree, NoMemory>

@@ -4,7 +4,7 @@ ghost use Rattle.std.specs.Prelude.{◌≡◌, ◌+◌, ◌≤◌, length, take,
 ghost use Rattle.retro_base.specs.EntriesInOrder.{AreInOrder};
 ghost use Rattle.retro_base.specs.Limits.{most_rows};
 ghost use Rattle.pq_fusion.specs.Pieces.{PieceParts, size_of, fuse};
-ghost use Rattle.pq_fusion.specs.Tallies.{left_by};
+ghost use Rattle.pq_fusion.specs.EntryCounts.{left_by};
 
 use crate::Piece;
 use crate::merge::merge;

@@ -5,21 +5,27 @@ ghost use Rattle.std.specs.Option.{option_map};
 ghost use Rattle.retro_base.specs.Answers.{key_of};
 ghost use Rattle.retro_base.specs.Limits.{most_rows};
 ghost use Rattle.pq_fusion.specs.Searches.{OpensWithin, SeeksWithin, StepsWithin, VisitsUpTo, WalksWithin};
-ghost use Rattle.pq_fusion.specs.Tallies.{LeadsTally, LeadsSpan, reaching, left_by};
+ghost use Rattle.pq_fusion.specs.EntryCounts.{LeadsCounts, LeadsSpan, reaching, left_by};
 
+use crate::entry_counts::EntryCounts;
 use crate::root::Root;
 use crate::span::Span;
 use crate::subtree::Subtree;
-use crate::tally::Tally;
 use retro_base::{Entry, Steps};
 use std::sync::ledger::Ledger;
 
 impl Subtree {
     /// The tally of what is left after the first rows, where `before` is that of what is left before them.
-    fn tally<L: Ledger>(&self, to: u32, bound: Entry, before: Tally, steps: &mut Steps<L>) -> Tally
+    fn tally<L: Ledger>(
+        &self,
+        to: u32,
+        bound: Entry,
+        before: EntryCounts,
+        steps: &mut Steps<L>,
+    ) -> EntryCounts
         requires within { to ≤ length self.now.rows }
         requires few { before.left + length self.now.rows ≤ most_rows }
-        ensures tally { LeadsTally bound before (take to self.now.rows) result }
+        ensures tally { LeadsCounts bound before (take to self.now.rows) result }
         ensures few { result.left ≤ before.left + to }
         ensures whole { to ≡ length self.now.rows → OpensWithin (length self.now.rows) steps.old steps.new }
         ensures visits { WalksWithin self.now.rows steps.old steps.new }
@@ -80,7 +86,7 @@ impl Subtree {
         ensures visits { WalksWithin self.now.rows steps.old steps.new }
     {
         let _few = self.len();
-        let none = Tally {
+        let none = EntryCounts {
             left: 0,
             reaching: 0,
         };
@@ -96,7 +102,7 @@ impl Subtree {
         ensures visits { WalksWithin self.now.rows steps.old steps.new }
     {
         let _few = self.len();
-        let none = Tally {
+        let none = EntryCounts {
             left: 0,
             reaching: 0,
         };

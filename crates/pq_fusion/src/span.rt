@@ -3,7 +3,7 @@
 ghost use Rattle.std.specs.List.{AllByRecursion};
 ghost use Rattle.retro_base.specs.declared.row.Entry.{Entry};
 ghost use Rattle.retro_base.specs.EntriesInOrder.{AreInOrder};
-ghost use Rattle.pq_fusion.specs.Tallies.{LiesIn};
+ghost use Rattle.pq_fusion.specs.EntryCounts.{LiesIn};
 
 use crate::entry_list::EntryList;
 use crate::node_piece::NodePiece;

@@ -1,7 +1,7 @@
 //! The tree of rows: runs of neighbouring rows, and pairs of these and of pairs. Contracts see its rows and its wear.
 
 use crate::node_piece::NodePiece;
-use retro_base::Row;
+use retro_base::PackedRow;
 use std::marker::Model;
 
 /// A run has so many rows at most.
@@ -26,7 +26,7 @@ pub(crate) enum Link {
 /// Neighbouring rows, and what all of them come to.
 #[derive(Drop)]
 pub(crate) struct Run {
-    pub(crate) rows: Vec<Row>,
+    pub(crate) rows: Vec<PackedRow>,
     pub(crate) piece: NodePiece,
 }
 

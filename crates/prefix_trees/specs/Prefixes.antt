@@ -33,7 +33,7 @@ FindsLastAtMost growth rows to value answer = MatchOption answer (NoneAtMost gro
 abbrev pub IsAboveBoth : List Row → ℤ → ℤ → ℕ → Type 0
 IsAboveBoth rows left right place = (left <ℤ grown left_growth rows place) × (right <ℤ grown right_growth rows place)
 
--- the greatest place up to `to` before which it is not
+-- the greatest place up to `to` where this is not so
 pub record IsLastAtEither (rows : List Row) (to : ℕ) (left right : ℤ) (place : ℕ) : Type 0 where
   pub within : place ≤ to
   pub reached : (grown left_growth rows place ≤ℤ left) ⊎ (grown right_growth rows place ≤ℤ right)

@@ -2,15 +2,16 @@
 //!
 //! A row of a queue, a stack or a deque adds an item at an end of a line, or takes one there. `LineRows` is a list of such rows,
 //! in one tree of `weighted_tree`. It tells how many items there are after the first so many rows, which row would find nothing
-//! to take were another put in or taken out, and the last place from which on an end, or one of the two, grew by so many items. The tree measures three
-//! walks of each range, of the growth of the whole line, at its left end and at its right end: how deep a walk falls below its start,
-//! and how high it ends above its lowest point. So the first place where the size falls to a value is where the depth of the
-//! one walk comes to reach it, and the last place from which on an end grew so far is where the height of another does,
-//! seen from the other end.
+//! to take were another put in or taken out, and the last place from which on an end, or one of the two, grew by so many items.
+//! The tree measures three walks of each range, of the growth of the whole line, at its left end and at its right end: how deep a
+//! walk falls below its start, and how high it ends above its lowest point. So the first place where the size falls to a value is
+//! where the depth of the one walk comes to reach it, and the last place from which on an end grew so far is where the height of
+//! another does, seen from the other end.
 //!
 //! A row finds nothing to take exactly where the size of the line would fall below 0. The measure of all rows from the edit on says
-//! whether that is so, and only then a search says where; an edit that lowers no size asks for neither. An item keeps its position in the line while it is there; the row
-//! that wrote it is the last one before which the position was not yet reached (specs/PositionLaws.antt).
+//! whether that is so, and only then a search says where; an edit that lowers no size asks for neither. An item keeps its position in
+//! the line while it is there; the row that wrote it is the last one before which the position was not yet reached
+//! (specs/PositionLaws.antt).
 //!
 //! A `RetroLine` is a queue, a stack or a deque whose past can be edited, over its `LineRows`. What differs between the three is
 //! a `Sequence`: how that row is found. The answers, the content, the failing rows and the edits are here, once for all
@@ -26,7 +27,8 @@
 //! | `copy` of `LineRows` | at most one for each row |
 //! | `insert`, `remove`, `prefix`, `kth_marked` of `SignTree` | at most 12 d |
 //! | `first_at_most`, `last_at_most` of `SignTree` | at most 24 d |
-//! | `ask_past` and the calls of `Partial` of `RetroLine` that take a counter | at most 144 d |
+//! | `ask_past` of `RetroLine` | at most 36 d |
+//! | the calls of `Partial` of `RetroLine` that take a counter | at most 144 d |
 //!
 //! What the layer above may rely on: the clauses of these types, in the words of lists; specs/Prefixes.antt and
 //! specs/SignPrefixes.antt for the searches; specs/MarkLaws.antt on marks; specs/Growth.antt and the laws beside it on the rows of a line.

@@ -59,7 +59,7 @@ impl<S: Sequence> RetroLine<S> {
         requires within { place ≤ length self.now }
         requires suited { suits question S.kind ≡ true }
         ensures answer { result ≡ answer_of (state_at S.kind self.now place) question }
-        ensures visits { VisitsWithin 144 (length self.now) steps.old steps.new }
+        ensures visits { VisitsWithin 36 (length self.now) steps.old steps.new }
     {
         ask_sequence::<S, L>(&self.rows, place, question, steps)
     }

@@ -8,7 +8,7 @@ ghost use Rattle.prefix_trees.specs.declared.growth.End.TheVariants.{Left, Right
 
 use crate::growth::{End, left_growth, right_growth, sign_of};
 use monoid_laws::{Both, LeastPrefix, Measured};
-use retro_base::Row;
+use retro_base::{PackedRow, Row};
 use std::marker::Model;
 
 /// What a range of rows measures: the walks of the growth of the whole line, at its left end and at its right end.
@@ -17,7 +17,7 @@ pub(crate) type Walks = Both<LeastPrefix, Both<LeastPrefix, LeastPrefix>>;
 /// A row of which a range measures by how much it lets the line grow. Contracts see it as the row.
 #[derive(Clone, Copy)]
 pub(crate) struct LineRow {
-    row: Row,
+    row: PackedRow,
 }
 
 impl Model for LineRow {
@@ -35,14 +35,16 @@ impl LineRow {
     pub(crate) fn new(row: Row) -> LineRow
         ensures { result ≡ row }
     {
-        LineRow { row }
+        LineRow {
+            row: PackedRow::new(row),
+        }
     }
 
     /// The row.
     pub(crate) fn row(self) -> Row
         ensures { result ≡ self }
     {
-        self.row
+        self.row.row()
     }
 }
 
@@ -56,7 +58,7 @@ impl Measured for LineRow {
     ghost single = { row_walks-items };
 
     fn measure(&self) -> Walks {
-        let op = self.row.op;
+        let op = self.row.op();
         let left = LeastPrefix::single(left_growth(op));
         let right = LeastPrefix::single(right_growth(op));
         Both::single(LeastPrefix::single(sign_of(op)), Both::single(left, right))

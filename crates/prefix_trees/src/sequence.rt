@@ -27,21 +27,8 @@ pub trait Sequence {
         ensures { result ≡ kind };
 
     /// The place of the row that wrote the item at an index from the left, after the first so many
-    /// rows.
+    /// rows, which left so many items.
     fn written_by<L: Ledger>(
-        rows: &LineRows,
-        place: u32,
-        index: u32,
-        steps: &mut Steps<L>,
-    ) -> Option<u32>
-        requires replayable { IsReplayable kind rows.now }
-        requires within { place ≤ length rows.now }
-        requires there { pos index <ℤ grown sign_of rows.now place }
-        ensures writer { FindsWriter kind rows.now place index result }
-        ensures visits { VisitsWithin 96 (length rows.now) steps.old steps.new };
-
-    /// The same where it is told how many items there are.
-    fn written_among<L: Ledger>(
         rows: &LineRows,
         place: u32,
         size: i64,
@@ -53,10 +40,7 @@ pub trait Sequence {
         requires told { size ≡ grown sign_of rows.now place }
         requires there { pos index <ℤ grown sign_of rows.now place }
         ensures writer { FindsWriter kind rows.now place index result }
-        ensures visits { VisitsWithin 96 (length rows.now) steps.old steps.new }
-    {
-        Self::written_by(rows, place, index, steps)
-    }
+        ensures visits { VisitsWithin 12 (length rows.now) steps.old steps.new };
 
     /// Its state is a line of items.
     ghost is_line: { IsLine kind };
@@ -87,9 +71,9 @@ fn item_at<S: Sequence, L: Ledger>(
     requires there { pos index <ℤ grown sign_of rows.now place }
     ensures item { (line : List ℤ)
         → LineAt S.kind rows.now place line → slice_get line index ≡ Some result }
-    ensures visits { VisitsWithin 108 (length rows.now) steps.old steps.new }
+    ensures visits { VisitsWithin 24 (length rows.now) steps.old steps.new }
 {
-    let written = S::written_among(rows, place, i64::from(size), index, steps);
+    let written = S::written_by(rows, place, i64::from(size), index, steps);
     rows.value_at(written.unwrap(), steps)
 }
 
@@ -103,7 +87,7 @@ pub(crate) fn ask_sequence<S: Sequence, L: Ledger>(
     requires replayable { IsReplayable S.kind rows.now }
     requires within { place ≤ length rows.now }
     ensures answer { result ≡ answer_of (state_at S.kind rows.now place) question }
-    ensures visits { VisitsWithin 120 (length rows.now) steps.old steps.new }
+    ensures visits { VisitsWithin 36 (length rows.now) steps.old steps.new }
 {
     let size = size_at::<S, L>(rows, place, steps);
     match asked_of(question, size) {

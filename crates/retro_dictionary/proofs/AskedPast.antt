@@ -21,7 +21,7 @@ use Rattle.lifetime_segments.specs.Ordered.{AreInOrder, in_order}
 use Rattle.lifetime_segments.specs.OrderedLaws.{in_order-kept}
 use Rattle.order_labels.specs.Labels.{label_before, label_after as label_later, label_limit, AreApart}
 use Rattle.retro_dictionary.specs.DictionaryLaws.{LifetimesHoldContent, SearchAnswers}
-use Rattle.retro_dictionary.specs.Kept.{AreKept}
+use Rattle.retro_dictionary.specs.LabelledRows.{AreKept}
 use Rattle.retro_dictionary.proofs.Answered.{answer-found}
 use Rattle.retro_dictionary.specs.Labelled.{labelled}
 use Rattle.retro_dictionary.specs.Lifetimes.{lifetimes_of}

@@ -8,9 +8,9 @@ use Rattle.retro_base.specs.declared.row.Row.{Row}
 use Rattle.key_index.specs.KeyRows.{KeyRow, behind, op_at, with_row, without}
 use Rattle.lifetime_segments.specs.declared.lifetime.Lifetime.{Lifetime}
 use Rattle.order_labels.specs.Labels.{label_limit}
-use Rattle.retro_dictionary.specs.declared.kept.Kept.{Kept}
+use Rattle.retro_dictionary.specs.declared.labelled_rows.LabelledRows.{LabelledRows}
 use Rattle.retro_dictionary.specs.Edited.{IsBetween}
-use Rattle.retro_dictionary.specs.Kept.{AreKept}
+use Rattle.retro_dictionary.specs.LabelledRows.{AreKept}
 use Rattle.retro_dictionary.specs.Labelled.{labelled}
 use Rattle.retro_dictionary.proofs.LabelledRows.{front-below, in_two, with_row-parts, without-parts}
 use Rattle.retro_base.specs.EditedLists.{remove-insert}
@@ -49,7 +49,7 @@ kept-as rows more labels marks index listed lifetimes lives kept p q r s =
     subst (AreKept more marks listed) (sym s) (subst (λ i. AreKept more marks i lifetimes) (sym r) (subst (λ ls. AreKept more ls index lifetimes) (sym q) (subst (λ rs. AreKept rs labels index lifetimes) (sym p) kept)))
 
 -- a dictionary with the same in each of its parts is the same
-pub all-same : (kept : Kept) (rows : List Row) (labels : List ℕ) (index : List KeyRow) (lifetimes : List (Lifetime (ℤ × ℤ))) → rows ≡ kept.rows → labels ≡ kept.labels → index ≡ kept.index → lifetimes ≡ kept.segments
+pub all-same : (kept : LabelledRows) (rows : List Row) (labels : List ℕ) (index : List KeyRow) (lifetimes : List (Lifetime (ℤ × ℤ))) → rows ≡ kept.rows → labels ≡ kept.labels → index ≡ kept.index → lifetimes ≡ kept.segments
     → record { rows = rows; labels = labels; insertions_since_relabel = kept.insertions_since_relabel; index = index; segments = lifetimes } ≡ kept
 all-same kept rows labels index lifetimes p q r s =
     ap (λ rs. record kept { rows = rs; labels = labels; index = index; segments = lifetimes }) p

@@ -20,7 +20,7 @@ use Rattle.retro_base.specs.lemmas.Folds.{err_within}
 use Rattle.key_index.specs.KeyRows.{KeyRow, named, op_at, up_to, behind as after, with_row, without, failure_of, bad_with, bad_label, Replays}
 use Rattle.lifetime_segments.specs.declared.lifetime.Lifetime.{Lifetime}
 use Rattle.order_labels.specs.Labels.{AreApart, label_limit, label_before}
-use Rattle.retro_dictionary.specs.Kept.{AreKept}
+use Rattle.retro_dictionary.specs.LabelledRows.{AreKept}
 use Rattle.retro_dictionary.specs.Labelled.{labelled}
 use Rattle.retro_dictionary.proofs.LabelledRows.{beside, length-fronts, op-is, up_to-is, after-is, with_row-is, without-is}
 use Rattle.retro_dictionary.proofs.Performed.{failure-labelled}

@@ -14,7 +14,7 @@ use Rattle.order_labels.specs.Labels.{AreApart, label_limit}
 use Rattle.retro_dictionary.specs.Changes.{Placed, placed_by}
 use Rattle.retro_dictionary.specs.Edited.{IsBetween, CanPut, CanCut, CanInsert, CanRemove, left_of, next_of, cut_at, joined_at, cut_by, joined_by}
 use Rattle.retro_dictionary.specs.DictionaryLaws.{InsertionsAreKept, RemovalsAreKept}
-use Rattle.retro_dictionary.specs.Kept.{AreKept, ordered}
+use Rattle.retro_dictionary.specs.LabelledRows.{AreKept, ordered}
 use Rattle.retro_dictionary.specs.Labelled.{labelled}
 use Rattle.retro_dictionary.specs.Lifetimes.{end_of, put_by, lifetimes_of}
 use Rattle.retro_dictionary.specs.Numbers.{IsOfNumbers}

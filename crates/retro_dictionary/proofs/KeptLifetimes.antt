@@ -10,7 +10,7 @@ use Rattle.std.proofs.lemmas.List.{length-append}
 use Rattle.retro_dictionary.specs.PairSearch.{pair_before}
 use Rattle.retro_dictionary.specs.Changes.{Placed, placed_by, up_to_label}
 use Rattle.retro_dictionary.specs.Edited.{placed_at, all_put, all_taken, cut_at, joined_at}
-use Rattle.retro_dictionary.specs.Kept.{ordered}
+use Rattle.retro_dictionary.specs.LabelledRows.{ordered}
 use Rattle.retro_dictionary.specs.Lifetimes.{end_of, put_by, begun, lifetimes_of}
 use Rattle.retro_dictionary.specs.PairSearchLaws.{pair_order}
 use Rattle.retro_dictionary.specs.SameItems.{HaveSameItems}

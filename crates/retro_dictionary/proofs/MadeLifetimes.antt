@@ -10,7 +10,7 @@ use Rattle.lifetime_segments.specs.Lifetimes.{label_end}
 use Rattle.order_labels.specs.Labels.{AreApart, label_limit}
 use Rattle.retro_dictionary.specs.Changes.{Placed, up_to_label}
 use Rattle.retro_dictionary.specs.Edited.{CanPut, all_put, next_of, placed_at}
-use Rattle.retro_dictionary.specs.Kept.{ordered}
+use Rattle.retro_dictionary.specs.LabelledRows.{ordered}
 use Rattle.retro_dictionary.specs.Labelled.{labelled}
 use Rattle.retro_dictionary.specs.Lifetimes.{end_of, put_by, lifetimes_of}
 use Rattle.retro_dictionary.specs.Relabelling.{begun_by}

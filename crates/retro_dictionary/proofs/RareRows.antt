@@ -1,5 +1,5 @@
 -- By the rule of a dictionary rows get labels often before all are relabelled.
-use Rattle.std.proofs.Common.{◌≡◌, ℕ, zero, suc, ◌+◌, ◌-◌, ◌*◌, ◌/◌, ◌%◌, ◌^◌, ◌<◌, ◌≤◌, max, min, true, false, Option, Some, None, List, [], ◌∷◌, length, refl, ap, subst, ◌∙◌, arith, inl, inr, eq-eqb, cond, map}
+use Rattle.std.proofs.Common.{◌≡◌, ℕ, zero, suc, ◌+◌, ◌-◌, ◌*◌, ◌/◌, ◌%◌, ◌^◌, ◌<◌, ◌≤◌, max, min, true, false, Some, None, List, [], ◌∷◌, length, refl, ap, subst, ◌∙◌, arith, inl, inr, eq-eqb, cond, map}
 use Rattle.std.specs.List.{insert, remove}
 use Rattle.std.specs.Option.{option_map_or}
 use Rattle.std.proofs.Math.Nat.{pow-le-pow_right}

@@ -17,7 +17,7 @@ use Rattle.order_labels.specs.Labels.{AreApart, label_limit, label_before, label
 use Rattle.order_labels.specs.ApartLaws.{apart_without}
 use Rattle.order_labels.specs.SpreadLaws.{length-multiples, multiple-at, spread-rises}
 use Rattle.retro_dictionary.specs.Edited.{IsBetween, CanInsert}
-use Rattle.retro_dictionary.specs.Kept.{AreKept, ordered}
+use Rattle.retro_dictionary.specs.LabelledRows.{AreKept, ordered}
 use Rattle.retro_dictionary.specs.Labelled.{labelled}
 use Rattle.retro_dictionary.specs.Lifetimes.{lifetimes_of}
 use Rattle.retro_dictionary.specs.Numbers.{IsOfNumbers}

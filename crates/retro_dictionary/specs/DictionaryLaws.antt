@@ -16,7 +16,7 @@ use Rattle.order_labels.specs.Labels.{label_before}
 use Rattle.retro_dictionary.specs.Asked.{range_of, answer_from, found_at}
 use Rattle.retro_dictionary.specs.Changes.{placed_by, up_to_label}
 use Rattle.retro_dictionary.specs.Edited.{IsBetween, CanInsert, CanRemove, CanPut, CanCut, left_of, next_of, cut_by, joined_by}
-use Rattle.retro_dictionary.specs.Kept.{AreKept, ordered}
+use Rattle.retro_dictionary.specs.LabelledRows.{AreKept, ordered}
 use Rattle.retro_dictionary.specs.Lifetimes.{end_of, put_by, begun, lifetimes_of}
 use Rattle.retro_dictionary.specs.PairSearch.{pair_before}
 

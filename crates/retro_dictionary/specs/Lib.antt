@@ -9,7 +9,7 @@ pub mod Asked
 pub mod Labelled
 pub mod RelabellingLaw
 pub mod RowLabels
-pub mod Kept
+pub mod LabelledRows
 pub mod Bounds
 pub mod DictionaryLaws
 pub mod Edited

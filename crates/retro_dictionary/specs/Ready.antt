@@ -4,14 +4,14 @@ use Rattle.retro_base.specs.declared.kind.Kind.TheVariants.{Dict}
 use Rattle.retro_base.specs.declared.row.Row.{Row}
 use Rattle.retro_base.specs.Kind.{kind_of}
 use Rattle.retro_base.specs.Limits.{most_rows}
-use Rattle.retro_dictionary.specs.declared.kept.Kept.{Kept}
+use Rattle.retro_dictionary.specs.declared.labelled_rows.LabelledRows.{LabelledRows}
 use Rattle.retro_dictionary.specs.Edited.{CanInsert}
-use Rattle.retro_dictionary.specs.Kept.{AreKept}
+use Rattle.retro_dictionary.specs.LabelledRows.{AreKept}
 
-abbrev pub IsKept : Kept → Type 0
+abbrev pub IsKept : LabelledRows → Type 0
 IsKept kept = AreKept kept.rows kept.labels kept.index kept.segments
 
-pub record IsReadyFor (kept : Kept) (place : ℕ) (row : Row) : Type 0 where
+pub record IsReadyFor (kept : LabelledRows) (place : ℕ) (row : Row) : Type 0 where
   pub all : IsKept kept
   pub can : CanInsert kept.rows place row
   pub of_kind : kind_of row.op ≡ Dict

@@ -7,10 +7,10 @@ use Rattle.key_index.specs.KeyRows.{KeyRow, op_at, with_row, without}
 use Rattle.key_index.specs.Relabelled.{Rise, HoldsLabels, relabelled}
 use Rattle.lifetime_segments.specs.declared.lifetime.Lifetime.{Lifetime}
 use Rattle.order_labels.specs.Labels.{gap_of, inserted, spread}
-use Rattle.retro_dictionary.specs.declared.kept.Kept.{Kept}
+use Rattle.retro_dictionary.specs.declared.labelled_rows.LabelledRows.{LabelledRows}
 use Rattle.retro_dictionary.specs.Changes.{up_to_label}
 use Rattle.retro_dictionary.specs.Edited.{all_put, next_of, placed_at}
-use Rattle.retro_dictionary.specs.Kept.{ordered}
+use Rattle.retro_dictionary.specs.LabelledRows.{ordered}
 use Rattle.retro_dictionary.specs.Lifetimes.{lifetimes_of, put_by}
 
 -- the label of the row that is put in
@@ -41,9 +41,9 @@ abbrev pub begun_by : ℕ → Op → List KeyRow → List (Lifetime (ℤ × ℤ)
 begun_by label op index lifetimes = all_put (up_to_label (placed_at label (put_by op)) (next_of index label op)) lifetimes
 
 -- a dictionary with a row more among its rows alone
-abbrev pub with_row_at : ℕ → Row → Kept → Kept
+abbrev pub with_row_at : ℕ → Row → LabelledRows → LabelledRows
 with_row_at place row kept = record kept { rows = insert kept.rows place row }
 
 -- one with a label more, and with its lifetimes made from its index
-abbrev pub labelled_anew : ℕ → Kept → Kept
+abbrev pub labelled_anew : ℕ → LabelledRows → LabelledRows
 labelled_anew place kept = record kept { labels = inserted kept.labels place; insertions_since_relabel = 0; segments = ordered (lifetimes_of kept.index) }

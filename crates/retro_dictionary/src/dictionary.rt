@@ -6,10 +6,10 @@ ghost use Rattle.retro_base.specs.Answers.{answer_of, content};
 ghost use Rattle.retro_base.specs.Replay.{state_at};
 
 use crate::asked::{answer_from, found_at, range_of};
-use crate::beside::label_before;
 use crate::edit::{put, take_out};
 use crate::failing::{place_of_bad, place_of_bad_label};
-use crate::kept::{Kept, op_of_row};
+use crate::free_label::label_before;
+use crate::labelled_rows::{LabelledRows, op_of_row};
 use crate::listed::list_at;
 use crate::recent::recent_beside;
 use retro_base::{Answer, Change, Kind, Listing, NoMemory, Op, Question, Retro, Row};
@@ -19,7 +19,7 @@ use std::marker::Model;
 /// A dictionary whose past can be edited, which contracts see as its rows.
 #[derive(Drop)]
 pub struct RetroDictionary {
-    kept: Kept,
+    kept: LabelledRows,
 }
 
 impl Model for RetroDictionary {
@@ -40,7 +40,7 @@ impl RetroDictionary {
         ensures { result ≡ [] }
     {
         RetroDictionary {
-            kept: Kept::new(alloc),
+            kept: LabelledRows::new(alloc),
         }
     }
 

@@ -11,8 +11,8 @@ ghost use Rattle.retro_dictionary.specs.Ready.{IsKept, IsReadyFor};
 ghost use Rattle.retro_dictionary.specs.RelabellingLaw.{counted_by, one_more};
 ghost use Rattle.retro_dictionary.specs.RowLabels.{recent_beside, row_rule};
 
-use crate::beside::{free_label, one_more};
-use crate::kept::Kept;
+use crate::free_label::{free_label, one_more};
+use crate::labelled_rows::LabelledRows;
 use crate::lifetimes::{cut, join, key_of, label_or_end, placed_by, put_by};
 use crate::recent::RecentNeighbour;
 use crate::relabel::put_relabelled;
@@ -20,7 +20,7 @@ use crate::search::PairSearch;
 use key_index::KeyIndex;
 use lifetime_segments::Segments;
 use monoid_laws::Counted;
-use retro_base::{NoMemory, Op, Row};
+use retro_base::{NoMemory, Op, PackedRow, Row};
 use weighted_tree::uncounted;
 
 /// Puts a row in at a label, and ends and begins lifetimes by it. After `NoMemory` all is as before.
@@ -75,7 +75,7 @@ fn take_labelled(
 }
 
 /// Puts a row in at a place, at a label that is left there. After `NoMemory` all is as before.
-fn put_between(kept: &mut Kept, place: u32, label: u64, row: Row) -> Result<(), NoMemory>
+fn put_between(kept: &mut LabelledRows, place: u32, label: u64, row: Row) -> Result<(), NoMemory>
     requires ready { IsReadyFor kept.old place row }
     requires between { IsBetween kept.old.labels place label }
     ensures rows { OnOk result (kept.new.rows ≡ insert kept.old.rows place row) }
@@ -85,7 +85,7 @@ fn put_between(kept: &mut Kept, place: u32, label: u64, row: Row) -> Result<(), 
     ensures err { OnErr result (kept.new ≡ kept.old) }
 {
     kept.labels.insert_labelled(place, label)?;
-    if uncounted::insert(&mut kept.rows, place, Counted::new(row)).is_err() {
+    if uncounted::insert(&mut kept.rows, place, Counted::new(PackedRow::new(row))).is_err() {
         kept.labels.remove(place);
         return Err(NoMemory);
     }
@@ -100,7 +100,7 @@ fn put_between(kept: &mut Kept, place: u32, label: u64, row: Row) -> Result<(), 
 
 /// Puts a row in at a place, where it gets its label by the rule. After `NoMemory` all is as before.
 pub(crate) fn put(
-    kept: &mut Kept,
+    kept: &mut LabelledRows,
     place: u32,
     row: Row,
     recent: RecentNeighbour,
@@ -120,7 +120,7 @@ pub(crate) fn put(
 }
 
 /// Takes the row at a place out. After `NoMemory` all is as before.
-pub(crate) fn take_out(kept: &mut Kept, place: u32) -> Result<Row, NoMemory>
+pub(crate) fn take_out(kept: &mut LabelledRows, place: u32) -> Result<Row, NoMemory>
     requires kept { IsKept kept.old }
     requires can { CanRemove kept.old.rows place }
     ensures row { IfOk result (λ row. slice_get kept.old.rows place ≡ Some row) }
@@ -130,7 +130,7 @@ pub(crate) fn take_out(kept: &mut Kept, place: u32) -> Result<Row, NoMemory>
     ensures kept { OnOk result (IsKept kept.new) }
     ensures err { OnErr result (kept.new ≡ kept.old) }
 {
-    let row = uncounted::get(&kept.rows, place).value();
+    let row = uncounted::get(&kept.rows, place).value().row();
     let label = kept.labels.label_at(place);
     take_labelled(&mut kept.index, &mut kept.segments, label, row.op)?;
     kept.labels.remove(place);

@@ -22,24 +22,24 @@
 //! `insert`, `remove` and `all` take memory; where there is none, all is as before.
 //!
 //! What the layer above may rely on is `Retro`. Why it holds is reported by specs/Lifetimes.antt, which lifetimes rows have;
-//! specs/Asked.antt, which range of keys answers a question; specs/Kept.antt, what is kept of rows; the laws over them
+//! specs/Asked.antt, which range of keys answers a question; specs/LabelledRows.antt, what is kept of rows; the laws over them
 //! in specs/DictionaryLaws.antt; specs/RowLabels.antt, which label a row gets; and specs/RelabellingLaw.antt, how rarely all rows
 //! get new ones. Rows that come in one after another, at the end or at one place, mostly find a label: each leaves most of the
 //! gap there for those that follow.
 //!
-//! - `dictionary`: the type and its calls. `edit`: rows put in and taken out; `beside`, the label of a new row, by `recent`, and `relabel`,
-//!   where none is left; `lifetimes`, what becomes of two lifetimes. `failing`: the place of the row that fails first.
+//! - `dictionary`: the type and its calls. `edit`: rows put in and taken out; `free_label`, the label of a new row, by `recent`, and
+//!   `relabel`, where none is left; `lifetimes`, what becomes of two lifetimes. `failing`: the place of the row that fails first.
 //! - `asked`: questions, by what is found of a range of keys. `listed`: the whole content.
-//! - `pairs`: `KeyPair`, `KeyRange`, `Found`. `search`: `PairSearch`. `kept`: what is kept of the rows.
+//! - `pairs`: `KeyPair`, `KeyRange`, `Found`. `search`: `PairSearch`. `labelled_rows`: what is kept of the rows.
 //! - `laws`: what lifetimes tell of a dictionary, how an edit changes them, and how rarely rows are relabelled.
 #![tactic(auto)]
 
 mod asked;
-mod beside;
 mod dictionary;
 mod edit;
 mod failing;
-mod kept;
+mod free_label;
+mod labelled_rows;
 pub mod laws;
 mod lifetimes;
 mod listed;

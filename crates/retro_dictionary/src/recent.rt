@@ -5,7 +5,7 @@ ghost use Rattle.retro_dictionary.specs.declared.recent.RecentNeighbour.TheVaria
 ghost use Rattle.retro_dictionary.specs.RowLabels.{is_recent, recent_beside};
 
 use monoid_laws::Counted;
-use retro_base::Row;
+use retro_base::PackedRow;
 use weighted_tree::{Tree, uncounted};
 
 /// Which of the rows beside a place came in lately.
@@ -23,7 +23,11 @@ const LATEST: u32 = 8;
 
 /// Which of the rows beside a place came in lately, before a row with this number is put in there. After all rows the rule does not
 /// ask. Where no row stands before the place, this number stands for that row's: no number is lately before itself.
-pub(crate) fn recent_beside(rows: &Tree<Counted<Row>>, place: u32, number: u32) -> RecentNeighbour
+pub(crate) fn recent_beside(
+    rows: &Tree<Counted<PackedRow>>,
+    place: u32,
+    number: u32,
+) -> RecentNeighbour
     requires within { place ≤ length rows.now }
     ensures { result ≡ recent_beside rows.now place number }
 {
@@ -35,7 +39,7 @@ pub(crate) fn recent_beside(rows: &Tree<Counted<Row>>, place: u32, number: u32) 
     uncounted::read(
         rows,
         place - count,
-        |row: &Counted<Row>| row.value().number,
+        |row: &Counted<PackedRow>| row.value().number(),
         &mut numbers[1 - count as usize..],
     );
     recent_in(numbers[0], numbers[1], number)

@@ -7,20 +7,20 @@ ghost use Rattle.retro_base.specs.declared.kind.Kind.TheVariants.{Dict};
 ghost use Rattle.retro_base.specs.Kind.{kind_of};
 ghost use Rattle.retro_base.specs.Limits.{most_rows};
 ghost use Rattle.retro_dictionary.specs.Edited.{CanPut, next_of, placed_at};
-ghost use Rattle.retro_dictionary.specs.Kept.{ordered};
+ghost use Rattle.retro_dictionary.specs.LabelledRows.{ordered};
 ghost use Rattle.retro_dictionary.specs.Labelled.{labelled};
 ghost use Rattle.retro_dictionary.specs.Lifetimes.{lifetimes_of, put_by};
 ghost use Rattle.retro_dictionary.specs.Ready.{IsKept, IsReadyFor};
 ghost use Rattle.retro_dictionary.specs.Relabelling.{CanRelabel, begun_by, labelled_anew, new_label, other_labels, relabelled_with, with_row_at};
 
-use crate::kept::Kept;
+use crate::labelled_rows::LabelledRows;
 use crate::lifetimes::{key_of, label_or_end, put_by};
 use crate::search::PairSearch;
 use key_index::{KeyIndex, Labels2};
 use lifetime_segments::Segments;
 use monoid_laws::Counted;
 use order_labels::{Labels, gap_of};
-use retro_base::{NoMemory, Op, Row};
+use retro_base::{NoMemory, Op, PackedRow, Row};
 use std::alloc::Global;
 use weighted_tree::{Tree, uncounted};
 
@@ -118,7 +118,7 @@ fn begin(
 
 /// The lifetimes of all pairs, where the labels of the rows are spread evenly. They are made from the last row to the first.
 fn segments_of(
-    rows: &Tree<Counted<Row>>,
+    rows: &Tree<Counted<PackedRow>>,
     index: &KeyIndex,
 ) -> Result<Segments<PairSearch>, NoMemory>
     requires few { length rows.now ≤ most_rows }
@@ -129,14 +129,14 @@ fn segments_of(
     let gap = gap_of(count);
     let mut segments = Segments::new(rows.alloc());
     for place in (0..count).rev() {
-        let op = uncounted::get(rows, place).value().op;
+        let op = uncounted::get(rows, place).value().op();
         begin(&mut segments, index, label_of(place, gap), op)?;
     }
     Ok(segments)
 }
 
 /// Makes the lifetimes anew, and then labels the rows. After `NoMemory` all is as before.
-fn label_anew(kept: &mut Kept, place: u32) -> Result<(), NoMemory>
+fn label_anew(kept: &mut LabelledRows, place: u32) -> Result<(), NoMemory>
     requires within { place ≤ length kept.old.labels }
     requires room { length kept.old.labels < most_rows }
     requires few { length kept.old.rows ≤ most_rows }
@@ -152,7 +152,7 @@ fn label_anew(kept: &mut Kept, place: u32) -> Result<(), NoMemory>
 }
 
 /// Puts a row in that the index has already. After `NoMemory` all is as before.
-fn put_indexed(kept: &mut Kept, place: u32, row: Row) -> Result<(), NoMemory>
+fn put_indexed(kept: &mut LabelledRows, place: u32, row: Row) -> Result<(), NoMemory>
     requires within { place ≤ length kept.old.rows }
     requires room { length kept.old.rows < most_rows }
     requires as_many { length kept.old.labels ≡ length kept.old.rows }
@@ -160,7 +160,7 @@ fn put_indexed(kept: &mut Kept, place: u32, row: Row) -> Result<(), NoMemory>
     ensures ok { OnOk result (kept.new ≡ labelled_anew place (with_row_at place row kept.old)) }
     ensures err { OnErr result (kept.new ≡ kept.old) }
 {
-    uncounted::insert(&mut kept.rows, place, Counted::new(row))?;
+    uncounted::insert(&mut kept.rows, place, Counted::new(PackedRow::new(row)))?;
     if label_anew(kept, place).is_err() {
         uncounted::remove(&mut kept.rows, place);
         return Err(NoMemory);
@@ -171,7 +171,7 @@ fn put_indexed(kept: &mut Kept, place: u32, row: Row) -> Result<(), NoMemory>
 /// Puts a row in at a place where no label is left: all rows are relabelled. After `NoMemory` all is as before.
 ///
 /// All that takes memory is made beside what is there, and the labels are written last, since they cannot be taken back.
-pub(crate) fn put_relabelled(kept: &mut Kept, place: u32, row: Row) -> Result<(), NoMemory>
+pub(crate) fn put_relabelled(kept: &mut LabelledRows, place: u32, row: Row) -> Result<(), NoMemory>
     requires ready { IsReadyFor kept.old place row }
     requires full { has_room kept.old.labels place ≡ false }
     ensures rows { OnOk result (kept.new.rows ≡ insert kept.old.rows place row) }

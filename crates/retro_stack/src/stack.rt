@@ -24,6 +24,7 @@ impl Sequence for Stack {
     fn written_by<L: Ledger>(
         rows: &LineRows,
         place: u32,
+        _: i64,
         index: u32,
         steps: &mut Steps<L>,
     ) -> Option<u32> {

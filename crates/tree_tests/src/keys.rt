@@ -5,7 +5,7 @@ ghost use Rattle.retro_base.specs.declared.kind.Kind.TheVariants.{Dict};
 ghost use Rattle.retro_base.specs.Kind.{kind_of};
 ghost use Rattle.key_index.specs.KeyRows.{Replays, op_at, with_row};
 
-use key_index::{Bad, Beside, KeyIndex, Labels2};
+use key_index::{Bad, KeyIndex, Labels2, RowsBeside};
 use retro_base::{Kind, Op};
 use std::alloc::Global;
 use std::process::Abort;
@@ -94,7 +94,7 @@ fn expect_beside(rt: &impl Abort, index: &KeyIndex) {
         (2, 101, None, None),
         (2, 200, Some((101, OTHER)), None),
     ] {
-        assert_eq!(rt; index.beside(key, label), Beside { before, after });
+        assert_eq!(rt; index.beside(key, label), RowsBeside { before, after });
         assert_eq!(rt; index.before(key, label), before);
         assert_eq!(rt; index.after(key, label), after);
     }

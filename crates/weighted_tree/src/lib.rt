@@ -22,10 +22,11 @@
 //! its nodes and one, whatever its leaves hold, and neither side of a node weighs over 3 times the other.
 //! A side that grew too heavy is rotated, once where its inner child weighs less than 2 times the outer
 //! one and else twice; with 3 and 2 this restores the balance after an insertion and after a removal (Hirai
-//! and Yamamoto 2011). An edit looks at the balance of a node only where there are other nodes below it than before. A leaf is never too heavy, so rotations move leaves and look into none. A node whose
-//! item is removed takes the first one after it; where there is none, its left side takes its place. A side
-//! weighs at most 3 quarters of the whole, so a tree of n nodes has at most 3 levels for each binary digit
-//! of n + 1 but the first, and a leaf below them.
+//! and Yamamoto 2011). An edit looks at the balance of a node only where there are other nodes below it than
+//! before. A leaf is never too heavy, so rotations move leaves and look into none. A node whose item is removed
+//! takes the first one after it; where there is none, its left side takes its place. A side weighs at most 3
+//! quarters of the whole, so a tree of n nodes has at most 3 levels for each binary digit of n + 1 but the first,
+//! and a leaf below them.
 //!
 //! | Call | Nodes and leaves visited, d being the digits of one more than the length |
 //! |---|---|
@@ -33,13 +34,14 @@
 //! | `get`, `insert`, `remove`, `replace`, `measure`, `first_place`, `last_place`, `partition_point` | at most 12 d |
 //! | `read` | at most 12 d, and one more for each item that it reads |
 //! | `copy` | one for each item |
-//! | those of `uncounted` | no bound is told |
+//! | those of `uncounted`, each made of a call above | no bound is told |
 //!
 //! A link holds its node or its leaf closed: each way to open it, be it to read it, to change it or to take it
 //! apart, is a visit, and a step on the counter that the caller hands in, which contracts alone see. So an
 //! edit visits a node on the way down and again on the way back. `read` and `copy` count each item of a leaf as
-//! a visit. The sizes and the measure of a subtree belong to the node above it, which the link is in. `insert` and `copy` take memory from the allocator that
-//! the tree was made with, and leave the tree as it was where there is none; no other call takes any.
+//! a visit. The sizes and the measure of a subtree belong to the node above it, which the link is in. `insert`
+//! and `copy` take memory from the allocator that the tree was made with, and leave the tree as it was where there
+//! is none; no other call takes any.
 //!
 //! The proofs rest on the laws of the monoid alone. What the layer above may rely on: the clauses of
 //! `Tree`, in the words of lists; `measure_in` of specs/Measures.antt and std's `slice_range` for what a

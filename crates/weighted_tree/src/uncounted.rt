@@ -1,5 +1,5 @@
-//! The calls of a tree, each with a counter of its own: for a caller that counts nothing. Conditions and answers are
-//! those of `Tree`.
+//! Calls of a tree for a caller that counts nothing: each opens a counter of its own. Conditions and answers are those of the
+//! calls of `Tree` with the same names; `last_place` and `copy` have no such twin.
 ghost use Rattle.std.specs.Prelude.{◌≡◌, ◌-◌, ◌^◌, ◌<◌, ◌≤◌, min, length, take, drop, slice_get, slice_set, Some, IfSome, OnOk, OnErr};
 ghost use Rattle.std.specs.List.{insert, remove, slice_range};
 ghost use Rattle.retro_base.specs.Visits.{OpensCounter};

@@ -25,28 +25,28 @@ pub flip_marks-requires-clause-within : goal.flip_marks-requires-clause-within
 flip_marks-requires-clause-within g c = flip_marks-within (insert (rows_of c.args.rows.now) c.args.place c.args.row)
     (survivors (rows_of c.args.rows.now)) c.insert.new.self c.args.entries.now
     (put-taking c.args.rows.now c.args.entries.now c.requires.bridged c.args.place c.args.row c.requires.within c.requires.replayable c.requires.takes c.insert.new.self
-    c.in_ok-insert.ensures.ok) c.lost_with-flip.result.place
+    (rw c.new.ensures at c.in_ok-insert.ensures.ok)) c.lost_with-flip.result.place
     c.lost_with-flip.result.entry c.lost_with-flip.ensures.flips.there
 
 pub flip_marks-requires-clause-few : goal.flip_marks-requires-clause-few
 flip_marks-requires-clause-few g c = flip_marks-few (insert (rows_of c.args.rows.now) c.args.place c.args.row)
     (survivors (rows_of c.args.rows.now)) c.insert.new.self c.args.entries.now
     (put-taking c.args.rows.now c.args.entries.now c.requires.bridged c.args.place c.args.row c.requires.within c.requires.replayable c.requires.takes c.insert.new.self
-    c.in_ok-insert.ensures.ok) c.lost_with-flip.result.place
+    (rw c.new.ensures at c.in_ok-insert.ensures.ok)) c.lost_with-flip.result.place
     c.lost_with-flip.result.entry c.lost_with-flip.ensures.flips.there
 
 pub flip_marks-requires-clause-among : goal.flip_marks-requires-clause-among
 flip_marks-requires-clause-among g c = flip_marks-among (insert (rows_of c.args.rows.now) c.args.place c.args.row)
     (survivors (rows_of c.args.rows.now)) c.insert.new.self c.args.entries.now
     (put-taking c.args.rows.now c.args.entries.now c.requires.bridged c.args.place c.args.row c.requires.within c.requires.replayable c.requires.takes c.insert.new.self
-    c.in_ok-insert.ensures.ok) c.lost_with-flip.result.place
+    (rw c.new.ensures at c.in_ok-insert.ensures.ok)) c.lost_with-flip.result.place
     c.lost_with-flip.result.entry c.lost_with-flip.ensures.flips.there
 
 pub returns-clause-bridged : goal.returns-clause-bridged
 returns-clause-bridged g c = (flip_marks-done (insert (rows_of c.args.rows.now) c.args.place c.args.row)
     (survivors (rows_of c.args.rows.now)) c.insert.new.self c.args.entries.now
     (put-taking c.args.rows.now c.args.entries.now c.requires.bridged c.args.place c.args.row c.requires.within c.requires.replayable c.requires.takes c.insert.new.self
-    c.in_ok-insert.ensures.ok) c.lost_with-flip.result.place
+    (rw c.new.ensures at c.in_ok-insert.ensures.ok)) c.lost_with-flip.result.place
     c.lost_with-flip.result.entry c.lost_with-flip.ensures.flips.there c.lost_with-flip.result.survives c.lost_with-flip.ensures.flips.marks
     c.flip_marks.new.rows c.flip_marks.new.entries c.flip_marks.ensures.rows c.flip_marks.ensures.entries).0
 
@@ -54,7 +54,7 @@ pub returns-clause-rows : goal.returns-clause-rows
 returns-clause-rows g c = (flip_marks-done (insert (rows_of c.args.rows.now) c.args.place c.args.row)
     (survivors (rows_of c.args.rows.now)) c.insert.new.self c.args.entries.now
     (put-taking c.args.rows.now c.args.entries.now c.requires.bridged c.args.place c.args.row c.requires.within c.requires.replayable c.requires.takes c.insert.new.self
-    c.in_ok-insert.ensures.ok) c.lost_with-flip.result.place
+    (rw c.new.ensures at c.in_ok-insert.ensures.ok)) c.lost_with-flip.result.place
     c.lost_with-flip.result.entry c.lost_with-flip.ensures.flips.there c.lost_with-flip.result.survives c.lost_with-flip.ensures.flips.marks
     c.flip_marks.new.rows c.flip_marks.new.entries c.flip_marks.ensures.rows c.flip_marks.ensures.entries).1
 
@@ -62,7 +62,7 @@ pub returns-clause-visits : goal.returns-clause-visits
 returns-clause-visits g c =
     let put = c.insert.new.self in
     let flip : length c.flip_marks.new.rows ≡ length c.args.rows.now + 1 = one_longer c.args.rows.now c.flip_marks.new.rows c.args.place c.args.row c.requires.within (returns-clause-rows g c) in
-    let longer : length put ≡ length c.args.rows.now + 1 = ap length c.in_ok-insert.ensures.ok ∙ length-insert c.args.rows.now c.args.place (record { row = c.args.row; survives = false }) c.requires.within in
+    let longer : length put ≡ length c.args.rows.now + 1 = ap length (rw c.new.ensures at c.in_ok-insert.ensures.ok) ∙ length-insert c.args.rows.now c.args.place (record { row = c.args.row; survives = false }) c.requires.within in
     visits-more 108 36 (length c.flip_marks.new.rows) _ _
     (visits-add 60 48 (length c.flip_marks.new.rows) _ _ _
     (visits-add 48 12 (length c.flip_marks.new.rows) _ _ _

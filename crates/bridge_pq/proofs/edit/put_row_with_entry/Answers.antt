@@ -15,7 +15,7 @@ returns-in_err-insert-clause-visits g c = visits-more 12 60 (length c.insert.new
 pub returns-in-Err-clause-err : goal.returns-in-Err-clause-err
 returns-in-Err-clause-err g c = (
   c.remove.ensures.items
-      ∙ ap (λ rows. remove rows c.args.place) c.in_ok-insert.ensures.ok
+      ∙ ap (λ rows. remove rows c.args.place) (rw c.new.ensures at c.in_ok-insert.ensures.ok)
       ∙ remove-insert c.args.rows.now c.args.place (record { row = c.args.row; survives = c.args.survives }) c.requires.within,
   c.in-Err.ensures.err,
 )
@@ -24,8 +24,8 @@ pub returns-in-Err-clause-visits : goal.returns-in-Err-clause-visits
 returns-in-Err-clause-visits g c =
     let rows = c.args.rows.now in
     let item : MarkedRow = record { row = c.args.row; survives = c.args.survives } in
-    let longer : length c.insert.new.self ≡ length rows + 1 = ap length c.in_ok-insert.ensures.ok ∙ length-insert rows c.args.place item c.requires.within in
-    let back : c.remove.new.self ≡ rows = c.remove.ensures.items ∙ ap (λ xs. remove xs c.args.place) c.in_ok-insert.ensures.ok ∙ remove-insert rows c.args.place item c.requires.within in
+    let longer : length c.insert.new.self ≡ length rows + 1 = ap length (rw c.new.ensures at c.in_ok-insert.ensures.ok) ∙ length-insert rows c.args.place item c.requires.within in
+    let back : c.remove.new.self ≡ rows = c.remove.ensures.items ∙ ap (λ xs. remove xs c.args.place) (rw c.new.ensures at c.in_ok-insert.ensures.ok) ∙ remove-insert rows c.args.place item c.requires.within in
     let kept : length c.put_entry.new.entries ≤ length rows = omega (arith, ap length c.in-Err.ensures.err, c.requires.few) in
     subst (λ xs. VisitsWithin 72 (length xs) c.args.steps.now c.remove.new.steps) (sym back)
     (visits-add 48 24 (length rows) _ _ _
@@ -38,7 +38,7 @@ pub returns-clause-ok_visits : goal.returns-clause-ok_visits
 returns-clause-ok_visits g c =
     let rows = c.args.rows.now in
     let item : MarkedRow = record { row = c.args.row; survives = c.args.survives } in
-    let longer : length c.insert.new.self ≡ length rows + 1 = ap length c.in_ok-insert.ensures.ok ∙ length-insert rows c.args.place item c.requires.within in
+    let longer : length c.insert.new.self ≡ length rows + 1 = ap length (rw c.new.ensures at c.in_ok-insert.ensures.ok) ∙ length-insert rows c.args.place item c.requires.within in
     let few : length c.put_entry.new.entries ≤ length c.insert.new.self =
     omega (arith, longer, ap length c.in_default.ensures.ok, put-length (record { entry = c.args.entry; present = c.args.survives }) c.args.entries.now, c.requires.few) in
     visits-add 12 24 (length c.insert.new.self) _ _ _ c.insert.ensures.visits

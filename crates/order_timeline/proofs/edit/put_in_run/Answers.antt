@@ -24,6 +24,6 @@ pub returns-clause-kept : goal.returns-clause-kept
 returns-clause-kept c =
     kept_put c.args.kept.now.rows c.insert.new.tree c.args.kept.now.runs c.replace.new.tree c.args.kept.now.names
     c.args.kept.now.numbers c.add.new.numbers c.args.run c.args.place
-    c.args.row c.new.result c.rows-count.result c.name_at-name.result c.new-2.result c.requires.kept c.requires.comes c.requires.run c.requires.room
-    (c.get.ensures.item ∙ ap Some (sym c.rows-count.ensures)) c.name_at-name.ensures c.in_ok-add.ensures.ok c.new.ensures
-    (ok_from c.insert.result c.is_err.result _ c.is_err.ensures.value c.if-is_err.false c.insert.ensures.ok) c.new-2.ensures c.replace.ensures.items
+    c.args.row c.new-2.result c.rows-count.result c.name_at-name.result c.new-3.result c.requires.kept c.requires.comes c.requires.run c.requires.room
+    (c.get.ensures.item ∙ ap Some (sym c.rows-count.ensures)) c.name_at-name.ensures c.in_ok-add.ensures.ok (c.new-2.ensures ∙ c.new.ensures)
+    (ok_from c.insert.result c.is_err.result _ c.is_err.ensures.value c.if-is_err.false c.insert.ensures.ok) c.new-3.ensures c.replace.ensures.items

@@ -5,9 +5,9 @@ use Rattle.order_timeline.proofs.InRuns.{all_rows, few_divided, first_takes, sec
 use Rattle.order_timeline.proofs.Totals.{run_within}
 use Rattle.order_timeline.proofs.edit.run_with_room.Goals as goal
 
-pub run_for-run-requires-clause-within : goal.run_for-run-requires-clause-within
-run_for-run-requires-clause-within c =
-    omega (arith, c.requires.within, all_rows c.args.kept.now.rows c.args.kept.now.runs c.args.kept.now.names c.args.kept.now.numbers c.requires.kept.in_runs)
+pub run_for-run-requires-clause-told : goal.run_for-run-requires-clause-told
+run_for-run-requires-clause-told c =
+    omega (arith, c.len.ensures, all_rows c.args.kept.now.rows c.args.kept.now.runs c.args.kept.now.names c.args.kept.now.numbers c.requires.kept.in_runs)
 
 pub start_of-start-requires-clause-few : goal.start_of-start-requires-clause-few
 start_of-start-requires-clause-few c =

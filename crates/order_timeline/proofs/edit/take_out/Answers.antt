@@ -18,8 +18,8 @@ returns-then-count-eq1-clause-kept c =
     let ordered = subst IsOrdered (sym c.remove.ensures.items) (ordered_without c.args.kept.now.rows c.args.place c.requires.kept.ordered c.requires.within) in
     let in_runs =
     let gone = in_runs_gone c.args.kept.now.rows c.args.kept.now.runs c.args.kept.now.names c.args.kept.now.numbers c.forget.new.numbers c.run_of-run.result c.args.place
-    c.value-row.result c.rows-count.result c.requires.kept.in_runs c.requires.within c.requires.kept.ordered.own_numbers
-    (c.remove.ensures.item ∙ ap Some (sym c.value-row.ensures)) c.run_of-run.ensures (c.get.ensures.item ∙ ap Some (sym c.rows-count.ensures)) c.if-count-eq1.true c.forget.ensures in
+    c.row-row.result c.rows-count.result c.requires.kept.in_runs c.requires.within c.requires.kept.ordered.own_numbers
+    (c.remove.ensures.item ∙ ap Some (sym (c.row-row.ensures ∙ c.value.ensures))) c.run_of-run.ensures (c.get.ensures.item ∙ ap Some (sym c.rows-count.ensures)) c.if-count-eq1.true c.forget.ensures in
     subst (λ rows. IsInRuns rows c.remove-then-count-eq1.new.tree c.remove-then-count-eq1-2.new.self c.forget.new.numbers) (sym c.remove.ensures.items)
     (subst (λ runs. IsInRuns (remove c.args.kept.now.rows c.args.place) runs c.remove-then-count-eq1-2.new.self c.forget.new.numbers) (sym c.remove-then-count-eq1.ensures.items)
     (subst (λ names. IsInRuns (remove c.args.kept.now.rows c.args.place) (remove c.args.kept.now.runs c.run_of-run.result) names c.forget.new.numbers) (sym c.remove-then-count-eq1-2.ensures) gone))
@@ -35,8 +35,8 @@ returns-clause-kept c =
     let ordered = subst IsOrdered (sym c.remove.ensures.items) (ordered_without c.args.kept.now.rows c.args.place c.requires.kept.ordered c.requires.within) in
     let in_runs =
     let stays = in_runs_without c.args.kept.now.rows c.args.kept.now.runs c.args.kept.now.names c.args.kept.now.numbers c.forget.new.numbers c.run_of-run.result c.args.place
-    c.value-row.result c.rows-count.result c.requires.kept.in_runs c.requires.within c.requires.kept.ordered.own_numbers
-    (c.remove.ensures.item ∙ ap Some (sym c.value-row.ensures)) c.run_of-run.ensures (c.get.ensures.item ∙ ap Some (sym c.rows-count.ensures)) c.forget.ensures in
+    c.row-row.result c.rows-count.result c.requires.kept.in_runs c.requires.within c.requires.kept.ordered.own_numbers
+    (c.remove.ensures.item ∙ ap Some (sym (c.row-row.ensures ∙ c.value.ensures))) c.run_of-run.ensures (c.get.ensures.item ∙ ap Some (sym c.rows-count.ensures)) c.forget.ensures in
     subst (λ rows. IsInRuns rows c.replace.new.tree c.args.kept.now.names c.forget.new.numbers) (sym c.remove.ensures.items)
     (subst (λ runs. IsInRuns (remove c.args.kept.now.rows c.args.place) runs c.args.kept.now.names c.forget.new.numbers)
     (sym (c.replace.ensures.items ∙ ap (slice_set c.args.kept.now.runs c.run_of-run.result) c.new.ensures)) stays)

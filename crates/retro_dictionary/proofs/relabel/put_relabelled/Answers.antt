@@ -3,8 +3,8 @@ use Rattle.std.specs.List.{insert}
 use Rattle.key_index.specs.KeyRows.{KeyRow, op_at, without}
 use Rattle.key_index.specs.Relabelled.{HoldsLabels, relabelled}
 use Rattle.order_labels.specs.Labels.{spread}
-use Rattle.retro_dictionary.specs.declared.kept.Kept.{Kept}
-use Rattle.retro_dictionary.specs.Kept.{ordered}
+use Rattle.retro_dictionary.specs.declared.labelled_rows.LabelledRows.{LabelledRows}
+use Rattle.retro_dictionary.specs.LabelledRows.{ordered}
 use Rattle.retro_dictionary.specs.Labelled.{labelled}
 use Rattle.retro_dictionary.specs.Lifetimes.{lifetimes_of}
 use Rattle.retro_dictionary.specs.Ready.{IsKept}
@@ -62,9 +62,9 @@ relabel-requires c =
 pub returns-then-is_err-clause-err : goal.returns-then-is_err-clause-err
 returns-then-is_err-clause-err c =
     let can = can (goal.at.returns-then-is_err-clause-err c).After-new_label-label in
-    let holding : List KeyRow → Kept = λ index. record c.args.kept.now { index = index } in
+    let holding : List KeyRow → LabelledRows = λ index. record c.args.kept.now { index = index } in
     let same : c.put_indexed.new.kept ≡ holding c.relabel_with.new.index = search rules in
-    let renewed : Kept → Kept = λ kept. record kept { index = c.relabel.new.self } in
+    let renewed : LabelledRows → LabelledRows = λ kept. record kept { index = c.relabel.new.self } in
     ap renewed same
     ∙ ap holding
     (c.relabel.ensures ∙ ap (relabelled c.in_ok-fresh.fresh c.in_ok-former.former) (without-new (goal.at.returns-then-is_err-clause-err c).After-remove_row can) ∙ can.back)

@@ -17,17 +17,17 @@ next-label c =
     (omega (arith, c.loop-place.auto.place, c.len-count.ensures))
 
 pub begin-requires : goal.begin-requires
-begin-requires c = record {
+begin-requires c = rw c.op-op.ensures (record {
   can = can-begin (spread (length c.args.rows.now)) c.args.rows.now c.args.index.now (length-spread (length c.args.rows.now))
       (spread-rises (length c.args.rows.now) (omega (arith, c.requires.few))) c.requires.few c.requires.indexed
-      (c.loop-place.place - 1) c.label_of.result c.value-op.result (next-label (goal.at.begin-requires c).After-label_of) (c.get.ensures.item ∙ ap Some (sym c.value-op.ensures))
+      (c.loop-place.place - 1) c.label_of.result c.value.result (next-label (goal.at.begin-requires c).After-label_of) (c.get.ensures.item ∙ ap Some (sym c.value.ensures))
       c.loop-place.place c.loop-place.segments (omega arith) c.loop-place.invariant;
-}
+})
 
 pub loop-place-preserved : goal.loop-place-preserved
 loop-place-preserved c =
-    c.in_ok-begin.ensures.ok
+    (rw c.op-op.ensures at c.in_ok-begin.ensures.ok)
     ∙ one-made (spread (length c.args.rows.now)) c.args.rows.now c.args.index.now (length-spread (length c.args.rows.now))
     (spread-rises (length c.args.rows.now) (omega (arith, c.requires.few))) c.requires.few c.requires.indexed
-    (c.loop-place.place - 1) c.label_of.result c.value-op.result (next-label (goal.at.loop-place-preserved c).After-label_of) (c.get.ensures.item ∙ ap Some (sym c.value-op.ensures))
+    (c.loop-place.place - 1) c.label_of.result c.value.result (next-label (goal.at.loop-place-preserved c).After-label_of) (c.get.ensures.item ∙ ap Some (sym c.value.ensures))
     c.loop-place.place c.loop-place.segments (omega arith) c.loop-place.invariant

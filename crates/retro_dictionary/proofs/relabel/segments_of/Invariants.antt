@@ -1,6 +1,6 @@
 use Rattle.std.proofs.Common.{◌≡◌, length, drop}
 use Rattle.order_labels.specs.Labels.{spread}
-use Rattle.retro_dictionary.specs.Kept.{ordered}
+use Rattle.retro_dictionary.specs.LabelledRows.{ordered}
 use Rattle.retro_dictionary.specs.Labelled.{labelled}
 use Rattle.retro_dictionary.specs.Lifetimes.{lifetimes_of}
 use Rattle.retro_dictionary.proofs.relabel.segments_of.Given as goal

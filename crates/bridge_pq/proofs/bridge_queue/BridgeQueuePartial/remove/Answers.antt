@@ -8,17 +8,19 @@ use Rattle.bridge_pq.proofs.bridge_queue.BridgeQueuePartial.remove.Goals as goal
 
 pub remove_survivor-change-requires-clause-lives : goal.remove_survivor-change-requires-clause-lives
 remove_survivor-change-requires-clause-lives g c = mark-lives c.self.inside.rows c.self.inside.entries c.self.invariant c.args.place c.get-item.result
-    c.in-Some.own c.get-item.ensures.item (sym c.added_entry.ensures ∙ c.in-Some.is) c.if-item.true
+    c.in-Some.own c.get-item.ensures.item (rw c.row-row.ensures at (sym c.added_entry.ensures ∙ c.in-Some.is)) c.if-item.true
 
 pub remove_dead-change-requires-clause-there : goal.remove_dead-change-requires-clause-there
-remove_dead-change-requires-clause-there g c = get-map (λ (item : MarkedRow). item.row) c.self.inside.rows c.args.place c.get-item.result c.get-item.ensures.item
+remove_dead-change-requires-clause-there g c =
+    rw c.row-row.ensures (get-map (λ (item : MarkedRow). item.row) c.self.inside.rows c.args.place c.get-item.result c.get-item.ensures.item)
 
 pub remove_dead-change-requires-clause-dead : goal.remove_dead-change-requires-clause-dead
 remove_dead-change-requires-clause-dead g c = mark-dead c.self.inside.rows c.self.inside.entries c.self.invariant c.args.place c.get-item.result c.in-Some.own
-    c.get-item.ensures.item (sym c.added_entry.ensures ∙ c.in-Some.is) c.if-item.false
+    c.get-item.ensures.item (rw c.row-row.ensures at (sym c.added_entry.ensures ∙ c.in-Some.is)) c.if-item.false
 
 pub remove_taking-change-requires-clause-there : goal.remove_taking-change-requires-clause-there
-remove_taking-change-requires-clause-there g c = get-map (λ (item : MarkedRow). item.row) c.self.inside.rows c.args.place c.get-item.result c.get-item.ensures.item
+remove_taking-change-requires-clause-there g c =
+    rw c.row-row.ensures (get-map (λ (item : MarkedRow). item.row) c.self.inside.rows c.args.place c.get-item.result c.get-item.ensures.item)
 
 pub invariant_of-self : goal.invariant_of-self
 invariant_of-self g c = elim c.match-added_entry.branch [
@@ -28,4 +30,6 @@ invariant_of-self g c = elim c.match-added_entry.branch [
 ]
 
 pub returns-clause-row : goal.returns-clause-row
-returns-clause-row g c = ap (λ l. slice_get l c.args.place) (sym c.self.view_is) ∙ get-map (λ (item : MarkedRow). item.row) c.self.inside.rows c.args.place c.get-item.result c.get-item.ensures.item
+returns-clause-row g c =
+    rw c.row-row.ensures
+    (ap (λ l. slice_get l c.args.place) (sym c.self.view_is) ∙ get-map (λ (item : MarkedRow). item.row) c.self.inside.rows c.args.place c.get-item.result c.get-item.ensures.item)

@@ -3,7 +3,7 @@ use Rattle.std.proofs.lemmas.Int.{to_z-of_z}
 use Rattle.std.specs.Option.{option_map}
 use Rattle.key_index.specs.declared.key_index.Bad.TheVariants.{Present}
 use Rattle.key_index.specs.KeyRows.{AreKeyRows, bad_with}
-use Rattle.key_index.specs.Beside.{around, is_there, taken_at}
+use Rattle.key_index.specs.RowsBeside.{around, is_there, taken_at}
 use Rattle.key_index.specs.Ordered.{by_label}
 use Rattle.key_index.proofs.Neighbours.{same_around}
 use Rattle.key_index.proofs.InsertedRow.{replays_in_parts, others_are_good, stays, del_is_bad, del_takes}

@@ -1,7 +1,7 @@
 use Rattle.std.proofs.Common.{◌≡◌, w64, SFits, subst, sym, ap, ◌∙◌, rules}
 use Rattle.std.proofs.lemmas.Int.{to_z-of_z}
 use Rattle.key_index.specs.KeyRows.{AreKeyRows, Replays, without}
-use Rattle.key_index.specs.Beside.{beside, is_there, taken_at}
+use Rattle.key_index.specs.RowsBeside.{beside, is_there, taken_at}
 use Rattle.key_index.specs.Ordered.{by_label}
 use Rattle.key_index.proofs.NamedRows.{removed_good, if_none}
 use Rattle.key_index.proofs.Neighbours.{same_beside}

@@ -1,6 +1,6 @@
 use Rattle.std.proofs.Common.{w64, ◌∙◌, ap}
 use Rattle.std.proofs.lemmas.Int.{to_z-of_z}
-use Rattle.key_index.specs.Beside.{beside}
+use Rattle.key_index.specs.RowsBeside.{beside}
 use Rattle.key_index.specs.Ordered.{by_label}
 use Rattle.key_index.proofs.Neighbours.{same_beside}
 use Rattle.key_index.proofs.key_index.KeyIndex.beside.Goals as goal

@@ -3,7 +3,7 @@ use Rattle.retro_base.specs.declared.kind.Kind.TheVariants.{Pq}
 use Rattle.retro_base.specs.Answers.{answer_of}
 use Rattle.retro_base.specs.Replay.{state_at}
 use Rattle.retro_base.specs.State.{entries}
-use Rattle.pq_fusion.specs.Tallies.{left_by}
+use Rattle.pq_fusion.specs.EntryCounts.{left_by}
 use Rattle.retro_base.specs.Digits.{digits}
 use Rattle.retro_base.specs.VisitsLaws.{below-digits}
 use Rattle.pq_fusion.specs.Searches.{VisitsUpTo, run_of}

@@ -2,7 +2,7 @@ use Rattle.std.proofs.Common.{◌≡◌, ap, ◌∙◌, sym, take, length, arith
 use Rattle.retro_base.specs.declared.kind.Kind.TheVariants.{Pq}
 use Rattle.retro_base.specs.Replay.{state_at}
 use Rattle.retro_base.specs.State.{entries}
-use Rattle.pq_fusion.specs.Tallies.{left_by}
+use Rattle.pq_fusion.specs.EntryCounts.{left_by}
 use Rattle.pq_fusion.specs.Wear.{WornRows}
 use Rattle.pq_fusion.proofs.Replays.{state_is_left, if_ok_more}
 use Rattle.pq_fusion.proofs.Prefixes.{left_few}

@@ -11,4 +11,4 @@ pub with_row-requires-clause-few : goal.with_row-requires-clause-few
 with_row-requires-clause-few c = few_so_far c.args.rows.now c.loop-row.row-index c.loop-row.piece c.loop-row.invariant c.loop-row-test.true c.requires.few
 
 pub loop-row-preserved : goal.loop-row-preserved
-loop-row-preserved c = c.in_ok-piece-2.ensures ∙ ap (after_row _ _) c.loop-row.invariant ∙ sym (row_more c.args.rows.now c.loop-row.row-index _ c.loop-row-test.true)
+loop-row-preserved c = (rw (c.row.ensures, c.row-item.is) at c.in_ok-piece-2.ensures) ∙ ap (after_row _ _) c.loop-row.invariant ∙ sym (row_more c.args.rows.now c.loop-row.row-index _ c.loop-row-test.true)

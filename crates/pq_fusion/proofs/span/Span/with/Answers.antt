@@ -1,6 +1,6 @@
 use Rattle.std.proofs.Common.{arith, sym, ◌∙◌}
 use Rattle.std.proofs.lemmas.Int.{ints, clamps}
-use Rattle.pq_fusion.specs.Tallies.{LiesIn}
+use Rattle.pq_fusion.specs.EntryCounts.{LiesIn}
 use Rattle.pq_fusion.proofs.Spanned.{in_span, none_first, none_last}
 use Rattle.pq_fusion.proofs.span.Span.with.Goals as goal
 

@@ -1,6 +1,6 @@
 use Rattle.std.proofs.Common.{arith}
 use Rattle.std.specs.List.{AllByRecursion}
-use Rattle.pq_fusion.specs.Tallies.{LiesIn}
+use Rattle.pq_fusion.specs.EntryCounts.{LiesIn}
 use Rattle.pq_fusion.proofs.Carried.{carries_none, carries_sides}
 use Rattle.pq_fusion.proofs.Pairs.{piece_is, run_piece_is}
 use Rattle.pq_fusion.proofs.Searched.{step_left, step_right}

@@ -1,7 +1,7 @@
 use Rattle.std.proofs.Common.{◌≡◌, ◌+◌, ◌*◌, length, take, arith, ap, ◌∙◌, sym, subst}
 use Rattle.std.proofs.lemmas.List.{length-take}
 use Rattle.pq_fusion.specs.Searches.{run_of}
-use Rattle.pq_fusion.specs.Tallies.{tally_of, LeadsTally}
+use Rattle.pq_fusion.specs.EntryCounts.{counts_of, LeadsCounts}
 use Rattle.pq_fusion.proofs.Carried.{carries_none, carries_whole, carries_sides}
 use Rattle.pq_fusion.proofs.Pairs.{run_few}
 use Rattle.pq_fusion.proofs.Searched.{after_one, no_more_than, piece_few, walk_left, walk_right, whole_walk, run_walk, earlier_shorter, later_shorter, earlier_run, later_run}
@@ -9,14 +9,14 @@ use Rattle.pq_fusion.proofs.Sizes.{left_size}
 use Rattle.pq_fusion.proofs.subtree.Subtree.+tally.Goals as goal
 
 pub returns-in-None-clause-tally : goal.returns-in-None-clause-tally
-returns-in-None-clause-tally g t c = carries_none (λ entries. c.args.before ≡ tally_of c.args.bound entries) c.args.self.now.rows c.args.to c.in-None.ensures
+returns-in-None-clause-tally g t c = carries_none (λ entries. c.args.before ≡ counts_of c.args.bound entries) c.args.self.now.rows c.args.to c.in-None.ensures
 
 pub after_piece-requires : goal.after_piece-requires
 after_piece-requires g t c = record { few = omega (arith, left_size c.args.self.now.rows c.in-Some.piece.now c.in-Some.ensures, c.requires.few) }
 
 pub returns-in-Some-clause-tally : goal.returns-in-Some-clause-tally
 returns-in-Some-clause-tally g t c =
-    carries_whole (λ entries. c.args.before ≡ tally_of c.args.bound entries) (λ entries. c.after_piece.result ≡ tally_of c.args.bound entries)
+    carries_whole (λ entries. c.args.before ≡ counts_of c.args.bound entries) (λ entries. c.after_piece.result ≡ counts_of c.args.bound entries)
     c.args.self.now.rows c.args.to c.in-Some.piece.now (c.if-to-len.true ∙ c.len.ensures.count) c.in-Some.ensures c.after_piece.ensures.tally
 
 pub returns-in-Some-clause-few : goal.returns-in-Some-clause-few
@@ -33,11 +33,11 @@ returns-in-Some-clause-visits g t c = λ levels k within small.
     whole_walk levels k (run_of c.args.self.now.rows) _ _ (after_one (4 * k) _ _ _ c.tick.ensures (c.after_piece.ensures.visits k few.0 few.1))
 
 pub returns-in-Nothing-clause-tally : goal.returns-in-Nothing-clause-tally
-returns-in-Nothing-clause-tally g t c = carries_none (λ entries. c.args.before ≡ tally_of c.args.bound entries) c.args.self.now.rows c.args.to c.in-Nothing.ensures
+returns-in-Nothing-clause-tally g t c = carries_none (λ entries. c.args.before ≡ counts_of c.args.bound entries) c.args.self.now.rows c.args.to c.in-Nothing.ensures
 
 pub returns-in-Run-clause-tally : goal.returns-in-Run-clause-tally
 returns-in-Run-clause-tally g t c =
-    subst (λ rows. LeadsTally c.args.bound c.args.before rows c.after_rows.result)
+    subst (λ rows. LeadsCounts c.args.bound c.args.before rows c.after_rows.result)
     (c.split_at.ensures.front ∙ ap (take c.args.to) (c.as_slice.ensures.value ∙ sym c.in-Run.ensures.rows_are)) c.after_rows.ensures.tally
 
 pub returns-in-Run-clause-visits : goal.returns-in-Run-clause-visits
@@ -58,8 +58,8 @@ returns-then-to-own-clause-visits g t c = λ levels k within small.
 pub returns-else-to-own-clause-tally : goal.returns-else-to-own-clause-tally
 returns-else-to-own-clause-tally g t c =
     let pair = c.in-Pair.pair.now in
-    carries_sides (λ entries. c.args.before ≡ tally_of c.args.bound entries) (λ entries. c.tally-first.result ≡ tally_of c.args.bound entries)
-    (λ entries. c.tally-in-Pair.result ≡ tally_of c.args.bound entries) c.args.self.now.rows pair.earlier.rows pair.later.rows c.args.to c.len-own.result
+    carries_sides (λ entries. c.args.before ≡ counts_of c.args.bound entries) (λ entries. c.tally-first.result ≡ counts_of c.args.bound entries)
+    (λ entries. c.tally-in-Pair.result ≡ counts_of c.args.bound entries) c.args.self.now.rows pair.earlier.rows pair.later.rows c.args.to c.len-own.result
     c.in-Pair.ensures.rows_are c.len-own.ensures.count (omega (arith, c.if-to-own.false)) c.tally-first.ensures.tally c.tally-in-Pair.ensures.tally
 
 pub returns-else-to-own-clause-visits : goal.returns-else-to-own-clause-visits

@@ -1,7 +1,7 @@
 use Rattle.std.proofs.Common.{◌<◌, ◌+◌, ◌*◌, Some, take, length, arith, ap, w64, of_z, to_z}
 use Rattle.std.proofs.lemmas.Int.{ints}
 use Rattle.pq_fusion.specs.Searches.{run_of}
-use Rattle.pq_fusion.specs.Tallies.{left_by}
+use Rattle.pq_fusion.specs.EntryCounts.{left_by}
 use Rattle.pq_fusion.proofs.Halved.{entry_at, key_from, key_below, key_within, width_is}
 use Rattle.pq_fusion.proofs.Searched.{sought_starts, sought_more, sought_ends, seek_none}
 use Rattle.pq_fusion.proofs.subtree.Subtree.key_at.Goals as goal

@@ -3,7 +3,7 @@ use Rattle.std.specs.Prelude.{pos, ◌-ℤ◌, ◌≤ℤ◌}
 use Rattle.retro_base.specs.declared.row.Entry.{Entry}
 use Rattle.pq_fusion.specs.Nodes.{weight, IsWithinLevels}
 use Rattle.pq_fusion.specs.Searches.{run_of}
-use Rattle.pq_fusion.specs.Tallies.{left_by}
+use Rattle.pq_fusion.specs.EntryCounts.{left_by}
 use Rattle.pq_fusion.proofs.Searched.{IsSought}
 use Rattle.pq_fusion.proofs.subtree.Subtree.key_at.Given as goal
 
