@@ -28,8 +28,8 @@
 //!
 //! - `Full`. The counter of what is copied: `Copies`. The least width: `NARROWEST`. The most checkpoints: `MOST_CHECKPOINTS`.
 //! - `full`: the type and its calls. `snapshot`: a structure that steps a counter where it is copied. `checkpoints`, `spares`: what is
-//!   kept of the past. `settle`, `width`: where checkpoints stand. `past`, `follow`, `reader`: how a question about the past is answered.
-//!   `copies`: the counter of copies.
+//!   kept of the past. `settle`, `width`: where checkpoints stand. `follow`: an edit, in the present and in the checkpoints behind it.
+//!   `past`, `reader`: how a question about the past is answered. `copies`: the counter of copies.
 #![tactic(auto)]
 
 mod checkpoints;

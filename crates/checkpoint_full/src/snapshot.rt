@@ -73,7 +73,7 @@ impl<P: Partial + Drop> Snapshot<P> {
     }
 
     /// The row at a place.
-    pub(crate) fn row_at<L: Ledger>(&self, place: u32, steps: &mut Steps<L>) -> Row
+    fn row_at<L: Ledger>(&self, place: u32, steps: &mut Steps<L>) -> Row
         requires { place < place_of self.now }
         ensures row { slice_get self.now.rows place ≡ Some result }
         ensures replayable { IsReplayable self.now.kind self.now.rows }

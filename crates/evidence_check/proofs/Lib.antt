@@ -6,7 +6,7 @@ pub mod Shown
 pub mod Survivors
 pub mod Accepted
 pub mod Possible
-pub mod Kept
+pub mod Marks
 pub mod TellingRows
 pub mod TellingLists
 pub mod ChangesRead
@@ -15,7 +15,7 @@ pub mod TrueEvidence
 pub mod Timeless
 pub mod EditsReported
 pub mod EditsSpelled
-pub mod Beside
+pub mod KeptNumbers
 pub mod SumsJoined
 pub mod Flat
 pub mod Zeros

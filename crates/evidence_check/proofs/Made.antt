@@ -21,12 +21,12 @@ use Rattle.retro_base.specs.lemmas.bridges.EntryOrder.{same_entry-refl}
 use Rattle.evidence.specs.declared.evidence.Evidence.{Evidence}
 use Rattle.evidence_check.specs.declared.weighed_row.WeighedRow.{WeighedRow}
 use Rattle.evidence_check.specs.Changed.{IsChanged, changed_entry, is_gain, marked_where, moved_place}
-use Rattle.evidence_check.specs.Kept.{AreKept, AreNumbers}
+use Rattle.evidence_check.specs.KeptNumbers.{AreKept, AreNumbers}
 use Rattle.evidence_check.specs.Marks.{adds, alive_entry, changed_marks, dead_entry, entry_of, weighed_row, row_of, rows_of, with_mark}
 use Rattle.evidence_check.specs.Parts.{marked_at, shows_at}
 use Rattle.evidence_check.specs.Truth.{has_number, has_wrong_number}
-use Rattle.evidence_check.proofs.Beside.{number_with, number_without, set_marked}
-use Rattle.evidence_check.proofs.Kept.{nothing_kept}
+use Rattle.evidence_check.proofs.KeptNumbers.{number_with, number_without, set_marked}
+use Rattle.evidence_check.proofs.Marks.{nothing_kept}
 use Rattle.evidence_check.proofs.Marking.{insert_rows}
 use Rattle.evidence_check.proofs.Possible.{holds_at, is_fresh}
 

@@ -11,13 +11,13 @@ use Rattle.evidence.specs.declared.evidence.Evidence.{Evidence}
 use Rattle.evidence.specs.Evidence.{IsEvidence}
 use Rattle.evidence_check.specs.declared.weighed_row.WeighedRow.{WeighedRow}
 use Rattle.evidence_check.specs.Changed.{IsChanged, changed_entry, is_gain, marked_where, moved_place}
-use Rattle.evidence_check.specs.Kept.{AreKept, AreNumbers}
+use Rattle.evidence_check.specs.KeptNumbers.{AreKept, AreNumbers}
 use Rattle.evidence_check.specs.Marks.{MarksSurvivors, changed_marks, edited_rows, entry_of, marked_change, weighed_row, rows_of}
 use Rattle.evidence_check.specs.Parts.{marked_at, shows_at}
 use Rattle.evidence_check.specs.Truth.{cause_of, has_number, has_wrong_number, has_wrong_op, is_outside}
 use Rattle.evidence_check.proofs.Accepted.{Accepted, accepted_from}
 use Rattle.evidence_check.proofs.Flat.{length_insert, length_marked}
-use Rattle.evidence_check.proofs.Kept.{kept_after}
+use Rattle.evidence_check.proofs.Marks.{kept_after}
 use Rattle.evidence_check.proofs.Made.{cut_there, made_added, made_cut, weighed_rows, moved_shows, own_added, where_rows}
 use Rattle.evidence_check.proofs.Marking.{length_rows}
 use Rattle.evidence_check.proofs.Possible.{possible}

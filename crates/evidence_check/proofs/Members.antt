@@ -1,12 +1,12 @@
 -- The entries of a list, by recursion: what std says by index and the definitions by a test.
-use Rattle.std.proofs.Common.{◌≡◌, ℕ, zero, suc, ◌<◌, Bool, true, false, ◌||◌, List, [], ◌∷◌, length, get_or, refl, sym, ◌∙◌, arith, inl, inr}
+use Rattle.std.proofs.Common.{◌≡◌, ℕ, zero, suc, ◌<◌, true, false, ◌||◌, List, [], ◌∷◌, length, get_or, refl, sym, ◌∙◌, arith, inl, inr}
 use Rattle.std.specs.Prelude.{◌⊎◌, Contains}
 use Rattle.retro_base.specs.declared.row.Entry.{Entry}
 use Rattle.retro_base.specs.State.{comes_before, with_entry}
 use Rattle.retro_base.specs.Bridges.{is_among, same_entry}
 use Rattle.retro_base.specs.lemmas.bridges.EntryOrder.{same_entry-same, same_entry-refl}
 use Rattle.retro_base.specs.Facts.{either_true}
-use Rattle.evidence_check.proofs.Beside.{swapped}
+use Rattle.evidence_check.proofs.KeptNumbers.{swapped}
 
 abbrev pub In : Entry → List Entry → Type 0
 In x [] = ⊥

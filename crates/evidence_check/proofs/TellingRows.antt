@@ -8,7 +8,7 @@ use Rattle.evidence_check.specs.declared.weighed_row.WeighedRow.{WeighedRow}
 use Rattle.evidence_check.specs.Judgement.{Reported}
 use Rattle.evidence_check.specs.Marks.{changed_marks, edited_rows, weighed_row, rows_of}
 use Rattle.evidence_check.specs.Truth.{rows_after}
-use Rattle.evidence_check.proofs.Kept.{rows_reported}
+use Rattle.evidence_check.proofs.Marks.{rows_reported}
 
 abbrev reported_as : List ℕ → List Row → Reported
 reported_as name rows = record { name = name; rows = rows }

@@ -4,7 +4,7 @@ pub mod JudgementLaws
 pub mod Laws
 pub mod Refused
 pub mod Marks
-pub mod Kept
+pub mod KeptNumbers
 pub mod Sums
 pub mod Parts
 pub mod Zeros

@@ -3,7 +3,7 @@
 ghost use Rattle.std.specs.Prelude.{◌≡◌, ◌≤◌, length};
 ghost use Rattle.retro_base.specs.Limits.{most_rows};
 ghost use Rattle.evidence.specs.Evidence.{IsEvidence};
-ghost use Rattle.evidence_check.specs.Kept.{AreKept, AreNumbers};
+ghost use Rattle.evidence_check.specs.KeptNumbers.{AreKept, AreNumbers};
 ghost use Rattle.evidence_check.specs.Marks.{rows_of};
 ghost use Rattle.evidence_check.specs.Truth.{cause_of, has_wrong_number, has_wrong_op, is_full, is_outside, same_op};
 

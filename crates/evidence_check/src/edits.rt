@@ -7,7 +7,7 @@ ghost use Rattle.retro_base.specs.Weights.{added_as};
 ghost use Rattle.evidence.specs.Evidence.{IsEvidence};
 ghost use Rattle.evidence_check.specs.declared.error.CheckError.TheVariants as causes;
 ghost use Rattle.evidence_check.specs.Changed.{IsChanged, is_gain, marked_where, moved_place};
-ghost use Rattle.evidence_check.specs.Kept.{AreKept, AreNumbers};
+ghost use Rattle.evidence_check.specs.KeptNumbers.{AreKept, AreNumbers};
 ghost use Rattle.evidence_check.specs.Marks.{MarksSurvivors, changed_marks, edited_rows, marked_change, weighed_row, rows_of};
 ghost use Rattle.evidence_check.specs.Parts.{is_entry, marked_at};
 ghost use Rattle.evidence_check.specs.Truth.{cause_of, has_number, has_wrong_number};

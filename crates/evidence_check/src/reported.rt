@@ -26,7 +26,7 @@ pub(crate) struct Reported {
 
 impl Model for Reported {
     ghost use Rattle.evidence_check.specs.Judgement.{Reported};
-    ghost use Rattle.evidence_check.specs.Kept.{AreKept};
+    ghost use Rattle.evidence_check.specs.KeptNumbers.{AreKept};
     ghost use Rattle.evidence_check.specs.Marks.{rows_of};
 
     ghost Value = { Reported };

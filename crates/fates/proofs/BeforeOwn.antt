@@ -7,7 +7,7 @@ use Rattle.std.specs.Map.{lookup, remove_entry}
 use Rattle.std.specs.Option.{option_map, is_some}
 use Rattle.std.specs.Ordering.{int_cmp, int_eq, match_ordering, is_eq}
 use Rattle.std.proofs.lemmas.Map.Lookups.{exact_signed}
-use Rattle.std.proofs.lemmas.Bool.{eq-eqb, ne_eqb}
+use Rattle.std.proofs.lemmas.Bool.{eq-eqb}
 use Rattle.fates.specs.Holding.{Lacks, NoneHas, AllBefore, NoneIs, IsOnlyAt, StandsInLine, StandsAfterLesser, StandsAtKey}
 use Rattle.fates.specs.Fates.{numbered_op}
 use Rattle.fates.specs.Standings.{is_lesser}

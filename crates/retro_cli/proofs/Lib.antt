@@ -22,4 +22,4 @@ pub mod Reported
 pub mod Behind
 pub mod Numbered
 pub mod Muted
-pub mod Heard
+pub mod HeardEvents

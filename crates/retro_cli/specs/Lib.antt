@@ -20,4 +20,4 @@ pub mod Audience
 pub mod FollowedProgram
 pub mod Unsent
 pub mod Mirrored
-pub mod Heard
+pub mod HeardEvents

@@ -1,4 +1,4 @@
-//! A followed script.
+//! A whole run of a script, with followers or without.
 
 ghost use Rattle.std.specs.Prelude.{◌≡◌, [], ◌-◌, ◌<◌, ◌↔◌, Err, false, true, map, IfErr, IfOk, IsErrOf, OnOk};
 ghost use Rattle.retro_base.specs.Limits.{most_bytes};

@@ -58,10 +58,11 @@ fn count_refusals(
     ensures refused { IfOk result (λ refused. refused ≡ refusals bench.old.bench generator.old) }
 {
     let mut line = Text::new(alloc);
+    let mut answer = Text::new(alloc);
     let mut refused = 0;
     while generator.next_line(&mut line)? {
-        let reply = bench.line(line.as_bytes(), false)?;
-        if reply.refused {
+        let is_refused = bench.line_into(line.as_bytes(), false, &mut answer)?;
+        if is_refused {
             refused += 1;
         }
     }

@@ -1,7 +1,7 @@
 //! Laws over the definitions of the output, of its events and of a saved text.
 
 ghost use Rattle.retro_cli.specs.Accepted.{WhatIsWrittenIsAccepted};
-ghost use Rattle.retro_cli.specs.Heard.{MirrorsReportThePresent, WhoIsLeftHasHeardAll};
+ghost use Rattle.retro_cli.specs.HeardEvents.{MirrorsReportThePresent, WhoIsLeftHasHeardAll};
 ghost use Rattle.retro_cli.specs.Mirrored.{ChangesAloneHoldThePresent};
 ghost use Rattle.retro_cli.specs.SavedText.{SavedTextReadsBack};
 

@@ -14,14 +14,15 @@
 //! The lines and the faults are those of `retro_io`, what becomes of a line is the workbench's, and whether evidence is true
 //! is said by `evidence_check`, which shares no code with them: this crate holds nothing but the loops between them.
 //!
-//! `run_followed` is the top call with followers (`specs/FollowedProgram.antt`): with the word `follow` it answers a script by the same
-//! loop, hands the followers the events among the answers, and writes their reports at the end; with other words it is `run`. A line
+//! `run_followed` is the top call with followers (`specs/FollowedProgram.antt`): with the word `follow` it answers a script, hands the
+//! followers the events among the answers, and writes their reports at the end; with other words it is `run`. A script that nobody
+//! follows is answered by the same loop, with no followers. A line
 //! `mute I` outside a block is answered by that follower, which then hears and reports nothing more; the others keep their numbers.
 //!
 //! - `program`: the top calls `run`, `run_followed` and `run_sending`. `direct`: the first two over any sink, by the loops that send.
 //! - `form`, `words`, `status`, `stop`: the words of the command line, and how a run ends.
-//! - `script`, `sent_reader`: a script is answered, line by line. `follow`: what followers are handed, and their reports. `mute`: who is left, and the line
-//!   that lets one go. `followed`: a followed script.
+//! - `script`, `sent_reader`: a script is answered, line by line. `follow`: what followers are handed, and their reports.
+//!   `mute`: who is left, and the line that lets one go. `followed`: a whole run of a script, with followers or without.
 //! - `check`, `judging`: evidence is judged, up to the first line that is refused.
 //! - `generated`: a generated script is answered and summed up.
 //! - `deliver`: how a text is written, what waits is sent, and all arrives.

@@ -89,8 +89,12 @@ fn answer_by_bench<K: SendingSink>(
     Ok(refused)
 }
 
-/// Closes the block that is being read, if there is one, and writes the answer.
-fn answer_end<K: SendingSink>(bench: &mut Bench, sink: &mut K) -> Result<bool, Stop>
+/// Closes the block that is being read, if there is one, and writes the answer, which takes the place of what `answer` holds.
+fn answer_end<K: SendingSink>(
+    bench: &mut Bench,
+    answer: &mut Text,
+    sink: &mut K,
+) -> Result<bool, Stop>
     requires { bench.old.spent ≡ false }
     ensures answered { IfOk result (λ refused. let reaction = closing bench.old.bench in
         (refused ≡ reaction.refused) × Appends (K.written sink.old) reaction.answer (K.written sink.new)) }
@@ -102,9 +106,9 @@ fn answer_end<K: SendingSink>(bench: &mut Bench, sink: &mut K) -> Result<bool, S
     ensures sink_faults { CountsFaults (stops_at_write result) (K.faults sink.old) (K.faults sink.new) }
     ensures reads_nothing { (IsErrOf result Stop.ReadFault → ⊥) × (IsErrOf result Stop.TooLong → ⊥) }
 {
-    let reply = bench.end()?;
-    append(reply.text.as_bytes(), sink)?;
-    Ok(reply.refused)
+    let refused = bench.end_into(answer)?;
+    append(answer.as_bytes(), sink)?;
+    Ok(refused)
 }
 
 /// Lets go on what waits at the sink, unless the reader holds a whole line and so makes no read for the next one.
@@ -160,7 +164,7 @@ fn answer_lines<S: Source, K: SendingSink>(
             Mark::Whole => false,
             Mark::Long => true,
             Mark::End => {
-                refused |= answer_end(&mut bench, sink)?;
+                refused |= answer_end(&mut bench, &mut text, sink)?;
                 return Ok(refused);
             }
         };

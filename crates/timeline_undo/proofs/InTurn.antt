@@ -8,7 +8,7 @@ use Rattle.retro_base.specs.OrderLaws.{all_weaker}
 use Rattle.retro_base.specs.Timeline.{IsTimeline}
 use Rattle.timeline_undo.specs.declared.history.HistoryStep.{HistoryStep}
 use Rattle.timeline_undo.specs.declared.history.HistoryStep.TheVariants.{Single, Double}
-use Rattle.timeline_undo.specs.Kept.{AreReady, StandInTurn, edit_of, step_of}
+use Rattle.timeline_undo.specs.KeptSteps.{AreReady, StandInTurn, edit_of, step_of}
 use Rattle.timeline_undo.proofs.Edits.{inverse_twice}
 use Rattle.retro_base.specs.EditedLists.{can_go_back, there_and_back}
 

@@ -17,7 +17,7 @@ use Rattle.retro_base.specs.lemmas.GivingEdits.{adding_row_replays, taking_row_c
 use Rattle.timeline_undo.specs.declared.replacement.Replacement.{Replacement}
 use Rattle.timeline_undo.specs.Replaced.{Replaces, before_without, replaced}
 use Rattle.timeline_undo.specs.Shift.{index_after}
-use Rattle.timeline_undo.specs.Tallies.{tallied, tally_before}
+use Rattle.timeline_undo.specs.WalkCounts.{tallied, tally_before}
 use Rattle.timeline_undo.proofs.Replaced.{cut_first, put_first}
 use Rattle.timeline_undo.proofs.Steps.{stands_after_put}
 use Rattle.timeline_undo.proofs.Tallied.{tally_names}

@@ -10,7 +10,7 @@ use Rattle.retro_base.specs.Limits.{most_steps}
 use Rattle.retro_base.specs.Edits.{Step, Edit, inverse_step}
 use Rattle.timeline_undo.specs.declared.history.HistoryStep.{HistoryStep}
 use Rattle.timeline_undo.specs.History.{newest, older_steps, newest_step}
-use Rattle.timeline_undo.specs.Kept.{step_of, steps_of, latest, latest_undone}
+use Rattle.timeline_undo.specs.KeptSteps.{step_of, steps_of, latest, latest_undone}
 
 -- a list with a newest element
 pub up_to_newest : {X : Type 0} (xs : List X) (x : X) → slice_get xs (length xs - 1) ≡ Some x → take (length xs - 1) xs ++ x ∷ [] ≡ xs
@@ -65,11 +65,6 @@ steps-newest noted last there =
 pub no_newest : (noted : List HistoryStep) → slice_get noted (length noted - 1) ≡ None → steps_of noted ≡ []
 no_newest [] none = refl
 no_newest (x ∷ xs) none = let there = slice_get-get_or (x ∷ xs) (length (x ∷ xs) - 1) x (omega arith) in absurd (cc)
-
--- a ring without steps is empty
-pub nothing_noted : (noted : List HistoryStep) → steps_of noted ≡ [] → noted ≡ []
-nothing_noted [] none = refl
-nothing_noted (x ∷ xs) none = absurd (cc)
 
 slice_get_end : {X : Type 0} (xs : List X) (x : X) → slice_get (xs ++ x ∷ []) (length xs) ≡ Some x
 slice_get_end [] x = refl

@@ -1,12 +1,11 @@
 -- A session stays one after each of its calls.
-use Rattle.std.proofs.Common.{◌≡◌, ℕ, true, false, cond, ◌+◌, ◌-◌, List, [], ◌∷◌, ◌++◌, length, take, drop, slice_get, Option, Some, None, sym, ◌∙◌, ap, subst, arith}
+use Rattle.std.proofs.Common.{◌≡◌, ℕ, ◌+◌, ◌-◌, List, [], ◌∷◌, ◌++◌, length, take, drop, slice_get, Option, Some, None, sym, ◌∙◌, ap, subst, arith}
 use Rattle.std.proofs.lemmas.List.{length-append}
-use Rattle.std.proofs.lemmas.List.Edits.{insert_end}
 use Rattle.circular_buffer.specs.Buffer.{Buffer, buffer, keep_last}
 use Rattle.retro_base.specs.declared.kind.Kind.{Kind}
 use Rattle.retro_base.specs.declared.row.Row.{Row}
 use Rattle.retro_base.specs.Limits.{most_steps}
-use Rattle.retro_base.specs.Edits.{Step, add, cut, edited_by, inverse_step}
+use Rattle.retro_base.specs.Edits.{Step, edited_by, inverse_step}
 use Rattle.retro_base.specs.Kind.{kind_of}
 use Rattle.retro_base.specs.Replay.{failure, IsValid}
 use Rattle.retro_base.specs.ReplayableLaws.{replayable_with, replayable_without}
@@ -14,11 +13,10 @@ use Rattle.retro_base.specs.Timeline.{IsFresh, IsTimeline}
 use Rattle.retro_base.specs.TimelineLaws.{next_is_fresh, timeline_with, timeline_without}
 use Rattle.std.specs.List.{insert, remove}
 use Rattle.timeline_undo.specs.declared.history.HistoryStep.{HistoryStep}
-use Rattle.timeline_undo.specs.declared.turn.Turn.{Turn}
 use Rattle.timeline_undo.specs.declared.edit.Interrupted.{Interrupted}
 use Rattle.timeline_undo.specs.declared.edit.Interrupted.TheVariants.{AtOnce, Midway}
-use Rattle.timeline_undo.specs.Session.{SessionState, CanStand, HasRoom, IsSpentWithin, spent_with, edit_reported}
-use Rattle.timeline_undo.specs.Kept.{step_of, latest, latest_undone, StandInTurn, IsLeftMidway, IsSession}
+use Rattle.timeline_undo.specs.Session.{SessionState, CanStand, HasRoom, IsSpentWithin, spent_with}
+use Rattle.timeline_undo.specs.KeptSteps.{step_of, latest, latest_undone, StandInTurn, IsLeftMidway, IsSession}
 use Rattle.timeline_undo.proofs.InTurn.{in_turn_first, in_turn_others, inverse_step_twice, step_back, timeline_after}
 use Rattle.timeline_undo.proofs.Rings.{up_to_newest, latest-more, latest_undone-more, latest_undone-kept, few_kept}
 
@@ -37,24 +35,6 @@ pub delete_leads : (kind : Kind) (performed rows : List Row) (next place : ℕ) 
 delete_leads kind performed rows next place failing same timeline first none =
     let valid : IsValid kind (remove rows place) = rw same at (sym first ∙ none) in
     timeline_without kind rows next place timeline (replayable_without kind rows place timeline.replayable valid)
-
--- and so does a row that comes after all others
-pub append_leads : (kind : Kind) (rows : List Row) (next place : ℕ) (row : Row) → place ≡ length rows → IsTimeline kind (rows ++ row ∷ []) next
-    → IsTimeline kind (insert rows place row) next
-append_leads kind rows next place row end timeline = rw (end, insert_end rows row) timeline
-
--- after it a session without a history is one still
-pub session_appended : (kind : Kind) (old performed rows after : List Row) (next : ℕ) (undo redo : Buffer HistoryStep) → IsSession kind old rows next undo redo
-    → undo.items ≡ [] → redo.items ≡ [] → performed ≡ after → IsTimeline kind after next → IsSession kind performed after next undo redo
-session_appended kind old performed rows after next undo redo session no_undo no_redo same timeline = record {
-  same = same;
-  timeline = timeline;
-  undo_room = session.undo_room;
-  redo_room = session.redo_room;
-  few = session.few;
-  undoable = rw no_undo tt;
-  redoable = rw no_redo tt;
-}
 
 -- the newest step of the undo ring can be taken back, and then those before it
 pub undo_stands : (kind : Kind) (next : ℕ) (rows : List Row) (noted : List HistoryStep) (last : HistoryStep) → slice_get noted (length noted - 1) ≡ Some last
@@ -167,9 +147,3 @@ session_redone kind old performed rows next undo redo last session there same =
           (step_back kind next rows last (latest_undone undo.items) session.timeline made session.undoable);
       redoable = in_turn_others kind next rows (step_of last) (latest (take (length redo.items - 1) redo.items)) turn;
     }
-
--- a turn that tells of this row
-pub row_reported : (turn : Turn) (place : ℕ) (row : Row) → edit_reported turn ≡ cut place row → turn.row ≡ row
-row_reported turn place row =
-    elim turn.added as (λ added. cond added (add turn.place turn.row) (cut turn.place turn.row) ≡ cut place row → turn.row ≡ row)
-    [ true ↦ λ e. absurd (cc) | false ↦ λ e. cc ]

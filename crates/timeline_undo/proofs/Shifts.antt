@@ -23,7 +23,7 @@ use Rattle.retro_base.specs.lemmas.GivingEdits.{adding_row_replays, taking_row_c
 use Rattle.timeline_undo.specs.declared.replacement.Replacement.{Replacement}
 use Rattle.timeline_undo.specs.declared.shift.Target.{Target}
 use Rattle.timeline_undo.specs.declared.shift.Target.TheVariants.{At, Into}
-use Rattle.timeline_undo.specs.Kept.{StandInTurn, steps_of}
+use Rattle.timeline_undo.specs.KeptSteps.{StandInTurn, steps_of}
 use Rattle.timeline_undo.specs.Replaced.{Replaces, replaced, replacement_of, step_of_replacement}
 use Rattle.timeline_undo.specs.declared.error.EditError.{EditError}
 use Rattle.timeline_undo.specs.declared.history.HistoryStep.{HistoryStep}

@@ -31,7 +31,7 @@ use Rattle.timeline_undo.specs.Replaced.{replaced}
 use Rattle.timeline_undo.specs.declared.walk_count.Presence.{Presence}
 use Rattle.timeline_undo.specs.declared.walk_count.WalkCount.{WalkCount}
 use Rattle.timeline_undo.specs.declared.walk_count.WalkCount.TheVariants.{Items, Keys}
-use Rattle.timeline_undo.specs.Tallies.{IsUpTo, absent, key_of, presence_after, tallied, tally_after, tally_before, tally_of_keys}
+use Rattle.timeline_undo.specs.WalkCounts.{IsUpTo, absent, key_of, presence_after, tallied, tally_after, tally_before, tally_of_keys}
 use Rattle.timeline_undo.proofs.TwoKeys.{counted_key, keyed, tally_of, two_keys}
 
 -- rows in two parts

@@ -18,7 +18,7 @@ use Rattle.retro_base.specs.lemmas.SortedPairs.{same_key, sorted_nil}
 use Rattle.timeline_undo.specs.declared.walk_count.Presence.{Presence}
 use Rattle.timeline_undo.specs.declared.walk_count.WalkCount.{WalkCount}
 use Rattle.timeline_undo.specs.declared.walk_count.WalkCount.TheVariants.{Keys}
-use Rattle.timeline_undo.specs.Tallies.{absent, tally_after, there_after}
+use Rattle.timeline_undo.specs.WalkCounts.{absent, tally_after, there_after}
 use Rattle.retro_base.specs.Outcomes.{err_of, is_ok, later_ok}
 
 -- the tally after rows, or the index of the first one that finds nothing to take

@@ -2,7 +2,7 @@ pub use Rattle.retro_base.specs.Edits
 pub mod History
 pub mod Shift
 pub mod Session
-pub mod Kept
-pub mod Tallies
+pub mod KeptSteps
+pub mod WalkCounts
 pub mod Replaced
 pub mod Back

@@ -1,12 +1,11 @@
-//! The edits of a step, made in the timeline and in the structure.
+//! List edits, made in the timeline and in the structure.
 
-ghost use Rattle.std.specs.Prelude.{◌≡◌, ◌≤◌, [], ◌∷◌, length, slice_get, Some, IfOk, IfErr, OnErr};
+ghost use Rattle.std.specs.Prelude.{◌≡◌, ◌≤◌, ◌<◌, [], ◌∷◌, length, slice_get, Some, IfOk, IfErr, OnErr};
 ghost use Rattle.std.specs.List.{insert, remove};
-ghost use Rattle.retro_base.specs.Changes.{IsChange};
 ghost use Rattle.retro_base.specs.Edits.{add, cut, edited, edited_by, IsWithin};
 ghost use Rattle.retro_base.specs.MadeEdits.{IsMade};
 ghost use Rattle.retro_base.specs.Timeline.{IsReplayable, TimesNeverFall};
-ghost use Rattle.timeline_undo.specs.Kept.{AreReady, IsLeftMidway, edit_of, step_of};
+ghost use Rattle.timeline_undo.specs.KeptSteps.{AreReady, IsLeftMidway, edit_of, step_of};
 ghost use Rattle.timeline_undo.specs.Session.{AreMade, edit_reported, step_reported};
 ghost use Rattle.timeline_undo.specs.declared.turn.Turns.TheVariants.{Double};
 
@@ -80,7 +79,7 @@ pub(crate) fn make_both<R: Retro>(
 }
 
 /// Makes an edit in the timeline and in the structure. After `NoMemory` both are as before.
-pub(crate) fn make<R: Retro>(
+fn make<R: Retro>(
     timeline: &mut Timeline,
     structure: &mut R,
     edit: HistoryEdit,
@@ -99,7 +98,7 @@ pub(crate) fn make<R: Retro>(
 {
     match edit {
         HistoryEdit::Added { place, row } => {
-            let change = insert_in_both(timeline, structure, place, row)?;
+            let change = put_in_both(timeline, structure, place, row)?;
             Ok(Turn {
                 added: true,
                 place,
@@ -107,8 +106,8 @@ pub(crate) fn make<R: Retro>(
                 change,
             })
         }
-        HistoryEdit::Taken { place, row } => {
-            let change = remove_from_both(timeline, structure, place, row)?;
+        HistoryEdit::Taken { place, .. } => {
+            let (row, change) = take_from_both(timeline, structure, place)?;
             Ok(Turn {
                 added: false,
                 place,
@@ -119,21 +118,22 @@ pub(crate) fn make<R: Retro>(
     }
 }
 
-/// Puts a row in at a place, in both.
-fn insert_in_both<R: Retro>(
+/// Puts a row in at a place, in both. After `NoMemory` both are as before.
+pub(crate) fn put_in_both<R: Retro>(
     timeline: &mut Timeline,
     structure: &mut R,
     place: u32,
     row: Row,
 ) -> Result<Change, NoMemory>
     requires same { R.rows structure.old ≡ timeline.old }
+    requires before { IsReplayable (R.kind structure.old) timeline.old }
     requires within { place ≤ length timeline.old }
     requires in_order { TimesNeverFall (insert timeline.old place row) }
     requires replayable { IsReplayable (R.kind structure.old) (insert timeline.old place row) }
     ensures kind { R.kind structure.new ≡ R.kind structure.old }
     ensures same { R.rows structure.new ≡ timeline.new }
     ensures rows { IfOk result (λ _. timeline.new ≡ insert timeline.old place row) }
-    ensures change { IfOk result (λ change. IsChange (R.kind structure.old) timeline.old (add place row) change) }
+    ensures made { IfOk result (IsMade (R.kind structure.old) timeline.old (add place row)) }
     ensures err { OnErr result (timeline.new ≡ timeline.old) }
 {
     timeline.insert(place, row)?;
@@ -146,23 +146,24 @@ fn insert_in_both<R: Retro>(
     }
 }
 
-/// Takes a row out of its place, in both.
-fn remove_from_both<R: Retro>(
+/// Takes the row at a place out, in both, and gives it. After `NoMemory` both are as before.
+pub(crate) fn take_from_both<R: Retro>(
     timeline: &mut Timeline,
     structure: &mut R,
     place: u32,
-    row: Row,
-) -> Result<Change, NoMemory>
+) -> Result<(Row, Change), NoMemory>
     requires same { R.rows structure.old ≡ timeline.old }
-    requires stands { slice_get timeline.old place ≡ Some row }
+    requires before { IsReplayable (R.kind structure.old) timeline.old }
+    requires within { place < length timeline.old }
     requires replayable { IsReplayable (R.kind structure.old) (remove timeline.old place) }
     ensures kind { R.kind structure.new ≡ R.kind structure.old }
     ensures same { R.rows structure.new ≡ timeline.new }
     ensures rows { IfOk result (λ _. timeline.new ≡ remove timeline.old place) }
-    ensures change { IfOk result (λ change. IsChange (R.kind structure.old) timeline.old (cut place row) change) }
+    ensures row { IfOk result (λ taken. slice_get timeline.old place ≡ Some taken.0) }
+    ensures made { IfOk result (λ taken. IsMade (R.kind structure.old) timeline.old (cut place taken.0) taken.1) }
     ensures err { OnErr result (timeline.new ≡ timeline.old) }
 {
-    let (_, change) = structure.remove(place)?;
+    let (row, change) = structure.remove(place)?;
     timeline.remove(place);
-    Ok(change)
+    Ok((row, change))
 }

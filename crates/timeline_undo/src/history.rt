@@ -3,7 +3,7 @@
 ghost use Rattle.std.specs.Prelude.{◌≡◌, ◌<◌, [], ◌∷◌, ◌++◌, ◌-◌, length, take, slice_get};
 ghost use Rattle.circular_buffer.specs.Buffer.{buffer, keep_last};
 ghost use Rattle.retro_base.specs.Edits.{inverse, inverse_step};
-ghost use Rattle.timeline_undo.specs.Kept.{edit_of, step_of};
+ghost use Rattle.timeline_undo.specs.KeptSteps.{edit_of, step_of};
 
 use circular_buffer::HeapCircularBuffer;
 use retro_base::Row;

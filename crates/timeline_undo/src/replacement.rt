@@ -1,7 +1,7 @@
 //! A row that is to be replaced.
 
 ghost use Rattle.std.specs.Prelude.{◌≡◌, ◌+◌, ◌^◌, ◌∷◌, [], ◌<◌};
-ghost use Rattle.timeline_undo.specs.Kept.{edit_of};
+ghost use Rattle.timeline_undo.specs.KeptSteps.{edit_of};
 ghost use Rattle.timeline_undo.specs.Replaced.{replacement_of, step_of_replacement};
 
 use crate::Target;

@@ -6,7 +6,7 @@ ghost use Rattle.retro_base.specs.Edits.{failing_row};
 ghost use Rattle.retro_base.specs.Limits.{most_rows};
 ghost use Rattle.retro_base.specs.Replay.{IsValid};
 ghost use Rattle.retro_base.specs.Timeline.{IsReplayable};
-ghost use Rattle.timeline_undo.specs.Tallies.{IsUpTo, tallied, tally_before};
+ghost use Rattle.timeline_undo.specs.WalkCounts.{IsUpTo, tallied, tally_before};
 ghost use Rattle.timeline_undo.specs.Replaced.{Replaces, replaced};
 
 use crate::replacement::Replacement;

@@ -14,7 +14,7 @@ ghost use Rattle.timeline_undo.specs.Session.{AreMade, CanStand, drawn, edit_rep
 ghost use Rattle.timeline_undo.specs.Shift.{IsTargetOf, shift_at};
 ghost use Rattle.timeline_undo.specs.declared.turn.Turns.TheVariants.{Double};
 
-use crate::edit::{Interrupted, make, make_both, make_step};
+use crate::edit::{Interrupted, make_both, make_step, put_in_both, take_from_both};
 use crate::failing::{fails_at, row_after_insert, row_after_remove};
 use crate::history::{HistoryEdit, HistoryStep, forget, newest, note, pass_on};
 use crate::replacement::Replacement;
@@ -42,7 +42,7 @@ pub struct Session<R: Retro + Drop> {
 }
 
 impl<R: Retro + Drop> Model for Session<R> {
-    ghost use Rattle.timeline_undo.specs.Kept.{IsSession, steps_of};
+    ghost use Rattle.timeline_undo.specs.KeptSteps.{IsSession, steps_of};
     ghost use Rattle.timeline_undo.specs.Session.{SessionState};
 
     ghost Value = { SessionState };
@@ -143,13 +143,13 @@ impl<R: Retro + Drop> Session<R> {
         if let Some(index) = self.structure.failure_after_insert(place, op) {
             return Err(fails_at(row_after_insert(&self.timeline, place, row, index)));
         }
+        let change = put_in_both(&mut self.timeline, &mut self.structure, place, row)?;
         let edit = HistoryEdit::Added { place, row };
-        let turn = make(&mut self.timeline, &mut self.structure, edit)?;
         note(&mut self.undo, &mut self.redo, HistoryStep::Single { edit });
         self.next += 1;
         Ok(Put {
             number: row.number,
-            change: turn.change,
+            change,
         })
     }
 
@@ -164,9 +164,7 @@ impl<R: Retro + Drop> Session<R> {
         ensures err { OnErr result (self.new ≡ self.old) }
     {
         let place = self.timeline.len();
-        let edit = HistoryEdit::Added { place, row };
-        let turn = make(&mut self.timeline, &mut self.structure, edit)?;
-        Ok(turn.change)
+        put_in_both(&mut self.timeline, &mut self.structure, place, row)
     }
 
     /// Takes the row at a place out. After every error all is as before.
@@ -181,14 +179,18 @@ impl<R: Retro + Drop> Session<R> {
         ensures cause { IfErr result (λ error. IfSome (slice_get self.old.rows place) (λ row. IsCause self.old.kind self.old.rows (cut place row) error)) }
         ensures err { OnErr result (self.new ≡ self.old) }
     {
-        let row = self.timeline.row_at(place);
         if let Some(index) = self.structure.failure_after_remove(place) {
             return Err(fails_at(row_after_remove(&self.timeline, place, index)));
         }
+        let (row, change) = take_from_both(&mut self.timeline, &mut self.structure, place)?;
         let edit = HistoryEdit::Taken { place, row };
-        let turn = make(&mut self.timeline, &mut self.structure, edit)?;
         note(&mut self.undo, &mut self.redo, HistoryStep::Single { edit });
-        Ok(turn)
+        Ok(Turn {
+            added: false,
+            place,
+            row,
+            change,
+        })
     }
 
     /// Replaces the row at a place in one step, by a row that draws the next number. Whether the rows after both list edits replay

@@ -2,7 +2,7 @@
 
 ghost use Rattle.std.specs.Prelude.{◌≡◌, ◌+◌, ◌-◌, ◌*◌, ◌^◌, ◌<◌, ◌≤◌, length};
 ghost use Rattle.retro_base.specs.Limits.{most_rows};
-ghost use Rattle.timeline_undo.specs.Tallies.{IsUpTo, absent, key_of, presence_after, tallied, tally_after, tally_before, there_after};
+ghost use Rattle.timeline_undo.specs.WalkCounts.{IsUpTo, absent, key_of, presence_after, tallied, tally_after, tally_before, there_after};
 ghost use Rattle.retro_base.specs.Counting.{size_after};
 
 use retro_base::{Op, Row};

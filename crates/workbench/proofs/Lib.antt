@@ -1,6 +1,6 @@
 pub mod Named
-pub mod Told
-pub mod Kept
+pub mod AnsweredLine
+pub mod KeptTimelines
 pub mod TimelineEffects
 pub mod Memory
 pub mod Refusals

@@ -27,91 +27,91 @@ use Rattle.workbench.proofs.TimelineEffects.{at_step, deletes_there, makes_accep
 use Rattle.retro_base.specs.Facts.{one_value}
 
 -- the line is not refused
-abbrev pub Stands : TimelineEffect → Type 0
-Stands effect = is_refusal effect.outcome ≡ false
+abbrev pub IsNotRefused : TimelineEffect → Type 0
+IsNotRefused effect = is_refusal effect.outcome ≡ false
 
-makes_stands : (t : NamedTimeline) (step : Step) (next : ℕ) (outcome : Outcome) → is_refusal outcome ≡ false → failure t.kind (edited_by t.rows step) ≡ None → Stands (makes t step next outcome)
-makes_stands t step next outcome plain valid =
-    subst Stands (sym (makes_accepted t step next outcome valid)) (reported_is_no_refusal t.name t.kind t.rows step outcome plain)
+makes_is_not_refused : (t : NamedTimeline) (step : Step) (next : ℕ) (outcome : Outcome) → is_refusal outcome ≡ false → failure t.kind (edited_by t.rows step) ≡ None → IsNotRefused (makes t step next outcome)
+makes_is_not_refused t step next outcome plain valid =
+    subst IsNotRefused (sym (makes_accepted t step next outcome valid)) (reported_is_no_refusal t.name t.kind t.rows step outcome plain)
 
 -- a row that is taken out
 delete_found : (t : NamedTimeline) (number place : ℕ) (found : Option Row) (error : EditError) (result : Result Outcome NoMemory) → place_of_row number t.rows ≡ Some place
     → place < length t.rows → slice_get t.rows place ≡ found → IfSome found (λ row. IsCause t.kind t.rows (cut place row) error) → IsRefusedBy error result
-    → OnErr result (Stands (deletes t number))
+    → OnErr result (IsNotRefused (deletes t number))
 delete_found t number place found (errors.Fails failing time) result there within at cause refused = rw refused tt
 delete_found t number place found errors.NoMemory (Ok outcome) there within at cause refused = tt
 delete_found t number place None errors.NoMemory (Err error) there within at cause refused = absurd (omega (arith, slice_get_none t.rows place at, within))
 delete_found t number place (Some row) errors.NoMemory (Err error) there within at cause refused =
-    subst Stands (sym (deletes_there t number place row there at)) (makes_stands t (cut place row ∷ []) t.next Accepted refl cause)
+    subst IsNotRefused (sym (deletes_there t number place row there at)) (makes_is_not_refused t (cut place row ∷ []) t.next Accepted refl cause)
 
 pub delete_memory : (t : NamedTimeline) (number place : ℕ) (error : EditError) (result : Result Outcome NoMemory) → place_of_row number t.rows ≡ Some place
     → place < length t.rows → IfSome (slice_get t.rows place) (λ row. IsCause t.kind t.rows (cut place row) error) → IsRefusedBy error result
-    → OnErr result (Stands (deletes t number))
+    → OnErr result (IsNotRefused (deletes t number))
 delete_memory t number place error result there within cause refused =
     delete_found t number place (slice_get t.rows place) error result there within refl cause refused
 
 -- a row that is replaced
-abbrev pub ShiftStands : NamedTimeline → Target → ℕ → Type 0
-ShiftStands t target place = (step : Step) → shift_at t.rows target t.next place ≡ Some step → Stands (shifts_there t step)
+abbrev pub ShiftIsNotRefused : NamedTimeline → Target → ℕ → Type 0
+ShiftIsNotRefused t target place = (step : Step) → shift_at t.rows target t.next place ≡ Some step → IsNotRefused (shifts_there t step)
 
-shift_stands : (t : NamedTimeline) (step : Step) → length t.rows < most_rows → t.next < next_limit → failure t.kind (edited_by t.rows step) ≡ None → Stands (shifts_there t step)
-shift_stands t step room number valid =
-    subst Stands (sym (shifts_makes t step (lt-leb most_rows (length t.rows) room) (lt-leb next_limit t.next number)))
-    (makes_stands t step (t.next + 1) (Inserted t.next) refl valid)
+shift_is_not_refused : (t : NamedTimeline) (step : Step) → length t.rows < most_rows → t.next < next_limit → failure t.kind (edited_by t.rows step) ≡ None → IsNotRefused (shifts_there t step)
+shift_is_not_refused t step room number valid =
+    subst IsNotRefused (sym (shifts_makes t step (lt-leb most_rows (length t.rows) room) (lt-leb next_limit t.next number)))
+    (makes_is_not_refused t step (t.next + 1) (Inserted t.next) refl valid)
 
 pub shift_memory : (name : List ℕ) (s after : SessionState) (target : Target) (place : ℕ) (error : EditError) (result : Result Outcome NoMemory)
     → length s.rows < most_rows → s.next < next_limit → IsShiftUnmade s place target after error → IsRefusedBy error result
-    → OnErr result (ShiftStands (named name s) target place)
+    → OnErr result (ShiftIsNotRefused (named name s) target place)
 shift_memory name s after target place (errors.Fails failing time) result room number unmade refused = rw refused tt
 shift_memory name s after target place errors.NoMemory (Ok outcome) room number unmade refused = tt
 shift_memory name s after target place errors.NoMemory (Err error) room number unmade refused =
     λ step at.
     let why : IsUnmade s step after errors.NoMemory = at_step (λ q. IsUnmade s q after errors.NoMemory) step (shift_at s.rows target s.next place) at unmade in
-    shift_stands (named name s) step room number why.0
+    shift_is_not_refused (named name s) step room number why.0
 
 -- one that was made, whose evidence found no memory
 pub shifted_memory : {X E : Type 0} (result : Result X E) (t : NamedTimeline) (target : Target) (place : ℕ) (done : Step) → length t.rows < most_rows → t.next < next_limit
-    → shift_at t.rows target t.next place ≡ Some done → failure t.kind (edited_by t.rows done) ≡ None → OnErr result (ShiftStands t target place)
+    → shift_at t.rows target t.next place ≡ Some done → failure t.kind (edited_by t.rows done) ≡ None → OnErr result (ShiftIsNotRefused t target place)
 shifted_memory (Ok x) t target place done room number is valid = tt
 shifted_memory (Err e) t target place done room number is valid =
-    λ step at. rw (one_value (shift_at t.rows target t.next place) step done at is) (shift_stands t done room number valid)
+    λ step at. rw (one_value (shift_at t.rows target t.next place) step done at is) (shift_is_not_refused t done room number valid)
 
 pub shifts_memory : {X E : Type 0} (result : Result X E) (t : NamedTimeline) (number place : ℕ) (target : Target) → place_of_row number t.rows ≡ Some place → place < length t.rows
-    → OnErr result (ShiftStands t target place) → OnErr result (Stands (shifts t number target))
+    → OnErr result (ShiftIsNotRefused t target place) → OnErr result (IsNotRefused (shifts t number target))
 shifts_memory (Ok x) t number place target there within stands = tt
 shifts_memory (Err e) t number place target there within stands =
     let step = step_there t target place within in
-    subst Stands (sym (shifts_step t number place target step.0 there step.1)) (stands step.0 step.1)
+    subst IsNotRefused (sym (shifts_step t number place target step.0 there step.1)) (stands step.0 step.1)
 
 -- a step that is undone, or redone
-undo_stands : (t : NamedTimeline) (step : Step) → newest_step t.history.undo ≡ Some step → Stands (undoes t)
-undo_stands t step there = subst Stands (sym (undoes_newest t step there)) (reported_is_no_refusal t.name t.kind t.rows (inverse_step step) Accepted refl)
+undo_is_not_refused : (t : NamedTimeline) (step : Step) → newest_step t.history.undo ≡ Some step → IsNotRefused (undoes t)
+undo_is_not_refused t step there = subst IsNotRefused (sym (undoes_newest t step there)) (reported_is_no_refusal t.name t.kind t.rows (inverse_step step) Accepted refl)
 
-redo_stands : (t : NamedTimeline) (step : Step) → newest_step t.history.redo ≡ Some step → Stands (redoes t)
-redo_stands t step there = subst Stands (sym (redoes_newest t step there)) (reported_is_no_refusal t.name t.kind t.rows step Accepted refl)
+redo_is_not_refused : (t : NamedTimeline) (step : Step) → newest_step t.history.redo ≡ Some step → IsNotRefused (redoes t)
+redo_is_not_refused t step there = subst IsNotRefused (sym (redoes_newest t step there)) (reported_is_no_refusal t.name t.kind t.rows step Accepted refl)
 
-undo_found : (t : NamedTimeline) (found : Option Step) (newest : Step) → newest_step t.history.undo ≡ found → option_map inverse_step found ≡ Some newest → Stands (undoes t)
+undo_found : (t : NamedTimeline) (found : Option Step) (newest : Step) → newest_step t.history.undo ≡ found → option_map inverse_step found ≡ Some newest → IsNotRefused (undoes t)
 undo_found t None newest there is = absurd (cc)
-undo_found t (Some step) newest there is = undo_stands t step there
+undo_found t (Some step) newest there is = undo_is_not_refused t step there
 
 pub undo_memory : (name : List ℕ) (s after : SessionState) (error : UndoError) → error ≡ undos.NoMemory
-    → IsLeftByUndo s (option_map inverse_step (newest_step s.history.undo)) after error → Stands (undoes (named name s))
+    → IsLeftByUndo s (option_map inverse_step (newest_step s.history.undo)) after error → IsNotRefused (undoes (named name s))
 undo_memory name s after undos.Nothing is left = absurd (cc)
 undo_memory name s after undos.NoMemory is (newest, there, rest) = undo_found (named name s) (newest_step s.history.undo) newest refl there
 
 pub redo_memory : (name : List ℕ) (s after : SessionState) (error : UndoError) → error ≡ undos.NoMemory
-    → IsLeftByUndo s (newest_step s.history.redo) after error → Stands (redoes (named name s))
+    → IsLeftByUndo s (newest_step s.history.redo) after error → IsNotRefused (redoes (named name s))
 redo_memory name s after undos.Nothing is left = absurd (cc)
-redo_memory name s after undos.NoMemory is (newest, there, rest) = redo_stands (named name s) newest there
+redo_memory name s after undos.NoMemory is (newest, there, rest) = redo_is_not_refused (named name s) newest there
 
 -- one that was made, whose evidence found no memory
-pub undone_memory : {X E : Type 0} (result : Result X E) (t : NamedTimeline) (step : Step) → newest_step t.history.undo ≡ Some step → OnErr result (Stands (undoes t))
+pub undone_memory : {X E : Type 0} (result : Result X E) (t : NamedTimeline) (step : Step) → newest_step t.history.undo ≡ Some step → OnErr result (IsNotRefused (undoes t))
 undone_memory (Ok x) t step there = tt
-undone_memory (Err e) t step there = undo_stands t step there
+undone_memory (Err e) t step there = undo_is_not_refused t step there
 
-pub redone_memory : {X E : Type 0} (result : Result X E) (t : NamedTimeline) (step : Step) → newest_step t.history.redo ≡ Some step → OnErr result (Stands (redoes t))
+pub redone_memory : {X E : Type 0} (result : Result X E) (t : NamedTimeline) (step : Step) → newest_step t.history.redo ≡ Some step → OnErr result (IsNotRefused (redoes t))
 redone_memory (Ok x) t step there = tt
-redone_memory (Err e) t step there = redo_stands t step there
+redone_memory (Err e) t step there = redo_is_not_refused t step there
 
 -- an outcome that is no refusal
 pub never_refused : {X E : Type 0} (result : Result X E) → OnErr result (false ≡ false)

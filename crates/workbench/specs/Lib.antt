@@ -6,7 +6,7 @@ pub mod Outcome
 pub mod Reported
 pub mod TimelineEffects
 pub mod Reaction
-pub mod Told
+pub mod AnsweredLine
 pub mod OpenBlocks
 pub mod ReactionLaws
 pub mod Answers

@@ -95,12 +95,17 @@ edits timeline edit next outcome = makes timeline (edit ∷ []) next outcome
 abbrev pub new_row : NamedTimeline → Position → Op → Row
 new_row timeline position op = record { number = timeline.next; time = position.time; op = op }
 
--- a row at a position: there has to be room for it, and a number
-abbrev pub inserts_there : NamedTimeline → Op → Position → TimelineEffect
-inserts_there timeline op position =
+-- this effect, where one row more fits: there has to be room for it, and a number
+abbrev pub where_one_fits : NamedTimeline → TimelineEffect → TimelineEffect
+where_one_fits timeline effect =
     if nat_le most_rows (length timeline.rows) then refuses timeline refusals.Full
     else (if nat_le next_limit timeline.next then refuses timeline refusals.Numbers
-    else edits timeline (add position.place (new_row timeline position op)) (timeline.next + 1) (Inserted timeline.next))
+    else effect)
+
+-- a row at a position
+abbrev pub inserts_there : NamedTimeline → Op → Position → TimelineEffect
+inserts_there timeline op position =
+    where_one_fits timeline (edits timeline (add position.place (new_row timeline position op)) (timeline.next + 1) (Inserted timeline.next))
 
 -- a row at a position, if the spot has one
 abbrev pub inserts_at : NamedTimeline → ℕ → Op → Option Position → TimelineEffect
@@ -130,12 +135,9 @@ deletes timeline number = deletes_by timeline number (cut_of number timeline.row
 abbrev pub shift_of_row : NamedTimeline → ℕ → Target → Option Step
 shift_of_row timeline number target = option_and_then (shift_at timeline.rows target timeline.next) (place_of_row number timeline.rows)
 
--- a row is replaced: there has to be room for one more, and a number
+-- a row is replaced by one that draws a number: there has to be room for one row more
 abbrev pub shifts_there : NamedTimeline → Step → TimelineEffect
-shifts_there timeline step =
-    if nat_le most_rows (length timeline.rows) then refuses timeline refusals.Full
-    else (if nat_le next_limit timeline.next then refuses timeline refusals.Numbers
-    else makes timeline step (timeline.next + 1) (Inserted timeline.next))
+shifts_there timeline step = where_one_fits timeline (makes timeline step (timeline.next + 1) (Inserted timeline.next))
 
 -- a row is replaced, if there is one
 abbrev pub shifts_by : NamedTimeline → ℕ → Option Step → TimelineEffect

@@ -81,7 +81,7 @@ impl Bench {
     }
 
     /// Does what `line` does. The lines that answer take the place of what `answer` holds, and the result is whether the
-    /// line was refused.
+    /// line was refused. After `NoMemory` nothing is known of what `answer` holds.
     pub fn line_into(
         &mut self,
         line: &[u8],
@@ -118,7 +118,7 @@ impl Bench {
     }
 
     /// Does what `end` does. The lines that answer take the place of what `answer` holds, and the result is whether the
-    /// block was refused.
+    /// block was refused. After `NoMemory` nothing is known of what `answer` holds.
     pub fn end_into(&mut self, answer: &mut Text) -> Result<bool, NoMemory>
         requires { self.old.spent ≡ false }
         ensures reacts { IfOk result (λ refused. closing self.old.bench

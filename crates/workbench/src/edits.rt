@@ -1,12 +1,12 @@
 //! Edits of a timeline: a row put in, taken out or replaced, and steps undone and redone.
 
-ghost use Rattle.std.specs.Prelude.{◌≡◌, ◌≤◌, ◌<◌, false, length, List, Some, [], ◌∷◌, IfOk, OnErr, OnOk};
+ghost use Rattle.std.specs.Prelude.{◌≡◌, ◌≤◌, ◌<◌, false, length, List, Some, [], ◌∷◌, IfOk, OnErr, OnOk, MatchOption};
 ghost use Rattle.retro_base.specs.Kind.{kind_of, same_kind};
 ghost use Rattle.retro_base.specs.declared.row.Row.{Row};
 ghost use Rattle.retro_base.specs.Edits.{Step};
 ghost use Rattle.retro_base.specs.MadeEdits.{IsMade};
 ghost use Rattle.retro_base.specs.Order.{Fits};
-ghost use Rattle.timeline_undo.specs.Session.{AreMade, edit_reported, step_reported};
+ghost use Rattle.timeline_undo.specs.Session.{AreMade, HasRoom, edit_reported, step_reported};
 ghost use Rattle.timeline_undo.specs.Shift.{IsTargetOf, shift_at};
 ghost use Rattle.timeline_undo.specs.declared.turn.Turns.TheVariants.{Double};
 ghost use Rattle.workbench.specs.Reported.{reported};
@@ -25,7 +25,7 @@ use timeline_undo::{EditError, Target, Turn, Turns, UndoError};
 impl NamedTimeline {
     ghost use Rattle.workbench.specs.Bench.{IsUnspent};
     ghost use Rattle.workbench.specs.Outcome.{is_refusal};
-    ghost use Rattle.workbench.specs.TimelineEffects.{changes, deletes, inserts, inserts_there, moves, shifts, shifts_there, undoes, redoes};
+    ghost use Rattle.workbench.specs.TimelineEffects.{TimelineEffect, changes, deletes, inserts, inserts_there, moves, refuses, shifts, shifts_there, undoes, redoes, where_one_fits};
 
     /// Puts a row in at a spot, where the edited rows replay whole. After a refusal and after `NoMemory`
     /// all is as before.
@@ -53,6 +53,21 @@ impl NamedTimeline {
         op.kind() == self.session.kind()
     }
 
+    /// Why no row can come in, where there is no room for one more or no number is left.
+    fn refusal_of_one_more(&self) -> Option<Refusal>
+        requires unspent { IsUnspent self.now }
+        ensures { MatchOption result (HasRoom self.now.timeline.rows self.now.timeline.next × ((made : TimelineEffect) → where_one_fits self.now.timeline made ≡ made))
+            (λ refusal. (made : TimelineEffect) → where_one_fits self.now.timeline made ≡ refuses self.now.timeline refusal) }
+    {
+        if self.session.timeline().len() >= MAX_ROWS {
+            Some(Refusal::Full)
+        } else if self.session.next() >= MAX_NEXT {
+            Some(Refusal::Numbers)
+        } else {
+            None
+        }
+    }
+
     /// Puts a row in at a position, where there is room and the edited rows replay whole.
     fn insert_at(&mut self, position: Position, op: Op) -> Result<Outcome, NoMemory>
         requires unspent { IsUnspent self.old }
@@ -64,11 +79,8 @@ impl NamedTimeline {
         ensures err { OnErr result (self.new ≡ self.old) }
         ensures memory { OnErr result (is_refusal (inserts_there self.old.timeline op position).outcome ≡ false) }
     {
-        if self.session.timeline().len() >= MAX_ROWS {
-            return Ok(Outcome::refused(Refusal::Full));
-        }
-        if self.session.next() >= MAX_NEXT {
-            return Ok(Outcome::refused(Refusal::Numbers));
+        if let Some(refusal) = self.refusal_of_one_more() {
+            return Ok(Outcome::refused(refusal));
         }
         match self.session.put(position.place, position.time, op) {
             Ok(put) => {
@@ -153,11 +165,8 @@ impl NamedTimeline {
         ensures memory { OnErr result ((step : Step) → shift_at self.old.timeline.rows target self.old.timeline.next place ≡ Some step
             → is_refusal (shifts_there self.old.timeline step).outcome ≡ false) }
     {
-        if self.session.timeline().len() >= MAX_ROWS {
-            return Ok(Outcome::refused(Refusal::Full));
-        }
-        if self.session.next() >= MAX_NEXT {
-            return Ok(Outcome::refused(Refusal::Numbers));
+        if let Some(refusal) = self.refusal_of_one_more() {
+            return Ok(Outcome::refused(refusal));
         }
         match self.session.shift(place, target) {
             Ok(shift) => {

@@ -21,7 +21,7 @@ impl NamedTimeline {
     ghost use Rattle.workbench.specs.Bench.{IsUnspent};
     ghost use Rattle.workbench.specs.Outcome.{is_refusal, reply_text};
     ghost use Rattle.workbench.specs.TimelineEffects.{answers, answers_fate, saves};
-    ghost use Rattle.workbench.specs.Told.{found_or_refused};
+    ghost use Rattle.workbench.specs.AnsweredLine.{found_or_refused};
 
     /// Writes the answer at a moment, and gives whether the question is refused. The timeline stays as it is, whatever the
     /// answer.

@@ -8,7 +8,7 @@ ghost use Rattle.timeline_file.specs.Block.{finished};
 ghost use Rattle.workbench.specs.Bench.{IsUnspent, has_timeline, is_kept_as, is_named, named, timeline_of};
 ghost use Rattle.workbench.specs.Outcome.{is_refusal};
 ghost use Rattle.workbench.specs.Reaction.{closes, loads, obeys, of_block, on_named, starts};
-ghost use Rattle.workbench.specs.Told.{told};
+ghost use Rattle.workbench.specs.AnsweredLine.{told};
 ghost use Rattle.workbench.specs.TimelineEffects.{changes, moves, answers, answers_fate, deletes, inserts, redoes, saves, undoes, unchanged};
 
 use crate::named_timeline::NamedTimeline;

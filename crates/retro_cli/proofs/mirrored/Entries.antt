@@ -15,7 +15,7 @@ use Rattle.retro_cli.specs.Mirrored.{entries_in, entries_named, present_entries}
 use Rattle.retro_cli.proofs.accepted.Effects.{reported_rows}
 use Rattle.retro_cli.proofs.accepted.Telling.{Agrees}
 use Rattle.retro_cli.proofs.accepted.Timelines.{names_of, rows_by_name}
-use Rattle.retro_cli.proofs.mirrored.Told.{rows_told}
+use Rattle.retro_cli.proofs.mirrored.ToldEdits.{rows_told}
 
 -- the times of rows have no part in what they hold
 one_row_later : (o : Option State) (one two : State → Result State ℕ) → ((s : State) → one s ≡ two s)

@@ -19,7 +19,7 @@ use Rattle.retro_cli.proofs.accepted.Benches.{IsKept, StaysKept, happens_kept}
 use Rattle.retro_cli.proofs.accepted.ReadLines.{Reads}
 use Rattle.retro_cli.proofs.accepted.Script.{nothing_kept}
 use Rattle.retro_cli.proofs.mirrored.Entries.{none_survive, told_survive}
-use Rattle.retro_cli.proofs.mirrored.Told.{Follows, HasHistories, follows-append, follows_lines, follows_none, rows_told}
+use Rattle.retro_cli.proofs.mirrored.ToldEdits.{Follows, HasHistories, follows-append, follows_lines, follows_none, rows_told}
 
 -- the events among the answers to lines, from a bench on
 abbrev events_from : Bench → List (List ℕ) → List Evidence

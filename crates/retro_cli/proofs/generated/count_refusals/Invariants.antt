@@ -3,11 +3,11 @@ use Rattle.std.proofs.Common.{◌≡◌, false, length}
 use Rattle.retro_cli.proofs.Summing.{CountsFaults}
 use Rattle.retro_cli.proofs.generated.count_refusals.Given as goal
 
-abbrev pub invariant-loop-line : goal.invariant-loop-line
-invariant-loop-line l = record {
+abbrev pub invariant-loop-answer : goal.invariant-loop-answer
+invariant-loop-answer l = record {
   unspent : l.bench.spent ≡ false;
   counts : CountsFaults l.fn.bench.bench l.bench.bench l.fn.generator l.generator l.refused;
 }
 
-abbrev pub decreases-loop-line : goal.decreases-loop-line
-decreases-loop-line l = length l.generator
+abbrev pub decreases-loop-answer : goal.decreases-loop-answer
+decreases-loop-answer l = length l.generator

@@ -1,4 +1,4 @@
-use Rattle.retro_cli.proofs.Heard.{mirrors_report}
+use Rattle.retro_cli.proofs.HeardEvents.{mirrors_report}
 use Rattle.retro_cli.proofs.laws.mirrors_report_the_present.Goals as goal
 
 pub returns : goal.returns

@@ -1,5 +1,5 @@
 use Rattle.std.proofs.Common.{◌+◌, ap, sym, ◌∙◌, arith}
-use Rattle.timeline_undo.specs.Tallies.{tallied}
+use Rattle.timeline_undo.specs.WalkCounts.{tallied}
 use Rattle.timeline_undo.proofs.Tallied.{added_up_to, all_parts, new_first, new_later, second_stops, tallied-stops, walked_up_to}
 use Rattle.timeline_undo.proofs.scan.tally_along.Goals as goal
 

@@ -1,5 +1,5 @@
 use Rattle.std.proofs.Common.{◌+◌, ap, drop, sym, ◌∙◌, arith}
-use Rattle.timeline_undo.specs.Tallies.{tallied}
+use Rattle.timeline_undo.specs.WalkCounts.{tallied}
 use Rattle.timeline_undo.proofs.Tallied.{read_up_to, up_to_more, walk_ends, walk_goes, walk_stops}
 use Rattle.timeline_undo.proofs.scan.walk.Goals as goal
 use Rattle.retro_base.specs.Facts.{window_reads}

@@ -1,5 +1,5 @@
 use Rattle.std.proofs.Common.{◌≡◌, ◌-◌, ◌+◌, ◌≤◌, slice_range}
-use Rattle.timeline_undo.specs.Tallies.{IsUpTo, tallied}
+use Rattle.timeline_undo.specs.WalkCounts.{IsUpTo, tallied}
 use Rattle.timeline_undo.proofs.scan.walk.Given as goal
 
 abbrev pub invariant-loop-place : goal.invariant-loop-place

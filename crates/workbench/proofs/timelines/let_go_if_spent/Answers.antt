@@ -1,5 +1,5 @@
 use Rattle.std.proofs.Common.{sym, ◌∙◌}
-use Rattle.workbench.proofs.Kept.{unspent_but_one}
+use Rattle.workbench.proofs.KeptTimelines.{unspent_but_one}
 use Rattle.workbench.proofs.timelines.let_go_if_spent.Goals as goal
 
 pub returns-else-spent-clause-unspent : goal.returns-else-spent-clause-unspent

@@ -1,6 +1,6 @@
 use Rattle.std.proofs.Common.{◌+◌, [], ◌∷◌, Some, inl, inr, ap, refl, sym, ◌∙◌, subst}
 use Rattle.std.specs.Option.{option_map}
-use Rattle.timeline_undo.specs.Kept.{edit_of}
+use Rattle.timeline_undo.specs.KeptSteps.{edit_of}
 use Rattle.timeline_undo.specs.Session.{IsSpentWithin, spent_with}
 use Rattle.timeline_undo.specs.declared.error.EditError.TheVariants.{Fails, NoMemory}
 use Rattle.timeline_undo.specs.Shift.{shift_of}

@@ -1,7 +1,7 @@
 use Rattle.std.proofs.Common.{ap, inl, inr, refl, sym, ◌∙◌}
 use Rattle.std.specs.Option.{option_map}
 use Rattle.retro_base.specs.Edits.{inverse_step}
-use Rattle.timeline_undo.specs.Kept.{step_of}
+use Rattle.timeline_undo.specs.KeptSteps.{step_of}
 use Rattle.timeline_undo.proofs.InTurn.{in_turn_first, ready}
 use Rattle.timeline_undo.proofs.Rings.{steps-older, steps-more, steps-newest, no_newest}
 use Rattle.timeline_undo.proofs.Sessions.{at_once, midway_spent, midway_timeline, session_spent, session_undone, undo_stands}

@@ -1,6 +1,6 @@
 use Rattle.std.proofs.Common.{◌≡◌, ◌+◌, ◌*◌, drop}
 use Rattle.retro_base.specs.Limits.{most_rows}
-use Rattle.timeline_undo.specs.Tallies.{IsUpTo, tallied}
+use Rattle.timeline_undo.specs.WalkCounts.{IsUpTo, tallied}
 use Rattle.timeline_undo.proofs.walk_count.WalkCount.along.Given as goal
 
 abbrev pub invariant-loop-row : goal.invariant-loop-row

@@ -1,4 +1,4 @@
-use Rattle.std.proofs.Common.{◌<◌, ap, arith, length}
+use Rattle.std.proofs.Common.{◌<◌, ap, length}
 use Rattle.retro_base.specs.Limits.{most_rows, next_limit}
 use Rattle.workbench.specs.Bench.{named}
 use Rattle.workbench.proofs.Memory.{shift_memory, shifted_memory}
@@ -8,8 +8,9 @@ use Rattle.workbench.proofs.named_timeline.NamedTimeline.shift_at.Goals as goal
 pub returns-in-Ok-clause-ok : goal.returns-in-Ok-clause-ok
 returns-in-Ok-clause-ok c =
     let done = c.in-Ok.ensures in
-    let room : length c.self.inside.session.rows < most_rows = omega (arith, ap length c.timeline.ensures.rows) in
-    let number : c.self.inside.session.next < next_limit = omega (arith, c.next.ensures.next) in
+    let fits = rw (← c.self.view_is) at c.in_default.ensures in
+    let room : length c.self.inside.session.rows < most_rows = fits.0.0 in
+    let number : c.self.inside.session.next < next_limit = fits.0.1 in
     rw (← c.self.view_is)
     (shifted_told c.tell_both.result (named c.self.inside.name c.self.inside.session) _ c.args.target c.args.place _ room number done.step done.made.1.after.valid
     (ap (named c.self.inside.name) done.session)
@@ -17,8 +18,9 @@ returns-in-Ok-clause-ok c =
 
 pub returns-in-Err-clause-ok : goal.returns-in-Err-clause-ok
 returns-in-Err-clause-ok c =
-    let room : length c.self.inside.session.rows < most_rows = omega (arith, ap length c.timeline.ensures.rows) in
-    let number : c.self.inside.session.next < next_limit = omega (arith, c.next.ensures.next) in
+    let fits = rw (← c.self.view_is) at c.in_default.ensures in
+    let room : length c.self.inside.session.rows < most_rows = fits.0.0 in
+    let number : c.self.inside.session.next < next_limit = fits.0.1 in
     rw (← c.self.view_is)
     (shift_refused c.self.inside.name c.self.inside.session _ c.args.target c.args.place _ c.refused_by.result room number c.in-Err.ensures.err
     c.refused_by.ensures)
@@ -26,15 +28,17 @@ returns-in-Err-clause-ok c =
 pub returns-in-Ok-clause-memory : goal.returns-in-Ok-clause-memory
 returns-in-Ok-clause-memory c =
     let done = c.in-Ok.ensures in
-    let room : length c.self.inside.session.rows < most_rows = omega (arith, ap length c.timeline.ensures.rows) in
-    let number : c.self.inside.session.next < next_limit = omega (arith, c.next.ensures.next) in
+    let fits = rw (← c.self.view_is) at c.in_default.ensures in
+    let room : length c.self.inside.session.rows < most_rows = fits.0.0 in
+    let number : c.self.inside.session.next < next_limit = fits.0.1 in
     rw (← c.self.view_is)
     (shifted_memory c.tell_both.result (named c.self.inside.name c.self.inside.session) c.args.target c.args.place _ room number done.step done.made.1.after.valid)
 
 pub returns-in-Err-clause-memory : goal.returns-in-Err-clause-memory
 returns-in-Err-clause-memory c =
-    let room : length c.self.inside.session.rows < most_rows = omega (arith, ap length c.timeline.ensures.rows) in
-    let number : c.self.inside.session.next < next_limit = omega (arith, c.next.ensures.next) in
+    let fits = rw (← c.self.view_is) at c.in_default.ensures in
+    let room : length c.self.inside.session.rows < most_rows = fits.0.0 in
+    let number : c.self.inside.session.next < next_limit = fits.0.1 in
     rw (← c.self.view_is)
     (shift_memory c.self.inside.name c.self.inside.session _ c.args.target c.args.place _ c.refused_by.result room number c.in-Err.ensures.err
     c.refused_by.ensures)

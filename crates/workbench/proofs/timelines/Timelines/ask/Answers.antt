@@ -2,9 +2,9 @@ use Rattle.workbench.specs.declared.outcome.Outcome.TheVariants.{Refused}
 use Rattle.workbench.specs.declared.outcome.Refusal.TheVariants as refusals
 use Rattle.workbench.specs.Reaction.{on_named}
 use Rattle.workbench.specs.TimelineEffects.{unchanged, answers}
-use Rattle.workbench.proofs.Kept.{kept_told}
+use Rattle.workbench.proofs.KeptTimelines.{kept_told}
 use Rattle.workbench.proofs.Named.{on_named_nowhere}
-use Rattle.workbench.proofs.Told.{told_by}
+use Rattle.workbench.proofs.AnsweredLine.{told_by}
 use Rattle.workbench.proofs.timelines.Timelines.ask.Goals as goal
 
 pub returns-in-Some-clause-told : goal.returns-in-Some-clause-told

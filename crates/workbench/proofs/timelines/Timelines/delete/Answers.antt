@@ -1,5 +1,5 @@
 use Rattle.workbench.specs.TimelineEffects.{deletes}
-use Rattle.workbench.proofs.Kept.{kept_changed, kept_memory}
+use Rattle.workbench.proofs.KeptTimelines.{kept_changed, kept_memory}
 use Rattle.workbench.proofs.Named.{on_named_nowhere}
 use Rattle.workbench.proofs.timelines.Timelines.delete.Goals as goal
 

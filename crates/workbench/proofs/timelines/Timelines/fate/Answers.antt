@@ -1,6 +1,6 @@
 use Rattle.std.proofs.Common.{Ok, sym, ◌∙◌}
 use Rattle.workbench.specs.TimelineEffects.{unchanged, answers_fate}
-use Rattle.workbench.proofs.Kept.{kept_reported}
+use Rattle.workbench.proofs.KeptTimelines.{kept_reported}
 use Rattle.workbench.proofs.Named.{on_named_nowhere}
 use Rattle.workbench.proofs.timelines.Timelines.fate.Goals as goal
 

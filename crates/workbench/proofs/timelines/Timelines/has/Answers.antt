@@ -1,7 +1,7 @@
 use Rattle.std.proofs.Common.{ap, ◌∙◌}
 use Rattle.std.specs.List.{list_any}
 use Rattle.workbench.specs.Bench.{is_kept_as}
-use Rattle.workbench.proofs.Kept.{any_shown}
+use Rattle.workbench.proofs.KeptTimelines.{any_shown}
 use Rattle.workbench.proofs.timelines.Timelines.has.Goals as goal
 
 pub returns : goal.returns

@@ -1,6 +1,6 @@
 use Rattle.std.proofs.Common.{ap, ◌∙◌, position}
 use Rattle.workbench.specs.Bench.{is_kept_as}
-use Rattle.workbench.proofs.Kept.{index_shown}
+use Rattle.workbench.proofs.KeptTimelines.{index_shown}
 use Rattle.workbench.proofs.timelines.Timelines.index_of.Goals as goal
 
 pub returns : goal.returns

@@ -1,4 +1,4 @@
-use Rattle.workbench.proofs.Told.{told_by}
+use Rattle.workbench.proofs.AnsweredLine.{told_by}
 use Rattle.workbench.proofs.timelines.Timelines.perform.Goals as goal
 
 pub returns-in_ok-insert-in-Insert : goal.returns-in_ok-insert-in-Insert

@@ -1,6 +1,6 @@
 use Rattle.std.proofs.Common.{sym, ◌∙◌}
 use Rattle.workbench.specs.TimelineEffects.{unchanged, saves}
-use Rattle.workbench.proofs.Kept.{kept_memory, kept_reported}
+use Rattle.workbench.proofs.KeptTimelines.{kept_memory, kept_reported}
 use Rattle.workbench.proofs.Memory.{never_refused}
 use Rattle.workbench.proofs.Named.{on_named_nowhere}
 use Rattle.workbench.proofs.timelines.Timelines.save.Goals as goal

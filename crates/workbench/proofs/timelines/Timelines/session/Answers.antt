@@ -1,6 +1,6 @@
 use Rattle.std.proofs.Common.{sym, ap, ◌∙◌}
 use Rattle.workbench.specs.Bench.{KeptTimeline}
-use Rattle.workbench.proofs.Kept.{kept_session, unspent_found}
+use Rattle.workbench.proofs.KeptTimelines.{kept_session, unspent_found}
 use Rattle.workbench.proofs.Named.{session_nowhere}
 use Rattle.workbench.proofs.timelines.Timelines.session.Goals as goal
 

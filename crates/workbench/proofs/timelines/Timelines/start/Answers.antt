@@ -2,7 +2,7 @@ use Rattle.std.proofs.Common.{◌≡◌, false, sym, ◌∙◌}
 use Rattle.workbench.specs.declared.outcome.Outcome.TheVariants.{Accepted}
 use Rattle.workbench.specs.Bench.{fresh, has_timeline, shown}
 use Rattle.workbench.specs.Reaction.{with_timeline}
-use Rattle.workbench.proofs.Kept.{shown_more}
+use Rattle.workbench.proofs.KeptTimelines.{shown_more}
 use Rattle.workbench.proofs.Named.{no_room, startable}
 use Rattle.workbench.proofs.timelines.Timelines.start.Goals as goal
 

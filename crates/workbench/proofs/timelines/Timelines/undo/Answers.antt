@@ -1,5 +1,5 @@
 use Rattle.workbench.specs.TimelineEffects.{undoes}
-use Rattle.workbench.proofs.Kept.{kept_memory, kept_settled, unspent_others}
+use Rattle.workbench.proofs.KeptTimelines.{kept_memory, kept_settled, unspent_others}
 use Rattle.workbench.proofs.Named.{on_named_nowhere}
 use Rattle.workbench.proofs.timelines.Timelines.undo.Goals as goal
 

@@ -11,9 +11,9 @@ use Rattle.workbench.specs.Bench.{KeptTimeline, NamedTimeline, IsUnspent, has_ti
 use Rattle.workbench.specs.Outcome.{is_refusal, reply_text}
 use Rattle.workbench.specs.Reaction.{on_named}
 use Rattle.workbench.specs.TimelineEffects.{TimelineEffect, unchanged}
-use Rattle.workbench.specs.Told.{told}
+use Rattle.workbench.specs.AnsweredLine.{told}
 use Rattle.workbench.proofs.Named.{asked, changed, on_named_found, reported, session_found}
-use Rattle.workbench.proofs.Told.{told_by}
+use Rattle.workbench.proofs.AnsweredLine.{told_by}
 
 abbrev seen_of : KeptTimeline → NamedTimeline
 seen_of kept = kept.timeline

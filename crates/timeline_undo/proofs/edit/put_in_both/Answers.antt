@@ -2,7 +2,7 @@ use Rattle.std.proofs.Common.{sym, ◌∙◌}
 use Rattle.retro_base.specs.EditedLists.{remove-insert}
 use Rattle.retro_base.specs.InsertedLaws.{fresh_for}
 use Rattle.timeline_undo.proofs.Edits.{did_fit}
-use Rattle.timeline_undo.proofs.edit.insert_in_both.Goals as goal
+use Rattle.timeline_undo.proofs.edit.put_in_both.Goals as goal
 
 pub insert-requires-clause-fresh : goal.insert-requires-clause-fresh
 insert-requires-clause-fresh g c = fresh_for _ _ c.args.place c.args.row c.requires.replayable

@@ -1,4 +1,4 @@
--- What is told of a line, without the outcome that stands between.
+-- What is told of a line: the timelines after it, the lines that answer it, and whether it is refused. And the outcome of a question.
 use Rattle.std.specs.Prelude.{ℕ, Bool, List, Result, Ok, Err}
 use Rattle.retro_base.specs.declared.question.Answer.{Answer}
 use Rattle.workbench.specs.declared.outcome.Outcome.{Outcome}
@@ -9,13 +9,13 @@ use Rattle.workbench.specs.Outcome.{is_refusal, reply_text}
 use Rattle.workbench.specs.Reaction.{Effect}
 
 -- the timelines afterwards, the lines that answer, and whether they are a refusal
-pub record Told : Type 0 where
+pub record AnsweredLine : Type 0 where
   pub timelines : List NamedTimeline
   pub answer : List ℕ
   pub refused : Bool
 
 -- what is told of an effect
-abbrev pub told : Effect → Told
+abbrev pub told : Effect → AnsweredLine
 told effect = record { timelines = effect.timelines; answer = reply_text effect.outcome; refused = is_refusal effect.outcome }
 
 -- the outcome of a question that has an answer, or is refused

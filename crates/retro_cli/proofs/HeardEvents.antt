@@ -18,12 +18,12 @@ use Rattle.workbench.specs.Outcome.{refusal_text, reply_text}
 use Rattle.workbench.specs.Reaction.{Reaction, happens, outside, reacts, spelled}
 use Rattle.retro_cli.specs.Audience.{Audience, after_events, audience_after, follower_at, follows, hears, mutes, number_muted, turn, turn_with, without}
 use Rattle.retro_cli.specs.Events.{events, events_among, events_spelled}
-use Rattle.retro_cli.specs.Heard.{HasHeard, MirrorsReportThePresent, WhoIsLeftHasHeardAll}
+use Rattle.retro_cli.specs.HeardEvents.{HasHeard, MirrorsReportThePresent, WhoIsLeftHasHeardAll}
 use Rattle.retro_cli.specs.Mirrored.{ChangesAloneHoldThePresent}
 use Rattle.retro_cli.proofs.accepted.Passing.{begins_other}
 use Rattle.retro_cli.proofs.accepted.Printable.{refusal_printable}
 use Rattle.retro_cli.proofs.accepted.ReadLines.{line_alone}
-use Rattle.retro_cli.proofs.mirrored.Told.{no_event}
+use Rattle.retro_cli.proofs.mirrored.ToldEdits.{no_event}
 
 -- the bench refuses a line that mutes, and there is no event in that
 refusal_is_silent : (number : ℕ) → events_among (reply_text (Refused (refusals.NoFollower number))) ≡ []

@@ -4,7 +4,7 @@ use Rattle.workbench.specs.declared.outcome.Outcome.{Outcome}
 use Rattle.workbench.specs.Bench.{NamedTimeline, OpenBlock}
 use Rattle.workbench.specs.Outcome.{is_refusal, reply_text}
 use Rattle.workbench.specs.Reaction.{Effect, reaction_of, with_block}
-use Rattle.workbench.specs.Told.{Told, told}
+use Rattle.workbench.specs.AnsweredLine.{AnsweredLine, told}
 
 -- the outcome of the effect was told
 pub told_by : {E : Type 0} (result : Result Bool E) (effect : Effect) (timelines : List NamedTimeline) (outcome : Outcome) (text : List ℕ)
@@ -22,5 +22,5 @@ pub told_outside : {E : Type 0} (result : Result Bool E) (effect : Effect) (bloc
     → IfOk result (λ refused. reaction_of (with_block block effect) ≡ record { bench = record { timelines = timelines; block = block }; answer = answer; refused = refused })
 told_outside (Ok refused) effect block timelines answer is =
     let same : told effect ≡ record { timelines = timelines; answer = answer; refused = refused } = is in
-    ap (λ (t : Told). record { bench = record { timelines = t.timelines; block = block }; answer = t.answer; refused = t.refused }) same
+    ap (λ (t : AnsweredLine). record { bench = record { timelines = t.timelines; block = block }; answer = t.answer; refused = t.refused }) same
 told_outside (Err e) effect block timelines answer is = tt
