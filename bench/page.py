@@ -148,7 +148,7 @@ class Page:
             ("retro", "the program as it is built and proved"),
             ("replay by hand", "what one writes in an hour: a vector of rows, performed again from the first one on (`bench/peers/replay.rs`)"),
             ("same design, plain Rust", "the same trees, with leaves of up to 32 items, labels, spans, bridges, checkpoints and pieces without proofs (`bench/peers/same_*.rs`); "
-             "it has no limits, few refusals and knows one order of tests"),
+             "it has no limits and few refusals, knows one order of tests, and keeps a row in 40 bytes, not in 32"),
             ("best without proofs", "the fastest program, of any design, that was written for this page: 64 rows to a leaf, and of a priority queue one moment for each 256 rows, "
              "which edits go to when the past is next asked (`bench/peers/best_*.rs`)"),
             ("SQLite", "a table of rows with an index on time in SQLite %s, and queries that replay (`bench/sqlite_peer.py`); the script is read by Python" % self.made.sqlite),
