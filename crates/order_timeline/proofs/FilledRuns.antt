@@ -1,6 +1,5 @@
 -- Runs stay filled where a row comes or goes, and where a full one is divided.
 use Rattle.std.proofs.Common.{◌≡◌, ◌≢◌, ℕ, zero, suc, ◌+◌, ◌-◌, ◌<◌, ◌≤◌, inl, inr, List, [], ◌∷◌, length, slice_get, slice_set, refl, sym, ap, ◌∙◌, subst, arith, add-one, Some}
-use Rattle.std.specs.Prelude.{IfSome}
 use Rattle.std.specs.List.{insert, remove, AllByRecursion}
 use Rattle.order_timeline.specs.Runs.{rows_in, start_of, divided, IsFilled, AreFilled, IsInRun, HasRoom}
 
@@ -34,12 +33,10 @@ waiting_at runs zero run waiting there = (refl, let same : Some 0 ≡ Some run =
 waiting_at runs (suc index) run waiting there = absurd (let none : slice_get (0 ∷ []) (suc index) ≡ Some run = ap (λ xs. slice_get xs (suc index)) (sym waiting) ∙ there in cc)
 
 -- a row more, where there is room
-pub filled_more : (runs : List ℕ) (index count : ℕ) → AreFilled runs → slice_get runs index ≡ Some count → HasRoom runs index → AreFilled (slice_set runs index (count + 1))
-filled_more runs index count (inl all) there room =
-    let few : count < 32 = subst (λ o. IfSome o (λ run. run < 32)) there room in
-    inl (filled_set runs index (count + 1) all (record { some = omega arith; few = omega (arith, few) }))
-filled_more runs index count (inr waiting) there room =
-    let first = waiting_at runs index count waiting there in
+pub filled_more : (runs : List ℕ) (index count : ℕ) → AreFilled runs → HasRoom runs index count → AreFilled (slice_set runs index (count + 1))
+filled_more runs index count (inl all) room = inl (filled_set runs index (count + 1) all (record { some = omega arith; few = omega (arith, room.few) }))
+filled_more runs index count (inr waiting) room =
+    let first = waiting_at runs index count waiting room.told in
     inl (rw (waiting, first.0, first.1) (record { some = omega arith; few = omega arith }, tt))
 
 nowhere_in : (index place : ℕ) → IsInRun (0 ∷ []) index place → ⊥

@@ -7,19 +7,19 @@ use Rattle.std.proofs.lemmas.List.Edits.{length-insert, length-remove}
 use Rattle.retro_base.specs.declared.row.Row.{Row}
 use Rattle.retro_base.specs.Timeline.{IsFresh, HaveOwnNumbers}
 use Rattle.order_timeline.specs.Numbers.{IsNamed, Pages, Changes, Writes, WritesRun, written}
-use Rattle.order_timeline.specs.Runs.{rows_in, start_of, beside, divided, IsInRun, TakesRow, IsInRuns, HasRoom, RepresentsRows}
+use Rattle.order_timeline.specs.Runs.{rows_in, start_of, name_for_each, divided, IsInRun, TakesRow, IsInRuns, HasRoom, RepresentsRows}
 use Rattle.retro_base.specs.Limits.{most_rows}
 use Rattle.order_timeline.proofs.FilledRuns.{filled_more, fewer_runs, first_of_divided, second_of_divided, start_before_divided}
 use Rattle.order_timeline.specs.Rows.{MayCome}
 use Rattle.retro_base.specs.EditedLists.{remove-insert, get-insert}
 use Rattle.order_timeline.proofs.Rows.{ordered_more}
 use Rattle.order_timeline.proofs.Maps.{named_with, named_without, named_again}
-use Rattle.order_timeline.proofs.NamesOfRows.{length-beside, beside_with, beside_without, beside_gone, beside_divided}
+use Rattle.order_timeline.proofs.NamesOfRows.{length-name_for_each, name_for_each_with, name_for_each_without, name_for_each_gone, name_for_each_divided}
 use Rattle.std.proofs.lemmas.Option.{slice_get_within}
 
 -- as many rows as the runs have
 pub all_rows : (rows : List Row) (runs names : List ℕ) (numbers : Pages) → IsInRuns rows runs names numbers → rows_in runs ≡ length rows
-all_rows rows runs names numbers is = sym (length-beside runs names is.each) ∙ is.named.beside
+all_rows rows runs names numbers is = sym (length-name_for_each runs names is.each) ∙ is.named.as_many
 
 pub read_index : (xs : List ℕ) (index x : ℕ) → slice_get xs index ≡ Some x → slice_index xs index ≡ x
 read_index [] index x read = cc
@@ -28,7 +28,7 @@ read_index (y ∷ xs) (suc index) x read = read_index xs index x read
 
 -- other lists of the same names beside the rows
 pub in_runs_same : (rows : List Row) (runs names others more : List ℕ) (numbers : Pages) → IsInRuns rows runs names numbers → length more ≡ length others
-    → beside others more ≡ beside runs names → IsInRuns rows others more numbers
+    → name_for_each others more ≡ name_for_each runs names → IsInRuns rows others more numbers
 in_runs_same rows runs names others more numbers is each same = record { each = each; named = subst (λ xs. IsNamed rows xs numbers) (sym same) is.named }
 
 -- the table says the same
@@ -37,24 +37,24 @@ pub in_runs_with : (rows : List Row) (runs names : List ℕ) (before after : Pag
     → IsInRuns (insert rows place row) (slice_set runs index (count + 1)) names after
 in_runs_with rows runs names before after index place row count name is within fresh takes long there writes =
     let back = remove-insert rows place row within in
-    let longer : beside (slice_set runs index (count + 1)) names ≡ insert (beside runs names) place name =
-    beside_with runs names index place count name is.each long there takes.begun (omega (arith, takes.lasts, read_index runs index count long)) in
+    let longer : name_for_each (slice_set runs index (count + 1)) names ≡ insert (name_for_each runs names) place name =
+    name_for_each_with runs names index place count name is.each long there takes.begun (omega (arith, takes.lasts, read_index runs index count long)) in
     record {
       each = is.each ∙ sym (length-set runs index (count + 1));
       named = subst (λ xs. IsNamed (insert rows place row) xs after) (sym longer)
-          (named_with (insert rows place row) (beside runs names) before after place row name (get-insert rows place row within)
-          (subst (IsFresh row.number) (sym back) fresh) (subst (λ others. IsNamed others (beside runs names) before) (sym back) is.named) writes);
+          (named_with (insert rows place row) (name_for_each runs names) before after place row name (get-insert rows place row within)
+          (subst (IsFresh row.number) (sym back) fresh) (subst (λ others. IsNamed others (name_for_each runs names) before) (sym back) is.named) writes);
     }
 
 -- a row less, in a run that stays
 pub in_runs_without : (rows : List Row) (runs names : List ℕ) (before after : Pages) (index place : ℕ) (row : Row) (count : ℕ) → IsInRuns rows runs names before → place < length rows → HaveOwnNumbers rows
     → slice_get rows place ≡ Some row → IsInRun runs index place → slice_get runs index ≡ Some count → Changes before after row.number None → IsInRuns (remove rows place) (slice_set runs index (count - 1)) names after
 in_runs_without rows runs names before after index place row count is within own read lies long changes =
-    let shorter : beside (slice_set runs index (count - 1)) names ≡ remove (beside runs names) place =
-    beside_without runs names index place count is.each long lies.begun (omega (arith, lies.lasts, read_index runs index count long)) in
+    let shorter : name_for_each (slice_set runs index (count - 1)) names ≡ remove (name_for_each runs names) place =
+    name_for_each_without runs names index place count is.each long lies.begun (omega (arith, lies.lasts, read_index runs index count long)) in
     record {
       each = is.each ∙ sym (length-set runs index (count - 1));
-      named = subst (λ xs. IsNamed (remove rows place) xs after) (sym shorter) (named_without rows (beside runs names) before after place row read within own is.named changes);
+      named = subst (λ xs. IsNamed (remove rows place) xs after) (sym shorter) (named_without rows (name_for_each runs names) before after place row read within own is.named changes);
     }
 
 -- and in one that goes with it
@@ -66,7 +66,7 @@ in_runs_gone rows runs names before after index place row count is within own re
     record {
       each = omega (arith, is.each, length-remove runs index lies.there, length-remove names index (omega (arith, is.each, lies.there)));
       named = subst (λ xs. IsNamed (remove rows place) xs after)
-          (ap (λ n. beside (slice_set runs index n) names) (let none : count - 1 ≡ 0 = omega arith in none) ∙ sym (beside_gone runs names index lies.there is.each)) stays.named;
+          (ap (λ n. name_for_each (slice_set runs index n) names) (let none : count - 1 ≡ 0 = omega arith in none) ∙ sym (name_for_each_gone runs names index lies.there is.each)) stays.named;
     }
 
 -- a run is divided, and the second half has another name
@@ -76,7 +76,7 @@ pub in_runs_divided : (rows : List Row) (runs names : List ℕ) (before after : 
     → WritesRun rows from (count - half) name before after
     → IsInRuns rows (slice_set (insert runs (suc index) (count - half)) index half) (insert names (suc index) name) after
 in_runs_divided rows runs names before after index count half name from is there long within here writes =
-    let divided = beside_divided runs names index count half name is.each long within in
+    let divided = name_for_each_divided runs names index count half name is.each long within in
     record {
       each = omega (
         arith,
@@ -85,7 +85,7 @@ in_runs_divided rows runs names before after index count half name from is there
         length-insert runs (suc index) (count - half) (omega (arith, there)),
         is.each,
       );
-      named = subst (λ xs. IsNamed rows xs after) (ap (λ n. written (beside runs names) n (count - half) name) here ∙ sym divided) (writes (beside runs names) is.named);
+      named = subst (λ xs. IsNamed rows xs after) (ap (λ n. written (name_for_each runs names) n (count - half) name) here ∙ sym divided) (writes (name_for_each runs names) is.named);
     }
 
 -- a run that is divided leaves all rows where they are
@@ -131,7 +131,7 @@ err_from (Err e) answer P is some err = err
 -- a number that was noted and forgotten
 pub in_runs_again : (rows : List Row) (runs names : List ℕ) (before after : Pages) (number : ℕ) → IsFresh number rows → IsInRuns rows runs names before
     → Changes before after number None → IsInRuns rows runs names after
-in_runs_again rows runs names before after number fresh is changes = record { each = is.each; named = named_again rows (beside runs names) before after number fresh is.named changes }
+in_runs_again rows runs names before after number fresh is changes = record { each = is.each; named = named_again rows (name_for_each runs names) before after number fresh is.named changes }
 
 -- a row more, of the lists that the code has
 pub in_runs_put : (rows more : List Row) (runs longer names : List ℕ) (before after : Pages) (index place : ℕ) (row item : Row) (count name run : ℕ)
@@ -146,13 +146,13 @@ in_runs_put rows more runs longer names before after index place row item count 
 -- a timeline with a row more
 pub kept_put : (rows more : List Row) (runs longer names : List ℕ) (before after : Pages) (index place : ℕ) (row item : Row)
     (count name run : ℕ) → RepresentsRows rows runs names before → MayCome rows place row
-    → TakesRow runs index place → HasRoom runs index → slice_get runs index ≡ Some count → slice_get names index ≡ Some name → Writes before after row.number name
+    → TakesRow runs index place → HasRoom runs index count → slice_get names index ≡ Some name → Writes before after row.number name
     → item ≡ row → more ≡ insert rows place item → run ≡ count + 1 → longer ≡ slice_set runs index run → RepresentsRows more longer names after
-kept_put rows more runs longer names before after index place row item count name run kept comes takes room long there writes item_is more_is run_is longer_is = record {
+kept_put rows more runs longer names before after index place row item count name run kept comes takes room there writes item_is more_is run_is longer_is = record {
   ordered = ordered_more rows more place row item item_is more_is kept.ordered comes.within comes.room comes.fresh comes.fits;
   in_runs = in_runs_put rows more runs longer names before after index place row item count name run kept.in_runs
-      comes.within comes.fresh takes long there writes item_is more_is run_is longer_is;
-  filled = rw (longer_is ∙ ap (slice_set runs index) run_is) (filled_more runs index count kept.filled long room);
+      comes.within comes.fresh takes room.told there writes item_is more_is run_is longer_is;
+  filled = rw (longer_is ∙ ap (slice_set runs index) run_is) (filled_more runs index count kept.filled room);
 }
 
 -- a timeline as before, once a number was noted and forgotten

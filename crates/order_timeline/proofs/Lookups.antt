@@ -7,7 +7,7 @@ use Rattle.std.specs.List.{position_or_len}
 use Rattle.retro_base.specs.declared.row.Row.{Row}
 use Rattle.retro_base.specs.Places.{place_of_row}
 use Rattle.order_timeline.specs.Numbers.{name_of}
-use Rattle.order_timeline.specs.Runs.{rows_in, start_of, beside, IsNotBefore}
+use Rattle.order_timeline.specs.Runs.{rows_in, start_of, name_for_each, IsNotBefore}
 
 abbrev pub is_name : ℕ → ℕ → Bool
 is_name name other = other == name
@@ -174,28 +174,28 @@ past_run : (run name next : ℕ) (rest : List ℕ) → (next == name) ≡ false 
 past_run zero name next rest differs = omega arith
 past_run (suc run) name next rest differs = omega (arith, first_later (is_name name) next (replicate run next ++ rest) differs, past_run run name next rest differs)
 
-run_begins : (name : ℕ) (runs names : List ℕ) → start_of runs (position_or_len (is_name name) names) ≤ position_or_len (is_name name) (beside runs names)
+run_begins : (name : ℕ) (runs names : List ℕ) → start_of runs (position_or_len (is_name name) names) ≤ position_or_len (is_name name) (name_for_each runs names)
 run_begins name [] names = omega (arith, none_in (position_or_len (is_name name) names))
 run_begins name (run ∷ runs) [] = omega arith
 run_begins name (run ∷ runs) (next ∷ names) = elim (cases_Bool (next == name)) [
   | inl equal ↦ omega (arith, ap (start_of (run ∷ runs)) (first_here (is_name name) next names equal))
   | inr unequal ↦
       let later : position_or_len (is_name name) (next ∷ names) ≡ suc (position_or_len (is_name name) names) = omega (arith, first_later (is_name name) next names unequal) in
-      omega (arith, ap (start_of (run ∷ runs)) later, past_run run name next (beside runs names) unequal, run_begins name runs names)
+      omega (arith, ap (start_of (run ∷ runs)) later, past_run run name next (name_for_each runs names) unequal, run_begins name runs names)
 ]
 
 -- so the row is looked for from there on
-pub not_before_run : (number name run : ℕ) (rows : List Row) (runs names : List ℕ) → name_of number rows (beside runs names) ≡ Some name
+pub not_before_run : (number name run : ℕ) (rows : List Row) (runs names : List ℕ) → name_of number rows (name_for_each runs names) ≡ Some name
     → position (is_name name) names ≡ Some run → IsNotBefore rows (start_of runs run) number
 not_before_run number name run rows runs names is found =
-    omega (arith, ap (start_of runs) (position_is (is_name name) names run found), run_begins name runs names, no_earlier number name rows (beside runs names) is)
+    omega (arith, ap (start_of runs) (position_is (is_name name) names run found), run_begins name runs names, no_earlier number name rows (name_for_each runs names) is)
 
 all_runs : (runs : List ℕ) (index : ℕ) → length runs ≤ index → start_of runs index ≡ rows_in runs
 all_runs runs index end = ap rows_in (take_all index runs end)
 
 -- a name that no run has is that of no row
 pub no_run : (number name : ℕ) (rows : List Row) (runs names : List ℕ) → length names ≡ length runs → rows_in runs ≡ length rows
-    → name_of number rows (beside runs names) ≡ Some name → position (is_name name) names ≡ None → place_of_row number rows ≡ None
+    → name_of number rows (name_for_each runs names) ≡ Some name → position (is_name name) names ≡ None → place_of_row number rows ≡ None
 no_run number name rows runs names each all is none =
     position_nowhere (has_number number) rows (length rows) (omega arith)
-    (omega (arith, all_runs runs (position_or_len (is_name name) names) (omega (arith, position_none (is_name name) names none)), run_begins name runs names, no_earlier number name rows (beside runs names) is))
+    (omega (arith, all_runs runs (position_or_len (is_name name) names) (omega (arith, position_none (is_name name) names none)), run_begins name runs names, no_earlier number name rows (name_for_each runs names) is))

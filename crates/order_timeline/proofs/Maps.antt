@@ -23,16 +23,16 @@ pub named_with : (rows : List Row) (names : List ℕ) (before after : Pages) (pl
     → IsFresh row.number (remove rows place) → IsNamed (remove rows place) names before → Writes before after row.number name → IsNamed rows (insert names place name) after
 named_with rows names before after place row name read fresh others writes =
     let within = slice_get_within rows place row read in
-    let same : length names + 1 ≡ length rows = omega (arith, others.beside, length-remove rows place within) in
+    let same : length names + 1 ≡ length rows = omega (arith, others.as_many, length-remove rows place within) in
     record {
-      beside = omega (arith, length-insert names place name (omega arith));
+      as_many = omega (arith, length-insert names place name (omega arith));
       filed = λ number. writes number ∙ ap (λ rest. cond (row.number == number) (Some name) rest) (others.filed number) ∙ sym (name_with number rows names place row name read same fresh);
     }
 
 -- the others keep theirs where it was taken out again
 pub named_again : (rows : List Row) (names : List ℕ) (before after : Pages) (number : ℕ) → IsFresh number rows → IsNamed rows names before → Changes before after number None → IsNamed rows names after
 named_again rows names before after number fresh others changes = record {
-  beside = others.beside;
+  as_many = others.as_many;
   filed = λ other. changes other ∙ elim (cases_Bool (number == other)) [
     | inl is ↦ rw is (sym (none_of other rows names (subst (λ n. IsFresh n rows) (eqb-true number other is) fresh)))
     | inr unequal ↦ rw unequal (others.filed other)
@@ -40,14 +40,14 @@ named_again rows names before after number fresh others changes = record {
 }
 
 pub named_same : (rows : List Row) (names : List ℕ) (before after : Pages) → IsNamed rows names before → IsSame before after → IsNamed rows names after
-named_same rows names before after named same = record { beside = named.beside; filed = λ number. same number ∙ named.filed number }
+named_same rows names before after named same = record { as_many = named.as_many; filed = λ number. same number ∙ named.filed number }
 
 -- a row less
 pub named_without : (rows : List Row) (names : List ℕ) (before after : Pages) (place : ℕ) (row : Row) → slice_get rows place ≡ Some row → place < length rows → HaveOwnNumbers rows
     → IsNamed rows names before → Changes before after row.number None → IsNamed (remove rows place) (remove names place) after
 named_without rows names before after place row read within own named changes = record {
-  beside = omega (arith, length-remove names place (omega (arith, named.beside)), length-remove rows place within, named.beside);
-  filed = λ number. changes number ∙ ap (λ rest. cond (row.number == number) None rest) (named.filed number) ∙ sym (name_without number rows names place row read named.beside own);
+  as_many = omega (arith, length-remove names place (omega (arith, named.as_many)), length-remove rows place within, named.as_many);
+  filed = λ number. changes number ∙ ap (λ rest. cond (row.number == number) None rest) (named.filed number) ∙ sym (name_without number rows names place row read named.as_many own);
 }
 
 read_there : (xs : List ℕ) (place : ℕ) → place < length xs → (x : ℕ) × (slice_get xs place ≡ Some x)
@@ -59,7 +59,7 @@ read_there (x ∷ xs) (suc place) within = read_there xs place (omega arith)
 pub number_there : (place : ℕ) (rows : List Row) (names : List ℕ) (numbers : Pages) (row : Row) → HaveOwnNumbers rows → IsNamed rows names numbers
     → slice_get rows place ≡ Some row → IsSome (name_in numbers row.number)
 number_there place rows names numbers row own named read =
-    let there = read_there names place (omega (arith, slice_get_within rows place row read, named.beside)) in
+    let there = read_there names place (omega (arith, slice_get_within rows place row read, named.as_many)) in
     subst IsSome (sym (named.filed row.number ∙ name_at rows names place row there.0 read there.1 own)) refl
 
 set_written : (names : List ℕ) (from count name : ℕ) → from + count < length names → set (written names from count name) (from + count) name ≡ written names from (count + 1) name
@@ -83,8 +83,8 @@ written_more rows names before after from place name row own order read named lo
     ap (λ n. set partly n name) (let here : place ≡ from + count = omega arith in here) ∙ set_written names from count name within
     ∙ ap (λ n. written names from n name) (let more : count + 1 ≡ place + 1 - from = omega arith in more) in
     subst (λ xs. IsNamed rows xs after) same (record {
-      beside = omega (arith, length-set partly place name, named.beside);
-      filed = λ number. writes number ∙ ap (λ rest. cond (row.number == number) (Some name) rest) (named.filed number) ∙ sym (name_set number rows partly place row name read named.beside own);
+      as_many = omega (arith, length-set partly place name, named.as_many);
+      filed = λ number. writes number ∙ ap (λ rest. cond (row.number == number) (Some name) rest) (named.filed number) ∙ sym (name_set number rows partly place row name read named.as_many own);
     })
 
 pub written_none : (names : List ℕ) (from name : ℕ) → written names from (from - from) name ≡ names

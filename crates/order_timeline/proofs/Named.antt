@@ -75,11 +75,11 @@ name_set number (other ∷ rows) (first ∷ names) (suc place) row name read sam
 
 -- the name of a row that is there
 pub name_at : (rows : List Row) (names : List ℕ) (place : ℕ) (row : Row) (name : ℕ) → slice_get rows place ≡ Some row → slice_get names place ≡ Some name → HaveOwnNumbers rows → name_of row.number rows names ≡ Some name
-name_at [] names place row name read beside own = cc
-name_at (other ∷ rows) [] place row name read beside own = cc
-name_at (other ∷ rows) (first ∷ names) zero row name read beside own =
+name_at [] names place row name read there own = cc
+name_at (other ∷ rows) [] place row name read there own = cc
+name_at (other ∷ rows) (first ∷ names) zero row name read there own =
     let is : other ≡ row = cc in
-    ap (λ b. cond b (Some first) (name_of row.number rows names)) (eq-eqb other.number row.number (ap (λ r. r.number) is)) ∙ beside
-name_at (other ∷ rows) (first ∷ names) (suc place) row name read beside own =
+    ap (λ b. cond b (Some first) (name_of row.number rows names)) (eq-eqb other.number row.number (ap (λ r. r.number) is)) ∙ there
+name_at (other ∷ rows) (first ∷ names) (suc place) row name read there own =
     ap (λ b. cond b (Some first) (name_of row.number rows names)) (ne_eqb other.number row.number (λ equal. differs other.number rows place row own.0 read (sym equal)))
-    ∙ name_at rows names place row name read beside own.1
+    ∙ name_at rows names place row name read there own.1

@@ -3,12 +3,12 @@ use Rattle.std.proofs.Common.{◌≡◌, ℕ, zero, suc, ◌+◌, ◌-◌, ◌<�
 use Rattle.std.specs.List.{insert, remove}
 use Rattle.std.proofs.lemmas.List.{length-append, length-replicate, append_assoc, drop_at}
 use Rattle.order_timeline.specs.Numbers.{written}
-use Rattle.order_timeline.specs.Runs.{rows_in, start_of, beside}
+use Rattle.order_timeline.specs.Runs.{rows_in, start_of, name_for_each}
 
-pub length-beside : (runs names : List ℕ) → length names ≡ length runs → length (beside runs names) ≡ rows_in runs
-length-beside [] names same = refl
-length-beside (run ∷ runs) [] same = absurd (omega arith)
-length-beside (run ∷ runs) (name ∷ names) same = omega (arith, length-append (replicate run name) (beside runs names), length-replicate run name, length-beside runs names (omega arith))
+pub length-name_for_each : (runs names : List ℕ) → length names ≡ length runs → length (name_for_each runs names) ≡ rows_in runs
+length-name_for_each [] names same = refl
+length-name_for_each (run ∷ runs) [] same = absurd (omega arith)
+length-name_for_each (run ∷ runs) (name ∷ names) same = omega (arith, length-append (replicate run name) (name_for_each runs names), length-replicate run name, length-name_for_each runs names (omega arith))
 
 -- after a front
 insert_after : (front rest : List ℕ) (place x : ℕ) → insert (front ++ rest) (length front + place) x ≡ front ++ insert rest place x
@@ -42,40 +42,40 @@ after : (run name place : ℕ) → run ≤ place → place ≡ length (replicate
 after run name place order = omega (arith, length-replicate run name)
 
 -- a row more in a run
-pub beside_with : (runs names : List ℕ) (index place count name : ℕ) → length names ≡ length runs → slice_get runs index ≡ Some count → slice_get names index ≡ Some name
-    → start_of runs index ≤ place → place ≤ start_of runs index + count → beside (slice_set runs index (count + 1)) names ≡ insert (beside runs names) place name
-beside_with [] names index place count name same long is begun within = cc
-beside_with (run ∷ runs) [] index place count name same long is begun within = absurd (omega arith)
-beside_with (run ∷ runs) (first ∷ names) zero place count name same long is begun within =
+pub name_for_each_with : (runs names : List ℕ) (index place count name : ℕ) → length names ≡ length runs → slice_get runs index ≡ Some count → slice_get names index ≡ Some name
+    → start_of runs index ≤ place → place ≤ start_of runs index + count → name_for_each (slice_set runs index (count + 1)) names ≡ insert (name_for_each runs names) place name
+name_for_each_with [] names index place count name same long is begun within = cc
+name_for_each_with (run ∷ runs) [] index place count name same long is begun within = absurd (omega arith)
+name_for_each_with (run ∷ runs) (first ∷ names) zero place count name same long is begun within =
     let runs_same : run ≡ count = cc in
     let name_same : first ≡ name = cc in
-    ap (λ n. replicate n first ++ beside runs names) (add-one count ∙ ap suc (sym runs_same))
-    ∙ sym (insert_within run first (beside runs names) place (omega arith))
-    ∙ ap (λ l. insert (replicate run first ++ beside runs names) place l) name_same
-beside_with (run ∷ runs) (first ∷ names) (suc index) place count name same long is begun within =
-    ap (λ rest. replicate run first ++ rest) (beside_with runs names index (place - run) count name (omega arith) long is (omega arith) (omega arith))
-    ∙ sym (insert_after (replicate run first) (beside runs names) (place - run) name)
-    ∙ ap (λ n. insert (replicate run first ++ beside runs names) n name) (sym (after run first place (omega arith)))
+    ap (λ n. replicate n first ++ name_for_each runs names) (add-one count ∙ ap suc (sym runs_same))
+    ∙ sym (insert_within run first (name_for_each runs names) place (omega arith))
+    ∙ ap (λ l. insert (replicate run first ++ name_for_each runs names) place l) name_same
+name_for_each_with (run ∷ runs) (first ∷ names) (suc index) place count name same long is begun within =
+    ap (λ rest. replicate run first ++ rest) (name_for_each_with runs names index (place - run) count name (omega arith) long is (omega arith) (omega arith))
+    ∙ sym (insert_after (replicate run first) (name_for_each runs names) (place - run) name)
+    ∙ ap (λ n. insert (replicate run first ++ name_for_each runs names) n name) (sym (after run first place (omega arith)))
 
 -- a row less
-pub beside_without : (runs names : List ℕ) (index place count : ℕ) → length names ≡ length runs → slice_get runs index ≡ Some count
-    → start_of runs index ≤ place → place < start_of runs index + count → beside (slice_set runs index (count - 1)) names ≡ remove (beside runs names) place
-beside_without [] names index place count same long begun within = cc
-beside_without (run ∷ runs) [] index place count same long begun within = absurd (omega arith)
-beside_without (run ∷ runs) (first ∷ names) zero place count same long begun within =
+pub name_for_each_without : (runs names : List ℕ) (index place count : ℕ) → length names ≡ length runs → slice_get runs index ≡ Some count
+    → start_of runs index ≤ place → place < start_of runs index + count → name_for_each (slice_set runs index (count - 1)) names ≡ remove (name_for_each runs names) place
+name_for_each_without [] names index place count same long begun within = cc
+name_for_each_without (run ∷ runs) [] index place count same long begun within = absurd (omega arith)
+name_for_each_without (run ∷ runs) (first ∷ names) zero place count same long begun within =
     let runs_same : run ≡ count = cc in
-    ap (λ n. replicate (n - 1) first ++ beside runs names) (sym runs_same) ∙ sym (remove_within run first (beside runs names) place (omega arith))
-beside_without (run ∷ runs) (first ∷ names) (suc index) place count same long begun within =
-    ap (λ rest. replicate run first ++ rest) (beside_without runs names index (place - run) count (omega arith) long (omega arith) (omega arith))
-    ∙ sym (remove_after (replicate run first) (beside runs names) (place - run))
-    ∙ ap (remove (replicate run first ++ beside runs names)) (sym (after run first place (omega arith)))
+    ap (λ n. replicate (n - 1) first ++ name_for_each runs names) (sym runs_same) ∙ sym (remove_within run first (name_for_each runs names) place (omega arith))
+name_for_each_without (run ∷ runs) (first ∷ names) (suc index) place count same long begun within =
+    ap (λ rest. replicate run first ++ rest) (name_for_each_without runs names index (place - run) count (omega arith) long (omega arith) (omega arith))
+    ∙ sym (remove_after (replicate run first) (name_for_each runs names) (place - run))
+    ∙ ap (remove (replicate run first ++ name_for_each runs names)) (sym (after run first place (omega arith)))
 
 -- a run without rows is none
-pub beside_gone : (runs names : List ℕ) (index : ℕ) → index < length runs → length names ≡ length runs → beside (remove runs index) (remove names index) ≡ beside (slice_set runs index 0) names
-beside_gone [] names index within same = absurd (omega arith)
-beside_gone (run ∷ runs) [] index within same = absurd (omega arith)
-beside_gone (run ∷ runs) (name ∷ names) zero within same = refl
-beside_gone (run ∷ runs) (name ∷ names) (suc index) within same = ap (λ rest. replicate run name ++ rest) (beside_gone runs names index (omega arith) (omega arith))
+pub name_for_each_gone : (runs names : List ℕ) (index : ℕ) → index < length runs → length names ≡ length runs → name_for_each (remove runs index) (remove names index) ≡ name_for_each (slice_set runs index 0) names
+name_for_each_gone [] names index within same = absurd (omega arith)
+name_for_each_gone (run ∷ runs) [] index within same = absurd (omega arith)
+name_for_each_gone (run ∷ runs) (name ∷ names) zero within same = refl
+name_for_each_gone (run ∷ runs) (name ∷ names) (suc index) within same = ap (λ rest. replicate run name ++ rest) (name_for_each_gone runs names index (omega arith) (omega arith))
 
 -- take and drop after a front
 take_after : (front rest : List ℕ) (n : ℕ) → take (length front + n) (front ++ rest) ≡ front ++ take n rest
@@ -102,23 +102,23 @@ take_run (suc half) zero name rest within = absurd (omega arith)
 take_run (suc half) (suc run) name rest within = ap (λ xs. name ∷ xs) (take_run half run name rest (omega arith))
 
 -- a run is divided
-pub beside_divided : (runs names : List ℕ) (index count half name : ℕ) → length names ≡ length runs → slice_get runs index ≡ Some count → half ≤ count
-    → beside (slice_set (insert runs (suc index) (count - half)) index half) (insert names (suc index) name) ≡ written (beside runs names) (start_of runs index + half) (count - half) name
-beside_divided [] names index count half name same long within = cc
-beside_divided (run ∷ runs) [] index count half name same long within = absurd (omega arith)
-beside_divided (run ∷ runs) (first ∷ names) zero count half name same long within =
+pub name_for_each_divided : (runs names : List ℕ) (index count half name : ℕ) → length names ≡ length runs → slice_get runs index ≡ Some count → half ≤ count
+    → name_for_each (slice_set (insert runs (suc index) (count - half)) index half) (insert names (suc index) name) ≡ written (name_for_each runs names) (start_of runs index + half) (count - half) name
+name_for_each_divided [] names index count half name same long within = cc
+name_for_each_divided (run ∷ runs) [] index count half name same long within = absurd (omega arith)
+name_for_each_divided (run ∷ runs) (first ∷ names) zero count half name same long within =
     let runs_same : run ≡ count = cc in
-    let b = beside runs names in
+    let b = name_for_each runs names in
     sym (append_assoc (replicate half first) (replicate (count - half) name) b)
     ∙ ap (λ xs. xs ++ replicate (count - half) name ++ b) (sym (take_run half run first b (omega arith)))
     ∙ ap (λ xs. take half (replicate run first ++ b) ++ replicate (count - half) name ++ xs) (sym (drop_at (replicate run first) b (0 + half + (count - half)) (omega (arith, length-replicate run first))))
     ∙ ap (λ n. take n (replicate run first ++ b) ++ replicate (count - half) name ++ drop (0 + half + (count - half)) (replicate run first ++ b)) (let more : half ≡ 0 + half = omega arith in more)
-beside_divided (run ∷ runs) (first ∷ names) (suc index) count half name same long within =
-    ap (λ rest. replicate run first ++ rest) (beside_divided runs names index count half name (omega arith) long within)
-    ∙ sym (written_after (replicate run first) (beside runs names) (start_of runs index + half) (count - half) name)
-    ∙ ap (λ n. written (replicate run first ++ beside runs names) n (count - half) name)
+name_for_each_divided (run ∷ runs) (first ∷ names) (suc index) count half name same long within =
+    ap (λ rest. replicate run first ++ rest) (name_for_each_divided runs names index count half name (omega arith) long within)
+    ∙ sym (written_after (replicate run first) (name_for_each runs names) (start_of runs index + half) (count - half) name)
+    ∙ ap (λ n. written (replicate run first ++ name_for_each runs names) n (count - half) name)
     (let same : length (replicate run first) + (start_of runs index + half) ≡ run + start_of runs index + half = omega (arith, length-replicate run first) in same)
 
-pub beside_none : (names : List ℕ) → beside (0 ∷ []) names ≡ []
-beside_none [] = refl
-beside_none (name ∷ names) = refl
+pub name_for_each_none : (names : List ℕ) → name_for_each (0 ∷ []) names ≡ []
+name_for_each_none [] = refl
+name_for_each_none (name ∷ names) = refl

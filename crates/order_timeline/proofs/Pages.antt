@@ -176,4 +176,4 @@ page_same pages now number page new seen within is same other =
 -- a timeline without rows
 pub nobody : RepresentsRows [] [] [] []
 unfolding name_in
-nobody = record { ordered = record { few = omega arith; in_order = tt; own_numbers = tt }; in_runs = record { each = refl; named = record { beside = refl; filed = λ number. refl } }; filled = inl tt }
+nobody = record { ordered = record { few = omega arith; in_order = tt; own_numbers = tt }; in_runs = record { each = refl; named = record { as_many = refl; filed = λ number. refl } }; filled = inl tt }

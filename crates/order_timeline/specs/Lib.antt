@@ -1,6 +1,7 @@
 pub use Rattle.retro_base.specs.Places
 pub use Rattle.retro_base.specs.Order
 pub mod Rows
+pub mod RunNames
 pub mod Names
 pub mod Numbers
 pub mod Totals

@@ -40,7 +40,7 @@ pub record HasPlace (pages : Pages) (number : ℕ) : Type 0 where
 
 -- each row has a name, and the table has it at the row's number, and nothing else
 pub record IsNamed (rows : List Row) (names : List ℕ) (numbers : Pages) : Type 0 where
-  pub beside : length names ≡ length rows
+  pub as_many : length names ≡ length rows
   pub filed : (number : ℕ) → name_in numbers number ≡ name_of number rows names
 
 -- each row's number is there, whatever its name is

@@ -1,5 +1,5 @@
 -- Rows in runs of neighbours, each with a name.
-use Rattle.std.specs.Prelude.{◌≡◌, ℕ, ◌+◌, ◌-◌, ◌<◌, ◌≤◌, ◌⊎◌, List, [], ◌∷◌, ◌++◌, length, take, replicate, slice_get, slice_index, slice_set, IfSome, ◌==◌}
+use Rattle.std.specs.Prelude.{◌≡◌, ℕ, ◌+◌, ◌-◌, ◌<◌, ◌≤◌, ◌⊎◌, List, [], ◌∷◌, ◌++◌, length, take, replicate, slice_get, slice_index, slice_set, ◌==◌, Some}
 use Rattle.std.specs.List.{insert, position_or_len, AllByRecursion}
 use Rattle.retro_base.specs.declared.row.Row.{Row}
 use Rattle.order_timeline.specs.Numbers.{IsNamed, Pages}
@@ -26,16 +26,16 @@ pub record TakesRow (runs : List ℕ) (index place : ℕ) : Type 0 where
   pub begun : start_of runs index ≤ place
   pub lasts : place ≤ start_of runs index + slice_index runs index
 
--- the name beside each row: that of its run
-abbrev pub beside : List ℕ → List ℕ → List ℕ
-beside [] names = []
-beside (run ∷ runs) [] = []
-beside (run ∷ runs) (name ∷ names) = replicate run name ++ beside runs names
+-- a name for each row: that of its run
+abbrev pub name_for_each : List ℕ → List ℕ → List ℕ
+name_for_each [] names = []
+name_for_each (run ∷ runs) [] = []
+name_for_each (run ∷ runs) (name ∷ names) = replicate run name ++ name_for_each runs names
 
 -- each run has a name, and the table has the name of each row's run at the row's number
 pub record IsInRuns (rows : List Row) (runs names : List ℕ) (numbers : Pages) : Type 0 where
   pub each : length names ≡ length runs
-  pub named : IsNamed rows (beside runs names) numbers
+  pub named : IsNamed rows (name_for_each runs names) numbers
 
 -- the most rows of a run
 abbrev pub longest_run : ℕ
@@ -50,9 +50,10 @@ pub record IsFilled (run : ℕ) : Type 0 where
 abbrev pub AreFilled : List ℕ → Type 0
 AreFilled runs = AllByRecursion IsFilled runs ⊎ (runs ≡ 0 ∷ [])
 
--- the run with this index has room for one row more
-abbrev pub HasRoom : List ℕ → ℕ → Type 0
-HasRoom runs index = IfSome (slice_get runs index) (λ run. run < longest_run)
+-- the run with this index has so many rows, and room for one more
+pub record HasRoom (runs : List ℕ) (index count : ℕ) : Type 0 where
+  pub told : slice_get runs index ≡ Some count
+  pub few : count < longest_run
 
 -- the runs where the one with this index, which has so many rows, is divided: so many stay
 abbrev pub divided : List ℕ → ℕ → ℕ → ℕ → List ℕ

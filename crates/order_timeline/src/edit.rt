@@ -24,8 +24,14 @@ pub(crate) fn put_in(kept: &mut IndexedRows, place: u32, row: Row) -> Result<(),
     ensures err { OnErr result (kept.new.rows ≡ kept.old.rows) }
 {
     first_run(kept)?;
-    let run = run_with_room(kept, place)?;
-    put_in_run(kept, run, place, row)
+    let roomy = run_with_room(kept, place)?;
+    put_in_run(kept, roomy, place, row)
+}
+
+/// The index of a run that has room for a row more, and how many rows it has.
+struct RoomyRun {
+    run: u32,
+    count: u32,
 }
 
 /// Makes a run where there is none.
@@ -47,46 +53,49 @@ fn first_run(kept: &mut IndexedRows) -> Result<(), NoMemory>
 }
 
 /// The run that takes a row at a place. A full one is divided first, so that it has room.
-fn run_with_room(kept: &mut IndexedRows, place: u32) -> Result<u32, NoMemory>
+fn run_with_room(kept: &mut IndexedRows, place: u32) -> Result<RoomyRun, NoMemory>
     requires kept { KeepsRows kept.old }
     requires some { 0 < length kept.old.runs }
     requires within { place ≤ length kept.old.rows }
     ensures kept { KeepsRows kept.new }
     ensures rows { kept.new.rows ≡ kept.old.rows }
-    ensures run { IfOk result (λ run. TakesRow kept.new.runs run place) }
-    ensures room { IfOk result (HasRoom kept.new.runs) }
+    ensures run { IfOk result (λ roomy. TakesRow kept.new.runs roomy.run place) }
+    ensures room { IfOk result (λ roomy. HasRoom kept.new.runs roomy.run roomy.count) }
 {
     let run = run_for(&kept.runs, kept.rows.len(), place);
     let count = uncounted::get(&kept.runs, run).rows();
     if count < LONGEST_RUN {
-        return Ok(run);
+        return Ok(RoomyRun { run, count });
     }
     let start = start_of(&kept.runs, run);
     let half = divide(kept, run, count)?;
     if place <= start + half {
-        Ok(run)
+        Ok(RoomyRun { run, count: half })
     } else {
-        Ok(run + 1)
+        Ok(RoomyRun {
+            run: run + 1,
+            count: count - half,
+        })
     }
 }
 
 /// Puts a row in at a place, in a run that has room for it.
-fn put_in_run(kept: &mut IndexedRows, run: u32, place: u32, row: Row) -> Result<(), NoMemory>
+fn put_in_run(kept: &mut IndexedRows, roomy: RoomyRun, place: u32, row: Row) -> Result<(), NoMemory>
     requires kept { KeepsRows kept.old }
     requires comes { MayCome kept.old.rows place row }
-    requires run { TakesRow kept.old.runs run place }
-    requires room { HasRoom kept.old.runs run }
+    requires run { TakesRow kept.old.runs roomy.run place }
+    requires room { HasRoom kept.old.runs roomy.run roomy.count }
     ensures kept { KeepsRows kept.new }
     ensures ok { OnOk result (kept.new.rows ≡ insert kept.old.rows place row) }
     ensures err { OnErr result (kept.new.rows ≡ kept.old.rows) }
 {
+    let RoomyRun { run, count } = roomy;
     let name = kept.names.name_at(run);
     add(&mut kept.numbers, row.number, name)?;
     if uncounted::insert(&mut kept.rows, place, Counted::new(PackedRow::new(row))).is_err() {
         forget(&mut kept.numbers, row.number);
         return Err(NoMemory);
     }
-    let count = uncounted::get(&kept.runs, run).rows();
     uncounted::replace(&mut kept.runs, run, Run::new(count + 1));
     Ok(())
 }

@@ -22,7 +22,7 @@
 //! - `timeline`: the type and its calls. `indexed_rows`: what it keeps of its rows. `edit`: a row comes or goes. `find`: rows, times and numbers.
 //! - `runs`: which run has a place, and where a run begins. `divide`: a full run in halves, before a row comes in.
 //! - `names`: the names of the runs, found by labels. `table`: the label of each name. `numbers`, `page`: the name of each number's run.
-//! - `run`, `total`: a run of rows, and what runs add up to.
+//! - `run`, `total`: a run of rows, and what runs add up to. `run_name`: the name of a run, and a slot for one.
 #![tactic(auto)]
 
 mod divide;
@@ -33,6 +33,7 @@ mod names;
 mod numbers;
 mod page;
 mod run;
+mod run_name;
 mod runs;
 mod table;
 mod timeline;

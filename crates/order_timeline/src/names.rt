@@ -5,6 +5,7 @@ ghost use Rattle.std.specs.List.{insert, remove, AllByRecursion};
 ghost use Rattle.order_timeline.specs.Names.{AreDistinct, AreFiled};
 ghost use Rattle.retro_base.specs.Limits.{most_rows};
 
+use crate::run_name::RunName;
 use crate::table::Table;
 use monoid_laws::Counted;
 use order_labels::Labels;
@@ -16,7 +17,7 @@ use weighted_tree::{Tree, uncounted};
 /// A list of names that are distinct, each found by the label that stands at its place.
 #[derive(Drop)]
 pub(crate) struct Names {
-    names: Tree<Counted<u32>>,
+    names: Tree<Counted<RunName>>,
     labels: Labels,
     table: Table,
 }
@@ -50,7 +51,7 @@ impl Names {
     }
 
     /// The name at a place.
-    pub(crate) fn name_at(&self, place: u32) -> u32
+    pub(crate) fn name_at(&self, place: u32) -> RunName
         requires { place < length self.now }
         ensures { slice_get self.now place ≡ Some result }
     {
@@ -58,7 +59,7 @@ impl Names {
     }
 
     /// The place of a name, where there is one.
-    pub(crate) fn place_of(&self, name: u32) -> Option<u32>
+    pub(crate) fn place_of(&self, name: RunName) -> Option<u32>
         ensures place { result ≡ position (λ other. other == name) self.now }
         ensures within { IfSome result (λ place. place < length self.now) }
     {
@@ -66,7 +67,7 @@ impl Names {
     }
 
     /// Puts a new name in at a place, and tells it. After `NoMemory` the names are as before.
-    pub(crate) fn insert(&mut self, place: u32) -> Result<u32, NoMemory>
+    pub(crate) fn insert(&mut self, place: u32) -> Result<RunName, NoMemory>
         requires within { place ≤ length self.old }
         requires room { length self.old < most_rows }
         ensures ok { IfOk result (λ name. self.new ≡ insert self.old place name) }
@@ -85,14 +86,19 @@ impl Names {
     }
 }
 
-fn find(names: &Tree<Counted<u32>>, labels: &Labels, table: &Table, name: u32) -> Option<u32>
+fn find(
+    names: &Tree<Counted<RunName>>,
+    labels: &Labels,
+    table: &Table,
+    name: RunName,
+) -> Option<u32>
     requires { AreFiled names.now labels.now table.now }
     ensures place { result ≡ position (λ other. other == name) names.now }
     ensures within { IfSome result (λ place. place < length names.now) }
 {
     let label = table.get(name)?;
     let place = labels.place_of_label(label)?;
-    if uncounted::get(names, place).value() == name {
+    if uncounted::get(names, place).value().number() == name.number() {
         Some(place)
     } else {
         None
@@ -100,11 +106,11 @@ fn find(names: &Tree<Counted<u32>>, labels: &Labels, table: &Table, name: u32) -
 }
 
 fn put_in(
-    names: &mut Tree<Counted<u32>>,
+    names: &mut Tree<Counted<RunName>>,
     labels: &mut Labels,
     table: &mut Table,
     place: u32,
-) -> Result<u32, NoMemory>
+) -> Result<RunName, NoMemory>
     requires within { place ≤ length names.old }
     requires room { length names.old < most_rows }
     requires filed { AreFiled names.old labels.old table.old }
@@ -118,9 +124,9 @@ fn put_in(
         Ok(fresh) => {
             if fresh.relabelled {
                 file_all(names, labels, table);
-            } else {
-                table.set(name, fresh.label);
+                return Ok(name);
             }
+            table.set(name, fresh.label);
             Ok(name)
         }
         Err(NoMemory) => {
@@ -131,7 +137,7 @@ fn put_in(
 }
 
 /// Gives each name the label at its place.
-fn file_all(names: &Tree<Counted<u32>>, labels: &Labels, table: &mut Table)
+fn file_all(names: &Tree<Counted<RunName>>, labels: &Labels, table: &mut Table)
     requires each { length labels.now ≡ length names.now }
     requires distinct { AreDistinct names.now }
     requires known { AllByRecursion (λ name. name < length table.old) names.now }

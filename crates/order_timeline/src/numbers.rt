@@ -6,6 +6,7 @@ ghost use Rattle.retro_base.specs.Limits.{most_rows};
 ghost use Rattle.retro_base.specs.Timeline.{HaveOwnNumbers};
 
 use crate::page::{Page, SPAN};
+use crate::run_name::RunName;
 use monoid_laws::Counted;
 use retro_base::{NoMemory, PackedRow};
 use std::alloc::Global;
@@ -41,7 +42,7 @@ impl Numbers {
     }
 
     /// The name of a number, where it has one.
-    pub(crate) fn get(&self, number: u32) -> Option<u32>
+    pub(crate) fn get(&self, number: u32) -> Option<RunName>
         ensures { result ≡ name_in self.now number }
     {
         let index = (number / SPAN) as usize;
@@ -65,7 +66,7 @@ impl Numbers {
     }
 
     /// Writes the name of a number of which there is a page. After `NoMemory` all is as before.
-    fn put(&mut self, number: u32, name: u32) -> Result<(), NoMemory>
+    fn put(&mut self, number: u32, name: RunName) -> Result<(), NoMemory>
         requires { number / span < length self.old }
         ensures ok { OnOk result (Writes self.old self.new number name) }
         ensures err { OnErr result (IsSame self.old self.new) }
@@ -75,7 +76,7 @@ impl Numbers {
     }
 
     /// Writes the name of a number for which there is room.
-    fn set(&mut self, number: u32, name: u32)
+    fn set(&mut self, number: u32, name: RunName)
         requires { HasPlace self.old number }
         ensures { Writes self.old self.new number name }
     {
@@ -92,7 +93,7 @@ impl Numbers {
 }
 
 /// Notes the name of a number that has none.
-pub(crate) fn add(numbers: &mut Numbers, number: u32, name: u32) -> Result<(), NoMemory>
+pub(crate) fn add(numbers: &mut Numbers, number: u32, name: RunName) -> Result<(), NoMemory>
     ensures ok { OnOk result (Writes numbers.old numbers.new number name) }
     ensures err { OnErr result (IsSame numbers.old numbers.new) }
 {
@@ -101,7 +102,7 @@ pub(crate) fn add(numbers: &mut Numbers, number: u32, name: u32) -> Result<(), N
 }
 
 /// Writes the name of a number that has one already, which takes no memory.
-pub(crate) fn write(numbers: &mut Numbers, number: u32, name: u32)
+pub(crate) fn write(numbers: &mut Numbers, number: u32, name: RunName)
     requires { IsSome (name_in numbers.old number) }
     ensures { Writes numbers.old numbers.new number name }
 {
@@ -123,7 +124,7 @@ pub(crate) fn write_run(
     rows: &Tree<Counted<PackedRow>>,
     from: u32,
     count: u32,
-    name: u32,
+    name: RunName,
 )
     requires within { from + count ≤ length rows.now }
     requires few { length rows.now ≤ most_rows }

@@ -5,6 +5,7 @@ ghost use Rattle.std.specs.List.{list_all};
 ghost use Rattle.std.specs.Option.{is_none};
 ghost use Rattle.order_timeline.specs.Numbers.{span, PageChanges};
 
+use crate::run_name::{RunName, Slot};
 use retro_base::NoMemory;
 use std::alloc::Global;
 use std::marker::Model;
@@ -15,7 +16,7 @@ pub(crate) const SPAN: u32 = 256;
 /// The names of numbers that follow one another. A page without any takes no memory.
 #[derive(Drop)]
 pub(crate) struct Page {
-    names: Vec<Option<u32>>,
+    names: Vec<Slot>,
 }
 
 impl Model for Page {
@@ -39,37 +40,37 @@ impl Page {
     }
 
     /// The name at a place, where there is one.
-    pub(crate) fn get(&self, place: u32) -> Option<u32>
+    pub(crate) fn get(&self, place: u32) -> Option<RunName>
         ensures { result ≡ get_or self.now place None }
     {
         match self.names.get(place as usize) {
-            Some(name) => *name,
+            Some(slot) => slot.name(),
             None => None,
         }
     }
 
     /// Writes a name at a place. After `NoMemory` the page is as before.
-    pub(crate) fn add(&mut self, alloc: Global, place: u32, name: u32) -> Result<(), NoMemory>
+    pub(crate) fn add(&mut self, alloc: Global, place: u32, name: RunName) -> Result<(), NoMemory>
         requires { place < span }
         ensures ok { OnOk result (PageChanges self.old self.new place (Some name)) }
         ensures err { OnErr result (self.new ≡ self.old) }
     {
         if self.names.len() == 0 {
             let mut names = without_names(alloc)?;
-            names[place as usize] = Some(name);
+            names[place as usize] = Slot::of(name);
             self.names = names;
             return Ok(());
         }
-        self.names[place as usize] = Some(name);
+        self.names[place as usize] = Slot::of(name);
         Ok(())
     }
 
     /// Writes a name at a place for which there is room.
-    pub(crate) fn set(&mut self, place: u32, name: u32)
+    pub(crate) fn set(&mut self, place: u32, name: RunName)
         requires { place < length self.old }
         ensures { PageChanges self.old self.new place (Some name) }
     {
-        self.names[place as usize] = Some(name);
+        self.names[place as usize] = Slot::of(name);
     }
 
     /// Takes the name at a place out. A page that has none left gives its memory back.
@@ -77,7 +78,7 @@ impl Page {
         requires { place < length self.old }
         ensures { PageChanges self.old self.new place None }
     {
-        self.names[place as usize] = None;
+        self.names[place as usize] = Slot::empty();
         if are_none(self.names.as_slice()) {
             self.names = Vec::new(alloc);
         }
@@ -85,17 +86,17 @@ impl Page {
 }
 
 /// Room for the name of each number of a page.
-fn without_names(alloc: Global) -> Result<Vec<Option<u32>>, NoMemory>
+fn without_names(alloc: Global) -> Result<Vec<Slot>, NoMemory>
     ensures { IfOk result (λ names. names.items ≡ replicate span None) }
 {
     let mut names = Vec::new(alloc);
-    names.resize(SPAN as usize, None)?;
+    names.resize(SPAN as usize, Slot::empty())?;
     Ok(names)
 }
 
 /// Whether none of these is a name.
-fn are_none(names: &[Option<u32>]) -> bool
+fn are_none(names: &[Slot]) -> bool
     ensures { result ≡ list_all is_none names.now }
 {
-    names.iter().all(|name| name.is_none())
+    names.iter().all(|slot| slot.is_empty())
 }

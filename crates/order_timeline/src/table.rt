@@ -2,6 +2,7 @@
 
 ghost use Rattle.std.specs.Prelude.{◌≡◌, ◌<◌, [], ◌∷◌, ◌++◌, length, slice_get, slice_set, IfOk, OnOk, OnErr};
 
+use crate::run_name::RunName;
 use retro_base::NoMemory;
 use std::alloc::Global;
 use std::marker::Model;
@@ -32,7 +33,7 @@ impl Table {
     }
 
     /// A new name, with this label.
-    pub(crate) fn add(&mut self, label: u64) -> Result<u32, NoMemory>
+    pub(crate) fn add(&mut self, label: u64) -> Result<RunName, NoMemory>
         ensures name { IfOk result (λ name. name ≡ length self.old) }
         ensures ok { OnOk result (self.new ≡ self.old ++ label ∷ []) }
         ensures err { OnErr result (self.new ≡ self.old) }
@@ -42,21 +43,21 @@ impl Table {
             return Err(NoMemory);
         }
         self.labels.push(label)?;
-        Ok(name)
+        Ok(RunName::new(name))
     }
 
     /// The label of a name, where there is one.
-    pub(crate) fn get(&self, name: u32) -> Option<u64>
+    pub(crate) fn get(&self, name: RunName) -> Option<u64>
         ensures { result ≡ slice_get self.now name }
     {
-        self.labels.get(name as usize).copied()
+        self.labels.get(name.number() as usize).copied()
     }
 
     /// Gives a name another label.
-    pub(crate) fn set(&mut self, name: u32, label: u64)
+    pub(crate) fn set(&mut self, name: RunName, label: u64)
         requires { name < length self.old }
         ensures { self.new ≡ slice_set self.old name label }
     {
-        self.labels[name as usize] = label;
+        self.labels[name.number() as usize] = label;
     }
 }

@@ -1,5 +1,4 @@
-use Rattle.std.proofs.Common.{◌-◌, ◌<◌, Some, sym, ap, ◌∙◌, subst, arith}
-use Rattle.std.specs.Prelude.{IfSome}
+use Rattle.std.proofs.Common.{◌-◌, Some, sym, ap, ◌∙◌, arith}
 use Rattle.order_timeline.proofs.FilledRuns.{count_few, first_of_divided, second_of_divided}
 use Rattle.order_timeline.proofs.InRuns.{all_rows, few_divided, first_takes, second_takes}
 use Rattle.order_timeline.proofs.Totals.{run_within}
@@ -38,8 +37,10 @@ returns-then-place-start-clause-run c =
 pub returns-then-place-start-clause-room : goal.returns-then-place-start-clause-room
 returns-then-place-start-clause-room c =
     let long = c.get.ensures.item ∙ ap Some (sym c.rows-count.ensures) in
-    let less : c.in_ok-half.half < 32 = omega (arith, c.in_ok-half.ensures.less, count_few c.args.kept.now.runs c.run_for-run.result c.rows-count.result c.requires.kept.filled long) in
-    subst (λ o. IfSome o (λ run. run < 32)) (sym (first_of_divided c.args.kept.now.runs c.divide.new.kept.runs c.run_for-run.result c.rows-count.result c.in_ok-half.half c.run_for-run.ensures.there c.in_ok-half.ensures.runs)) less
+    record {
+      told = first_of_divided c.args.kept.now.runs c.divide.new.kept.runs c.run_for-run.result c.rows-count.result c.in_ok-half.half c.run_for-run.ensures.there c.in_ok-half.ensures.runs;
+      few = omega (arith, c.in_ok-half.ensures.less, count_few c.args.kept.now.runs c.run_for-run.result c.rows-count.result c.requires.kept.filled long);
+    }
 
 pub returns-else-place-start-clause-run : goal.returns-else-place-start-clause-run
 returns-else-place-start-clause-run c =
@@ -49,6 +50,7 @@ returns-else-place-start-clause-run c =
 pub returns-else-place-start-clause-room : goal.returns-else-place-start-clause-room
 returns-else-place-start-clause-room c =
     let long = c.get.ensures.item ∙ ap Some (sym c.rows-count.ensures) in
-    let less : c.rows-count.result - c.in_ok-half.half < 32 =
-    omega (arith, c.in_ok-half.ensures.some, c.in_ok-half.ensures.less, count_few c.args.kept.now.runs c.run_for-run.result c.rows-count.result c.requires.kept.filled long) in
-    subst (λ o. IfSome o (λ run. run < 32)) (sym (second_of_divided c.args.kept.now.runs c.divide.new.kept.runs c.run_for-run.result c.rows-count.result c.in_ok-half.half c.run_for-run.ensures.there c.in_ok-half.ensures.runs)) less
+    record {
+      told = second_of_divided c.args.kept.now.runs c.divide.new.kept.runs c.run_for-run.result c.rows-count.result c.in_ok-half.half c.run_for-run.ensures.there c.in_ok-half.ensures.runs;
+      few = omega (arith, c.in_ok-half.ensures.some, c.in_ok-half.ensures.less, count_few c.args.kept.now.runs c.run_for-run.result c.rows-count.result c.requires.kept.filled long);
+    }

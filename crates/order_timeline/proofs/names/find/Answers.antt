@@ -11,14 +11,14 @@ returns-in_err-place-clause-place c =
     c.from_residual-in_err-place.ensures ∙ sym (nowhere_by_label c.args.names.now c.args.labels.now c.args.table.now c.args.name c.requires c.in_ok-label.label
     (sym c.get.ensures ∙ c.in_ok-label.was) (sym c.place_of_label.ensures.place ∙ c.in_err-place.was))
 
-pub returns-then-value-name-clause-place : goal.returns-then-value-name-clause-place
-returns-then-value-name-clause-place c =
+pub returns-then-number-clause-place : goal.returns-then-number-clause-place
+returns-then-number-clause-place c =
     sym (found_there c.args.names.now c.args.labels.now c.args.table.now c.args.name c.requires c.in_ok-label.label c.in_ok-place.place c.get-2.result
     (sym c.get.ensures ∙ c.in_ok-label.was) (sym c.place_of_label.ensures.place ∙ c.in_ok-place.was)
-    c.get-2.ensures.item (sym c.value.ensures ∙ c.if-value-name.true))
+    c.get-2.ensures.item (sym c.value.ensures ∙ sym c.number.ensures ∙ c.if-number.true ∙ c.number-2.ensures))
 
-pub returns-else-value-name-clause-place : goal.returns-else-value-name-clause-place
-returns-else-value-name-clause-place c =
+pub returns-else-number-clause-place : goal.returns-else-number-clause-place
+returns-else-number-clause-place c =
     sym (nowhere_else c.args.names.now c.args.labels.now c.args.table.now c.args.name c.requires c.in_ok-label.label c.in_ok-place.place c.get-2.result
     c.place_of_label.ensures.labels (sym c.get.ensures ∙ c.in_ok-label.was) (sym c.place_of_label.ensures.place ∙ c.in_ok-place.was)
-    c.get-2.ensures.item (λ same. c.if-value-name.false (c.value.ensures ∙ same)))
+    c.get-2.ensures.item (λ same. c.if-number.false (c.number.ensures ∙ c.value.ensures ∙ same ∙ sym c.number-2.ensures)))

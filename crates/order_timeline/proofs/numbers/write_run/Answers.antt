@@ -12,4 +12,4 @@ write-requires c =
 pub loop-place-preserved : goal.loop-place-preserved
 loop-place-preserved c = λ names named.
     written_more c.args.rows.now names c.loop-place.numbers c.write.new.numbers c.args.from c.loop-place.place c.args.name c.value.result c.requires.own (omega arith)
-    (c.get.ensures.item ∙ ap Some (sym c.value.ensures)) (c.loop-place.invariant names named) named.beside (rw c.number-number.ensures at c.write.ensures)
+    (c.get.ensures.item ∙ ap Some (sym c.value.ensures)) (c.loop-place.invariant names named) named.as_many (rw c.number-number.ensures at c.write.ensures)

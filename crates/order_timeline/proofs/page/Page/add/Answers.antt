@@ -8,16 +8,16 @@ pub invariant_of-self : goal.invariant_of-self
 invariant_of-self c =
     let names = c.in_ok-names.names.items in
     let all : length names ≡ span = ap length c.in_ok-names.ensures ∙ length-replicate {A = Option ℕ} span None in
-    inr (length-set names c.args.place (Some c.args.name) ∙ all, has_name names c.args.place c.args.name (omega (arith, all, c.requires)))
+    rw c.of.ensures (inr (length-set names c.args.place (Some c.args.name) ∙ all, has_name names c.args.place c.args.name (omega (arith, all, c.requires))))
 
 pub returns-then-len-eq0-clause-ok : goal.returns-then-len-eq0-clause-ok
 returns-then-len-eq0-clause-ok c =
     let none : c.self.inside.names.items ≡ [] = empty_where c.self.inside.names.cap c.self.inside.names.items c.self.invariant (omega arith) in
-    subst (λ before. PageChanges before (set c.in_ok-names.names.items c.args.place (Some c.args.name)) c.args.place (Some c.args.name)) (sym none ∙ c.self.view_is)
-    (subst (λ names. PageChanges [] (set names c.args.place (Some c.args.name)) c.args.place (Some c.args.name)) (sym c.in_ok-names.ensures) (page_begun c.args.place (Some c.args.name) c.requires))
+    rw c.of.ensures (subst (λ before. PageChanges before (set c.in_ok-names.names.items c.args.place (Some c.args.name)) c.args.place (Some c.args.name)) (sym none ∙ c.self.view_is)
+    (subst (λ names. PageChanges [] (set names c.args.place (Some c.args.name)) c.args.place (Some c.args.name)) (sym c.in_ok-names.ensures) (page_begun c.args.place (Some c.args.name) c.requires)))
 
 pub invariant_of-self-2 : goal.invariant_of-self-2
 invariant_of-self-2 c =
     let names = c.self.inside.names.items in
     let all : length names ≡ span = full_some c.self.inside.names.cap names c.self.invariant (omega arith) in
-    inr (length-set names c.args.place (Some c.args.name) ∙ all, has_name names c.args.place c.args.name (omega (arith, all, c.requires)))
+    rw c.of-2.ensures (inr (length-set names c.args.place (Some c.args.name) ∙ all, has_name names c.args.place c.args.name (omega (arith, all, c.requires))))
