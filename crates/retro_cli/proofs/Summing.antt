@@ -1,5 +1,5 @@
 -- Refusals are counted line by line.
-use Rattle.std.proofs.Common.{◌≡◌, ℕ, zero, suc, ◌+◌, ◌≤◌, Bool, true, false, List, [], ◌∷◌, length, refl, sym, ap, ◌∙◌, subst, arith, Some}
+use Rattle.std.proofs.Common.{◌≡◌, ℕ, zero, suc, ◌+◌, ◌≤◌, Bool, true, false, List, [], ◌∷◌, length, refl, sym, ap, ◌∙◌, arith, Some}
 use Rattle.std.specs.List.{filter}
 use Rattle.std.proofs.lemmas.Bool.{le-ltb}
 use Rattle.retro_base.specs.declared.kind.Kind.{Kind}
@@ -10,12 +10,7 @@ use Rattle.script_gen.specs.Script.{generated, lines_from, state_later}
 use Rattle.workbench.specs.Answers.{bench_after, reactions}
 use Rattle.workbench.specs.Bench.{Bench, BenchState}
 use Rattle.workbench.specs.Reaction.{Reaction, reacts, reacts_to}
-use Rattle.retro_cli.specs.Summary.{generated_name, refusals}
-
--- one more, where it is so
-abbrev pub one_if : Bool → ℕ
-one_if true = 1
-one_if false = 0
+use Rattle.retro_cli.specs.Summary.{generated_name, one_if, refusals}
 
 abbrev count : List Reaction → ℕ
 count made = length (filter (λ (reaction : Reaction). reaction.refused) made)
@@ -79,18 +74,6 @@ counts_next first bench after all (next ∷ more) left' refused line answer is_r
       refused_is = omega (arith, count, counts.refused_is);
       few = omega (arith, counts.few, one_at_most is_refused);
     }
-
--- and counted where it is refused
-pub counts_then : (first bench : Bench) (all left : List (List ℕ)) (refused counted : ℕ) (is_refused : Bool) → is_refused ≡ true → counted ≡ refused + 1
-    → CountsFaults first bench all left (refused + one_if is_refused) → CountsFaults first bench all left counted
-counts_then first bench all left refused counted is_refused is count counts =
-    rw count (subst (λ b. CountsFaults first bench all left (refused + one_if b)) is counts)
-
-pub counts_else : (first bench : Bench) (all left : List (List ℕ)) (refused counted : ℕ) (is_refused : Bool) → is_refused ≡ false → counted ≡ refused
-    → CountsFaults first bench all left (refused + one_if is_refused) → CountsFaults first bench all left counted
-counts_else first bench all left refused counted is_refused is count counts =
-    let none : refused + one_if is_refused ≡ counted = rw is (omega (arith, count)) in
-    subst (λ n. CountsFaults first bench all left n) none counts
 
 -- a bench that is not spent
 pub state_is : (state : BenchState) (bench : Bench) → state.spent ≡ false → state.bench ≡ bench → state ≡ record { bench = bench; spent = false }

@@ -1,5 +1,5 @@
 -- What a generated script comes to: how many of its lines are accepted and refused, and what its timeline has at the end.
-use Rattle.std.specs.Prelude.{ℕ, ◌-◌, List, [], ◌∷◌, ◌++◌, length, codes, decimal}
+use Rattle.std.specs.Prelude.{ℕ, ◌-◌, Bool, true, false, List, [], ◌∷◌, ◌++◌, length, codes, decimal}
 use Rattle.std.specs.List.{filter}
 use Rattle.std.specs.Option.{option_map_or}
 use Rattle.retro_base.specs.declared.kind.Kind.{Kind}
@@ -12,6 +12,11 @@ use Rattle.workbench.specs.Reaction.{Reaction}
 -- the name of the timeline of a generated script
 abbrev pub generated_name : List ℕ
 generated_name = codes "g"
+
+-- how many lines are refused where one is answered
+abbrev pub one_if : Bool → ℕ
+one_if true = 1
+one_if false = 0
 
 -- how many lines are refused
 abbrev pub refusals : Bench → List (List ℕ) → ℕ

@@ -7,7 +7,7 @@ ghost use Rattle.workbench.specs.Bench.{present_size};
 ghost use Rattle.retro_cli.specs.Delivery.{StandsAt};
 ghost use Rattle.retro_cli.specs.Forms.{most_generated};
 ghost use Rattle.retro_cli.specs.Stop.{stops_at_read, stops_at_write};
-ghost use Rattle.retro_cli.specs.Summary.{of_generated, refusals, summary, summary_text};
+ghost use Rattle.retro_cli.specs.Summary.{of_generated, one_if, refusals, summary, summary_text};
 
 use crate::deliver::deliver;
 use crate::stop::Stop;
@@ -62,11 +62,17 @@ fn count_refusals(
     let mut refused = 0;
     while generator.next_line(&mut line)? {
         let is_refused = bench.line_into(line.as_bytes(), false, &mut answer)?;
-        if is_refused {
-            refused += 1;
-        }
+        refused += one_if(is_refused);
     }
     Ok(refused)
+}
+
+/// How many lines are refused by one answer.
+fn one_if(is_refused: bool) -> u32
+    ensures value { result ≡ one_if is_refused }
+    ensures few { result ≤ 1 }
+{
+    u32::from(is_refused)
 }
 
 /// How many rows the timeline of a generated script has, and how many items, pairs or entries.

@@ -1,22 +1,8 @@
-use Rattle.std.proofs.Common.{◌≡◌, true, false, refl}
+use Rattle.std.proofs.Common.{◌≡◌, true, false}
 use Rattle.script_gen.specs.Coming.{GivesNext}
 use Rattle.workbench.specs.Reaction.{reacts_to}
-use Rattle.retro_cli.proofs.Summing.{counts_all, counts_else, counts_next, counts_then, state_is}
+use Rattle.retro_cli.proofs.Summing.{counts_all, counts_next, state_is}
 use Rattle.retro_cli.proofs.generated.count_refusals.Goals as goal
-
-pub loop-answer-preserved-then-is_refused : goal.loop-answer-preserved-then-is_refused
-loop-answer-preserved-then-is_refused c =
-    let gives : GivesNext c.loop-answer.generator c.next_line.new.self c.next_line.new.out true = rw c.if-branch.true at c.in_ok-next_line.ensures.ok in
-    let reacted : reacts_to c.loop-answer.bench.bench c.next_line.new.out false
-    ≡ record { bench = c.line_into.new.self.bench; answer = c.line_into.new.answer; refused = c.in_ok-is_refused.is_refused } =
-    rw c.as_bytes.ensures at c.in_ok-is_refused.ensures.reacts in
-    let next = counts_next c.args.bench.now.bench c.loop-answer.bench.bench c.line_into.new.self.bench c.args.generator.now c.loop-answer.generator
-    c.next_line.new.self c.loop-answer.refused c.next_line.new.out c.line_into.new.answer c.in_ok-is_refused.is_refused gives c.in_ok-next_line.ensures.short
-    reacted c.loop-answer.invariant.counts in
-    record {
-      unspent = c.in_ok-is_refused.ensures.spent;
-      counts = counts_then _ _ _ _ _ _ _ c.if-is_refused.true refl next;
-    }
 
 pub loop-answer-preserved : goal.loop-answer-preserved
 loop-answer-preserved c =
@@ -24,12 +10,11 @@ loop-answer-preserved c =
     let reacted : reacts_to c.loop-answer.bench.bench c.next_line.new.out false
     ≡ record { bench = c.line_into.new.self.bench; answer = c.line_into.new.answer; refused = c.in_ok-is_refused.is_refused } =
     rw c.as_bytes.ensures at c.in_ok-is_refused.ensures.reacts in
-    let next = counts_next c.args.bench.now.bench c.loop-answer.bench.bench c.line_into.new.self.bench c.args.generator.now c.loop-answer.generator
-    c.next_line.new.self c.loop-answer.refused c.next_line.new.out c.line_into.new.answer c.in_ok-is_refused.is_refused gives c.in_ok-next_line.ensures.short
-    reacted c.loop-answer.invariant.counts in
     record {
       unspent = c.in_ok-is_refused.ensures.spent;
-      counts = counts_else _ _ _ _ _ _ _ c.if-is_refused.false refl next;
+      counts = rw c.one_if-refused.ensures.value (counts_next c.args.bench.now.bench c.loop-answer.bench.bench c.line_into.new.self.bench c.args.generator.now
+          c.loop-answer.generator c.next_line.new.self c.loop-answer.refused c.next_line.new.out c.line_into.new.answer c.in_ok-is_refused.is_refused gives
+          c.in_ok-next_line.ensures.short reacted c.loop-answer.invariant.counts);
     }
 
 pub returns-clause-bench : goal.returns-clause-bench
