@@ -24,7 +24,7 @@ use Rattle.retro_base.specs.Changes.{Gains, Loses, change_of}
 use Rattle.retro_base.specs.OrderLaws.{all_at}
 use Rattle.retro_base.specs.lemmas.bridges.EntryOrder.{before_irreflexive, before_one_way, not_before_later}
 use Rattle.evidence_check.specs.declared.weighed_row.WeighedRow.{WeighedRow}
-use Rattle.evidence_check.specs.Marks.{MarksSurvivors, IsMarked, alive_entry, cut_change, dead_entry, gained, greatest_dead, is_alive_at, is_greater, is_less, least_alive, lost, marked_change, row_of, rows_of}
+use Rattle.evidence_check.specs.Marks.{MarksSurvivors, IsMarked, alive_entry, cut_change, dead_entry, gained, greatest_dead, is_alive_at, is_greater, is_less, least_alive, lost, marked_change, unweighed, rows_of}
 use Rattle.evidence_check.specs.Truth.{bridge_of, edit_with}
 use Rattle.evidence_check.proofs.Best.{best_is, none_shown}
 use Rattle.evidence_check.proofs.Members.{among_absent, among_contains}
@@ -187,10 +187,10 @@ module _ (laws : Laws) (marked : List WeighedRow) (kept : MarksSurvivors marked)
   mark_at : (place : ℕ) (row : Row) → slice_get rows place ≡ Some row → is_alive_at marked place ≡ option_map_or (is_among (survivors rows)) (added_by row) false
   mark_at place row there =
       elim (slice_get marked place) as (λ o. slice_get marked place ≡ o → is_alive_at marked place ≡ option_map_or (is_among (survivors rows)) (added_by row) false) [
-        | None ↦ λ none. let wrong : None ≡ Some row = ap (option_map row_of) (sym none) ∙ sym (slice_get-map row_of marked place) ∙ there in absurd (cc)
+        | None ↦ λ none. let wrong : None ≡ Some row = ap (option_map unweighed) (sym none) ∙ sym (slice_get-map unweighed marked place) ∙ there in absurd (cc)
         | Some m ↦ λ is.
-            let one : Some (row_of m) ≡ Some row = ap (option_map row_of) (sym is) ∙ sym (slice_get-map row_of marked place) ∙ there in
-            let same : row_of m ≡ row = cc in
+            let one : Some (unweighed m) ≡ Some row = ap (option_map unweighed) (sym is) ∙ sym (slice_get-map unweighed marked place) ∙ there in
+            let same : unweighed m ≡ row = cc in
             rw is (all_at (IsMarked (survivors rows)) marked place m kept.marks is ∙ ap (λ r. option_map_or (is_among (survivors rows)) (added_by r) false) same)
       ] refl
 

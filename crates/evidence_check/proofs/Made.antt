@@ -21,8 +21,8 @@ use Rattle.retro_base.specs.lemmas.bridges.EntryOrder.{same_entry-refl}
 use Rattle.evidence.specs.declared.evidence.Evidence.{Evidence}
 use Rattle.evidence_check.specs.declared.weighed_row.WeighedRow.{WeighedRow}
 use Rattle.evidence_check.specs.Changed.{IsChanged, changed_entry, is_gain, marked_where, moved_place}
-use Rattle.evidence_check.specs.KeptNumbers.{AreKept, AreNumbers}
-use Rattle.evidence_check.specs.Marks.{adds, alive_entry, changed_marks, dead_entry, entry_of, weighed_row, row_of, rows_of, with_mark}
+use Rattle.evidence_check.specs.KeptNumbers.{AreWeighed, AreNumbers}
+use Rattle.evidence_check.specs.Marks.{adds, alive_entry, changed_marks, dead_entry, entry_of, weighed_row, unweighed, rows_of, with_mark}
 use Rattle.evidence_check.specs.Parts.{marked_at, shows_at}
 use Rattle.evidence_check.specs.Truth.{has_number, has_wrong_number}
 use Rattle.evidence_check.proofs.KeptNumbers.{number_with, number_without, set_marked}
@@ -73,7 +73,7 @@ module _ (rows : List Row) (before after : BTreeSet ℕ) (are : AreNumbers rows 
   pub numbers_same : ((other : ℕ) → contains nat_cmp after other ≡ contains nat_cmp before other) → AreNumbers rows after
   numbers_same same = λ other. same other ∙ are other
 
-pub nothing_beside : (numbers : BTreeSet ℕ) → numbers.keys ≡ [] → AreKept [] numbers
+pub nothing_beside : (numbers : BTreeSet ℕ) → numbers.keys ≡ [] → AreWeighed [] numbers
 unfolding fold_rows
 nothing_beside numbers none = record { marks = nothing_kept; numbers_are = λ number. ap (λ keys. list_any (is_at (nat_cmp number)) keys) none }
 
@@ -184,21 +184,21 @@ made_cut rows e (Some place) entry names shows own there =
 
 -- the row that is cut adds what evidence says
 pub cut_there : (rows : List WeighedRow) (place number : ℕ) (op : Op) → slice_get (rows_of rows) place ≡ Some (record { number = number; time = 0; op = op }) → shows_at entry_of rows place ≡ added_as op number
-cut_there rows place number op there = in_row (slice_get rows place) (sym (slice_get-map row_of rows place) ∙ there)
+cut_there rows place number op there = in_row (slice_get rows place) (sym (slice_get-map unweighed rows place) ∙ there)
   where
-    in_row : (o : Option WeighedRow) → option_map row_of o ≡ Some (record { number = number; time = 0; op = op }) → option_and_then entry_of o ≡ added_as op number
+    in_row : (o : Option WeighedRow) → option_map unweighed o ≡ Some (record { number = number; time = 0; op = op }) → option_and_then entry_of o ≡ added_as op number
     in_row None none = absurd (cc)
-    in_row (Some row) some = let same : row_of row ≡ record { number = number; time = 0; op = op } = cc in ap added_by same
+    in_row (Some row) some = let same : unweighed row ≡ record { number = number; time = 0; op = op } = cc in ap added_by same
 
 -- a mark changes no number
 pub weighed_rows : (place : ℕ) (alive : Bool) (rows : List WeighedRow) → rows_of (marked_at place alive rows) ≡ rows_of rows
 weighed_rows place alive [] = refl
 weighed_rows zero alive (row ∷ rows) = refl
-weighed_rows (suc place) alive (row ∷ rows) = ap (λ more. row_of row ∷ more) (weighed_rows place alive rows)
+weighed_rows (suc place) alive (row ∷ rows) = ap (λ more. unweighed row ∷ more) (weighed_rows place alive rows)
 
 pub where_rows : (changed : Option ℕ) (alive : Bool) (rows : List WeighedRow) → rows_of (marked_where changed alive rows) ≡ rows_of rows
 where_rows None alive rows = refl
 where_rows (Some place) alive rows = weighed_rows place alive rows
 
 pub own_added : (rows : List WeighedRow) (place : ℕ) (row : WeighedRow) → HaveOwnNumbers (rows_of rows) → has_number row.number (rows_of rows) ≡ false → HaveOwnNumbers (rows_of (insert rows place row))
-own_added rows place row own fresh = rw (insert_rows place rows row) (own_numbers_with (rows_of rows) place (row_of row) own (is_fresh row.number (rows_of rows) fresh))
+own_added rows place row own fresh = rw (insert_rows place rows row) (own_numbers_with (rows_of rows) place (unweighed row) own (is_fresh row.number (rows_of rows) fresh))

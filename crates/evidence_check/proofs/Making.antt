@@ -11,7 +11,7 @@ use Rattle.evidence.specs.declared.evidence.Evidence.{Evidence}
 use Rattle.evidence.specs.Evidence.{IsEvidence}
 use Rattle.evidence_check.specs.declared.weighed_row.WeighedRow.{WeighedRow}
 use Rattle.evidence_check.specs.Changed.{IsChanged, changed_entry, is_gain, marked_where, moved_place}
-use Rattle.evidence_check.specs.KeptNumbers.{AreKept, AreNumbers}
+use Rattle.evidence_check.specs.KeptNumbers.{AreWeighed, AreNumbers}
 use Rattle.evidence_check.specs.Marks.{MarksSurvivors, changed_marks, edited_rows, entry_of, marked_change, weighed_row, rows_of}
 use Rattle.evidence_check.specs.Parts.{marked_at, shows_at}
 use Rattle.evidence_check.specs.Truth.{cause_of, has_number, has_wrong_number, has_wrong_op, is_outside}
@@ -99,7 +99,7 @@ module _ (old : List WeighedRow) (e : Evidence) (kept : MarksSurvivors old) (is 
       omega (arith, room, long)
 
   pub kept_made : OneChangeOfPq → (after : List WeighedRow) (numbers : BTreeSet ℕ) → after ≡ changed_marks e.change (edited_rows old e.added e.place (weighed_row e)) → AreNumbers (rows_of after) numbers
-      → AreKept after numbers
+      → AreWeighed after numbers
   kept_made one after numbers is_after are = record { marks = rw is_after (kept_after one old e kept is none); numbers_are = are }
 
 pub length_where : (changed : Option ℕ) (alive : Bool) (rows : List WeighedRow) → length (marked_where changed alive rows) ≡ length rows

@@ -25,7 +25,7 @@ use Rattle.retro_base.specs.lemmas.bridges.EntryOrder.{same_entry-same, same_ent
 use Rattle.evidence.specs.declared.evidence.Evidence.{Evidence}
 use Rattle.evidence.specs.Evidence.{IsEvidence, IsPqOp}
 use Rattle.evidence_check.specs.declared.weighed_row.WeighedRow.{WeighedRow}
-use Rattle.evidence_check.specs.Marks.{MarksSurvivors, IsMarked, adds, changed_marks, edited_rows, entry_of, weighed_row, row_of, rows_of, with_mark}
+use Rattle.evidence_check.specs.Marks.{MarksSurvivors, IsMarked, adds, changed_marks, edited_rows, entry_of, weighed_row, unweighed, rows_of, with_mark}
 use Rattle.evidence_check.specs.Truth.{cause_of, edit_with, is_full, is_outside, has_wrong_number, rows_after, reported_edit}
 use Rattle.evidence_check.proofs.Accepted.{accepted_from}
 use Rattle.evidence_check.proofs.Survivors.{fresh_entry}
@@ -82,8 +82,8 @@ module _ (entry : Entry) (fewer : List Entry) where
   ] refl
 
 -- marks change no row
-row_marked : (entry : Entry) (alive : Bool) (row : WeighedRow) → row_of (with_mark entry alive row) ≡ row_of row
-row_marked entry alive row = elim (adds entry row) as (λ b. adds entry row ≡ b → row_of (with_mark entry alive row) ≡ row_of row) [
+row_marked : (entry : Entry) (alive : Bool) (row : WeighedRow) → unweighed (with_mark entry alive row) ≡ unweighed row
+row_marked entry alive row = elim (adds entry row) as (λ b. adds entry row ≡ b → unweighed (with_mark entry alive row) ≡ unweighed row) [
   | true ↦ λ hit. rw hit refl
   | false ↦ λ miss. rw miss refl
 ] refl
@@ -97,7 +97,7 @@ rows_changed Plain rows = refl
 rows_changed (Gain bridge entry) rows = rows_marked entry true rows
 rows_changed (Lose bridge entry) rows = rows_marked entry false rows
 
-rows_edited : (added : Bool) (marked : List WeighedRow) (place : ℕ) (row : WeighedRow) → rows_of (edited_rows marked added place row) ≡ edited (rows_of marked) (edit_with added place (row_of row))
+rows_edited : (added : Bool) (marked : List WeighedRow) (place : ℕ) (row : WeighedRow) → rows_of (edited_rows marked added place row) ≡ edited (rows_of marked) (edit_with added place (unweighed row))
 rows_edited true marked place row = insert_rows place marked row
 rows_edited false marked place row = remove_rows place marked
 

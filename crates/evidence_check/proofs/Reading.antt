@@ -18,7 +18,7 @@ use Rattle.evidence.specs.declared.evidence.Evidence.{Evidence}
 use Rattle.evidence.specs.Evidence.{IsEvidence}
 use Rattle.evidence_check.specs.declared.weighed_row.WeighedRow.{WeighedRow}
 use Rattle.evidence_check.specs.Changed.{changed_entry}
-use Rattle.evidence_check.specs.Marks.{MarksSurvivors, better_of, cut_change, gained, greatest_dead, is_alive_at, is_less, least_alive, lost, marked_change, row_of, rows_of, dead_entry}
+use Rattle.evidence_check.specs.Marks.{MarksSurvivors, better_of, cut_change, gained, greatest_dead, is_alive_at, is_less, least_alive, lost, marked_change, unweighed, rows_of, dead_entry}
 use Rattle.evidence_check.specs.Truth.{cause_of, fails_at, reported_edit}
 use Rattle.evidence_check.proofs.Accepted.{accepted_from}
 use Rattle.evidence_check.proofs.Best.{best-from}
@@ -30,11 +30,11 @@ use Rattle.evidence_check.proofs.Walks.{found_is}
 -- a test of the row at a place
 pub fails_none : (test : Row → Bool) (place : ℕ) (marked : List WeighedRow) → slice_get marked place ≡ None → true ≡ fails_at test place (rows_of marked)
 fails_none test place marked none =
-    sym (ap (λ o. option_map_or (λ row. not (test row)) o true) (slice_get-map row_of marked place ∙ ap (option_map row_of) none))
+    sym (ap (λ o. option_map_or (λ row. not (test row)) o true) (slice_get-map unweighed marked place ∙ ap (option_map unweighed) none))
 
-pub fails_some : (test : Row → Bool) (place : ℕ) (marked : List WeighedRow) (row : WeighedRow) → slice_get marked place ≡ Some row → not (test (row_of row)) ≡ fails_at test place (rows_of marked)
+pub fails_some : (test : Row → Bool) (place : ℕ) (marked : List WeighedRow) (row : WeighedRow) → slice_get marked place ≡ Some row → not (test (unweighed row)) ≡ fails_at test place (rows_of marked)
 fails_some test place marked row some =
-    sym (ap (λ o. option_map_or (λ r. not (test r)) o true) (slice_get-map row_of marked place ∙ ap (option_map row_of) some))
+    sym (ap (λ o. option_map_or (λ r. not (test r)) o true) (slice_get-map unweighed marked place ∙ ap (option_map unweighed) some))
 
 -- what is gained, by the greatest dead entry alone
 greatest_with : (new : Option Entry) (marked : List WeighedRow) → greatest_dead new marked ≡ better_of is_less new (greatest_dead None marked)

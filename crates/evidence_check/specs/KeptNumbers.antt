@@ -12,6 +12,6 @@ abbrev pub AreNumbers : List Row → BTreeSet ℕ → Type 0
 AreNumbers rows numbers = (number : ℕ) → contains nat_cmp numbers number ≡ has_number number rows
 
 -- rows with their marks and their numbers
-pub record AreKept (marked : List WeighedRow) (numbers : BTreeSet ℕ) : Type 0 where
+pub record AreWeighed (marked : List WeighedRow) (numbers : BTreeSet ℕ) : Type 0 where
   pub marks : MarksSurvivors marked
   pub numbers_are : AreNumbers (rows_of marked) numbers

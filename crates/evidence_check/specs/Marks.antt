@@ -20,11 +20,11 @@ use Rattle.evidence_check.specs.Truth.{bridge_of, same_bridge, same_change}
 use Rattle.evidence_check.specs.declared.weighed_row.WeighedRow.{WeighedRow}
 
 -- the row that is marked
-abbrev pub row_of : WeighedRow → Row
-row_of marked = record { number = marked.number; time = 0; op = marked.op }
+abbrev pub unweighed : WeighedRow → Row
+unweighed marked = record { number = marked.number; time = 0; op = marked.op }
 
 abbrev pub rows_of : List WeighedRow → List Row
-rows_of marked = map row_of marked
+rows_of marked = map unweighed marked
 
 -- the entry that it adds, where it adds one; the same where the entry survives, and where it is dead
 abbrev pub entry_of : WeighedRow → Option Entry

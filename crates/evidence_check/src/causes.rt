@@ -3,7 +3,7 @@
 ghost use Rattle.std.specs.Prelude.{◌≡◌, ◌≤◌, length};
 ghost use Rattle.retro_base.specs.Limits.{most_rows};
 ghost use Rattle.evidence.specs.Evidence.{IsEvidence};
-ghost use Rattle.evidence_check.specs.KeptNumbers.{AreKept, AreNumbers};
+ghost use Rattle.evidence_check.specs.KeptNumbers.{AreWeighed, AreNumbers};
 ghost use Rattle.evidence_check.specs.Marks.{rows_of};
 ghost use Rattle.evidence_check.specs.Truth.{cause_of, has_wrong_number, has_wrong_op, is_full, is_outside, same_op};
 
@@ -18,7 +18,7 @@ use retro_base::{MAX_ROWS, Op};
 /// Why evidence is refused after these rows, if it is.
 #[tactic(auto, unfolding(crate::specs::Truth::cause_of))]
 pub(crate) fn cause_of(rows: &Rows, numbers: &Numbers, evidence: &Evidence) -> Option<CheckError>
-    requires kept { AreKept rows.now numbers.now }
+    requires kept { AreWeighed rows.now numbers.now }
     requires evidence { IsEvidence evidence.now }
     ensures { result ≡ cause_of (rows_of rows.now) evidence.now }
 {

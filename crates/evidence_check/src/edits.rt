@@ -7,7 +7,7 @@ ghost use Rattle.retro_base.specs.Weights.{added_as};
 ghost use Rattle.evidence.specs.Evidence.{IsEvidence};
 ghost use Rattle.evidence_check.specs.declared.error.CheckError.TheVariants as causes;
 ghost use Rattle.evidence_check.specs.Changed.{IsChanged, is_gain, marked_where, moved_place};
-ghost use Rattle.evidence_check.specs.KeptNumbers.{AreKept, AreNumbers};
+ghost use Rattle.evidence_check.specs.KeptNumbers.{AreWeighed, AreNumbers};
 ghost use Rattle.evidence_check.specs.Marks.{MarksSurvivors, changed_marks, edited_rows, marked_change, weighed_row, rows_of};
 ghost use Rattle.evidence_check.specs.Parts.{is_entry, marked_at};
 ghost use Rattle.evidence_check.specs.Truth.{cause_of, has_number, has_wrong_number};
@@ -31,10 +31,10 @@ pub(crate) fn make(
     evidence: &Evidence,
     alloc: Global,
 ) -> Result<(), CheckError>
-    requires kept { AreKept rows.old numbers.old }
+    requires kept { AreWeighed rows.old numbers.old }
     requires evidence { IsEvidence evidence.now }
     requires truth { cause_of (rows_of rows.old) evidence.now ≡ None }
-    ensures kept { AreKept rows.new numbers.new }
+    ensures kept { AreWeighed rows.new numbers.new }
     ensures ok { OnOk result (rows.new ≡ changed_marks evidence.now.change (edited_rows rows.old evidence.now.added evidence.now.place (weighed_row evidence.now))) }
     ensures err { OnErr result (rows.new ≡ rows.old) }
     ensures cause { IfErr result (λ cause. cause ≡ causes.NoMemory) }

@@ -26,14 +26,14 @@ pub(crate) struct Reported {
 
 impl Model for Reported {
     ghost use Rattle.evidence_check.specs.Judgement.{Reported};
-    ghost use Rattle.evidence_check.specs.KeptNumbers.{AreKept};
+    ghost use Rattle.evidence_check.specs.KeptNumbers.{AreWeighed};
     ghost use Rattle.evidence_check.specs.Marks.{rows_of};
 
     ghost Value = { Reported };
 
     ghost view = { λ t. record { name = t.name; rows = rows_of t.rows } };
 
-    ghost invariant = { λ t. AreKept t.rows t.numbers };
+    ghost invariant = { λ t. AreWeighed t.rows t.numbers };
 }
 
 impl Reported {

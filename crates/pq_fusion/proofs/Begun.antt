@@ -5,12 +5,12 @@ use Rattle.std.proofs.lemmas.Option.{slice_get_read}
 use Rattle.retro_base.specs.declared.row.Entry.{Entry}
 use Rattle.retro_base.specs.EntriesInOrder.{AreInOrder}
 use Rattle.retro_base.specs.State.{comes_before}
-use Rattle.pq_fusion.specs.Chunks.{AtHead, AreChunks, AreKept, BeginBefore, IsChunk, entries_of, starts_of}
+use Rattle.pq_fusion.specs.Chunks.{AtHead, AreChunks, AreRanked, BeginBefore, IsChunk, entries_of, starts_of}
 use Rattle.pq_fusion.specs.Searches.{SearchesWithin, VisitsUpTo}
 use Rattle.pq_fusion.specs.EntryCounts.{reaching}
 use Rattle.pq_fusion.proofs.Order.{not_earlier}
 use Rattle.pq_fusion.proofs.Split.{order_back, order_front}
-use Rattle.pq_fusion.proofs.Tallied.{reaching_all, reaching_few}
+use Rattle.pq_fusion.proofs.Counted.{reaching_all, reaching_few}
 use Rattle.pq_fusion.proofs.Searched.{IsLeft, half_left}
 use Rattle.pq_fusion.proofs.Chunked.{around, behind_place, chunk_at, head_at, head_past, least_at, same_start, starts_length}
 
@@ -175,7 +175,7 @@ module _ {A : Type 0} where
           omega (arith, own_start, sum, length-append front (chunk.items ++ behind), length-append chunk.items behind, reached),
         )
 
-  module _ (bound : Entry) (chunks given : List (Vec Entry A)) (starts : List ℕ) (count begun : ℕ) (seen : List Entry) (kept : AreKept chunks starts count) (seen_is : entries_of chunks ≡ seen)
+  module _ (bound : Entry) (chunks given : List (Vec Entry A)) (starts : List ℕ) (count begun : ℕ) (seen : List Entry) (kept : AreRanked chunks starts count) (seen_is : entries_of chunks ≡ seen)
       (given_is : given ≡ chunks) (found : BeginBefore bound given begun) where
     own_found : BeginBefore bound chunks begun
     own_found = subst (λ xs. BeginBefore bound xs begun) given_is found

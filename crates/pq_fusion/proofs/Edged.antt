@@ -14,10 +14,10 @@ use Rattle.retro_base.specs.Weights.{added_by}
 use Rattle.retro_base.specs.lemmas.bridges.EditJunctions.{rows_around}
 use Rattle.pq_fusion.specs.declared.bound.Bound.{Bound}
 use Rattle.pq_fusion.specs.declared.bound.Bound.TheVariants.{At}
-use Rattle.pq_fusion.specs.Bounds.{higher, is_below, lower}
+use Rattle.pq_fusion.specs.Bounds.{higher, lower}
 use Rattle.pq_fusion.specs.Edits.{Apart, DiffersBy, Passes, own_of, boundary_of}
 use Rattle.pq_fusion.specs.Pieces.{PieceParts, IsRising, tolerant, fuse}
-use Rattle.pq_fusion.proofs.Bounded.{higher_first, lower_first, lower_second, not_itself, one_way}
+use Rattle.pq_fusion.proofs.Bounded.{not_itself}
 use Rattle.pq_fusion.proofs.Compared.{besides_is}
 use Rattle.pq_fusion.proofs.FromRows.{tolerant_rise, rows_fuse}
 use Rattle.pq_fusion.proofs.Parts.{kind_at}

@@ -46,39 +46,39 @@ pub rows_fuse : (before after : List Row) → tolerant (before ++ after) ≡ fus
 rows_fuse before after = in_parts before after no_parts ∙ sym (fuse_tolerant after (tolerant before) (tolerant_rise before))
 
 -- rows of which a piece is: takings that stay unmet, then each removed entry with its taking, then what is left
-row_of : Op → ℕ → Row
-row_of op number = record { number = number; time = 0; op = op }
+untimed : Op → ℕ → Row
+untimed op number = record { number = number; time = 0; op = op }
 
 takings : ℕ → List Row
 takings zero = []
-takings (suc n) = row_of DelMin 0 ∷ takings n
+takings (suc n) = untimed DelMin 0 ∷ takings n
 
 removals : List Entry → List Row
 removals [] = []
-removals (x ∷ xs) = removals xs ++ row_of (Ins x.key) x.number ∷ row_of DelMin 0 ∷ []
+removals (x ∷ xs) = removals xs ++ untimed (Ins x.key) x.number ∷ untimed DelMin 0 ∷ []
 
 additions : List Entry → List Row
 additions [] = []
-additions (x ∷ xs) = additions xs ++ row_of (Ins x.key) x.number ∷ []
+additions (x ∷ xs) = additions xs ++ untimed (Ins x.key) x.number ∷ []
 
 after_takings : (n unmet : ℕ) (removed : List Entry) → after_rows (takings n) (parts [] removed unmet) ≡ parts [] removed (unmet + n)
-unfolding takings after_rows row_of after_row
+unfolding takings after_rows untimed after_row
 after_takings zero unmet removed = ap (parts [] removed) (omega arith)
 after_takings (suc n) unmet removed = after_takings n (unmet + 1) removed ∙ ap (parts [] removed) (omega arith)
 
 after_removals : (xs : List Entry) (unmet : ℕ) → after_rows (removals xs) (parts [] [] unmet) ≡ parts [] (together xs []) unmet
-unfolding removals after_rows row_of after_row together
+unfolding removals after_rows untimed after_row together
 after_removals [] unmet = refl
 after_removals (x ∷ xs) unmet =
-    in_parts (removals xs) (row_of (Ins x.key) x.number ∷ row_of DelMin 0 ∷ []) (parts [] [] unmet)
-    ∙ ap (after_rows (row_of (Ins x.key) x.number ∷ row_of DelMin 0 ∷ [])) (after_removals xs unmet)
+    in_parts (removals xs) (untimed (Ins x.key) x.number ∷ untimed DelMin 0 ∷ []) (parts [] [] unmet)
+    ∙ ap (after_rows (untimed (Ins x.key) x.number ∷ untimed DelMin 0 ∷ [])) (after_removals xs unmet)
 
 after_additions : (xs removed : List Entry) (unmet : ℕ) → after_rows (additions xs) (parts [] removed unmet) ≡ parts (together xs []) removed unmet
-unfolding additions after_rows row_of after_row together
+unfolding additions after_rows untimed after_row together
 after_additions [] removed unmet = refl
 after_additions (x ∷ xs) removed unmet =
-    in_parts (additions xs) (row_of (Ins x.key) x.number ∷ []) (parts [] removed unmet)
-    ∙ ap (after_rows (row_of (Ins x.key) x.number ∷ [])) (after_additions xs removed unmet)
+    in_parts (additions xs) (untimed (Ins x.key) x.number ∷ []) (parts [] removed unmet)
+    ∙ ap (after_rows (untimed (Ins x.key) x.number ∷ [])) (after_additions xs removed unmet)
 
 rows_of : PieceParts → List Row
 rows_of piece = takings piece.unmet ++ (removals piece.removed ++ additions piece.left)

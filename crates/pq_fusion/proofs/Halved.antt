@@ -10,7 +10,7 @@ use Rattle.pq_fusion.specs.declared.span.Span.{Span}
 use Rattle.pq_fusion.specs.Pieces.{no_parts}
 use Rattle.pq_fusion.specs.EntryCounts.{left_by, reaching, LiesIn, LeadsSpan}
 use Rattle.pq_fusion.proofs.FromRows.{tolerant_rise}
-use Rattle.pq_fusion.proofs.Tallied.{rank_reached, rank_missed, key_reached, key_missed}
+use Rattle.pq_fusion.proofs.Counted.{rank_reached, rank_missed, key_reached, key_missed}
 
 -- there is an entry at each index
 pub entry_at : (xs : List Entry) (index : ℕ) → index < length xs → (x : Entry) × (slice_get xs index ≡ Some x)

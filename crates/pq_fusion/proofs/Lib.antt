@@ -12,7 +12,7 @@ pub mod Prefixes
 pub mod Stored
 pub mod Listed
 pub mod Carried
-pub mod Tallied
+pub mod Counted
 pub mod Spanned
 pub mod Halved
 pub mod Bounded

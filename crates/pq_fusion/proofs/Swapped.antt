@@ -1,6 +1,6 @@
 -- An entry is put into a rising list behind those that do not come after it, and taken out at the first that does not come before it.
 use Rattle.std.proofs.Common.{◌≡◌, ℕ, zero, suc, ◌+◌, ◌<◌, ◌≤◌, inl, inr, Bool, true, false, cond, List, [], ◌∷◌, length, refl, ap, sym, ◌∙◌, arith, subst, ◌-◌}
-use Rattle.std.specs.List.{AllWithin, insert, remove}
+use Rattle.std.specs.List.{AllWithin, remove}
 use Rattle.retro_base.specs.declared.row.Entry.{Entry}
 use Rattle.retro_base.specs.EntriesInOrder.{AreInOrder}
 use Rattle.retro_base.specs.State.{comes_before, with_entry}

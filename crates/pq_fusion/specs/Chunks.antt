@@ -54,7 +54,7 @@ pub record HoldsRank (starts : List ℕ) (rank place : ℕ) : Type 0 where
   pub to : place + 1 < length starts → rank < get_or starts (place + 1) 0
 
 -- a rising list in chunks, with how many entries stand before each and how many there are
-pub record AreKept {A : Type 0} (chunks : List (Vec Entry A)) (starts : List ℕ) (count : ℕ) : Type 0 where
+pub record AreRanked {A : Type 0} (chunks : List (Vec Entry A)) (starts : List ℕ) (count : ℕ) : Type 0 where
   pub order : AreInOrder (entries_of chunks)
   pub few : length (entries_of chunks) ≤ most_rows
   pub filled : AreChunks chunks

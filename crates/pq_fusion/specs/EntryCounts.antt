@@ -25,7 +25,7 @@ counts_of bound entries = record { left = length entries; reaching = reaching bo
 abbrev pub Carries : (List Entry → Type 0) → List Row → (List Entry → Type 0) → Type 0
 Carries Before rows After = (piece : PieceParts) → IsRising piece → Before piece.left → After (after_rows rows piece).left
 
--- the tallies of what is left before some rows and after them
+-- the counts of what is left before some rows and after them
 abbrev pub LeadsCounts : Entry → EntryCounts → List Row → EntryCounts → Type 0
 LeadsCounts bound before rows after = Carries (λ entries. before ≡ counts_of bound entries) rows (λ entries. after ≡ counts_of bound entries)
 

@@ -35,13 +35,13 @@ pub(crate) struct Chunks {
 impl Model for Chunks {
     ghost use Rattle.std.specs.Prelude.{List};
     ghost use Rattle.retro_base.specs.declared.row.Entry.{Entry};
-    ghost use Rattle.pq_fusion.specs.Chunks.{AreKept, entries_of};
+    ghost use Rattle.pq_fusion.specs.Chunks.{AreRanked, entries_of};
 
     ghost Value = { List Entry };
 
     ghost view = { λ list. entries_of list.chunks.items };
 
-    ghost invariant = { λ list. AreKept list.chunks.items list.starts.items list.count };
+    ghost invariant = { λ list. AreRanked list.chunks.items list.starts.items list.count };
 }
 
 /// Chunks with one to spare and room for it, so that an edit takes no memory.
@@ -57,13 +57,13 @@ pub(crate) struct RoomyChunks {
 impl Model for RoomyChunks {
     ghost use Rattle.std.specs.Prelude.{◌≡◌, ◌<◌, [], List, vec_capacity, vec_len};
     ghost use Rattle.retro_base.specs.declared.row.Entry.{Entry};
-    ghost use Rattle.pq_fusion.specs.Chunks.{AreKept, entries_of, most_in_chunk};
+    ghost use Rattle.pq_fusion.specs.Chunks.{AreRanked, entries_of, most_in_chunk};
 
     ghost Value = { List Entry };
 
     ghost view = { λ list. entries_of list.chunks.items };
 
-    ghost invariant = { λ list. AreKept list.chunks.items list.starts.items list.count
+    ghost invariant = { λ list. AreRanked list.chunks.items list.starts.items list.count
         × (vec_len list.chunks < vec_capacity list.chunks) × (vec_len list.starts < vec_capacity list.starts)
         × (list.spare.items ≡ []) × (most_in_chunk < vec_capacity list.spare) };
 }

@@ -23,7 +23,7 @@ pub(crate) struct EntryCounts {
 }
 
 impl EntryCounts {
-    /// The tally where the rows of a piece follow.
+    /// The counts where the rows of a piece follow.
     pub(crate) fn after_piece<L: Ledger>(
         self,
         bound: Entry,
@@ -31,7 +31,7 @@ impl EntryCounts {
         steps: &mut Steps<L>,
     ) -> EntryCounts
         requires few { self.left + length piece.now.left ≤ most_rows }
-        ensures tally { (first : PieceParts) → self ≡ counts_of bound first.left → result ≡ counts_of bound (fuse first piece.now).left }
+        ensures counts { (first : PieceParts) → self ≡ counts_of bound first.left → result ≡ counts_of bound (fuse first piece.now).left }
         ensures few { result.left ≤ self.left + length piece.now.left }
         ensures visits { (k : ℕ) → length piece.now.left < 2 ^ k → length piece.now.removed < 2 ^ k → VisitsUpTo (4 * k) steps.old steps.new }
     {
@@ -44,11 +44,11 @@ impl EntryCounts {
         }
     }
 
-    /// The tally where one row follows.
+    /// The counts where one row follows.
     fn after_row(self, bound: Entry, row: Row) -> EntryCounts
         requires few { self.left + 1 ≤ most_rows }
         requires of_kind { kind_of row.op ≡ Pq }
-        ensures tally { LeadsCounts bound self (row ∷ []) result }
+        ensures counts { LeadsCounts bound self (row ∷ []) result }
         ensures few { result.left ≤ self.left + 1 }
     {
         let Some(entry) = row.added_entry() else {
@@ -64,7 +64,7 @@ impl EntryCounts {
         }
     }
 
-    /// The tally where these rows follow, one after another.
+    /// The counts where these rows follow, one after another.
     pub(crate) fn after_rows<L: Ledger>(
         self,
         bound: Entry,
@@ -73,16 +73,16 @@ impl EntryCounts {
     ) -> EntryCounts
         requires few { self.left + length rows.now ≤ most_rows }
         requires of_kind { AreOfKind Pq rows.now }
-        ensures tally { LeadsCounts bound self rows.now result }
+        ensures counts { LeadsCounts bound self rows.now result }
         ensures few { result.left ≤ self.left + length rows.now }
         ensures visits { VisitsUpTo (length rows.now) steps.old steps.new }
     {
-        let mut tally = self;
+        let mut counts = self;
         for row in rows {
             steps.tick();
-            tally = tally.after_row(bound, row.row());
+            counts = counts.after_row(bound, row.row());
         }
-        tally
+        counts
     }
 }
 

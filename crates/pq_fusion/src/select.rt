@@ -15,8 +15,8 @@ use retro_base::{Entry, Steps};
 use std::sync::ledger::Ledger;
 
 impl Subtree {
-    /// The tally of what is left after the first rows, where `before` is that of what is left before them.
-    fn tally<L: Ledger>(
+    /// The counts of what is left after the first rows, where `before` has those of what is left before them.
+    fn counts<L: Ledger>(
         &self,
         to: u32,
         bound: Entry,
@@ -25,7 +25,7 @@ impl Subtree {
     ) -> EntryCounts
         requires within { to ≤ length self.now.rows }
         requires few { before.left + length self.now.rows ≤ most_rows }
-        ensures tally { LeadsCounts bound before (take to self.now.rows) result }
+        ensures counts { LeadsCounts bound before (take to self.now.rows) result }
         ensures few { result.left ≤ before.left + to }
         ensures whole { to ≡ length self.now.rows → OpensWithin (length self.now.rows) steps.old steps.new }
         ensures visits { WalksWithin self.now.rows steps.old steps.new }
@@ -46,15 +46,15 @@ impl Subtree {
             Root::Pair(pair) => {
                 let own = pair.earlier.len();
                 if to <= own {
-                    return pair.earlier.tally(to, bound, before, steps);
+                    return pair.earlier.counts(to, bound, before, steps);
                 }
-                let first = pair.earlier.tally(own, bound, before, steps);
-                pair.later.tally(to - own, bound, first, steps)
+                let first = pair.earlier.counts(own, bound, before, steps);
+                pair.later.counts(to - own, bound, first, steps)
             }
         }
     }
 
-    /// The span of what is left after the first rows, where `before` is that of what is left before them. A run it takes whole.
+    /// The span of what is left after the first rows, where `before` has those of what is left before them. A run it takes whole.
     fn span<L: Ledger>(&self, to: u32, before: Span, steps: &mut Steps<L>) -> Span
         requires { to ≤ length self.now.rows }
         ensures span { LeadsSpan before (take to self.now.rows) result }
@@ -90,7 +90,7 @@ impl Subtree {
             left: 0,
             reaching: 0,
         };
-        self.tally(to, Entry { key, number: 0 }, none, steps)
+        self.counts(to, Entry { key, number: 0 }, none, steps)
             .reaching
     }
 
@@ -107,7 +107,7 @@ impl Subtree {
             reaching: 0,
         };
         let bound = Entry { key: 0, number: 0 };
-        self.tally(to, bound, none, steps).left
+        self.counts(to, bound, none, steps).left
     }
 
     /// The key of the entry at an index of what the first rows leave, where there is one. It is the greatest key that as many

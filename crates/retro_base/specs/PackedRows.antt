@@ -1,4 +1,5 @@
--- The row that a packed one is, and the other way round.
+-- A row is packed into the variant of its operation, beside its number and its time: which row a packed one stands for, and
+-- how a row is packed. Packing what was unpacked gives the same again, so no two packed rows stand for one row.
 use Rattle.std.specs.Prelude.{◌≡◌, ℕ, refl}
 use Rattle.retro_base.specs.declared.op.Op.{Op}
 use Rattle.retro_base.specs.declared.op.Op.TheVariants as ops
@@ -6,19 +7,19 @@ use Rattle.retro_base.specs.declared.packed_row.Packed.{Packed}
 use Rattle.retro_base.specs.declared.packed_row.Packed.TheVariants.{Enq, Deq, Push, Pop, PushL, PushR, PopL, PopR, Put, Del, Ins, DelMin}
 use Rattle.retro_base.specs.declared.row.Row.{Row}
 
-abbrev pub row_of : Packed → Row
-row_of (Enq number time value) = record { number = number; time = time; op = ops.Enq value }
-row_of (Deq number time) = record { number = number; time = time; op = ops.Deq }
-row_of (Push number time value) = record { number = number; time = time; op = ops.Push value }
-row_of (Pop number time) = record { number = number; time = time; op = ops.Pop }
-row_of (PushL number time value) = record { number = number; time = time; op = ops.PushL value }
-row_of (PushR number time value) = record { number = number; time = time; op = ops.PushR value }
-row_of (PopL number time) = record { number = number; time = time; op = ops.PopL }
-row_of (PopR number time) = record { number = number; time = time; op = ops.PopR }
-row_of (Put number time key value) = record { number = number; time = time; op = ops.Put key value }
-row_of (Del number time key) = record { number = number; time = time; op = ops.Del key }
-row_of (Ins number time key) = record { number = number; time = time; op = ops.Ins key }
-row_of (DelMin number time) = record { number = number; time = time; op = ops.DelMin }
+abbrev pub unpacked : Packed → Row
+unpacked (Enq number time value) = record { number = number; time = time; op = ops.Enq value }
+unpacked (Deq number time) = record { number = number; time = time; op = ops.Deq }
+unpacked (Push number time value) = record { number = number; time = time; op = ops.Push value }
+unpacked (Pop number time) = record { number = number; time = time; op = ops.Pop }
+unpacked (PushL number time value) = record { number = number; time = time; op = ops.PushL value }
+unpacked (PushR number time value) = record { number = number; time = time; op = ops.PushR value }
+unpacked (PopL number time) = record { number = number; time = time; op = ops.PopL }
+unpacked (PopR number time) = record { number = number; time = time; op = ops.PopR }
+unpacked (Put number time key value) = record { number = number; time = time; op = ops.Put key value }
+unpacked (Del number time key) = record { number = number; time = time; op = ops.Del key }
+unpacked (Ins number time key) = record { number = number; time = time; op = ops.Ins key }
+unpacked (DelMin number time) = record { number = number; time = time; op = ops.DelMin }
 
 abbrev packed_with : ℕ → ℕ → Op → Packed
 packed_with number time (ops.Enq value) = Enq number time value
@@ -37,16 +38,16 @@ packed_with number time ops.DelMin = DelMin number time
 abbrev pub packed_of : Row → Packed
 packed_of row = packed_with row.number row.time row.op
 
-pub packed_of-row_of : (packed : Packed) → packed_of (row_of packed) ≡ packed
-packed_of-row_of (Enq number time value) = refl
-packed_of-row_of (Deq number time) = refl
-packed_of-row_of (Push number time value) = refl
-packed_of-row_of (Pop number time) = refl
-packed_of-row_of (PushL number time value) = refl
-packed_of-row_of (PushR number time value) = refl
-packed_of-row_of (PopL number time) = refl
-packed_of-row_of (PopR number time) = refl
-packed_of-row_of (Put number time key value) = refl
-packed_of-row_of (Del number time key) = refl
-packed_of-row_of (Ins number time key) = refl
-packed_of-row_of (DelMin number time) = refl
+pub packed_of-unpacked : (packed : Packed) → packed_of (unpacked packed) ≡ packed
+packed_of-unpacked (Enq number time value) = refl
+packed_of-unpacked (Deq number time) = refl
+packed_of-unpacked (Push number time value) = refl
+packed_of-unpacked (Pop number time) = refl
+packed_of-unpacked (PushL number time value) = refl
+packed_of-unpacked (PushR number time value) = refl
+packed_of-unpacked (PopL number time) = refl
+packed_of-unpacked (PopR number time) = refl
+packed_of-unpacked (Put number time key value) = refl
+packed_of-unpacked (Del number time key) = refl
+packed_of-unpacked (Ins number time key) = refl
+packed_of-unpacked (DelMin number time) = refl

@@ -77,16 +77,16 @@ const _: () = prove!(size_of::<PackedRow>() == 32);
 
 impl Model for PackedRow {
     ghost use Rattle.std.proofs.Common.{ap};
-    ghost use Rattle.retro_base.specs.PackedRows.{row_of, packed_of, packed_of-row_of};
+    ghost use Rattle.retro_base.specs.PackedRows.{unpacked, packed_of, packed_of-unpacked};
     ghost use Rattle.retro_base.specs.declared.row.Row.{Row};
 
     ghost Value = { Row };
 
-    ghost view = { λ p. row_of p.packed };
+    ghost view = { λ p. unpacked p.packed };
 
     ghost inverse = { λ row. record { packed = packed_of row } };
 
-    ghost inverse_ok = { λ p h. ap (λ packed. record { packed = packed }) (packed_of-row_of p.packed) };
+    ghost inverse_ok = { λ p h. ap (λ packed. record { packed = packed }) (packed_of-unpacked p.packed) };
 }
 
 impl PackedRow {

@@ -69,19 +69,19 @@ module _ (audience : Audience) where
   prefix_of_lines script before after (inr some) = IfSome_then script some (λ bytes. prefix_of_reports bytes before after)
 
 module _ {S K : Type 0} (I : sources.Ghosts S) (O : sinks.Ghosts K) (sends : Sends K) (audience : Audience) (source source' : S) where
-  -- what stands at a status
-  abbrev Stands : K → K → Status → Type 0
-  Stands before after status = ScriptStands I O sends (followed audience) source source' before after status
+  -- what a run comes to that ends with a status
+  abbrev EndsSo : K → K → Status → Type 0
+  EndsSo before after status = ScriptStands I O sends (followed audience) source source' before after status
 
   -- where a run is answered, whether a line was refused or not
-  pub stands_answered : (before after : K) (refused : Bool) → Answers I O sends (followed audience) source source' before after refused → Stands before after (status_of refused)
+  pub stands_answered : (before after : K) (refused : Bool) → Answers I O sends (followed audience) source source' before after refused → EndsSo before after (status_of refused)
   stands_answered before after false answers = answers
   stands_answered before after true answers = answers
 
   -- where the answers stop
   pub stands_at_answers : (before after : K) (stop : Stop) → LinesStand O sends (followed audience) (I.left source) (I.left source') before after most_bytes stop
       → (stop_at stop ≡ stop_at stops.NoMemory → AppendsAnswersOfEarlier I (followed audience) source source' (I.left source) (I.left source') (O.written before) (O.written after))
-      → Stands before after (status_after (stop_at stop))
+      → EndsSo before after (status_after (stop_at stop))
   stands_at_answers before after stops.ReadFault stands earlier = stands
   stands_at_answers before after stops.TooLong stands earlier = stands
   stands_at_answers before after stops.NoMemory stands earlier = inl record { earlier = earlier refl; unflushed = stands.unflushed }
@@ -91,7 +91,7 @@ module _ {S K : Type 0} (I : sources.Ghosts S) (O : sinks.Ghosts K) (sends : Sen
   -- where the reports stop
   pub stands_at_reports : (now : Audience) (before middle after : K) (stop : Stop) → HaveFollowed (I.left source) audience now → I.ended source' ≡ true
       → AppendsOutput (followed audience) (I.left source) (O.written before) (O.written middle) → StaysUnflushed O sends before middle → ReportsStand O sends (texts_of now) middle after stop
-      → Stands before after (status_after (stop_at stop))
+      → EndsSo before after (status_after (stop_at stop))
   stands_at_reports now before middle after stops.ReadFault taken ended answered unflushed stands = absurd stands
   stands_at_reports now before middle after stops.TooLong taken ended answered unflushed stands = absurd stands
   stands_at_reports now before middle after stops.NoMemory taken ended answered unflushed stands = inr record {
@@ -106,8 +106,8 @@ module _ {S K : Type 0} (I : sources.Ghosts S) (O : sinks.Ghosts K) (sends : Sen
       ))
 
   -- where memory was short, and then all that waits went on
-  pub stands_sent : (before middle after : K) → Stands before middle statuses.NoMemory → O.written after ≡ O.written middle → StaysUnflushed O sends middle after
-      → Stands before after statuses.NoMemory
+  pub stands_sent : (before middle after : K) → EndsSo before middle statuses.NoMemory → O.written after ≡ O.written middle → StaysUnflushed O sends middle after
+      → EndsSo before after statuses.NoMemory
   stands_sent before middle after (inl at) same sent = inl record {
     earlier = subst (λ w. AppendsAnswersOfEarlier I (followed audience) source source' (I.left source) (I.left source') (O.written before) w) (sym same) at.earlier;
     unflushed = StaysUnflushed-more O sends before middle after at.unflushed sent;
@@ -124,13 +124,13 @@ module _ {S K : Type 0} (I : sources.Ghosts S) (O : sinks.Ghosts K) (sends : Sen
   first_of_earlier (Some script) None before after earlier = absurd earlier
   first_of_earlier (Some script) (Some left) before after earlier = earlier.answers
 
-  whole_lines : (before after : K) → Stands before after statuses.NoMemory → AppendsWholeLines (followed audience) (I.left source) (O.written before) (O.written after) × StaysUnflushed O sends before after
+  whole_lines : (before after : K) → EndsSo before after statuses.NoMemory → AppendsWholeLines (followed audience) (I.left source) (O.written before) (O.written after) × StaysUnflushed O sends before after
   whole_lines before after (inl at) = (inl (first_of_earlier (I.left source) (I.left source') (O.written before) (O.written after) at.earlier), at.unflushed)
   whole_lines before after (inr at) = (inr at.whole, at.unflushed)
 
   -- and where then not all went on
-  pub stands_unsent : (before middle after : K) → Stands before middle statuses.NoMemory → O.written after ≡ O.written middle → EndsWithFailedSend O sends middle after
-      → Stands before after statuses.WriteFault
+  pub stands_unsent : (before middle after : K) → EndsSo before middle statuses.NoMemory → O.written after ≡ O.written middle → EndsWithFailedSend O sends middle after
+      → EndsSo before after statuses.WriteFault
   stands_unsent before middle after stands same failed =
       let lines = whole_lines before middle stands in
       inr (
@@ -139,7 +139,7 @@ module _ {S K : Type 0} (I : sources.Ghosts S) (O : sinks.Ghosts K) (sends : Sen
       )
 
   -- whatever stands is a prefix of the whole
-  pub prefix_that_stands : (before after : K) (status : Status) → Stands before after status → AppendsWholePrefix (followed audience) (I.left source) (O.written before) (O.written after)
+  pub prefix_that_stands : (before after : K) (status : Status) → EndsSo before after status → AppendsWholePrefix (followed audience) (I.left source) (O.written before) (O.written after)
   prefix_that_stands before after statuses.Done stands = prefix_of_all audience (I.left source) (O.written before) (O.written after) stands.output
   prefix_that_stands before after statuses.Refused stands = prefix_of_all audience (I.left source) (O.written before) (O.written after) stands.output
   prefix_that_stands before after statuses.Words stands = absurd stands

@@ -21,7 +21,7 @@ use Rattle.lifetime_segments.specs.Ordered.{AreInOrder, in_order}
 use Rattle.lifetime_segments.specs.OrderedLaws.{in_order-kept}
 use Rattle.order_labels.specs.Labels.{label_before, label_after as label_later, label_limit, AreApart}
 use Rattle.retro_dictionary.specs.DictionaryLaws.{LifetimesHoldContent, SearchAnswers}
-use Rattle.retro_dictionary.specs.LabelledRows.{AreKept}
+use Rattle.retro_dictionary.specs.LabelledRows.{AreLabelled}
 use Rattle.retro_dictionary.proofs.Answered.{answer-found}
 use Rattle.retro_dictionary.specs.Labelled.{labelled}
 use Rattle.retro_dictionary.specs.Lifetimes.{lifetimes_of}
@@ -54,7 +54,7 @@ pub record IsThere (rows : List Row) (labels : List ℕ) (lifetimes : List (Life
   pub of_numbers : AreOfNumbers left
   pub are : pairs_at labels lifetimes place ≡ left
 
-module _ (rows : List Row) (labels : List ℕ) (index : List KeyRow) (lifetimes : List (Lifetime (ℤ × ℤ))) (place : ℕ) (kept : AreKept rows labels index lifetimes) (within : place ≤ length rows) where
+module _ (rows : List Row) (labels : List ℕ) (index : List KeyRow) (lifetimes : List (Lifetime (ℤ × ℤ))) (place : ℕ) (kept : AreLabelled rows labels index lifetimes) (within : place ≤ length rows) where
   first_rows : Leave (take place rows) []
   first_rows = leave rows place [] kept.of_numbers tt kept.replayable.valid
 
@@ -100,7 +100,7 @@ module _ (rows : List Row) (labels : List ℕ) (index : List KeyRow) (lifetimes 
   }
 
 -- the pairs that are there in their order
-content_at : (rows : List Row) (labels : List ℕ) (index : List KeyRow) (lifetimes : List (Lifetime (ℤ × ℤ))) (place : ℕ) (kept : AreKept rows labels index lifetimes) (within : place ≤ length rows) → 1 ≤ place
+content_at : (rows : List Row) (labels : List ℕ) (index : List KeyRow) (lifetimes : List (Lifetime (ℤ × ℤ))) (place : ℕ) (kept : AreLabelled rows labels index lifetimes) (within : place ≤ length rows) → 1 ≤ place
     → state_at Dict rows place ≡ pairs (in_order pair_before (items_at (label_before 0 labels place) lifetimes))
 unfolding there first_rows
 content_at rows labels index lifetimes place kept within some =

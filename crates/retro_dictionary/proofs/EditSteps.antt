@@ -10,13 +10,13 @@ use Rattle.lifetime_segments.specs.declared.lifetime.Lifetime.{Lifetime}
 use Rattle.order_labels.specs.Labels.{label_limit}
 use Rattle.retro_dictionary.specs.declared.labelled_rows.LabelledRows.{LabelledRows}
 use Rattle.retro_dictionary.specs.Edited.{IsBetween}
-use Rattle.retro_dictionary.specs.LabelledRows.{AreKept}
+use Rattle.retro_dictionary.specs.LabelledRows.{AreLabelled}
 use Rattle.retro_dictionary.specs.Labelled.{labelled}
 use Rattle.retro_dictionary.proofs.LabelledRows.{front-below, in_two, with_row-parts, without-parts}
 use Rattle.retro_base.specs.EditedLists.{remove-insert}
 
 -- what is put in is taken out again
-pub undone : (rows : List Row) (labels : List ℕ) (index : List KeyRow) (lifetimes : List (Lifetime (ℤ × ℤ))) → AreKept rows labels index lifetimes
+pub undone : (rows : List Row) (labels : List ℕ) (index : List KeyRow) (lifetimes : List (Lifetime (ℤ × ℤ))) → AreLabelled rows labels index lifetimes
     → (place label : ℕ) (row : Row) → IsBetween labels place label → without label (with_row label row.op index) ≡ index
 undone rows labels index lifetimes kept place label row between =
     ap (λ i. without label (with_row label row.op i)) kept.indexed
@@ -38,15 +38,15 @@ op-put label op index fresh = after (λ row. nat_le row.0 label) index fresh whe
         ]
       ] refl fresh
 
-pub labels-back : (rows : List Row) (labels : List ℕ) (index : List KeyRow) (lifetimes : List (Lifetime (ℤ × ℤ))) → AreKept rows labels index lifetimes
+pub labels-back : (rows : List Row) (labels : List ℕ) (index : List KeyRow) (lifetimes : List (Lifetime (ℤ × ℤ))) → AreLabelled rows labels index lifetimes
     → (place label : ℕ) → place ≤ length rows → remove (insert labels place label) place ≡ labels
 labels-back rows labels index lifetimes kept place label within = remove-insert labels place label (omega (arith, within, kept.as_many))
 
 -- the same is kept
 pub kept-as : (rows more : List Row) (labels marks : List ℕ) (index listed : List KeyRow) (lifetimes lives : List (Lifetime (ℤ × ℤ)))
-    → AreKept rows labels index lifetimes → more ≡ rows → marks ≡ labels → listed ≡ index → lives ≡ lifetimes → AreKept more marks listed lives
+    → AreLabelled rows labels index lifetimes → more ≡ rows → marks ≡ labels → listed ≡ index → lives ≡ lifetimes → AreLabelled more marks listed lives
 kept-as rows more labels marks index listed lifetimes lives kept p q r s =
-    subst (AreKept more marks listed) (sym s) (subst (λ i. AreKept more marks i lifetimes) (sym r) (subst (λ ls. AreKept more ls index lifetimes) (sym q) (subst (λ rs. AreKept rs labels index lifetimes) (sym p) kept)))
+    subst (AreLabelled more marks listed) (sym s) (subst (λ i. AreLabelled more marks i lifetimes) (sym r) (subst (λ ls. AreLabelled more ls index lifetimes) (sym q) (subst (λ rs. AreLabelled rs labels index lifetimes) (sym p) kept)))
 
 -- a dictionary with the same in each of its parts is the same
 pub all-same : (kept : LabelledRows) (rows : List Row) (labels : List ℕ) (index : List KeyRow) (lifetimes : List (Lifetime (ℤ × ℤ))) → rows ≡ kept.rows → labels ≡ kept.labels → index ≡ kept.index → lifetimes ≡ kept.segments

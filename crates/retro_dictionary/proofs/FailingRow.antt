@@ -20,7 +20,7 @@ use Rattle.retro_base.specs.lemmas.Folds.{err_within}
 use Rattle.key_index.specs.KeyRows.{KeyRow, named, op_at, up_to, behind as after, with_row, without, failure_of, bad_with, bad_label, Replays}
 use Rattle.lifetime_segments.specs.declared.lifetime.Lifetime.{Lifetime}
 use Rattle.order_labels.specs.Labels.{AreApart, label_limit, label_before}
-use Rattle.retro_dictionary.specs.LabelledRows.{AreKept}
+use Rattle.retro_dictionary.specs.LabelledRows.{AreLabelled}
 use Rattle.retro_dictionary.specs.Labelled.{labelled}
 use Rattle.retro_dictionary.proofs.LabelledRows.{beside, length-fronts, op-is, up_to-is, after-is, with_row-is, without-is}
 use Rattle.retro_dictionary.proofs.Performed.{failure-labelled}
@@ -176,7 +176,7 @@ row-at (row ∷ rows) zero within = (row, refl)
 row-at (row ∷ rows) (suc place) within = row-at rows place (omega arith)
 
 -- the place of the row that fails first where a row is put in
-module _ (rows : List Row) (labels : List ℕ) (index : List KeyRow) (lifetimes : List (Lifetime (ℤ × ℤ))) (kept : AreKept rows labels index lifetimes) (place : ℕ) where
+module _ (rows : List Row) (labels : List ℕ) (index : List KeyRow) (lifetimes : List (Lifetime (ℤ × ℤ))) (kept : AreLabelled rows labels index lifetimes) (place : ℕ) where
   failing-with : (row : Row) → place ≤ length rows → (bad : Option Bad) → bad ≡ bad_with (label_before 0 labels place) row.op index
       → IfNone bad (Replays (with_row (label_before 0 labels place) row.op index)) → place_of_bad labels place bad ≡ failure Dict (insert rows place row)
   failing-with row within bad is good =
@@ -251,5 +251,5 @@ within-without rows place None within is = tt
 within-without rows place (Some index) within is = omega (arith, failure-within (remove rows place) index (sym is), length-remove rows place within)
 
 -- what is kept replays by labels too
-pub index-replays : (rows : List Row) (labels : List ℕ) (index : List KeyRow) (lifetimes : List (Lifetime (ℤ × ℤ))) → AreKept rows labels index lifetimes → Replays index
+pub index-replays : (rows : List Row) (labels : List ℕ) (index : List KeyRow) (lifetimes : List (Lifetime (ℤ × ℤ))) → AreLabelled rows labels index lifetimes → Replays index
 index-replays rows labels index lifetimes kept = ap failure_of kept.indexed ∙ failure-labelled labels rows kept.as_many ∙ kept.replayable.valid

@@ -14,7 +14,7 @@ use Rattle.order_labels.specs.Labels.{AreApart, label_limit}
 use Rattle.retro_dictionary.specs.Changes.{Placed, placed_by}
 use Rattle.retro_dictionary.specs.Edited.{IsBetween, CanPut, CanCut, CanInsert, CanRemove, left_of, next_of, cut_at, joined_at, cut_by, joined_by}
 use Rattle.retro_dictionary.specs.DictionaryLaws.{InsertionsAreKept, RemovalsAreKept}
-use Rattle.retro_dictionary.specs.LabelledRows.{AreKept, ordered}
+use Rattle.retro_dictionary.specs.LabelledRows.{AreLabelled, ordered}
 use Rattle.retro_dictionary.specs.Labelled.{labelled}
 use Rattle.retro_dictionary.specs.Lifetimes.{end_of, put_by, lifetimes_of}
 use Rattle.retro_dictionary.specs.Numbers.{IsOfNumbers}
@@ -60,7 +60,7 @@ below_all [] back all = all
 below_all (row ∷ front) back all = below_all front back all.1
 
 -- a row that is put in at a label between those beside its place
-module _ (rows : List Row) (labels : List ℕ) (index : List KeyRow) (lifetimes : List (Lifetime (ℤ × ℤ))) (kept : AreKept rows labels index lifetimes)
+module _ (rows : List Row) (labels : List ℕ) (index : List KeyRow) (lifetimes : List (Lifetime (ℤ × ℤ))) (kept : AreLabelled rows labels index lifetimes)
     (place label : ℕ) (row : Row) (within : place ≤ length rows) (between : IsBetween labels place label) where
   apart : AreApart 1 0 label_limit labels
   apart = kept.rising.rising
@@ -109,7 +109,7 @@ module _ (rows : List Row) (labels : List ℕ) (index : List KeyRow) (lifetimes 
   pub no_row-at : op_at label index ≡ None
   no_row-at = ap (op_at label) kept.indexed ∙ fresh-is labels rows place kept.as_many apart label between
 
-  pub kept-with : CanInsert rows place row → AreKept (insert rows place row) (insert labels place label) (with_row label row.op index) (cut_by label row.op index lifetimes)
+  pub kept-with : CanInsert rows place row → AreLabelled (insert rows place row) (insert labels place label) (with_row label row.op index) (cut_by label row.op index lifetimes)
   kept-with can = record {
     replayable = can.after;
     of_numbers = all_with (λ r. IsOfNumbers r.op) rows place row kept.of_numbers can.of_numbers;
@@ -123,7 +123,7 @@ module _ (rows : List Row) (labels : List ℕ) (index : List KeyRow) (lifetimes 
   }
 
 -- a row that is taken out
-module _ (rows : List Row) (labels : List ℕ) (index : List KeyRow) (lifetimes : List (Lifetime (ℤ × ℤ))) (kept : AreKept rows labels index lifetimes)
+module _ (rows : List Row) (labels : List ℕ) (index : List KeyRow) (lifetimes : List (Lifetime (ℤ × ℤ))) (kept : AreLabelled rows labels index lifetimes)
     (place label : ℕ) (row : Row) (label_there : slice_get labels place ≡ Some label) (row_there : slice_get rows place ≡ Some row) where
   rising_labels : AreApart 1 0 label_limit labels
   rising_labels = kept.rising.rising
@@ -186,7 +186,7 @@ module _ (rows : List Row) (labels : List ℕ) (index : List KeyRow) (lifetimes 
       ∙ without-is labels rows place kept.as_many rising_labels label row label_there row_there
       ∙ removed-parts labels rows place kept.as_many rising_labels label row label_there row_there))
 
-  pub kept-without : CanRemove rows place → AreKept (remove rows place) (remove labels place) (without label index) (joined_by label row.op index lifetimes)
+  pub kept-without : CanRemove rows place → AreLabelled (remove rows place) (remove labels place) (without label index) (joined_by label row.op index lifetimes)
   kept-without can = record {
     replayable = can.after;
     of_numbers = all_without (λ r. IsOfNumbers r.op) rows place kept.of_numbers;

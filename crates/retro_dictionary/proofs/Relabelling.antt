@@ -17,7 +17,7 @@ use Rattle.order_labels.specs.Labels.{AreApart, label_limit, label_before, label
 use Rattle.order_labels.specs.ApartLaws.{apart_without}
 use Rattle.order_labels.specs.SpreadLaws.{length-multiples, multiple-at, spread-rises}
 use Rattle.retro_dictionary.specs.Edited.{IsBetween, CanInsert}
-use Rattle.retro_dictionary.specs.LabelledRows.{AreKept, ordered}
+use Rattle.retro_dictionary.specs.LabelledRows.{AreLabelled, ordered}
 use Rattle.retro_dictionary.specs.Labelled.{labelled}
 use Rattle.retro_dictionary.specs.Lifetimes.{lifetimes_of}
 use Rattle.retro_dictionary.specs.Numbers.{IsOfNumbers}
@@ -136,7 +136,7 @@ module _ (count place : ℕ) (within : place ≤ count) (few : count < most_rows
   }
 
 -- the rows of a dictionary get them
-module _ (rows : List Row) (labels : List ℕ) (index : List KeyRow) (lifetimes : List (Lifetime (ℤ × ℤ))) (kept : AreKept rows labels index lifetimes)
+module _ (rows : List Row) (labels : List ℕ) (index : List KeyRow) (lifetimes : List (Lifetime (ℤ × ℤ))) (kept : AreLabelled rows labels index lifetimes)
     (place : ℕ) (within : place ≤ length rows) (few : length rows < most_rows) where
   abbrev others : List ℕ
   others = other_labels (length rows) place
@@ -182,7 +182,7 @@ module _ (rows : List Row) (labels : List ℕ) (index : List KeyRow) (lifetimes 
       ∙ ap (λ ls. labelled ls (insert rows place row)) (insert-remove (spread (length rows + 1)) place new (new-there (length rows) place within few))
 
   -- and what is kept of them
-  pub kept-all : (row : Row) → CanInsert rows place row → AreKept (insert rows place row) (spread (length rows + 1)) (all row) (ordered (lifetimes_of (all row)))
+  pub kept-all : (row : Row) → CanInsert rows place row → AreLabelled (insert rows place row) (spread (length rows + 1)) (all row) (ordered (lifetimes_of (all row)))
   kept-all row can = record {
     replayable = can.after;
     of_numbers = all_with (λ r. IsOfNumbers r.op) rows place row kept.of_numbers can.of_numbers;

@@ -16,20 +16,20 @@ use Rattle.order_labels.specs.Labels.{label_before}
 use Rattle.retro_dictionary.specs.Asked.{range_of, answer_from, found_at}
 use Rattle.retro_dictionary.specs.Changes.{placed_by, up_to_label}
 use Rattle.retro_dictionary.specs.Edited.{IsBetween, CanInsert, CanRemove, CanPut, CanCut, left_of, next_of, cut_by, joined_by}
-use Rattle.retro_dictionary.specs.LabelledRows.{AreKept, ordered}
+use Rattle.retro_dictionary.specs.LabelledRows.{AreLabelled, ordered}
 use Rattle.retro_dictionary.specs.Lifetimes.{end_of, put_by, begun, lifetimes_of}
 use Rattle.retro_dictionary.specs.PairSearch.{pair_before}
 
 -- the pairs whose lifetimes hold the label of the last row before a place, in their order, are the content there
 abbrev pub LifetimesHoldContent : Type 0
 LifetimesHoldContent =
-    (rows : List Row) (labels : List ℕ) (index : List KeyRow) (lifetimes : List (Lifetime (ℤ × ℤ))) (place : ℕ) → AreKept rows labels index lifetimes → 1 ≤ place → place ≤ length rows
+    (rows : List Row) (labels : List ℕ) (index : List KeyRow) (lifetimes : List (Lifetime (ℤ × ℤ))) (place : ℕ) → AreLabelled rows labels index lifetimes → 1 ≤ place → place ≤ length rows
     → state_at Dict rows place ≡ pairs (in_order pair_before (items_at (label_before 0 labels place) lifetimes))
 
 -- so each question there is answered by what is found of them
 abbrev pub SearchAnswers : Type 0
 SearchAnswers =
-    (rows : List Row) (labels : List ℕ) (index : List KeyRow) (lifetimes : List (Lifetime (ℤ × ℤ))) (place : ℕ) (question : Question) → AreKept rows labels index lifetimes → place ≤ length rows
+    (rows : List Row) (labels : List ℕ) (index : List KeyRow) (lifetimes : List (Lifetime (ℤ × ℤ))) (place : ℕ) (question : Question) → AreLabelled rows labels index lifetimes → place ≤ length rows
     → answer_of (state_at Dict rows place) question ≡ answer_from question (found_at labels lifetimes place (range_of question))
 
 -- the lifetimes with one more row and without it: the row ends that of the pair that the last row before it on its key put, and begins its own; all others are the same
@@ -45,14 +45,14 @@ EditsEndOne = (front : List KeyRow) (row : KeyRow) (after : List KeyRow) → End
 abbrev pub InsertionsAreKept : Type 0
 InsertionsAreKept =
     (rows : List Row) (labels : List ℕ) (index : List KeyRow) (lifetimes : List (Lifetime (ℤ × ℤ))) (place label : ℕ) (row : Row)
-    → AreKept rows labels index lifetimes → IsBetween labels place label → CanInsert rows place row
+    → AreLabelled rows labels index lifetimes → IsBetween labels place label → CanInsert rows place row
     → (op_at label index ≡ None) × CanCut (left_of index label row.op) label (next_of index label row.op) lifetimes
-    × AreKept (insert rows place row) (insert labels place label) (with_row label row.op index) (cut_by label row.op index lifetimes)
+    × AreLabelled (insert rows place row) (insert labels place label) (with_row label row.op index) (cut_by label row.op index lifetimes)
 
 -- so it is where a row is taken out
 abbrev pub RemovalsAreKept : Type 0
 RemovalsAreKept =
     (rows : List Row) (labels : List ℕ) (index : List KeyRow) (lifetimes : List (Lifetime (ℤ × ℤ))) (place label : ℕ) (row : Row)
-    → AreKept rows labels index lifetimes → slice_get labels place ≡ Some label → slice_get rows place ≡ Some row → CanRemove rows place
+    → AreLabelled rows labels index lifetimes → slice_get labels place ≡ Some label → slice_get rows place ≡ Some row → CanRemove rows place
     → CanPut (left_of index label row.op) (next_of index label row.op) lifetimes
-    × AreKept (remove rows place) (remove labels place) (without label index) (joined_by label row.op index lifetimes)
+    × AreLabelled (remove rows place) (remove labels place) (without label index) (joined_by label row.op index lifetimes)

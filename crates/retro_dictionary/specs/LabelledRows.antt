@@ -18,7 +18,7 @@ abbrev pub ordered : List (Lifetime (ℤ × ℤ)) → List (Lifetime (ℤ × ℤ
 ordered lifetimes = in_order (stands_earlier pair_before) lifetimes
 
 -- what is kept of rows that replay
-pub record AreKept (rows : List Row) (labels : List ℕ) (index : List KeyRow) (lifetimes : List (Lifetime (ℤ × ℤ))) : Type 0 where
+pub record AreLabelled (rows : List Row) (labels : List ℕ) (index : List KeyRow) (lifetimes : List (Lifetime (ℤ × ℤ))) : Type 0 where
   pub replayable : IsReplayable Dict rows
   pub of_numbers : HaveNumbers rows
   pub as_many : length labels ≡ length rows

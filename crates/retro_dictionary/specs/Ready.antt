@@ -6,13 +6,13 @@ use Rattle.retro_base.specs.Kind.{kind_of}
 use Rattle.retro_base.specs.Limits.{most_rows}
 use Rattle.retro_dictionary.specs.declared.labelled_rows.LabelledRows.{LabelledRows}
 use Rattle.retro_dictionary.specs.Edited.{CanInsert}
-use Rattle.retro_dictionary.specs.LabelledRows.{AreKept}
+use Rattle.retro_dictionary.specs.LabelledRows.{AreLabelled}
 
-abbrev pub IsKept : LabelledRows → Type 0
-IsKept kept = AreKept kept.rows kept.labels kept.index kept.segments
+abbrev pub IsLabelled : LabelledRows → Type 0
+IsLabelled kept = AreLabelled kept.rows kept.labels kept.index kept.segments
 
 pub record IsReadyFor (kept : LabelledRows) (place : ℕ) (row : Row) : Type 0 where
-  pub all : IsKept kept
+  pub all : IsLabelled kept
   pub can : CanInsert kept.rows place row
   pub of_kind : kind_of row.op ≡ Dict
   pub few : length kept.rows < most_rows

@@ -25,13 +25,13 @@ pub struct RetroDictionary {
 impl Model for RetroDictionary {
     ghost use Rattle.std.specs.Prelude.{List};
     ghost use Rattle.retro_base.specs.declared.row.Row.{Row};
-    ghost use Rattle.retro_dictionary.specs.Ready.{IsKept};
+    ghost use Rattle.retro_dictionary.specs.Ready.{IsLabelled};
 
     ghost Value = { List Row };
 
     ghost view = { λ dictionary. dictionary.kept.rows };
 
-    ghost invariant = { λ dictionary. IsKept dictionary.kept };
+    ghost invariant = { λ dictionary. IsLabelled dictionary.kept };
 }
 
 impl RetroDictionary {

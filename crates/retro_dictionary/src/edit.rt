@@ -7,7 +7,7 @@ ghost use Rattle.order_labels.specs.Labels.{inserted_by};
 ghost use Rattle.retro_base.specs.declared.kind.Kind.TheVariants.{Dict};
 ghost use Rattle.retro_base.specs.Kind.{kind_of};
 ghost use Rattle.retro_dictionary.specs.Edited.{CanPut, CanCut, CanRemove, IsBetween, left_of, next_of, cut_by, joined_by};
-ghost use Rattle.retro_dictionary.specs.Ready.{IsKept, IsReadyFor};
+ghost use Rattle.retro_dictionary.specs.Ready.{IsLabelled, IsReadyFor};
 ghost use Rattle.retro_dictionary.specs.RelabellingLaw.{counted_by, one_more};
 ghost use Rattle.retro_dictionary.specs.RowLabels.{recent_beside, row_rule};
 
@@ -81,7 +81,7 @@ fn put_between(kept: &mut LabelledRows, place: u32, label: u64, row: Row) -> Res
     ensures rows { OnOk result (kept.new.rows ≡ insert kept.old.rows place row) }
     ensures labels { OnOk result (kept.new.labels ≡ insert kept.old.labels place label) }
     ensures insertions_since_relabel { OnOk result (kept.new.insertions_since_relabel ≡ one_more kept.old.insertions_since_relabel) }
-    ensures kept { OnOk result (IsKept kept.new) }
+    ensures kept { OnOk result (IsLabelled kept.new) }
     ensures err { OnErr result (kept.new ≡ kept.old) }
 {
     kept.labels.insert_labelled(place, label)?;
@@ -110,7 +110,7 @@ pub(crate) fn put(
     ensures rows { OnOk result (kept.new.rows ≡ insert kept.old.rows place row) }
     ensures labels { OnOk result (kept.new.labels ≡ inserted_by (row_rule recent kept.old.insertions_since_relabel) kept.old.labels place) }
     ensures insertions_since_relabel { OnOk result (kept.new.insertions_since_relabel ≡ counted_by (row_rule recent) kept.old.insertions_since_relabel kept.old.labels place) }
-    ensures kept { OnOk result (IsKept kept.new) }
+    ensures kept { OnOk result (IsLabelled kept.new) }
     ensures err { OnErr result (kept.new ≡ kept.old) }
 {
     match free_label(&kept.labels, recent, kept.insertions_since_relabel, place) {
@@ -121,13 +121,13 @@ pub(crate) fn put(
 
 /// Takes the row at a place out. After `NoMemory` all is as before.
 pub(crate) fn take_out(kept: &mut LabelledRows, place: u32) -> Result<Row, NoMemory>
-    requires kept { IsKept kept.old }
+    requires kept { IsLabelled kept.old }
     requires can { CanRemove kept.old.rows place }
     ensures row { IfOk result (λ row. slice_get kept.old.rows place ≡ Some row) }
     ensures rows { OnOk result (kept.new.rows ≡ remove kept.old.rows place) }
     ensures labels { OnOk result (kept.new.labels ≡ remove kept.old.labels place) }
     ensures insertions_since_relabel { kept.new.insertions_since_relabel ≡ kept.old.insertions_since_relabel }
-    ensures kept { OnOk result (IsKept kept.new) }
+    ensures kept { OnOk result (IsLabelled kept.new) }
     ensures err { OnErr result (kept.new ≡ kept.old) }
 {
     let row = uncounted::get(&kept.rows, place).value().row();

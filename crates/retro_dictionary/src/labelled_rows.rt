@@ -2,7 +2,7 @@
 
 ghost use Rattle.std.specs.Prelude.{◌≡◌, ◌<◌, [], Some, length, slice_get};
 ghost use Rattle.std.specs.Option.{option_map};
-ghost use Rattle.retro_dictionary.specs.Ready.{IsKept};
+ghost use Rattle.retro_dictionary.specs.Ready.{IsLabelled};
 
 use crate::search::PairSearch;
 use key_index::KeyIndex;
@@ -27,7 +27,7 @@ pub(crate) struct LabelledRows {
 impl LabelledRows {
     pub(crate) fn new(alloc: Global) -> LabelledRows
         ensures rows { result.rows ≡ [] }
-        ensures kept { IsKept result }
+        ensures kept { IsLabelled result }
     {
         LabelledRows {
             rows: Tree::new(alloc),

@@ -10,7 +10,7 @@ ghost use Rattle.retro_dictionary.specs.Edited.{CanPut, next_of, placed_at};
 ghost use Rattle.retro_dictionary.specs.LabelledRows.{ordered};
 ghost use Rattle.retro_dictionary.specs.Labelled.{labelled};
 ghost use Rattle.retro_dictionary.specs.Lifetimes.{lifetimes_of, put_by};
-ghost use Rattle.retro_dictionary.specs.Ready.{IsKept, IsReadyFor};
+ghost use Rattle.retro_dictionary.specs.Ready.{IsLabelled, IsReadyFor};
 ghost use Rattle.retro_dictionary.specs.Relabelling.{CanRelabel, begun_by, labelled_anew, new_label, other_labels, relabelled_with, with_row_at};
 
 use crate::labelled_rows::LabelledRows;
@@ -177,7 +177,7 @@ pub(crate) fn put_relabelled(kept: &mut LabelledRows, place: u32, row: Row) -> R
     ensures rows { OnOk result (kept.new.rows ≡ insert kept.old.rows place row) }
     ensures labels { OnOk result (kept.new.labels ≡ spread (length kept.old.labels + 1)) }
     ensures insertions_since_relabel { OnOk result (kept.new.insertions_since_relabel ≡ 0) }
-    ensures kept { OnOk result (IsKept kept.new) }
+    ensures kept { OnOk result (IsLabelled kept.new) }
     ensures err { OnErr result (kept.new ≡ kept.old) }
 {
     let alloc = kept.rows.alloc();

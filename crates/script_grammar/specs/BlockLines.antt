@@ -38,5 +38,5 @@ unfoldable pub is_passed_over : List ℕ → Bool
 is_passed_over line = are_passed_over (words line)
 
 -- the row of a row line
-unfoldable pub row_of : List ℕ → Option Row
-row_of line = row_spelled (words line)
+unfoldable pub row_read : List ℕ → Option Row
+row_read line = row_spelled (words line)

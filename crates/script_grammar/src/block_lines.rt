@@ -2,7 +2,7 @@
 
 ghost use Rattle.std.specs.Prelude.{◌≡◌, ◌<◌, ◌≤◌, IfSome};
 ghost use Rattle.retro_base.specs.Limits.{next_limit};
-ghost use Rattle.script_grammar.specs.BlockLines.{are_end, are_passed_over, is_end, is_passed_over, row_of, row_spelled, row_with};
+ghost use Rattle.script_grammar.specs.BlockLines.{are_end, are_passed_over, is_end, is_passed_over, row_read, row_spelled, row_with};
 
 use crate::line::begins_comment;
 use crate::numbers::{read_row_number, read_time};
@@ -45,9 +45,9 @@ fn are_passed_over(mut words: Words) -> bool
 }
 
 /// The row of a row line, if the line has its form.
-#[tactic(auto, unfolding(crate::specs::BlockLines::row_of))]
+#[tactic(auto, unfolding(crate::specs::BlockLines::row_read))]
 pub fn read_row(line: &[u8]) -> Option<Row>
-    ensures exact { result ≡ row_of line.now }
+    ensures exact { result ≡ row_read line.now }
     ensures numbered { IfSome result (λ row. (1 ≤ row.number) × (row.number < next_limit)) }
 {
     read_numbered(Words::new(line))

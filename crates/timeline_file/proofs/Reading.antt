@@ -14,7 +14,7 @@ use Rattle.retro_base.specs.OpText.{op_text}
 use Rattle.retro_base.specs.Replay.{fold_rows, run}
 use Rattle.retro_base.specs.State.{State, empty, step}
 use Rattle.retro_base.specs.Timeline.{HaveOwnNumbers, IsTimeline, TimesNeverFall}
-use Rattle.script_grammar.specs.BlockLines.{is_end, is_passed_over, row_of}
+use Rattle.script_grammar.specs.BlockLines.{is_end, is_passed_over, row_read}
 use Rattle.script_grammar.specs.SpellingLaws.{words-then, number_is_word, decimal_is_word, row_number_of-decimal, time_of-decimal, op_of-text}
 use Rattle.script_grammar.specs.Words.{words}
 use Rattle.timeline_file.specs.Block.{taken, cause_of_row, has_number, last_time, are_below}
@@ -31,8 +31,8 @@ row_words row number time =
     words-then (35 ∷ decimal row.number) (decimal row.time ++ 32 ∷ op_text row.op) (number_is_word row.number (omega arith))
     ∙ ap (λ rest. (35 ∷ decimal row.number) ∷ rest) (words-then (decimal row.time) (op_text row.op) (decimal_is_word row.time time))
 
-row_line_read : (row : Row) → 1 ≤ row.number → row.number < next_limit → IsInRange row → row_of (row_text row) ≡ Some row
-unfolding row_of
+row_line_read : (row : Row) → 1 ≤ row.number → row.number < next_limit → IsInRange row → row_read (row_text row) ≡ Some row
+unfolding row_read
 row_line_read row least most range =
     rw (row_words row most range.0, row_number_of-decimal row.number least most, time_of-decimal row.time range.0, op_of-text row.op range.1) refl
 

@@ -8,7 +8,7 @@ use Rattle.retro_base.specs.Limits.{most_rows}
 use Rattle.retro_base.specs.Kind.{kind_of, same_kind}
 use Rattle.retro_base.specs.Replay.{present}
 use Rattle.retro_base.specs.State.{step}
-use Rattle.script_grammar.specs.BlockLines.{is_passed_over, row_of}
+use Rattle.script_grammar.specs.BlockLines.{is_passed_over, row_read}
 use Rattle.timeline_file.specs.declared.block.RowCause.{RowCause}
 use Rattle.timeline_file.specs.declared.block.RowCause.TheVariants as causes
 use Rattle.timeline_file.specs.declared.block.BlockError.{BlockError}
@@ -69,7 +69,7 @@ after_row_line block line = if is_some block.bad then block else grown block lin
 
 -- the row of a row line, which a long line never spells
 abbrev pub row_line : List ℕ → Bool → Option Row
-row_line bytes long = if long then None else row_of bytes
+row_line bytes long = if long then None else row_read bytes
 
 -- the block after a line that is not its end: a line that is passed over does not count, but a long line is a row line whatever it holds
 unfoldable pub taken : Block → List ℕ → Bool → Block

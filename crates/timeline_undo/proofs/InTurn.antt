@@ -8,7 +8,7 @@ use Rattle.retro_base.specs.OrderLaws.{all_weaker}
 use Rattle.retro_base.specs.Timeline.{IsTimeline}
 use Rattle.timeline_undo.specs.declared.history.HistoryStep.{HistoryStep}
 use Rattle.timeline_undo.specs.declared.history.HistoryStep.TheVariants.{Single, Double}
-use Rattle.timeline_undo.specs.KeptSteps.{AreReady, StandInTurn, edit_of, step_of}
+use Rattle.timeline_undo.specs.KeptSteps.{AreReady, CanBeMadeInTurn, edit_of, step_of}
 use Rattle.timeline_undo.proofs.Edits.{inverse_twice}
 use Rattle.retro_base.specs.EditedLists.{can_go_back, there_and_back}
 
@@ -23,7 +23,7 @@ timeline_later kind rows next below timeline = record {
 }
 
 pub in_turn_later : (kind : Kind) (next : ℕ) (rows : List Row) (edits : List Edit) → next < next_limit
-    → StandInTurn kind next rows edits → StandInTurn kind (next + 1) rows edits
+    → CanBeMadeInTurn kind next rows edits → CanBeMadeInTurn kind (next + 1) rows edits
 in_turn_later kind next rows [] below turn = tt
 in_turn_later kind next rows (edit ∷ more) below turn = (
   record { within = turn.0.within; timeline = timeline_later kind (edited rows edit) next below turn.0.timeline },
@@ -32,27 +32,27 @@ in_turn_later kind next rows (edit ∷ more) below turn = (
 
 -- the first of them can be made without the others
 pub in_turn_first : (kind : Kind) (next : ℕ) (rows : List Row) (first others : List Edit)
-    → StandInTurn kind next rows (first ++ others) → StandInTurn kind next rows first
+    → CanBeMadeInTurn kind next rows (first ++ others) → CanBeMadeInTurn kind next rows first
 in_turn_first kind next rows [] others turn = tt
 in_turn_first kind next rows (edit ∷ first) others turn = (turn.0, in_turn_first kind next (edited rows edit) first others turn.1)
 
 -- the others can be made after them
 pub in_turn_others : (kind : Kind) (next : ℕ) (rows : List Row) (first others : List Edit)
-    → StandInTurn kind next rows (first ++ others) → StandInTurn kind next (edited_by rows first) others
+    → CanBeMadeInTurn kind next rows (first ++ others) → CanBeMadeInTurn kind next (edited_by rows first) others
 in_turn_others kind next rows [] others turn = turn
 in_turn_others kind next rows (edit ∷ first) others turn = in_turn_others kind next (edited rows edit) first others turn.1
 
 -- after an edit it can be taken back, and then what could be made before it can be redone
 pub in_turn_back : (kind : Kind) (next : ℕ) (rows : List Row) (edit : Edit) (more : List Edit) → IsWithin rows edit
-    → IsTimeline kind rows next → StandInTurn kind next rows more → StandInTurn kind next (edited rows edit) (inverse edit ∷ more)
+    → IsTimeline kind rows next → CanBeMadeInTurn kind next rows more → CanBeMadeInTurn kind next (edited rows edit) (inverse edit ∷ more)
 in_turn_back kind next rows edit more within timeline turn =
     let back = there_and_back rows edit within in
     (record { within = can_go_back rows edit within; timeline = rw back timeline }, rw back turn)
 
 -- and so it is after a step
 pub step_back : (kind : Kind) (next : ℕ) (rows : List Row) (noted : HistoryStep) (more : List Edit) → IsTimeline kind rows next
-    → StandInTurn kind next rows (step_of noted) → StandInTurn kind next rows more
-    → StandInTurn kind next (edited_by rows (step_of noted)) (inverse_step (step_of noted) ++ more)
+    → CanBeMadeInTurn kind next rows (step_of noted) → CanBeMadeInTurn kind next rows more
+    → CanBeMadeInTurn kind next (edited_by rows (step_of noted)) (inverse_step (step_of noted) ++ more)
 step_back kind next rows (Single edit) more timeline made turn = in_turn_back kind next rows (edit_of edit) more made.0.within timeline turn
 step_back kind next rows (Double first second) more timeline made turn =
     in_turn_back kind next (edited rows (edit_of first)) (edit_of second) (inverse (edit_of first) ∷ more) made.1.0.within made.0.timeline
@@ -60,12 +60,12 @@ step_back kind next rows (Double first second) more timeline made turn =
 
 -- the rows after them are a timeline
 pub timeline_after : (kind : Kind) (next : ℕ) (rows : List Row) (edits : List Edit) → IsTimeline kind rows next
-    → StandInTurn kind next rows edits → IsTimeline kind (edited_by rows edits) next
+    → CanBeMadeInTurn kind next rows edits → IsTimeline kind (edited_by rows edits) next
 timeline_after kind next rows [] timeline turn = timeline
 timeline_after kind next rows (edit ∷ more) timeline turn = timeline_after kind next (edited rows edit) more turn.0.timeline turn.1
 
 -- they are ready to be made
-pub ready : (kind : Kind) (next : ℕ) (rows : List Row) (edits : List Edit) → StandInTurn kind next rows edits → AreReady kind rows edits
+pub ready : (kind : Kind) (next : ℕ) (rows : List Row) (edits : List Edit) → CanBeMadeInTurn kind next rows edits → AreReady kind rows edits
 ready kind next rows [] turn = tt
 ready kind next rows (edit ∷ more) turn =
     (turn.0.within, turn.0.timeline.in_order, turn.0.timeline.replayable, ready kind next (edited rows edit) more turn.1)

@@ -1,4 +1,4 @@
--- Whether a row may be replaced: one search of the structure shows that all rows can be performed after it, or the tally along them says
+-- Whether a row may be replaced: one search of the structure shows that all rows can be performed after it, or the count along them says
 -- which one fails.
 use Rattle.std.proofs.Common.{◌≡◌, ℕ, Bool, true, false, not, List, slice_get, Option, Some, None, refl, sym, ◌∙◌, ap, subst}
 use Rattle.std.specs.Prelude.{is_some, IsTrue}
@@ -17,10 +17,10 @@ use Rattle.retro_base.specs.lemmas.GivingEdits.{adding_row_replays, taking_row_c
 use Rattle.timeline_undo.specs.declared.replacement.Replacement.{Replacement}
 use Rattle.timeline_undo.specs.Replaced.{Replaces, before_without, replaced}
 use Rattle.timeline_undo.specs.Shift.{index_after}
-use Rattle.timeline_undo.specs.WalkCounts.{tallied, tally_before}
+use Rattle.timeline_undo.specs.WalkCounts.{walked, count_first}
 use Rattle.timeline_undo.proofs.Replaced.{cut_first, put_first}
 use Rattle.timeline_undo.proofs.Steps.{stands_after_put}
-use Rattle.timeline_undo.proofs.Tallied.{tally_names}
+use Rattle.timeline_undo.proofs.Walked.{count_names}
 
 -- a search that has found no failing row
 pub none_found : (failing : Option ℕ) (none : Bool) → is_some failing ≡ not none → IsTrue none → failing ≡ None
@@ -49,12 +49,12 @@ takes_after_put kind rows r replayable replaces taking valid =
 pub none_named : (kind : Kind) (rows : List Row) → IsValid kind rows → None ≡ failing_row kind rows
 none_named kind rows valid = sym (ap (option_and_then (slice_get rows)) valid)
 
--- the tally names the first row that cannot be performed
+-- the count names the first row that cannot be performed
 pub walk_names : (kind : Kind) (rows : List Row) (r : Replacement) (failing : Option Row) → IsReplayable kind rows → Replaces kind rows r
-    → failing ≡ result_err (tallied (replaced rows r) (tally_before r.old.op r.new.op)) → failing ≡ failing_row kind (replaced rows r)
+    → failing ≡ result_err (walked (replaced rows r) (count_first r.old.op r.new.op)) → failing ≡ failing_row kind (replaced rows r)
 walk_names kind rows r failing replayable replaces found =
     found
-    ∙ tally_names kind rows (insert rows r.before r.new) (replaced rows r) r.before (index_after r.before r.index) r.new r.old (record {
+    ∙ count_names kind rows (insert rows r.before r.new) (replaced rows r) r.before (index_after r.before r.index) r.new r.old (record {
       of_kind = replayable.of_kind;
       valid = replayable.valid;
       here = replaces.of_kind;

@@ -2,7 +2,7 @@ pub mod Edits
 pub mod Steps
 pub mod TwoKeys
 pub mod Replaced
-pub mod Tallied
+pub mod Walked
 pub mod Judged
 pub mod Shifts
 pub mod InTurn

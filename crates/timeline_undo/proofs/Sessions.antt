@@ -16,7 +16,7 @@ use Rattle.timeline_undo.specs.declared.history.HistoryStep.{HistoryStep}
 use Rattle.timeline_undo.specs.declared.edit.Interrupted.{Interrupted}
 use Rattle.timeline_undo.specs.declared.edit.Interrupted.TheVariants.{AtOnce, Midway}
 use Rattle.timeline_undo.specs.Session.{SessionState, CanStand, HasRoom, IsSpentWithin, spent_with}
-use Rattle.timeline_undo.specs.KeptSteps.{step_of, latest, latest_undone, StandInTurn, IsLeftMidway, IsSession}
+use Rattle.timeline_undo.specs.KeptSteps.{step_of, latest, latest_undone, CanBeMadeInTurn, IsLeftMidway, IsSession}
 use Rattle.timeline_undo.proofs.InTurn.{in_turn_first, in_turn_others, inverse_step_twice, step_back, timeline_after}
 use Rattle.timeline_undo.proofs.Rings.{up_to_newest, latest-more, latest_undone-more, latest_undone-kept, few_kept}
 
@@ -38,16 +38,16 @@ delete_leads kind performed rows next place failing same timeline first none =
 
 -- the newest step of the undo ring can be taken back, and then those before it
 pub undo_stands : (kind : Kind) (next : ℕ) (rows : List Row) (noted : List HistoryStep) (last : HistoryStep) → slice_get noted (length noted - 1) ≡ Some last
-    → StandInTurn kind next rows (latest_undone noted)
-    → StandInTurn kind next rows (inverse_step (step_of last) ++ latest_undone (take (length noted - 1) noted))
+    → CanBeMadeInTurn kind next rows (latest_undone noted)
+    → CanBeMadeInTurn kind next rows (inverse_step (step_of last) ++ latest_undone (take (length noted - 1) noted))
 undo_stands kind next rows noted last there turn =
-    subst (StandInTurn kind next rows) (ap latest_undone (sym (up_to_newest noted last there)) ∙ latest_undone-more (take (length noted - 1) noted) last) turn
+    subst (CanBeMadeInTurn kind next rows) (ap latest_undone (sym (up_to_newest noted last there)) ∙ latest_undone-more (take (length noted - 1) noted) last) turn
 
 -- and the newest step of the redo ring can be redone
 pub redo_stands : (kind : Kind) (next : ℕ) (rows : List Row) (noted : List HistoryStep) (last : HistoryStep) → slice_get noted (length noted - 1) ≡ Some last
-    → StandInTurn kind next rows (latest noted) → StandInTurn kind next rows (step_of last ++ latest (take (length noted - 1) noted))
+    → CanBeMadeInTurn kind next rows (latest noted) → CanBeMadeInTurn kind next rows (step_of last ++ latest (take (length noted - 1) noted))
 redo_stands kind next rows noted last there turn =
-    subst (StandInTurn kind next rows) (ap latest (sym (up_to_newest noted last there)) ∙ latest-more (take (length noted - 1) noted) last) turn
+    subst (CanBeMadeInTurn kind next rows) (ap latest (sym (up_to_newest noted last there)) ∙ latest-more (take (length noted - 1) noted) last) turn
 
 -- there is one in the ring
 some_there : (noted : List HistoryStep) (last : HistoryStep) → slice_get noted (length noted - 1) ≡ Some last → length (take (length noted - 1) noted) + 1 ≡ length noted
@@ -57,13 +57,13 @@ some_there noted last there =
 -- after an accepted step that was noted
 pub session_noted : (kind : Kind) (performed rows : List Row) (next : ℕ) (undo redo : Buffer HistoryStep) (noted : HistoryStep)
     → undo.capacity ≡ most_steps → redo.capacity ≡ most_steps → performed ≡ edited_by rows (step_of noted)
-    → IsTimeline kind rows next → StandInTurn kind next rows (step_of noted) → StandInTurn kind next rows (latest_undone undo.items)
+    → IsTimeline kind rows next → CanBeMadeInTurn kind next rows (step_of noted) → CanBeMadeInTurn kind next rows (latest_undone undo.items)
     → IsSession kind performed (edited_by rows (step_of noted)) next
     (buffer (keep_last undo.capacity (undo.items ++ noted ∷ [])) undo.capacity) (buffer [] redo.capacity)
 session_noted kind performed rows next undo redo noted undo_room redo_room same before made turn =
     let all = undo.items ++ noted ∷ [] in
     let dropped = length all - undo.capacity in
-    let back : StandInTurn kind next (edited_by rows (step_of noted)) (latest_undone all) =
+    let back : CanBeMadeInTurn kind next (edited_by rows (step_of noted)) (latest_undone all) =
     rw (latest_undone-more undo.items noted) (step_back kind next rows noted (latest_undone undo.items) before made turn) in record {
       same = same;
       timeline = timeline_after kind next rows (step_of noted) before made;
@@ -94,7 +94,7 @@ at_once before after step AtOnce is left = left
 at_once before after step Midway is left = absurd (cc)
 
 -- after its first edit the rows are a timeline
-pub midway_timeline : (kind : Kind) (next : ℕ) (rows after : List Row) (edits : Step) (place : Interrupted) → StandInTurn kind next rows edits
+pub midway_timeline : (kind : Kind) (next : ℕ) (rows after : List Row) (edits : Step) (place : Interrupted) → CanBeMadeInTurn kind next rows edits
     → place ≡ Midway → IsLeftMidway rows edits after place → IsTimeline kind after next
 midway_timeline kind next rows after edits AtOnce turn is left = absurd (cc)
 midway_timeline kind next rows after [] Midway turn is left = absurd left
@@ -125,7 +125,7 @@ session_undone kind old performed rows next undo redo last back session there is
       few = omega (arith, session.few, some_there undo.items last there, length-append redo.items (last ∷ []));
       undoable = in_turn_others kind next rows (step_of back) (latest_undone (take (length undo.items - 1) undo.items)) turn;
       redoable = rw (latest-more redo.items last)
-          (subst (λ e. StandInTurn kind next (edited_by rows (step_of back)) (e ++ latest redo.items)) (ap inverse_step is ∙ inverse_step_twice last)
+          (subst (λ e. CanBeMadeInTurn kind next (edited_by rows (step_of back)) (e ++ latest redo.items)) (ap inverse_step is ∙ inverse_step_twice last)
           (step_back kind next rows back (latest redo.items) session.timeline made session.redoable));
     }
 

@@ -23,7 +23,7 @@ use Rattle.retro_base.specs.lemmas.GivingEdits.{adding_row_replays, taking_row_c
 use Rattle.timeline_undo.specs.declared.replacement.Replacement.{Replacement}
 use Rattle.timeline_undo.specs.declared.shift.Target.{Target}
 use Rattle.timeline_undo.specs.declared.shift.Target.TheVariants.{At, Into}
-use Rattle.timeline_undo.specs.KeptSteps.{StandInTurn, steps_of}
+use Rattle.timeline_undo.specs.KeptSteps.{CanBeMadeInTurn, steps_of}
 use Rattle.timeline_undo.specs.Replaced.{Replaces, replaced, replacement_of, step_of_replacement}
 use Rattle.timeline_undo.specs.declared.error.EditError.{EditError}
 use Rattle.timeline_undo.specs.declared.history.HistoryStep.{HistoryStep}
@@ -127,7 +127,7 @@ module _ (kind : Kind) (rows : List Row) (next : ℕ) (target : Target) (index :
 
   pub put_stands : adds (replacing target next old).op ≡ true
       → IsValid kind (edited_by rows (put_then_cut (place_for target index rows) (replacing target next old) index old))
-      → StandInTurn kind (next + 1) rows (put_then_cut (place_for target index rows) (replacing target next old) index old)
+      → CanBeMadeInTurn kind (next + 1) rows (put_then_cut (place_for target index rows) (replacing target next old) index old)
   put_stands adding valid =
       let there = stands_after_put rows (place_for target index rows) index (replacing target next old) old may.there in
       let middle = put_leads adding in (
@@ -160,7 +160,7 @@ module _ (kind : Kind) (rows : List Row) (next : ℕ) (target : Target) (index :
 
   pub cut_stands : adds (replacing target next old).op ≡ false
       → IsValid kind (edited_by rows (cut_then_put index old (place_for target index (remove rows index)) (replacing target next old)))
-      → StandInTurn kind (next + 1) rows (cut_then_put index old (place_for target index (remove rows index)) (replacing target next old))
+      → CanBeMadeInTurn kind (next + 1) rows (cut_then_put index old (place_for target index (remove rows index)) (replacing target next old))
   cut_stands taking valid =
       let middle = cut_leads taking valid in
       let fewer : length (remove rows index) < most_rows = omega (arith, length-remove rows index (slice_get_within rows index old may.there), may.room.0) in (
@@ -179,15 +179,15 @@ module _ (kind : Kind) (rows : List Row) (next : ℕ) (target : Target) (index :
 
 -- so it is of the step
 pub shift_stands : (kind : Kind) (rows : List Row) (next : ℕ) (target : Target) (index : ℕ) (old : Row) → MayShift kind rows next target index old
-    → IsValid kind (edited_by rows (shift_of rows target next index old)) → StandInTurn kind (next + 1) rows (shift_of rows target next index old)
+    → IsValid kind (edited_by rows (shift_of rows target next index old)) → CanBeMadeInTurn kind (next + 1) rows (shift_of rows target next index old)
 shift_stands kind rows next target index old may valid =
-    elim (adds (replacing target next old).op) as (λ b. adds (replacing target next old).op ≡ b → StandInTurn kind (next + 1) rows (shift_of rows target next index old)) [
+    elim (adds (replacing target next old).op) as (λ b. adds (replacing target next old).op ≡ b → CanBeMadeInTurn kind (next + 1) rows (shift_of rows target next index old)) [
       | true ↦ λ adding.
           let is : shift_of rows target next index old ≡ put_then_cut (place_for target index rows) (replacing target next old) index old = rw adding refl in
-          subst (StandInTurn kind (next + 1) rows) (sym is) (put_stands kind rows next target index old may adding (rw is at valid))
+          subst (CanBeMadeInTurn kind (next + 1) rows) (sym is) (put_stands kind rows next target index old may adding (rw is at valid))
       | false ↦ λ taking.
           let is : shift_of rows target next index old ≡ cut_then_put index old (place_for target index (remove rows index)) (replacing target next old) = rw taking refl in
-          subst (StandInTurn kind (next + 1) rows) (sym is) (cut_stands kind rows next target index old may taking (rw is at valid))
+          subst (CanBeMadeInTurn kind (next + 1) rows) (sym is) (cut_stands kind rows next target index old may taking (rw is at valid))
     ] refl
 
 -- what the edits of a replacement and the row that fails say of the step
@@ -212,12 +212,12 @@ pub none_failing : (kind : Kind) (rows : List Row) (next : ℕ) (target : Target
 none_failing kind rows next target index old r failing may is found none =
     none_fails kind (edited_by rows (shift_of rows target next index old)) (sym (names_failing kind rows next target index old r failing may is found) ∙ none)
 
--- the edits stand in turn where no row fails
+-- the edits can be made in turn where no row fails
 pub edits_stand : (kind : Kind) (rows : List Row) (next : ℕ) (target : Target) (index : ℕ) (old : Row) (r : Replacement) (failing : Option Row) (edits : Step)
     → MayShift kind rows next target index old → r ≡ replacement_of rows target next index old → failing ≡ failing_row kind (replaced rows r) → failing ≡ None
-    → edits ≡ step_of_replacement r → StandInTurn kind (next + 1) rows edits
+    → edits ≡ step_of_replacement r → CanBeMadeInTurn kind (next + 1) rows edits
 edits_stand kind rows next target index old r failing edits may is found none made =
-    subst (StandInTurn kind (next + 1) rows) (sym (edits_are_shift rows target next index old r edits may.timeline.in_order may.there is made))
+    subst (CanBeMadeInTurn kind (next + 1) rows) (sym (edits_are_shift rows target next index old r edits may.timeline.in_order may.there is made))
     (shift_stands kind rows next target index old may (none_failing kind rows next target index old r failing may is found none))
 
 -- a row stands at the index

@@ -18,12 +18,12 @@ use Rattle.retro_base.specs.lemmas.SortedPairs.{same_key, sorted_nil}
 use Rattle.timeline_undo.specs.declared.walk_count.Presence.{Presence}
 use Rattle.timeline_undo.specs.declared.walk_count.WalkCount.{WalkCount}
 use Rattle.timeline_undo.specs.declared.walk_count.WalkCount.TheVariants.{Keys}
-use Rattle.timeline_undo.specs.WalkCounts.{absent, tally_after, there_after}
+use Rattle.timeline_undo.specs.WalkCounts.{absent, count_next, there_after}
 use Rattle.retro_base.specs.Outcomes.{err_of, is_ok, later_ok}
 
--- the tally after rows, or the index of the first one that finds nothing to take
-abbrev pub tally_of : List Row → WalkCount → Result WalkCount ℕ
-tally_of rows tally = fold_rows (λ row t. tally_after t row.op) rows tally
+-- the count after rows, or the index of the first one that finds nothing to take
+abbrev pub walked_to : List Row → WalkCount → Result WalkCount ℕ
+walked_to rows count = fold_rows (λ row t. count_next t row.op) rows count
 
 -- so many pairs of the key are there
 abbrev pairs_if : Bool → ℕ
@@ -99,11 +99,11 @@ stops_at next_of (first ∷ rows) s index e =
           }
     ] refl
 
--- a tally of two keys that has come along all rows has counted both
-record Follows (rows : List Row) (p q : Presence) (tally : WalkCount) : Type 0 where
+-- a count of two keys that has come along all rows has counted both
+record Follows (rows : List Row) (p q : Presence) (count : WalkCount) : Type 0 where
   first : Presence
   second : Presence
-  is : tally ≡ Keys first second
+  is : count ≡ Keys first second
   first_key : first.key ≡ p.key
   second_key : second.key ≡ q.key
   first_counts : counted_key p.key rows (pairs_if p.there) ≡ Ok (pairs_if first.there)
@@ -112,25 +112,25 @@ record Follows (rows : List Row) (p q : Presence) (tally : WalkCount) : Type 0 w
 abbrev with_there : Presence → Bool → Presence
 with_there p there = record p { there = there }
 
-follows : (rows : List Row) (p q : Presence) (tally : WalkCount) → tally_of rows (Keys p q) ≡ Ok tally → Follows rows p q tally
-follows [] p q tally e = record {
+follows : (rows : List Row) (p q : Presence) (count : WalkCount) → walked_to rows (Keys p q) ≡ Ok count → Follows rows p q count
+follows [] p q count e = record {
   first = p;
   second = q;
-  is = ok_same _ e (fold_rows-nil (λ row t. tally_after t row.op) (Keys p q));
+  is = ok_same _ e (fold_rows-nil (λ row t. count_next t row.op) (Keys p q));
   first_key = refl;
   second_key = refl;
   first_counts = fold_rows-nil (keyed p.key) (pairs_if p.there);
   second_counts = fold_rows-nil (keyed q.key) (pairs_if q.there);
 }
-follows (row ∷ rows) p q tally e =
-    elim (there_after p.key row.op p.there) as (λ o. there_after p.key row.op p.there ≡ o → Follows (row ∷ rows) p q tally) [
-      | None ↦ λ stops. absurd (not_both _ (fold_rows-none (λ row t. tally_after t row.op) row rows (Keys p q) (rw stops refl)) e)
+follows (row ∷ rows) p q count e =
+    elim (there_after p.key row.op p.there) as (λ o. there_after p.key row.op p.there ≡ o → Follows (row ∷ rows) p q count) [
+      | None ↦ λ stops. absurd (not_both _ (fold_rows-none (λ row t. count_next t row.op) row rows (Keys p q) (rw stops refl)) e)
       | Some here ↦ λ goes.
-          elim (there_after q.key row.op q.there) as (λ o. there_after q.key row.op q.there ≡ o → Follows (row ∷ rows) p q tally) [
-            | None ↦ λ stops. absurd (not_both _ (fold_rows-none (λ row t. tally_after t row.op) row rows (Keys p q) (rw (goes, stops) refl)) e)
+          elim (there_after q.key row.op q.there) as (λ o. there_after q.key row.op q.there ≡ o → Follows (row ∷ rows) p q count) [
+            | None ↦ λ stops. absurd (not_both _ (fold_rows-none (λ row t. count_next t row.op) row rows (Keys p q) (rw (goes, stops) refl)) e)
             | Some there ↦ λ too.
-                let rest = follows rows (with_there p here) (with_there q there) tally
-                (later_ok _ tally (sym (fold_rows-some (λ row t. tally_after t row.op) row rows (Keys p q) (Keys (with_there p here) (with_there q there)) (rw (goes, too) refl)) ∙ e)) in record {
+                let rest = follows rows (with_there p here) (with_there q there) count
+                (later_ok _ count (sym (fold_rows-some (λ row t. count_next t row.op) row rows (Keys p q) (Keys (with_there p here) (with_there q there)) (rw (goes, too) refl)) ∙ e)) in record {
                   first = rest.first;
                   second = rest.second;
                   is = rest.is;
@@ -205,11 +205,11 @@ either_key q k rows one other =
       | false ↦ λ apart. other apart
     ] refl
 
--- a row at which a tally of two keys stops finds no pair of one of them
+-- a row at which a count of two keys stops finds no pair of one of them
 abbrev StopsOne : ℤ → ℤ → Op → Bool → Bool → Type 0
 StopsOne a b op here there = (there_after a op here ≡ None) ⊎ (there_after b op there ≡ None)
 
-stuck_of : (p q : Presence) (a b : ℤ) (row : Row) → p.key ≡ a → q.key ≡ b → tally_after (Keys p q) row.op ≡ None → StopsOne a b row.op p.there q.there
+stuck_of : (p q : Presence) (a b : ℤ) (row : Row) → p.key ≡ a → q.key ≡ b → count_next (Keys p q) row.op ≡ None → StopsOne a b row.op p.there q.there
 stuck_of p q a b row is_a is_b stops =
     elim (there_after p.key row.op p.there) as (λ o. there_after p.key row.op p.there ≡ o → StopsOne a b row.op p.there q.there) [
       | None ↦ λ none. inl (rw (← is_a) none)
@@ -232,15 +232,15 @@ first_of_two a b before after row here there all counts_a counts_b (inr none) ot
 -- where the rows of all other keys find their pairs, the first failure is that of the rows of two keys
 pub two_keys : (a b : ℤ) (rows : List Row) → AreOfKind Dict rows
     → ((q : ℤ) → int_eq q a ≡ false → int_eq q b ≡ false → result_err (counted_key q rows 0) ≡ None)
-    → result_err (tally_of rows (Keys (absent a) (absent b))) ≡ result_err (run rows (pairs []))
+    → result_err (walked_to rows (Keys (absent a) (absent b))) ≡ result_err (run rows (pairs []))
 two_keys a b rows all others =
-    elim (tally_of rows (Keys (absent a) (absent b))) as (λ r. tally_of rows (Keys (absent a) (absent b)) ≡ r → result_err r ≡ result_err (run rows (pairs []))) [
-      | Ok tally ↦ λ e.
-          let along = follows rows (absent a) (absent b) tally e in
+    elim (walked_to rows (Keys (absent a) (absent b))) as (λ r. walked_to rows (Keys (absent a) (absent b)) ≡ r → result_err r ≡ result_err (run rows (pairs []))) [
+      | Ok count ↦ λ e.
+          let along = follows rows (absent a) (absent b) count e in
           sym (one_key a rows [] all sorted_nil (λ q apart. either_key q b rows (no_err _ _ along.second_counts) (others q apart))
           ∙ no_err _ _ along.first_counts)
       | Err index ↦ λ e.
-          let stop = stops_at (λ row t. tally_after t row.op) rows (Keys (absent a) (absent b)) index e in
+          let stop = stops_at (λ row t. count_next t row.op) rows (Keys (absent a) (absent b)) index e in
           let along = follows stop.before (absent a) (absent b) stop.reached stop.goes in
           let here : AreOfKind Dict (stop.before ++ stop.row ∷ stop.after) = rw (← stop.split) all in
           let before_all : (q : ℤ) → int_eq q a ≡ false → int_eq q b ≡ false → result_err (counted_key q stop.before 0) ≡ None =

@@ -29,14 +29,14 @@ abbrev pub steps_of : List HistoryStep → List Step
 steps_of noted = map step_of noted
 
 -- the edit can be made in these rows, and leaves a timeline
-pub record Stands (kind : Kind) (next : ℕ) (rows : List Row) (edit : Edit) : Type 0 where
+pub record CanBeMadeIn (kind : Kind) (next : ℕ) (rows : List Row) (edit : Edit) : Type 0 where
   pub within : IsWithin rows edit
   pub timeline : IsTimeline kind (edited rows edit) next
 
 -- the edits can be made one after another, and each leaves a timeline
-abbrev pub StandInTurn : Kind → ℕ → List Row → List Edit → Type 0
-StandInTurn kind next rows [] = Unit {0}
-StandInTurn kind next rows (edit ∷ more) = Stands kind next rows edit × StandInTurn kind next (edited rows edit) more
+abbrev pub CanBeMadeInTurn : Kind → ℕ → List Row → List Edit → Type 0
+CanBeMadeInTurn kind next rows [] = Unit {0}
+CanBeMadeInTurn kind next rows (edit ∷ more) = CanBeMadeIn kind next rows edit × CanBeMadeInTurn kind next (edited rows edit) more
 
 -- the same without a look at the number that comes next
 abbrev pub AreReady : Kind → List Row → List Edit → Type 0
@@ -65,5 +65,5 @@ pub record IsSession (kind : Kind) (performed rows : List Row) (next : ℕ) (und
   pub undo_room : undo.capacity ≡ most_steps
   pub redo_room : redo.capacity ≡ most_steps
   pub few : length undo.items + length redo.items ≤ most_steps
-  pub undoable : StandInTurn kind next rows (latest_undone undo.items)
-  pub redoable : StandInTurn kind next rows (latest redo.items)
+  pub undoable : CanBeMadeInTurn kind next rows (latest_undone undo.items)
+  pub redoable : CanBeMadeInTurn kind next rows (latest redo.items)

@@ -21,16 +21,16 @@ there_after key op there = Some there
 abbrev pub presence_after : Presence → Op → Option Presence
 presence_after presence op = option_map (λ there. record presence { there = there }) (there_after presence.key op presence.there)
 
--- the tally after an operation, or none where it finds nothing to take
-abbrev pub tally_after : WalkCount → Op → Option WalkCount
-tally_after (Items size) op = option_map Items (size_after op size)
-tally_after (Keys first second) op =
+-- the count after an operation, or none where it finds nothing to take
+abbrev pub count_next : WalkCount → Op → Option WalkCount
+count_next (Items size) op = option_map Items (size_after op size)
+count_next (Keys first second) op =
     option_and_then (λ one. option_map (λ other. Keys one other) (presence_after second op)) (presence_after first op)
 
--- the tally after rows, or the first of them that finds nothing to take
-unfoldable pub tallied : List Row → WalkCount → Result WalkCount Row
-tallied [] tally = Ok tally
-tallied (row ∷ rows) tally = option_map_or (λ next. tallied rows next) (tally_after tally row.op) (Err row)
+-- the count after rows, or the first of them that finds nothing to take
+unfoldable pub walked : List Row → WalkCount → Result WalkCount Row
+walked [] count = Ok count
+walked (row ∷ rows) count = option_map_or (λ next. walked rows next) (count_next count row.op) (Err row)
 
 -- it counts so many at the most
 abbrev pub IsUpTo : WalkCount → ℕ → Type 0
@@ -46,10 +46,10 @@ key_of op = None
 abbrev pub absent : ℤ → Presence
 absent key = record { key = key; there = false }
 
--- the tally before the first row, where a row of the one operation is replaced by a row of the other
-abbrev pub tally_of_keys : Option ℤ → Option ℤ → WalkCount
-tally_of_keys (Some first) (Some second) = Keys (absent first) (absent second)
-tally_of_keys first second = Items 0
+-- the count before the first row, where a row of the one operation is replaced by a row of the other
+abbrev pub count_of_keys : Option ℤ → Option ℤ → WalkCount
+count_of_keys (Some first) (Some second) = Keys (absent first) (absent second)
+count_of_keys first second = Items 0
 
-abbrev pub tally_before : Op → Op → WalkCount
-tally_before old new = tally_of_keys (key_of old) (key_of new)
+abbrev pub count_first : Op → Op → WalkCount
+count_first old new = count_of_keys (key_of old) (key_of new)

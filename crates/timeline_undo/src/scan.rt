@@ -6,7 +6,7 @@ ghost use Rattle.retro_base.specs.Edits.{failing_row};
 ghost use Rattle.retro_base.specs.Limits.{most_rows};
 ghost use Rattle.retro_base.specs.Replay.{IsValid};
 ghost use Rattle.retro_base.specs.Timeline.{IsReplayable};
-ghost use Rattle.timeline_undo.specs.WalkCounts.{IsUpTo, tallied, tally_before};
+ghost use Rattle.timeline_undo.specs.WalkCounts.{IsUpTo, walked, count_first};
 ghost use Rattle.timeline_undo.specs.Replaced.{Replaces, replaced};
 
 use crate::replacement::Replacement;
@@ -63,23 +63,23 @@ fn failing_by_walk(timeline: &Timeline, replacement: Replacement) -> Option<Row>
     requires index { replacement.index < length timeline.now }
     requires before { replacement.before ≤ length timeline.now }
     requires few { length timeline.now ≤ most_rows }
-    ensures { result ≡ result_err (tallied (replaced timeline.now replacement) (tally_before replacement.old.op replacement.new.op)) }
+    ensures { result ≡ result_err (walked (replaced timeline.now replacement) (count_first replacement.old.op replacement.new.op)) }
 {
-    let tally = WalkCount::before(replacement.old.op, replacement.new.op);
-    tally_along(timeline, replacement, tally).err()
+    let count = WalkCount::before(replacement.old.op, replacement.new.op);
+    walk_replaced(timeline, replacement, count).err()
 }
 
-/// The tally after all rows, the one row replaced by the other, or the first of them that finds nothing to take.
-fn tally_along(
+/// The count after all rows, the one row replaced by the other, or the first of them that finds nothing to take.
+fn walk_replaced(
     timeline: &Timeline,
     replacement: Replacement,
-    tally: WalkCount,
+    count: WalkCount,
 ) -> Result<WalkCount, Row>
     requires index { replacement.index < length timeline.now }
     requires before { replacement.before ≤ length timeline.now }
     requires few { length timeline.now ≤ most_rows }
-    requires room { IsUpTo tally 0 }
-    ensures { result ≡ tallied (replaced timeline.now replacement) tally }
+    requires room { IsUpTo count 0 }
+    ensures { result ≡ walked (replaced timeline.now replacement) count }
 {
     let Replacement {
         index,
@@ -88,69 +88,69 @@ fn tally_along(
         ..
     } = replacement;
     if before <= index {
-        let tally = match walk_and_add(timeline, 0, before, new, tally) {
+        let count = match walk_and_add(timeline, 0, before, new, count) {
             Ok(next) => next,
             Err(failing) => return Err(failing),
         };
-        let tally = match walk(timeline, before, index, tally) {
+        let count = match walk(timeline, before, index, count) {
             Ok(next) => next,
             Err(failing) => return Err(failing),
         };
-        walk(timeline, index + 1, timeline.len(), tally)
+        walk(timeline, index + 1, timeline.len(), count)
     } else {
-        let tally = match walk(timeline, 0, index, tally) {
+        let count = match walk(timeline, 0, index, count) {
             Ok(next) => next,
             Err(failing) => return Err(failing),
         };
-        let tally = match walk_and_add(timeline, index + 1, before, new, tally) {
+        let count = match walk_and_add(timeline, index + 1, before, new, count) {
             Ok(next) => next,
             Err(failing) => return Err(failing),
         };
-        walk(timeline, before, timeline.len(), tally)
+        walk(timeline, before, timeline.len(), count)
     }
 }
 
-/// The tally after the rows from one place to before another, and after the new row.
+/// The count after the rows from one place to before another, and after the new row.
 fn walk_and_add(
     timeline: &Timeline,
     from: u32,
     to: u32,
     new: Row,
-    tally: WalkCount,
+    count: WalkCount,
 ) -> Result<WalkCount, Row>
     requires from { from ≤ to }
     requires to { to ≤ length timeline.now }
     requires few { length timeline.now ≤ most_rows }
-    requires room { IsUpTo tally from }
-    ensures { result ≡ tallied (slice_range timeline.now from to ++ new ∷ []) tally }
+    requires room { IsUpTo count from }
+    ensures { result ≡ walked (slice_range timeline.now from to ++ new ∷ []) count }
 {
-    match walk(timeline, from, to, tally) {
+    match walk(timeline, from, to, count) {
         Ok(next) => next.along(&[new]),
         Err(failing) => Err(failing),
     }
 }
 
-/// The tally after the rows from one place to before another, or the first of them that finds nothing to take.
-fn walk(timeline: &Timeline, from: u32, to: u32, tally: WalkCount) -> Result<WalkCount, Row>
+/// The count after the rows from one place to before another, or the first of them that finds nothing to take.
+fn walk(timeline: &Timeline, from: u32, to: u32, count: WalkCount) -> Result<WalkCount, Row>
     requires from { from ≤ to }
     requires to { to ≤ length timeline.now }
     requires few { length timeline.now ≤ most_rows }
-    requires room { IsUpTo tally (from + 1) }
-    ensures { result ≡ tallied (slice_range timeline.now from to) tally }
+    requires room { IsUpTo count (from + 1) }
+    ensures { result ≡ walked (slice_range timeline.now from to) count }
 {
     let mut window = [NO_ROW; WINDOW];
-    let mut tally = tally;
+    let mut count = count;
     let mut place = from;
     while place < to {
         let read = timeline.read_rows(place, &mut window);
         let rows = read.min(to - place);
-        tally = match tally.along(&window[..rows as usize]) {
+        count = match count.along(&window[..rows as usize]) {
             Ok(next) => next,
             Err(failing) => return Err(failing),
         };
         place += rows;
     }
-    Ok(tally)
+    Ok(count)
 }
 
 /// What a window holds before it is read into.

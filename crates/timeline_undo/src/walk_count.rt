@@ -2,7 +2,7 @@
 
 ghost use Rattle.std.specs.Prelude.{◌≡◌, ◌+◌, ◌-◌, ◌*◌, ◌^◌, ◌<◌, ◌≤◌, length};
 ghost use Rattle.retro_base.specs.Limits.{most_rows};
-ghost use Rattle.timeline_undo.specs.WalkCounts.{IsUpTo, absent, key_of, presence_after, tallied, tally_after, tally_before, there_after};
+ghost use Rattle.timeline_undo.specs.WalkCounts.{IsUpTo, absent, key_of, presence_after, walked, count_next, count_first, there_after};
 ghost use Rattle.retro_base.specs.Counting.{size_after};
 
 use retro_base::{Op, Row};
@@ -25,9 +25,9 @@ pub(crate) enum WalkCount {
 }
 
 impl WalkCount {
-    /// The tally before the first row.
+    /// The count before the first row.
     pub(crate) fn before(old: Op, new: Op) -> WalkCount
-        ensures { result ≡ tally_before old new }
+        ensures { result ≡ count_first old new }
     {
         match (key_of(old), key_of(new)) {
             (Some(first), Some(second)) => WalkCount::Keys {
@@ -38,10 +38,10 @@ impl WalkCount {
         }
     }
 
-    /// The tally after an operation, where it finds what it takes.
+    /// The count after an operation, where it finds what it takes.
     fn after(self, op: Op) -> Option<WalkCount>
         requires { IsUpTo self (2 ^ 32 - 2) }
-        ensures { result ≡ tally_after self op }
+        ensures { result ≡ count_next self op }
     {
         match self {
             WalkCount::Items { size } => {
@@ -56,20 +56,20 @@ impl WalkCount {
         }
     }
 
-    /// The tally after rows, or the first of them that finds nothing to take.
+    /// The count after rows, or the first of them that finds nothing to take.
     pub(crate) fn along(self, rows: &[Row]) -> Result<WalkCount, Row>
         requires few { length rows.now ≤ most_rows }
         requires room { IsUpTo self (2 * most_rows) }
-        ensures { result ≡ tallied rows.now self }
+        ensures { result ≡ walked rows.now self }
     {
-        let mut tally = self;
+        let mut count = self;
         for row in rows {
-            tally = match tally.after(row.op) {
+            count = match count.after(row.op) {
                 Some(next) => next,
                 None => return Err(*row),
             };
         }
-        Ok(tally)
+        Ok(count)
     }
 }
 

@@ -3,7 +3,7 @@ use Rattle.std.proofs.Common.{◌≡◌, ℕ, false, List, [], ◌∷◌, refl, 
 use Rattle.std.specs.Prelude.{codes}
 use Rattle.std.specs.Option.{ok_or}
 use Rattle.retro_base.specs.Name.{name_of}
-use Rattle.script_grammar.specs.BlockLines.{is_end, is_passed_over, row_of}
+use Rattle.script_grammar.specs.BlockLines.{is_end, is_passed_over, row_read}
 use Rattle.script_grammar.specs.Command.{command, command_of}
 use Rattle.script_grammar.specs.Numbers.{row_number_of}
 use Rattle.script_grammar.specs.Words.{words}
@@ -33,8 +33,8 @@ module _ (line other : List ℕ) (are : AreStarts line other) where
   unfolding command
   commands_alike timelines = rw (are.plain, are.fused) (outside_alike are.name timelines)
 
-  no_row : (bytes : List ℕ) (rest : List (List ℕ)) → words bytes ≡ codes "new" ∷ rest → row_of bytes ≡ None
-  unfolding row_of row_number_of
+  no_row : (bytes : List ℕ) (rest : List (List ℕ)) → words bytes ≡ codes "new" ∷ rest → row_read bytes ≡ None
+  unfolding row_read row_number_of
   no_row bytes rest is = rw is refl
 
   counted : (bytes : List ℕ) (rest : List (List ℕ)) → words bytes ≡ codes "new" ∷ rest → is_passed_over bytes ≡ false

@@ -14,7 +14,7 @@ pub mod DeadFirst
 pub mod Carried
 pub mod Junctions
 pub mod After
-pub mod Kept
+pub mod Surviving
 pub mod Later
 pub mod EditJunctions
 pub mod EditsCarry

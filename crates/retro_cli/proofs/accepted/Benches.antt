@@ -33,7 +33,7 @@ use Rattle.retro_cli.proofs.accepted.Printable.{NamesTimeline}
 use Rattle.retro_cli.proofs.accepted.ReadLines.{Reads, reads-append, reads_nothing}
 use Rattle.retro_cli.proofs.accepted.Spelled.{IsSpelled, command_is_spelled}
 use Rattle.retro_cli.proofs.accepted.Telling.{Agrees, HasReported, agrees_as, is_listed, put, tells_step}
-use Rattle.retro_cli.proofs.accepted.Timelines.{AreKept, StayKept, comes_kept, left_kept, named_kept, startable_kept, starts_kept}
+use Rattle.retro_cli.proofs.accepted.Timelines.{AreToldOf, StayKept, comes_kept, left_kept, named_kept, startable_kept, starts_kept}
 
 -- what is wrong with a block names no timeline
 names_none : (error : BlockError) → NamesTimeline (block_refusal error)
@@ -58,7 +58,7 @@ module _ (truth : EditsAreReported) (spells : EditsAreSpelled) (back : PrintedRe
   tells_loaded name Pq next rows names few named listed sound judge by agrees own =
       tells_step truth spells back short names few name named listed next (appends_from 0 rows) judge by [] rows agrees own (appends_made Pq next [] rows sound)
 
-  loads_kept : (timelines : List NamedTimeline) (unclosed : OpenBlock) (ended : Bool) (judge : Judge) → AreKept timelines judge.reported → is_name unclosed.name ≡ true → IsGoodBlock unclosed.block
+  loads_kept : (timelines : List NamedTimeline) (unclosed : OpenBlock) (ended : Bool) (judge : Judge) → AreToldOf timelines judge.reported → is_name unclosed.name ≡ true → IsGoodBlock unclosed.block
       → has_timeline unclosed.name timelines ≡ false → length timelines < most_timelines
       → (made : Result (List Row) BlockError) → finished unclosed.block ended ≡ made → StayKept (loads timelines unclosed made) judge
   loads_kept timelines unclosed ended judge kept named good free room (Err error) is =
@@ -79,20 +79,20 @@ module _ (truth : EditsAreReported) (spells : EditsAreSpelled) (back : PrintedRe
   IsGoodOpen None = Unit {0}
   IsGoodOpen (Some unclosed) = (is_name unclosed.name ≡ true) × IsGoodBlock unclosed.block
 
-  pub record IsKept (bench : Bench) (reported : List Reported) : Type 0 where
-    pub timelines : AreKept bench.timelines reported
+  pub record IsToldOf (bench : Bench) (reported : List Reported) : Type 0 where
+    pub timelines : AreToldOf bench.timelines reported
     pub block : IsGoodOpen bench.block
 
   pub record StaysKept (effect : BenchEffect) (judge : Judge) : Type 0 where
     pub later : Judge
     pub reads : Reads judge (reply_text effect.outcome) later
-    pub kept : IsKept effect.bench later.reported
+    pub kept : IsToldOf effect.bench later.reported
 
   with_block_kept : (block : Option OpenBlock) (effect : Effect) (judge : Judge) → IsGoodOpen block → StayKept effect judge → StaysKept (with_block block effect) judge
   with_block_kept block effect judge good stay = record { later = stay.later; reads = stay.reads; kept = record { timelines = stay.kept; block = good } }
 
   -- a line outside a block
-  obeys_kept : (timelines : List NamedTimeline) (judge : Judge) (line : Result Command LineError) → AreKept timelines judge.reported → IfOk line IsSpelled → StayKept (obeys timelines line) judge
+  obeys_kept : (timelines : List NamedTimeline) (judge : Judge) (line : Result Command LineError) → AreToldOf timelines judge.reported → IfOk line IsSpelled → StayKept (obeys timelines line) judge
   obeys_kept timelines judge (Err errors.Long) kept is = left_kept timelines judge (Refused refusals.Long) kept (refusal_passes refusals.Long tt)
   obeys_kept timelines judge (Err errors.Syntax) kept is = left_kept timelines judge (Refused refusals.Syntax) kept (refusal_passes refusals.Syntax tt)
   obeys_kept timelines judge (Ok Nothing) kept is = left_kept timelines judge Silent kept silent_passes
@@ -137,14 +137,14 @@ module _ (truth : EditsAreReported) (spells : EditsAreSpelled) (back : PrintedRe
   line_spelled bytes true = tt
   line_spelled bytes false = command_is_spelled bytes
 
-  pub ends_kept : (timelines : List NamedTimeline) (judge : Judge) (block : Option OpenBlock) (ended : Bool) → AreKept timelines judge.reported → IsGoodOpen block → StaysKept (ends timelines block ended) judge
+  pub ends_kept : (timelines : List NamedTimeline) (judge : Judge) (block : Option OpenBlock) (ended : Bool) → AreToldOf timelines judge.reported → IsGoodOpen block → StaysKept (ends timelines block ended) judge
   ends_kept timelines judge None ended kept good = with_block_kept None (leaves timelines Silent) judge tt (left_kept timelines judge Silent kept silent_passes)
   ends_kept timelines judge (Some unclosed) ended kept good =
       with_block_kept None (closes timelines unclosed ended) judge tt
       (startable_kept timelines unclosed.name (loads timelines unclosed (finished unclosed.block ended)) judge kept
       (λ free room. loads_kept timelines unclosed ended judge kept good.0 good.1 free room (finished unclosed.block ended) refl))
 
-  inside_kept : (timelines : List NamedTimeline) (judge : Judge) (unclosed : OpenBlock) (bytes : List ℕ) (long : Bool) → AreKept timelines judge.reported → IsGoodOpen (Some unclosed)
+  inside_kept : (timelines : List NamedTimeline) (judge : Judge) (unclosed : OpenBlock) (bytes : List ℕ) (long : Bool) → AreToldOf timelines judge.reported → IsGoodOpen (Some unclosed)
       → StaysKept (inside timelines unclosed bytes long) judge
   inside_kept timelines judge unclosed bytes long kept good =
       elim (not long && is_end bytes) as (λ b. StaysKept (cond b (ends timelines (Some unclosed) true) (with_block (Some (with_line unclosed bytes long)) (leaves timelines Silent))) judge) [
@@ -152,7 +152,7 @@ module _ (truth : EditsAreReported) (spells : EditsAreSpelled) (back : PrintedRe
         | false ↦ with_block_kept (Some (with_line unclosed bytes long)) (leaves timelines Silent) judge (good.0, taken_good unclosed.block bytes long good.1) (left_kept timelines judge Silent kept silent_passes)
       ]
 
-  pub happens_kept : (timelines : List NamedTimeline) (judge : Judge) (block : Option OpenBlock) (bytes : List ℕ) (long : Bool) → AreKept timelines judge.reported → IsGoodOpen block
+  pub happens_kept : (timelines : List NamedTimeline) (judge : Judge) (block : Option OpenBlock) (bytes : List ℕ) (long : Bool) → AreToldOf timelines judge.reported → IsGoodOpen block
       → StaysKept (happens timelines block bytes long) judge
   happens_kept timelines judge None bytes long kept good =
       with_block_kept (opened (spelled bytes long)) (obeys timelines (spelled bytes long)) judge (opened_good (spelled bytes long) (line_spelled bytes long))

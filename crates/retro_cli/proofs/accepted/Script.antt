@@ -12,7 +12,7 @@ use Rattle.workbench.specs.Bench.{Bench, empty_bench}
 use Rattle.workbench.specs.Reaction.{Reaction, closing, reacts}
 use Rattle.retro_cli.specs.Accepted.{WhatIsWrittenIsAccepted}
 use Rattle.retro_cli.specs.Output.{answers_to, output}
-use Rattle.retro_cli.proofs.accepted.Benches.{IsKept, StaysKept, ends_kept, happens_kept}
+use Rattle.retro_cli.proofs.accepted.Benches.{IsToldOf, StaysKept, ends_kept, happens_kept}
 use Rattle.retro_cli.proofs.accepted.ReadLines.{Reads, reads-append, reads_nothing, reads_whole}
 
 -- the answers to lines, one after the other
@@ -24,9 +24,9 @@ module _ (truth : EditsAreReported) (spells : EditsAreSpelled) (back : PrintedRe
   record ReadsAnswers (bench : Bench) (script : List (List ℕ)) (judge : Judge) : Type 0 where
     later : Judge
     reads : Reads judge (answers_of bench script) later
-    kept : IsKept truth spells back short shifts_made (bench_after bench script) later.reported
+    kept : IsToldOf truth spells back short shifts_made (bench_after bench script) later.reported
 
-  reads_answers : (script : List (List ℕ)) (bench : Bench) (judge : Judge) → IsKept truth spells back short shifts_made bench judge.reported → ReadsAnswers bench script judge
+  reads_answers : (script : List (List ℕ)) (bench : Bench) (judge : Judge) → IsToldOf truth spells back short shifts_made bench judge.reported → ReadsAnswers bench script judge
   unfolding reactions bench_after
   reads_answers [] bench judge kept = record { later = judge; reads = reads_nothing judge; kept = kept }
   reads_answers (line ∷ script) bench judge kept =
@@ -38,7 +38,7 @@ module _ (truth : EditsAreReported) (spells : EditsAreSpelled) (back : PrintedRe
         kept = rest.kept;
       }
 
-  pub nothing_kept : IsKept truth spells back short shifts_made empty_bench []
+  pub nothing_kept : IsToldOf truth spells back short shifts_made empty_bench []
   nothing_kept = record {
     timelines = record { few = omega arith; good = tt; agrees = record { same = λ name. refl; few = omega arith } };
     block = tt;

@@ -18,7 +18,7 @@ use Rattle.script_grammar.specs.declared.command.Spot.{Spot}
 use Rattle.script_grammar.specs.declared.command.Moment.TheVariants.{Now, Then}
 use Rattle.script_grammar.specs.declared.operands.Operands.{Operands}
 use Rattle.script_grammar.specs.declared.operands.Operands.TheVariants.{Bare, Unary, Binary}
-use Rattle.script_grammar.specs.BlockLines.{row_of, row_spelled, row_with}
+use Rattle.script_grammar.specs.BlockLines.{row_read, row_spelled, row_with}
 use Rattle.script_grammar.specs.Command.{about, ask_at, ask_of, ask_then, begins_comment, begins_spot, change_of, command, command_of}
 use Rattle.script_grammar.specs.Command.{delete_of, fate_of, header_count, header_end, header_kind, header_next, header_of, header_rows}
 use Rattle.script_grammar.specs.Command.{insert_of, kind_of_word, move_at, move_of, move_time, mute_of, new_kind, new_of, save_of, spot_of}
@@ -172,8 +172,8 @@ row_words_spelled [] = tt
 row_words_spelled (word ∷ rest) =
     chained_from IsRowSpelled IsRowNumber (λ number. row_with number rest) (row_number_of word) (row_number_spelled word) (λ number is. row_with_spelled number rest is)
 
-pub row_is_spelled : (line : List ℕ) → IfSome (row_of line) IsRowSpelled
-unfolding row_of
+pub row_is_spelled : (line : List ℕ) → IfSome (row_read line) IsRowSpelled
+unfolding row_read
 row_is_spelled line = row_words_spelled (words line)
 
 -- commands

@@ -35,7 +35,7 @@ rows_by_name [] name = []
 rows_by_name (first ∷ timelines) name = cond (is_named name first) (reported_rows first.kind first.rows) (rows_by_name timelines name)
 
 -- all timelines are good ones, and the judge was reported of them
-pub record AreKept (timelines : List NamedTimeline) (reported : List Reported) : Type 0 where
+pub record AreToldOf (timelines : List NamedTimeline) (reported : List Reported) : Type 0 where
   pub few : length timelines ≤ most_timelines
   pub good : AllByRecursion IsGood timelines
   pub agrees : Agrees (names_of timelines) (rows_by_name timelines) reported
@@ -44,9 +44,9 @@ pub record AreKept (timelines : List NamedTimeline) (reported : List Reported) :
 pub record StayKept (effect : Effect) (judge : Judge) : Type 0 where
   pub later : Judge
   pub reads : Reads judge (reply_text effect.outcome) later
-  pub kept : AreKept effect.timelines later.reported
+  pub kept : AreToldOf effect.timelines later.reported
 
-pub left_kept : (timelines : List NamedTimeline) (judge : Judge) (outcome : Outcome) → AreKept timelines judge.reported → IsPassedOver outcome → StayKept (leaves timelines outcome) judge
+pub left_kept : (timelines : List NamedTimeline) (judge : Judge) (outcome : Outcome) → AreToldOf timelines judge.reported → IsPassedOver outcome → StayKept (leaves timelines outcome) judge
 left_kept timelines judge outcome kept passes = record { later = judge; reads = passes judge; kept = kept }
 
 pub few_names : (timelines : List NamedTimeline) → length timelines ≤ most_timelines → length (names_of timelines) ≤ most_timelines
@@ -128,7 +128,7 @@ module _ (name : List ℕ) (effect : NamedTimeline → TimelineEffect) where
         ]
       ] refl
 
-  found_kept : (timelines : List NamedTimeline) (made : Effect) (judge : Judge) → AreKept timelines judge.reported → IsFound name effect timelines made → StayKept made judge
+  found_kept : (timelines : List NamedTimeline) (made : Effect) (judge : Judge) → AreToldOf timelines judge.reported → IsFound name effect timelines made → StayKept made judge
   found_kept timelines made judge kept found =
       let reported = found.stays.tells (names_of timelines) (few_names timelines kept.few) found.listed judge (rows_by_name timelines) kept.agrees found.own in
       record {
@@ -142,7 +142,7 @@ module _ (name : List ℕ) (effect : NamedTimeline → TimelineEffect) where
         };
       }
 
-  pub named_kept : is_name name ≡ true → ((timeline : NamedTimeline) → IsGood timeline → StaysGood timeline (effect timeline)) → (timelines : List NamedTimeline) (judge : Judge) → AreKept timelines judge.reported
+  pub named_kept : is_name name ≡ true → ((timeline : NamedTimeline) → IsGood timeline → StaysGood timeline (effect timeline)) → (timelines : List NamedTimeline) (judge : Judge) → AreToldOf timelines judge.reported
       → StayKept (on_named name effect timelines) judge
   named_kept named each timelines judge kept =
       elim (finds each timelines kept.good) [
@@ -183,7 +183,7 @@ TellsOfNew timeline outcome judge =
     (names : List (List ℕ)) → length names ≤ most_timelines → is_listed timeline.name names ≡ true → (by : List ℕ → List Row) → Agrees names by judge.reported → by timeline.name ≡ []
     → HasReported names by timeline.name (reported_rows timeline.kind timeline.rows) judge (reply_text outcome)
 
-pub comes_kept : (timelines : List NamedTimeline) (last : NamedTimeline) (outcome : Outcome) (judge : Judge) → AreKept timelines judge.reported → IsGood last → has_timeline last.name timelines ≡ false
+pub comes_kept : (timelines : List NamedTimeline) (last : NamedTimeline) (outcome : Outcome) (judge : Judge) → AreToldOf timelines judge.reported → IsGood last → has_timeline last.name timelines ≡ false
     → length timelines < most_timelines → TellsOfNew last outcome judge → StayKept (with_timeline timelines last outcome) judge
 comes_kept timelines last outcome judge kept good free room tells =
     let all = timelines ++ last ∷ [] in
@@ -206,7 +206,7 @@ comes_kept timelines last outcome judge kept good free room tells =
       };
     }
 
-pub startable_kept : (timelines : List NamedTimeline) (name : List ℕ) (effect : Effect) (judge : Judge) → AreKept timelines judge.reported
+pub startable_kept : (timelines : List NamedTimeline) (name : List ℕ) (effect : Effect) (judge : Judge) → AreToldOf timelines judge.reported
     → (has_timeline name timelines ≡ false → length timelines < most_timelines → StayKept effect judge) → StayKept (if_startable timelines name effect) judge
 startable_kept timelines name effect judge kept starts =
     elim (has_timeline name timelines) as (λ b. has_timeline name timelines ≡ b
@@ -240,7 +240,7 @@ fresh_is_good name kind named = record {
   redo = refl;
 }
 
-pub starts_kept : (timelines : List NamedTimeline) (name : List ℕ) (kind : Kind) (judge : Judge) → AreKept timelines judge.reported → is_name name ≡ true
+pub starts_kept : (timelines : List NamedTimeline) (name : List ℕ) (kind : Kind) (judge : Judge) → AreToldOf timelines judge.reported → is_name name ≡ true
     → StayKept (if_startable timelines name (with_timeline timelines (fresh name kind) Accepted)) judge
 starts_kept timelines name kind judge kept named =
     startable_kept timelines name (with_timeline timelines (fresh name kind) Accepted) judge kept

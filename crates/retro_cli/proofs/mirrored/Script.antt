@@ -15,7 +15,7 @@ use Rattle.workbench.specs.Bench.{Bench, empty_bench}
 use Rattle.workbench.specs.Reaction.{Reaction, reacts}
 use Rattle.retro_cli.specs.Events.{events, events_among, events_spelled}
 use Rattle.retro_cli.specs.Mirrored.{ChangesAloneHoldThePresent}
-use Rattle.retro_cli.proofs.accepted.Benches.{IsKept, StaysKept, happens_kept}
+use Rattle.retro_cli.proofs.accepted.Benches.{IsToldOf, StaysKept, happens_kept}
 use Rattle.retro_cli.proofs.accepted.ReadLines.{Reads}
 use Rattle.retro_cli.proofs.accepted.Script.{nothing_kept}
 use Rattle.retro_cli.proofs.mirrored.Entries.{none_survive, told_survive}
@@ -47,10 +47,10 @@ module _ (truth : EditsAreReported) (spells : EditsAreSpelled) (true_evidence : 
   record TellsScript (bench : Bench) (script : List (List ℕ)) (judge : Judge) : Type 0 where
     later : Judge
     follows : Follows judge (events_from bench script) later
-    kept : IsKept truth spells back short shifts_made (bench_after bench script) later.reported
+    kept : IsToldOf truth spells back short shifts_made (bench_after bench script) later.reported
 
   tells_script : (script : List (List ℕ)) (bench : Bench) (judge : Judge) → HasHistories judge
-      → IsKept truth spells back short shifts_made bench judge.reported → TellsScript bench script judge
+      → IsToldOf truth spells back short shifts_made bench judge.reported → TellsScript bench script judge
   unfolding reactions bench_after
   tells_script [] bench judge histories kept =
       record { later = judge; follows = follows_none judge histories; kept = kept }

@@ -1,4 +1,4 @@
-use Rattle.pq_fusion.proofs.Tallied.{reaching_counts}
+use Rattle.pq_fusion.proofs.Counted.{reaching_counts}
 use Rattle.pq_fusion.proofs.entry_counts.reaching.Goals as goal
 
 pub returns-clause-count : goal.returns-clause-count

@@ -14,7 +14,7 @@ use Rattle.retro_base.specs.lemmas.bridges.Bridging.{all_in, bridge_all}
 use Rattle.retro_base.specs.lemmas.bridges.Histories.{valid_leads, never_both, moves_of}
 use Rattle.retro_base.specs.lemmas.bridges.After.{carried_after, one_more_after, carried_to_end, one_more_survives, rich_valid}
 use Rattle.retro_base.specs.lemmas.bridges.Entries.{In, with_in}
-use Rattle.retro_base.specs.lemmas.bridges.Kept.{kept_after}
+use Rattle.retro_base.specs.lemmas.bridges.Surviving.{kept_after}
 use Rattle.retro_base.specs.lemmas.bridges.Later.{adding_later, row_after, one_joins, junction_later}
 use Rattle.retro_base.specs.lemmas.bridges.EditJunctions.{Taking, giving, taking}
 

@@ -18,7 +18,7 @@ use Rattle.retro_base.specs.lemmas.bridges.Moves.{Leads, FailsAt, Ready, ready_w
 use Rattle.retro_base.specs.lemmas.bridges.Histories.{moves_of, moves_append, moves_length, fails_run}
 use Rattle.retro_base.specs.lemmas.bridges.Junctions.{Junction}
 use Rattle.retro_base.specs.lemmas.bridges.After.{after_front, all_after, entries_after}
-use Rattle.retro_base.specs.lemmas.bridges.Kept.{poor_valid, kept_to_end}
+use Rattle.retro_base.specs.lemmas.bridges.Surviving.{poor_valid, kept_to_end}
 use Rattle.retro_base.specs.lemmas.bridges.Later.{junction_between, ready_after}
 use Rattle.retro_base.specs.lemmas.bridges.Lost.{Missing, lost}
 

@@ -24,7 +24,7 @@ use Rattle.retro_base.specs.lemmas.bridges.Entries.{In, in_or_not, above_in, con
 use Rattle.retro_base.specs.lemmas.bridges.Moves.{Leads, Adds, AddEachOnce, Ready, came_from, adds_second}
 use Rattle.retro_base.specs.lemmas.bridges.Histories.{moves_of, history_at, whole_ready, fails_run}
 use Rattle.retro_base.specs.lemmas.bridges.Chain.{at_most_both}
-use Rattle.retro_base.specs.lemmas.bridges.Kept.{poor_valid, kept_to_end}
+use Rattle.retro_base.specs.lemmas.bridges.Surviving.{poor_valid, kept_to_end}
 use Rattle.retro_base.specs.lemmas.bridges.Later.{one_joins}
 use Rattle.retro_base.specs.lemmas.bridges.Lost.{first_dead}
 use Rattle.retro_base.specs.lemmas.bridges.Losing.{Losing, losing_dead}

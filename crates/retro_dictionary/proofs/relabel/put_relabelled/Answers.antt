@@ -7,7 +7,7 @@ use Rattle.retro_dictionary.specs.declared.labelled_rows.LabelledRows.{LabelledR
 use Rattle.retro_dictionary.specs.LabelledRows.{ordered}
 use Rattle.retro_dictionary.specs.Labelled.{labelled}
 use Rattle.retro_dictionary.specs.Lifetimes.{lifetimes_of}
-use Rattle.retro_dictionary.specs.Ready.{IsKept}
+use Rattle.retro_dictionary.specs.Ready.{IsLabelled}
 use Rattle.retro_dictionary.specs.Relabelling.{CanRelabel, labelled_anew, relabelled_with, with_row_at}
 use Rattle.retro_dictionary.proofs.EditSteps.{kept-as, op-put}
 use Rattle.retro_dictionary.proofs.Relabelling.{can-relabel-listed, all-listed, kept-all, taken-out, inserted-full}
@@ -73,7 +73,7 @@ pub returns-clause-kept : goal.returns-clause-kept
 returns-clause-kept c =
     let all = indexed (goal.at.returns-clause-kept c).In_ok-relabel_with in
     let made : c.put_indexed.new.kept ≡ labelled_anew c.args.place (with_row_at c.args.place c.args.row (record c.args.kept.now { index = c.relabel_with.new.index })) = search rules in
-    subst IsKept (sym made)
+    subst IsLabelled (sym made)
     (kept-as _ _ _ _ _ _ _ _
     (kept-all _ _ _ _ c.requires.ready.all c.args.place c.requires.ready.can.within c.requires.ready.few c.args.row c.requires.ready.can)
     refl (inserted-full c.args.kept.now.labels c.args.kept.now.rows c.args.place c.requires.ready.all.as_many c.requires.full) all (ap (λ i. ordered (lifetimes_of i)) all))

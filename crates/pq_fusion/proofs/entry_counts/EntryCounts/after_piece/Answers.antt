@@ -1,15 +1,15 @@
 use Rattle.std.proofs.Common.{arith, ap, length}
 use Rattle.pq_fusion.specs.declared.entry_counts.EntryCounts.{EntryCounts}
 use Rattle.pq_fusion.specs.EntryCounts.{reaching}
-use Rattle.pq_fusion.proofs.Tallied.{fused_length, fused_reaching, same_tally}
+use Rattle.pq_fusion.proofs.Counted.{fused_length, fused_reaching, same_counts}
 use Rattle.pq_fusion.proofs.entry_counts.EntryCounts.after_piece.Goals as goal
 
-pub returns-clause-tally : goal.returns-clause-tally
-returns-clause-tally g c = λ first same.
+pub returns-clause-counts : goal.returns-clause-counts
+returns-clause-counts g c = λ first same.
     let second = c.args.piece.now in
     let left = ap (λ (t : EntryCounts). t.left) same in
     let reached = ap (λ (t : EntryCounts). t.reaching) same in
-    same_tally _ _ _ _
+    same_counts _ _ _ _
     (omega (arith, left, c.len.ensures.count, ap length c.left-left.ensures.list, c.unmet.ensures.count, c.saturating_sub-kept.ensures, fused_length first second))
     (omega (
       arith,

@@ -11,16 +11,16 @@ loop-row-init g c =
 
 pub loop-row-preserved : goal.loop-row-preserved
 loop-row-preserved g c = (
-  carries_more (λ entries. c.args.self ≡ counts_of c.args.bound entries) (λ entries. c.loop-row.tally ≡ counts_of c.args.bound entries)
-      (λ entries. c.after_row-tally.result ≡ counts_of c.args.bound entries) c.args.rows.now c.loop-row.row-index _ c.loop-row-test.true c.loop-row.invariant.0
-      (rw (c.row.ensures, c.row-item.is) at c.after_row-tally.ensures.tally),
-  omega (arith, c.loop-row.invariant.1, c.after_row-tally.ensures.few),
+  carries_more (λ entries. c.args.self ≡ counts_of c.args.bound entries) (λ entries. c.loop-row.counts ≡ counts_of c.args.bound entries)
+      (λ entries. c.after_row-counts.result ≡ counts_of c.args.bound entries) c.args.rows.now c.loop-row.row-index _ c.loop-row-test.true c.loop-row.invariant.0
+      (rw (c.row.ensures, c.row-item.is) at c.after_row-counts.ensures.counts),
+  omega (arith, c.loop-row.invariant.1, c.after_row-counts.ensures.few),
   visits_more _ _ _ _ c.tick.ensures c.loop-row.invariant.2,
 )
 
-pub returns-clause-tally : goal.returns-clause-tally
-returns-clause-tally g c =
-    carries_all (λ entries. c.args.self ≡ counts_of c.args.bound entries) (λ entries. c.loop-row.tally ≡ counts_of c.args.bound entries) c.args.rows.now
+pub returns-clause-counts : goal.returns-clause-counts
+returns-clause-counts g c =
+    carries_all (λ entries. c.args.self ≡ counts_of c.args.bound entries) (λ entries. c.loop-row.counts ≡ counts_of c.args.bound entries) c.args.rows.now
     c.loop-row.row-index (omega (arith, c.loop-row.auto.row-index-end, c.loop-row-test.false)) c.loop-row.invariant.0
 
 pub returns-clause-few : goal.returns-clause-few

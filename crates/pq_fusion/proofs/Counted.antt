@@ -1,4 +1,4 @@
--- What a tally of entries comes to where a piece follows, and what it says of the entry at an index.
+-- What counts of entries come to where a piece follows, and what they say of the entry at an index.
 use Rattle.std.proofs.Common.{◌≡◌, ℕ, ℤ, zero, suc, ◌+◌, ◌-◌, ◌<◌, ◌≤◌, true, false, cond, List, [], ◌∷◌, length, drop, min, Some, refl, arith, slice_get}
 use Rattle.std.specs.List.{AllWithin}
 use Rattle.std.specs.Prelude.{int_lt, nat_lt, ◌&&◌, ◌||◌, ◌<ℤ◌, ◌≤ℤ◌}
@@ -86,8 +86,8 @@ fused_reaching bound a b order =
       length_together a.left b.removed,
     )
 
-pub same_tally : (k l m n : ℕ) → k ≡ l → m ≡ n → ◌≡◌ {A = EntryCounts} (record { left = k; reaching = m }) (record { left = l; reaching = n })
-same_tally k l m n e f = rw (e, f) refl
+pub same_counts : (k l m n : ℕ) → k ≡ l → m ≡ n → ◌≡◌ {A = EntryCounts} (record { left = k; reaching = m }) (record { left = l; reaching = n })
+same_counts k l m n e f = rw (e, f) refl
 
 -- the entry at an index comes before a bound where too few reach it
 pub rank_reached : (bound : Entry) (xs : List Entry) (index : ℕ) (x : Entry) → AreInOrder xs → slice_get xs index ≡ Some x

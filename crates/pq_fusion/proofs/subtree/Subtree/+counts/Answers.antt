@@ -6,18 +6,18 @@ use Rattle.pq_fusion.proofs.Carried.{carries_none, carries_whole, carries_sides}
 use Rattle.pq_fusion.proofs.Pairs.{run_few}
 use Rattle.pq_fusion.proofs.Searched.{after_one, no_more_than, piece_few, walk_left, walk_right, whole_walk, run_walk, earlier_shorter, later_shorter, earlier_run, later_run}
 use Rattle.pq_fusion.proofs.Sizes.{left_size}
-use Rattle.pq_fusion.proofs.subtree.Subtree.+tally.Goals as goal
+use Rattle.pq_fusion.proofs.subtree.Subtree.+counts.Goals as goal
 
-pub returns-in-None-clause-tally : goal.returns-in-None-clause-tally
-returns-in-None-clause-tally g t c = carries_none (λ entries. c.args.before ≡ counts_of c.args.bound entries) c.args.self.now.rows c.args.to c.in-None.ensures
+pub returns-in-None-clause-counts : goal.returns-in-None-clause-counts
+returns-in-None-clause-counts g t c = carries_none (λ entries. c.args.before ≡ counts_of c.args.bound entries) c.args.self.now.rows c.args.to c.in-None.ensures
 
 pub after_piece-requires : goal.after_piece-requires
 after_piece-requires g t c = record { few = omega (arith, left_size c.args.self.now.rows c.in-Some.piece.now c.in-Some.ensures, c.requires.few) }
 
-pub returns-in-Some-clause-tally : goal.returns-in-Some-clause-tally
-returns-in-Some-clause-tally g t c =
+pub returns-in-Some-clause-counts : goal.returns-in-Some-clause-counts
+returns-in-Some-clause-counts g t c =
     carries_whole (λ entries. c.args.before ≡ counts_of c.args.bound entries) (λ entries. c.after_piece.result ≡ counts_of c.args.bound entries)
-    c.args.self.now.rows c.args.to c.in-Some.piece.now (c.if-to-len.true ∙ c.len.ensures.count) c.in-Some.ensures c.after_piece.ensures.tally
+    c.args.self.now.rows c.args.to c.in-Some.piece.now (c.if-to-len.true ∙ c.len.ensures.count) c.in-Some.ensures c.after_piece.ensures.counts
 
 pub returns-in-Some-clause-few : goal.returns-in-Some-clause-few
 returns-in-Some-clause-few g t c = omega (arith, left_size c.args.self.now.rows c.in-Some.piece.now c.in-Some.ensures, c.if-to-len.true, c.len.ensures.count, c.after_piece.ensures.few)
@@ -32,13 +32,13 @@ returns-in-Some-clause-visits g t c = λ levels k within small.
     let few = piece_few c.args.self.now.rows c.in-Some.piece.now c.in-Some.ensures k small in
     whole_walk levels k (run_of c.args.self.now.rows) _ _ (after_one (4 * k) _ _ _ c.tick.ensures (c.after_piece.ensures.visits k few.0 few.1))
 
-pub returns-in-Nothing-clause-tally : goal.returns-in-Nothing-clause-tally
-returns-in-Nothing-clause-tally g t c = carries_none (λ entries. c.args.before ≡ counts_of c.args.bound entries) c.args.self.now.rows c.args.to c.in-Nothing.ensures
+pub returns-in-Nothing-clause-counts : goal.returns-in-Nothing-clause-counts
+returns-in-Nothing-clause-counts g t c = carries_none (λ entries. c.args.before ≡ counts_of c.args.bound entries) c.args.self.now.rows c.args.to c.in-Nothing.ensures
 
-pub returns-in-Run-clause-tally : goal.returns-in-Run-clause-tally
-returns-in-Run-clause-tally g t c =
+pub returns-in-Run-clause-counts : goal.returns-in-Run-clause-counts
+returns-in-Run-clause-counts g t c =
     subst (λ rows. LeadsCounts c.args.bound c.args.before rows c.after_rows.result)
-    (c.split_at.ensures.front ∙ ap (take c.args.to) (c.as_slice.ensures.value ∙ sym c.in-Run.ensures.rows_are)) c.after_rows.ensures.tally
+    (c.split_at.ensures.front ∙ ap (take c.args.to) (c.as_slice.ensures.value ∙ sym c.in-Run.ensures.rows_are)) c.after_rows.ensures.counts
 
 pub returns-in-Run-clause-visits : goal.returns-in-Run-clause-visits
 returns-in-Run-clause-visits g t c = λ levels k within small.
@@ -53,14 +53,14 @@ returns-then-to-own-clause-visits g t c = λ levels k within small.
     let pair = c.in-Pair.pair.now in
     let root = c.in-Pair.ensures in
     walk_left rows pair root (4 * k + 2) (run_of pair.earlier.rows) (run_of rows) levels _ _ _ (omega arith) (earlier_run rows pair root) within c.tick.ensures
-    (λ below inside. c.tally.ensures.visits below k inside (earlier_shorter rows pair root k small))
+    (λ below inside. c.counts.ensures.visits below k inside (earlier_shorter rows pair root k small))
 
-pub returns-else-to-own-clause-tally : goal.returns-else-to-own-clause-tally
-returns-else-to-own-clause-tally g t c =
+pub returns-else-to-own-clause-counts : goal.returns-else-to-own-clause-counts
+returns-else-to-own-clause-counts g t c =
     let pair = c.in-Pair.pair.now in
-    carries_sides (λ entries. c.args.before ≡ counts_of c.args.bound entries) (λ entries. c.tally-first.result ≡ counts_of c.args.bound entries)
-    (λ entries. c.tally-in-Pair.result ≡ counts_of c.args.bound entries) c.args.self.now.rows pair.earlier.rows pair.later.rows c.args.to c.len-own.result
-    c.in-Pair.ensures.rows_are c.len-own.ensures.count (omega (arith, c.if-to-own.false)) c.tally-first.ensures.tally c.tally-in-Pair.ensures.tally
+    carries_sides (λ entries. c.args.before ≡ counts_of c.args.bound entries) (λ entries. c.counts-first.result ≡ counts_of c.args.bound entries)
+    (λ entries. c.counts-in-Pair.result ≡ counts_of c.args.bound entries) c.args.self.now.rows pair.earlier.rows pair.later.rows c.args.to c.len-own.result
+    c.in-Pair.ensures.rows_are c.len-own.ensures.count (omega (arith, c.if-to-own.false)) c.counts-first.ensures.counts c.counts-in-Pair.ensures.counts
 
 pub returns-else-to-own-clause-visits : goal.returns-else-to-own-clause-visits
 returns-else-to-own-clause-visits g t c = λ levels k within small.
@@ -68,5 +68,5 @@ returns-else-to-own-clause-visits g t c = λ levels k within small.
     let pair = c.in-Pair.pair.now in
     let root = c.in-Pair.ensures in
     walk_right rows pair root (4 * k + 2) (4 * k + 1) (run_of pair.later.rows) (run_of rows) levels _ _ _ _ (omega arith) (later_run rows pair root) within c.tick.ensures
-    (c.tally-first.ensures.whole c.len-own.ensures.count k (earlier_shorter rows pair root k small))
-    (λ below inside. c.tally-in-Pair.ensures.visits below k inside (later_shorter rows pair root k small))
+    (c.counts-first.ensures.whole c.len-own.ensures.count k (earlier_shorter rows pair root k small))
+    (λ below inside. c.counts-in-Pair.ensures.visits below k inside (later_shorter rows pair root k small))

@@ -1,4 +1,4 @@
--- The tally along the rows after a replacement finds the first of them that cannot be performed.
+-- The count along the rows after a replacement finds the first of them that cannot be performed.
 use Rattle.std.proofs.Common.{◌≡◌, ℕ, ℤ, suc, ◌+◌, ◌-◌, append_assoc, ◌<◌, ◌≤◌, get_or, Bool, true, false, List, [], ◌∷◌, ◌++◌, length}
 use Rattle.std.proofs.Common.{take, drop, slice_get, slice_range, refl, sym, ap, ◌∙◌, arith, Option, Some, None, Result, Ok, Err}
 use Rattle.std.specs.List.{insert, remove, AllByRecursion}
@@ -31,57 +31,57 @@ use Rattle.timeline_undo.specs.Replaced.{replaced}
 use Rattle.timeline_undo.specs.declared.walk_count.Presence.{Presence}
 use Rattle.timeline_undo.specs.declared.walk_count.WalkCount.{WalkCount}
 use Rattle.timeline_undo.specs.declared.walk_count.WalkCount.TheVariants.{Items, Keys}
-use Rattle.timeline_undo.specs.WalkCounts.{IsUpTo, absent, key_of, presence_after, tallied, tally_after, tally_before, tally_of_keys}
-use Rattle.timeline_undo.proofs.TwoKeys.{counted_key, keyed, tally_of, two_keys}
+use Rattle.timeline_undo.specs.WalkCounts.{IsUpTo, absent, key_of, presence_after, walked, count_next, count_first, count_of_keys}
+use Rattle.timeline_undo.proofs.TwoKeys.{counted_key, keyed, walked_to, two_keys}
 
 -- rows in two parts
-pub tallied-some : (row : Row) (rows : List Row) (tally next : WalkCount) → tally_after tally row.op ≡ Some next → tallied (row ∷ rows) tally ≡ tallied rows next
-unfolding tallied
-tallied-some row rows tally next e = rw e refl
+pub walked-some : (row : Row) (rows : List Row) (count next : WalkCount) → count_next count row.op ≡ Some next → walked (row ∷ rows) count ≡ walked rows next
+unfolding walked
+walked-some row rows count next e = rw e refl
 
-pub tallied-none : (row : Row) (rows : List Row) (tally : WalkCount) → tally_after tally row.op ≡ None → tallied (row ∷ rows) tally ≡ Err row
-unfolding tallied
-tallied-none row rows tally e = rw e refl
+pub walked-none : (row : Row) (rows : List Row) (count : WalkCount) → count_next count row.op ≡ None → walked (row ∷ rows) count ≡ Err row
+unfolding walked
+walked-none row rows count e = rw e refl
 
-pub tallied-nil : (tally : WalkCount) → tallied [] tally ≡ Ok tally
-unfolding tallied
-tallied-nil tally = refl
+pub walked-nil : (count : WalkCount) → walked [] count ≡ Ok count
+unfolding walked
+walked-nil count = refl
 
-pub tallied-then : (rows more : List Row) (tally next : WalkCount) → tallied rows tally ≡ Ok next → tallied (rows ++ more) tally ≡ tallied more next
-tallied-then [] more tally next e = let same : tally ≡ next = (let here : ◌≡◌ {A = Result WalkCount Row} (Ok tally) (Ok next) = sym (tallied-nil tally) ∙ e in cc) in ap (tallied more) same
-tallied-then (row ∷ rows) more tally next e =
-    elim (tally_after tally row.op) as (λ o. tally_after tally row.op ≡ o → tallied (row ∷ (rows ++ more)) tally ≡ tallied more next) [
-      | None ↦ λ stops. absurd (let wrong : ◌≡◌ {A = Result WalkCount Row} (Err row) (Ok next) = sym (tallied-none row rows tally stops) ∙ e in cc)
-      | Some to ↦ λ goes. tallied-some row (rows ++ more) tally to goes ∙ tallied-then rows more to next (sym (tallied-some row rows tally to goes) ∙ e)
+pub walked-then : (rows more : List Row) (count next : WalkCount) → walked rows count ≡ Ok next → walked (rows ++ more) count ≡ walked more next
+walked-then [] more count next e = let same : count ≡ next = (let here : ◌≡◌ {A = Result WalkCount Row} (Ok count) (Ok next) = sym (walked-nil count) ∙ e in cc) in ap (walked more) same
+walked-then (row ∷ rows) more count next e =
+    elim (count_next count row.op) as (λ o. count_next count row.op ≡ o → walked (row ∷ (rows ++ more)) count ≡ walked more next) [
+      | None ↦ λ stops. absurd (let wrong : ◌≡◌ {A = Result WalkCount Row} (Err row) (Ok next) = sym (walked-none row rows count stops) ∙ e in cc)
+      | Some to ↦ λ goes. walked-some row (rows ++ more) count to goes ∙ walked-then rows more to next (sym (walked-some row rows count to goes) ∙ e)
     ] refl
 
-pub tallied-stops : (rows more : List Row) (tally : WalkCount) (failing : Row) → tallied rows tally ≡ Err failing → tallied (rows ++ more) tally ≡ Err failing
-tallied-stops [] more tally failing e = absurd (let wrong : ◌≡◌ {A = Result WalkCount Row} (Ok tally) (Err failing) = sym (tallied-nil tally) ∙ e in cc)
-tallied-stops (row ∷ rows) more tally failing e =
-    elim (tally_after tally row.op) as (λ o. tally_after tally row.op ≡ o → tallied (row ∷ (rows ++ more)) tally ≡ Err failing) [
-      | None ↦ λ stops. tallied-none row (rows ++ more) tally stops ∙ sym (tallied-none row rows tally stops) ∙ e
-      | Some to ↦ λ goes. tallied-some row (rows ++ more) tally to goes ∙ tallied-stops rows more to failing (sym (tallied-some row rows tally to goes) ∙ e)
+pub walked-stops : (rows more : List Row) (count : WalkCount) (failing : Row) → walked rows count ≡ Err failing → walked (rows ++ more) count ≡ Err failing
+walked-stops [] more count failing e = absurd (let wrong : ◌≡◌ {A = Result WalkCount Row} (Ok count) (Err failing) = sym (walked-nil count) ∙ e in cc)
+walked-stops (row ∷ rows) more count failing e =
+    elim (count_next count row.op) as (λ o. count_next count row.op ≡ o → walked (row ∷ (rows ++ more)) count ≡ Err failing) [
+      | None ↦ λ stops. walked-none row (rows ++ more) count stops ∙ sym (walked-none row rows count stops) ∙ e
+      | Some to ↦ λ goes. walked-some row (rows ++ more) count to goes ∙ walked-stops rows more to failing (sym (walked-some row rows count to goes) ∙ e)
     ] refl
 
 -- one more turn of a loop over rows
-pub along_next : (rows : List Row) (i : ℕ) (tally next : WalkCount) → i < length rows → tally_after tally (get_or rows i no_row).op ≡ Some next
-    → tallied (drop i rows) tally ≡ tallied (drop (i + 1) rows) next
-along_next rows i tally next within goes =
-    ap (λ rs. tallied rs tally) (drop-cons rows i no_row within) ∙ tallied-some _ _ tally next goes ∙ (let one : suc i ≡ i + 1 = omega arith in ap (λ n. tallied (drop n rows) next) one)
+pub along_next : (rows : List Row) (i : ℕ) (count next : WalkCount) → i < length rows → count_next count (get_or rows i no_row).op ≡ Some next
+    → walked (drop i rows) count ≡ walked (drop (i + 1) rows) next
+along_next rows i count next within goes =
+    ap (λ rs. walked rs count) (drop-cons rows i no_row within) ∙ walked-some _ _ count next goes ∙ (let one : suc i ≡ i + 1 = omega arith in ap (λ n. walked (drop n rows) next) one)
 
-pub along_stops : (rows : List Row) (i : ℕ) (tally : WalkCount) → i < length rows → tally_after tally (get_or rows i no_row).op ≡ None
-    → tallied (drop i rows) tally ≡ Err (get_or rows i no_row)
-along_stops rows i tally within stops = ap (λ rs. tallied rs tally) (drop-cons rows i no_row within) ∙ tallied-none _ _ tally stops
+pub along_stops : (rows : List Row) (i : ℕ) (count : WalkCount) → i < length rows → count_next count (get_or rows i no_row).op ≡ None
+    → walked (drop i rows) count ≡ Err (get_or rows i no_row)
+along_stops rows i count within stops = ap (λ rs. walked rs count) (drop-cons rows i no_row within) ∙ walked-none _ _ count stops
 
-pub along_end : (rows : List Row) (i : ℕ) (tally : WalkCount) → length rows ≤ i → tallied (drop i rows) tally ≡ Ok tally
-along_end rows i tally all = ap (λ rs. tallied rs tally) (drop_all i rows all) ∙ tallied-nil tally
+pub along_end : (rows : List Row) (i : ℕ) (count : WalkCount) → length rows ≤ i → walked (drop i rows) count ≡ Ok count
+along_end rows i count all = ap (λ rs. walked rs count) (drop_all i rows all) ∙ walked-nil count
 
 -- rows in three parts
-pub second_stops : (a b c : List Row) (t u : WalkCount) (failing : Row) → tallied a t ≡ Ok u → tallied b u ≡ Err failing → tallied (a ++ (b ++ c)) t ≡ Err failing
-second_stops a b c t u failing e f = tallied-then a (b ++ c) t u e ∙ tallied-stops b c u failing f
+pub second_stops : (a b c : List Row) (t u : WalkCount) (failing : Row) → walked a t ≡ Ok u → walked b u ≡ Err failing → walked (a ++ (b ++ c)) t ≡ Err failing
+second_stops a b c t u failing e f = walked-then a (b ++ c) t u e ∙ walked-stops b c u failing f
 
-pub all_parts : (a b c : List Row) (t u v : WalkCount) → tallied a t ≡ Ok u → tallied b u ≡ Ok v → tallied (a ++ (b ++ c)) t ≡ tallied c v
-all_parts a b c t u v e f = tallied-then a (b ++ c) t u e ∙ tallied-then b c u v f
+pub all_parts : (a b c : List Row) (t u v : WalkCount) → walked a t ≡ Ok u → walked b u ≡ Ok v → walked (a ++ (b ++ c)) t ≡ walked c v
+all_parts a b c t u v e f = walked-then a (b ++ c) t u e ∙ walked-then b c u v f
 
 -- the rows of a walk: those that one reading gives come first
 slice_two : (rows : List Row) (place m n : ℕ) → take (m + n) (drop place rows) ≡ take m (drop place rows) ++ take n (drop (place + m) rows)
@@ -93,21 +93,21 @@ read_first rows place read to within =
     ap (λ k. take k (drop place rows)) n ∙ slice_two rows place read (to - (place + read))
 
 -- a turn of a walk
-pub walk_stops : (rows : List Row) (place count to : ℕ) (tally : WalkCount) (failing : Row) → place + count ≤ to
-    → tallied (take count (drop place rows)) tally ≡ Err failing → tallied (slice_range rows place to) tally ≡ Err failing
-walk_stops rows place count to tally failing within e =
-    ap (λ rs. tallied rs tally) (read_first rows place count to within)
-    ∙ tallied-stops (take count (drop place rows)) (slice_range rows (place + count) to) tally failing e
+pub walk_stops : (rows : List Row) (place many to : ℕ) (count : WalkCount) (failing : Row) → place + many ≤ to
+    → walked (take many (drop place rows)) count ≡ Err failing → walked (slice_range rows place to) count ≡ Err failing
+walk_stops rows place many to count failing within e =
+    ap (λ rs. walked rs count) (read_first rows place many to within)
+    ∙ walked-stops (take many (drop place rows)) (slice_range rows (place + many) to) count failing e
 
-pub walk_goes : (rows : List Row) (place count to : ℕ) (tally next : WalkCount) → place + count ≤ to
-    → tallied (take count (drop place rows)) tally ≡ Ok next → tallied (slice_range rows place to) tally ≡ tallied (slice_range rows (place + count) to) next
-walk_goes rows place count to tally next within e =
-    ap (λ rs. tallied rs tally) (read_first rows place count to within)
-    ∙ tallied-then (take count (drop place rows)) (slice_range rows (place + count) to) tally next e
+pub walk_goes : (rows : List Row) (place many to : ℕ) (count next : WalkCount) → place + many ≤ to
+    → walked (take many (drop place rows)) count ≡ Ok next → walked (slice_range rows place to) count ≡ walked (slice_range rows (place + many) to) next
+walk_goes rows place many to count next within e =
+    ap (λ rs. walked rs count) (read_first rows place many to within)
+    ∙ walked-then (take many (drop place rows)) (slice_range rows (place + many) to) count next e
 
-pub walk_ends : (rows : List Row) (place to : ℕ) (tally : WalkCount) → to ≤ place → tallied (slice_range rows place to) tally ≡ Ok tally
-walk_ends rows place to tally all =
-    let none : to - place ≡ 0 = omega arith in ap (λ n. tallied (take n (drop place rows)) tally) none ∙ tallied-nil tally
+pub walk_ends : (rows : List Row) (place to : ℕ) (count : WalkCount) → to ≤ place → walked (slice_range rows place to) count ≡ Ok count
+walk_ends rows place to count all =
+    let none : to - place ≡ 0 = omega arith in ap (λ n. walked (take n (drop place rows)) count) none ∙ walked-nil count
 
 -- the parts of the rows after a replacement
 to_the_end : (rows : List Row) (from : ℕ) → from ≤ length rows → slice_range rows from (length rows) ≡ drop from rows
@@ -147,7 +147,7 @@ keys_up_to : (next : WalkCount) (most : ℕ) → is_keys next ≡ true → IsUpT
 keys_up_to (Items n) most e = absurd (cc)
 keys_up_to (Keys p q) most e = tt
 
-keys_stay : (p q : Presence) (op : Op) (next : WalkCount) → tally_after (Keys p q) op ≡ Some next → is_keys next ≡ true
+keys_stay : (p q : Presence) (op : Op) (next : WalkCount) → count_next (Keys p q) op ≡ Some next → is_keys next ≡ true
 keys_stay p q op next e =
     elim (presence_after p op) as (λ o. presence_after p op ≡ o → is_keys next ≡ true) [
       | None ↦ λ stops. absurd (let wrong : ◌≡◌ {A = Option WalkCount} None (Some next) = rw stops at e in cc)
@@ -158,82 +158,82 @@ keys_stay p q op next e =
           ] refl
     ] refl
 
-pub one_row_up_to : (tally next : WalkCount) (op : Op) (most : ℕ) → IsUpTo tally most → tally_after tally op ≡ Some next → IsUpTo next (suc most)
+pub one_row_up_to : (count next : WalkCount) (op : Op) (most : ℕ) → IsUpTo count most → count_next count op ≡ Some next → IsUpTo next (suc most)
 one_row_up_to (Items n) next op most within e = item_by op n most next within e
 one_row_up_to (Keys p q) next op most within e = keys_up_to next (suc most) (keys_stay p q op next e)
 
-pub up_to_more : (tally : WalkCount) (less more : ℕ) → less ≤ more → IsUpTo tally less → IsUpTo tally more
+pub up_to_more : (count : WalkCount) (less more : ℕ) → less ≤ more → IsUpTo count less → IsUpTo count more
 up_to_more (Items n) less more within up = omega arith
 up_to_more (Keys p q) less more within up = tt
 
-pub rows_up_to : (rows : List Row) (tally next : WalkCount) (most : ℕ) → IsUpTo tally most → tallied rows tally ≡ Ok next → IsUpTo next (most + length rows)
-rows_up_to [] tally next most up e =
-    let same : tally ≡ next = (let here : ◌≡◌ {A = Result WalkCount Row} (Ok tally) (Ok next) = sym (tallied-nil tally) ∙ e in cc) in
-    rw (← same) (up_to_more tally most (most + 0) (omega arith) up)
-rows_up_to (row ∷ rows) tally next most up e =
-    elim (tally_after tally row.op) as (λ o. tally_after tally row.op ≡ o → IsUpTo next (most + suc (length rows))) [
-      | None ↦ λ stops. absurd (let wrong : ◌≡◌ {A = Result WalkCount Row} (Err row) (Ok next) = sym (tallied-none row rows tally stops) ∙ e in cc)
+pub rows_up_to : (rows : List Row) (count next : WalkCount) (most : ℕ) → IsUpTo count most → walked rows count ≡ Ok next → IsUpTo next (most + length rows)
+rows_up_to [] count next most up e =
+    let same : count ≡ next = (let here : ◌≡◌ {A = Result WalkCount Row} (Ok count) (Ok next) = sym (walked-nil count) ∙ e in cc) in
+    rw (← same) (up_to_more count most (most + 0) (omega arith) up)
+rows_up_to (row ∷ rows) count next most up e =
+    elim (count_next count row.op) as (λ o. count_next count row.op ≡ o → IsUpTo next (most + suc (length rows))) [
+      | None ↦ λ stops. absurd (let wrong : ◌≡◌ {A = Result WalkCount Row} (Err row) (Ok next) = sym (walked-none row rows count stops) ∙ e in cc)
       | Some to ↦ λ goes.
           up_to_more next (suc most + length rows) (most + suc (length rows)) (omega arith)
-          (rows_up_to rows to next (suc most) (one_row_up_to tally to row.op most up goes) (sym (tallied-some row rows tally to goes) ∙ e))
+          (rows_up_to rows to next (suc most) (one_row_up_to count to row.op most up goes) (sym (walked-some row rows count to goes) ∙ e))
     ] refl
 
 -- after a walk, and after one more row
 slice_few : (rows : List Row) (from to : ℕ) → length (slice_range rows from to) ≤ to - from
 slice_few rows from to = omega (arith, length-take (to - from) (drop from rows))
 
-pub walked_up_to : (rows : List Row) (from to : ℕ) (tally next : WalkCount) (most more : ℕ) → IsUpTo tally most → tallied (slice_range rows from to) tally ≡ Ok next
+pub walked_up_to : (rows : List Row) (from to : ℕ) (count next : WalkCount) (most more : ℕ) → IsUpTo count most → walked (slice_range rows from to) count ≡ Ok next
     → most + (to - from) ≤ more → IsUpTo next more
-walked_up_to rows from to tally next most more up e within =
-    up_to_more next (most + length (slice_range rows from to)) more (omega (arith, slice_few rows from to)) (rows_up_to (slice_range rows from to) tally next most up e)
+walked_up_to rows from to count next most more up e within =
+    up_to_more next (most + length (slice_range rows from to)) more (omega (arith, slice_few rows from to)) (rows_up_to (slice_range rows from to) count next most up e)
 
-pub read_up_to : (rows : List Row) (count most : ℕ) (tally next : WalkCount) → IsUpTo tally most → tallied (take count rows) tally ≡ Ok next → IsUpTo next (most + count)
-read_up_to rows count most tally next up e =
-    up_to_more next (most + length (take count rows)) (most + count) (omega (arith, length-take count rows)) (rows_up_to (take count rows) tally next most up e)
+pub read_up_to : (rows : List Row) (many most : ℕ) (count next : WalkCount) → IsUpTo count most → walked (take many rows) count ≡ Ok next → IsUpTo next (most + many)
+read_up_to rows many most count next up e =
+    up_to_more next (most + length (take many rows)) (most + many) (omega (arith, length-take many rows)) (rows_up_to (take many rows) count next most up e)
 
-pub added_up_to : (rows : List Row) (from to : ℕ) (new : Row) (tally next : WalkCount) (most more : ℕ) → IsUpTo tally most
-    → tallied (slice_range rows from to ++ new ∷ []) tally ≡ Ok next → most + (to - from) + 1 ≤ more → IsUpTo next more
-added_up_to rows from to new tally next most more up e within =
+pub added_up_to : (rows : List Row) (from to : ℕ) (new : Row) (count next : WalkCount) (most more : ℕ) → IsUpTo count most
+    → walked (slice_range rows from to ++ new ∷ []) count ≡ Ok next → most + (to - from) + 1 ≤ more → IsUpTo next more
+added_up_to rows from to new count next most more up e within =
     up_to_more next (most + length (slice_range rows from to ++ new ∷ [])) more
-    (omega (arith, slice_few rows from to, length-append (slice_range rows from to) (new ∷ []))) (rows_up_to (slice_range rows from to ++ new ∷ []) tally next most up e)
+    (omega (arith, slice_few rows from to, length-append (slice_range rows from to) (new ∷ []))) (rows_up_to (slice_range rows from to ++ new ∷ []) count next most up e)
 
--- the row that the tally names is the one at the index where it stops
+-- the row that the count names is the one at the index where it stops
 one_later_row : (row : Row) (rows : List Row) (r : Result WalkCount ℕ)
     → option_and_then (slice_get (row ∷ rows)) (result_err (one_later r)) ≡ option_and_then (slice_get rows) (result_err r)
 one_later_row row rows (Ok t) = refl
 one_later_row row rows (Err i) = refl
 
-pub names_row : (rows : List Row) (tally : WalkCount) → result_err (tallied rows tally) ≡ option_and_then (slice_get rows) (result_err (tally_of rows tally))
-names_row [] tally = ap result_err (tallied-nil tally) ∙ sym (ap (λ r. option_and_then (slice_get []) (result_err r)) (fold_rows-nil (λ row t. tally_after t row.op) tally))
-names_row (row ∷ rows) tally =
-    elim (tally_after tally row.op) as (λ o. tally_after tally row.op ≡ o
-    → result_err (tallied (row ∷ rows) tally) ≡ option_and_then (slice_get (row ∷ rows)) (result_err (tally_of (row ∷ rows) tally))) [
+pub names_row : (rows : List Row) (count : WalkCount) → result_err (walked rows count) ≡ option_and_then (slice_get rows) (result_err (walked_to rows count))
+names_row [] count = ap result_err (walked-nil count) ∙ sym (ap (λ r. option_and_then (slice_get []) (result_err r)) (fold_rows-nil (λ row t. count_next t row.op) count))
+names_row (row ∷ rows) count =
+    elim (count_next count row.op) as (λ o. count_next count row.op ≡ o
+    → result_err (walked (row ∷ rows) count) ≡ option_and_then (slice_get (row ∷ rows)) (result_err (walked_to (row ∷ rows) count))) [
       | None ↦ λ stops.
-          ap result_err (tallied-none row rows tally stops)
-          ∙ sym (ap (λ r. option_and_then (slice_get (row ∷ rows)) (result_err r)) (fold_rows-none (λ r t. tally_after t r.op) row rows tally stops))
+          ap result_err (walked-none row rows count stops)
+          ∙ sym (ap (λ r. option_and_then (slice_get (row ∷ rows)) (result_err r)) (fold_rows-none (λ r t. count_next t r.op) row rows count stops))
       | Some next ↦ λ goes.
-          ap result_err (tallied-some row rows tally next goes) ∙ names_row rows next ∙ sym (one_later_row row rows (tally_of rows next))
-          ∙ sym (ap (λ r. option_and_then (slice_get (row ∷ rows)) (result_err r)) (fold_rows-some (λ r t. tally_after t r.op) row rows tally next goes))
+          ap result_err (walked-some row rows count next goes) ∙ names_row rows next ∙ sym (one_later_row row rows (walked_to rows next))
+          ∙ sym (ap (λ r. option_and_then (slice_get (row ∷ rows)) (result_err r)) (fold_rows-some (λ r t. count_next t r.op) row rows count next goes))
     ] refl
 
--- counting items, and counting them in a tally, keep pace
+-- counting items, and a walk that counts them, keep pace
 abbrev IsItems : WalkCount → ℕ → Type 0
-IsItems tally n = tally ≡ Items n
+IsItems count n = count ≡ Items n
 
 both_items : (o : Option ℕ) → BothOrNeither IsItems (option_map Items o) o
 both_items None = tt
 both_items (Some n) = refl
 
-items_keep_pace : (row : Row) (tally : WalkCount) (n : ℕ) → Unit {0} → IsItems tally n → BothOrNeither IsItems (tally_after tally row.op) (quantity_after (quantity_of Deq) row.op n)
-items_keep_pace row tally n any is = rw is (both_items (size_after row.op n))
+items_keep_pace : (row : Row) (count : WalkCount) (n : ℕ) → Unit {0} → IsItems count n → BothOrNeither IsItems (count_next count row.op) (quantity_after (quantity_of Deq) row.op n)
+items_keep_pace row count n any is = rw is (both_items (size_after row.op n))
 
 all_rows : (rows : List Row) → AllByRecursion (λ row. Unit {0}) rows
 all_rows [] = tt
 all_rows (row ∷ rows) = (tt, all_rows rows)
 
-items_fail : (rows : List Row) → result_err (tally_of rows (Items 0)) ≡ result_err (counted (quantity_of Deq) rows 0)
+items_fail : (rows : List Row) → result_err (walked_to rows (Items 0)) ≡ result_err (counted (quantity_of Deq) rows 0)
 items_fail rows =
-    same_failure IsItems _ _ (folds_agree IsItems (λ row. Unit {0}) (λ row t. tally_after t row.op) (λ row n. quantity_after (quantity_of Deq) row.op n)
+    same_failure IsItems _ _ (folds_agree IsItems (λ row. Unit {0}) (λ row t. count_next t row.op) (λ row n. quantity_after (quantity_of Deq) row.op n)
     items_keep_pace rows (Items 0) 0 (all_rows rows) refl)
 
 -- the operations of the other kinds have no key
@@ -251,8 +251,8 @@ no_key (Del k) h = absurd (h refl)
 no_key (Ins k) h = refl
 no_key DelMin h = refl
 
-counts_items : (old new : Op) → (kind_of old ≡ Dict → ⊥) → (kind_of new ≡ Dict → ⊥) → tally_before old new ≡ Items 0
-counts_items old new h i = ap (λ o. tally_of_keys o (key_of new)) (no_key old h) ∙ ap (λ o. tally_of_keys None o) (no_key new i)
+counts_items : (old new : Op) → (kind_of old ≡ Dict → ⊥) → (kind_of new ≡ Dict → ⊥) → count_first old new ≡ Items 0
+counts_items old new h i = ap (λ o. count_of_keys o (key_of new)) (no_key old h) ∙ ap (λ o. count_of_keys None o) (no_key new i)
 
 -- an operation of a dictionary has one, and leaves the pairs of the others as they are
 has_key : (op : Op) → kind_of op ≡ Dict → (key : ℤ) × (key_of op ≡ Some key) × ((q : ℤ) (n : ℕ) → int_eq q key ≡ false → pair_after q op n ≡ Some n)
@@ -299,35 +299,35 @@ others_count rows middle after put index new old a b made old_passes new_passes 
     (rw (← around middle index old made.there) with_new))
 
 dict_fails : (rows middle after : List Row) (put index : ℕ) (new old : Row) → IsReplaced Dict rows middle after put index new old → kind_of old.op ≡ Dict
-    → result_err (tally_of after (tally_before old.op new.op)) ≡ failure Dict after
+    → result_err (walked_to after (count_first old.op new.op)) ≡ failure Dict after
 dict_fails rows middle after put index new old made was =
     let a = has_key old.op was in
     let b = has_key new.op made.here in
-    let start : tally_before old.op new.op ≡ Keys (absent a.0) (absent b.0) =
-    ap (λ o. tally_of_keys o (key_of new.op)) a.1 ∙ ap (λ o. tally_of_keys (Some a.0) o) b.1 in
-    ap (λ t. result_err (tally_of after t)) start
+    let start : count_first old.op new.op ≡ Keys (absent a.0) (absent b.0) =
+    ap (λ o. count_of_keys o (key_of new.op)) a.1 ∙ ap (λ o. count_of_keys (Some a.0) o) b.1 in
+    ap (λ t. result_err (walked_to after t)) start
     ∙ two_keys a.0 b.0 after (after_of_kind Dict rows middle after put index new old made) (others_count rows middle after put index new old a.0 b.0 made a.2 b.2)
 
 items_start : (old new : Row) (kind : Kind) → (kind ≡ Dict → ⊥) → kind_of old.op ≡ kind → kind_of new.op ≡ kind → (rows : List Row)
-    → result_err (tally_of rows (tally_before old.op new.op)) ≡ result_err (counted (quantity_of Deq) rows 0)
+    → result_err (walked_to rows (count_first old.op new.op)) ≡ result_err (counted (quantity_of Deq) rows 0)
 items_start old new kind other was here rows =
-    ap (λ t. result_err (tally_of rows t)) (counts_items old.op new.op (λ e. other (sym was ∙ e)) (λ e. other (sym here ∙ e))) ∙ items_fail rows
+    ap (λ t. result_err (walked_to rows t)) (counts_items old.op new.op (λ e. other (sym was ∙ e)) (λ e. other (sym here ∙ e))) ∙ items_fail rows
 
--- the tally stops at the first row that cannot be performed
-tally_fails : (kind : Kind) (rows middle after : List Row) (put index : ℕ) (new old : Row) → IsReplaced kind rows middle after put index new old
-    → kind_of old.op ≡ kind → result_err (tally_of after (tally_before old.op new.op)) ≡ failure kind after
-tally_fails Queue rows middle after put index new old made was =
+-- the count stops at the first row that cannot be performed
+walk_fails : (kind : Kind) (rows middle after : List Row) (put index : ℕ) (new old : Row) → IsReplaced kind rows middle after put index new old
+    → kind_of old.op ≡ kind → result_err (walked_to after (count_first old.op new.op)) ≡ failure kind after
+walk_fails Queue rows middle after put index new old made was =
     items_start old new Queue (λ e. cc) was made.here after ∙ sym (line_failure after (all_lines Queue after tt (after_of_kind Queue rows middle after put index new old made)))
-tally_fails Stack rows middle after put index new old made was =
+walk_fails Stack rows middle after put index new old made was =
     items_start old new Stack (λ e. cc) was made.here after ∙ sym (line_failure after (all_lines Stack after tt (after_of_kind Stack rows middle after put index new old made)))
-tally_fails Deque rows middle after put index new old made was =
+walk_fails Deque rows middle after put index new old made was =
     items_start old new Deque (λ e. cc) was made.here after ∙ sym (line_failure after (all_lines Deque after tt (after_of_kind Deque rows middle after put index new old made)))
-tally_fails Dict rows middle after put index new old made was = dict_fails rows middle after put index new old made was
-tally_fails Pq rows middle after put index new old made was =
+walk_fails Dict rows middle after put index new old made was = dict_fails rows middle after put index new old made was
+walk_fails Pq rows middle after put index new old made was =
     items_start old new Pq (λ e. cc) was made.here after ∙ sym (pq_failure after (after_of_kind Pq rows middle after put index new old made))
 
 -- and it names that row
-pub tally_names : (kind : Kind) (rows middle after : List Row) (put index : ℕ) (new old : Row) → IsReplaced kind rows middle after put index new old
-    → kind_of old.op ≡ kind → result_err (tallied after (tally_before old.op new.op)) ≡ failing_row kind after
-tally_names kind rows middle after put index new old made was =
-    names_row after (tally_before old.op new.op) ∙ ap (option_and_then (slice_get after)) (tally_fails kind rows middle after put index new old made was)
+pub count_names : (kind : Kind) (rows middle after : List Row) (put index : ℕ) (new old : Row) → IsReplaced kind rows middle after put index new old
+    → kind_of old.op ≡ kind → result_err (walked after (count_first old.op new.op)) ≡ failing_row kind after
+count_names kind rows middle after put index new old made was =
+    names_row after (count_first old.op new.op) ∙ ap (option_and_then (slice_get after)) (walk_fails kind rows middle after put index new old made was)
