@@ -1,5 +1,6 @@
--- A row is packed into the variant of its operation, beside its number and its time: which row a packed one stands for, and
--- how a row is packed. Packing what was unpacked gives the same again, so no two packed rows stand for one row.
+-- A packed row is the row with its operation outermost: a variant of each operation holds the number, the time and what the
+-- operation takes. `unpacked` is the row that a packed one stands for, and `packed_of` the packed one that stands for a row.
+-- What was unpacked and is packed again is the same, so no two packed rows stand for one row.
 use Rattle.std.specs.Prelude.{◌≡◌, ℕ, refl}
 use Rattle.retro_base.specs.declared.op.Op.{Op}
 use Rattle.retro_base.specs.declared.op.Op.TheVariants as ops

@@ -50,7 +50,8 @@
 //! specs/Reads.antt for what `read` writes, and specs/ReadLaws.antt for what it leaves of a list;
 //! `VisitsWithin` of `retro_base` for the cost.
 //!
-//! - `tree`: the type and its calls. `uncounted`: its calls where nobody counts visits. `tail`: its last items.
+//! - `tree`: the type and its calls. `tail`: its last items.
+//! - `uncounted`: the calls of `tree` for who asks for no bound, each with a counter of its own.
 //! - `subtree`: the link to a node or a leaf, and what it tells. `closed`: what a link holds, which a visit opens.
 //! - `node`: a node and its sides. `balance`: rotations.
 //! - `leaf`: the items of a leaf. `leaf_edit`: one of them comes or goes. `room`: the memory that they have.
