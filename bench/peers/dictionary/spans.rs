@@ -70,18 +70,6 @@ impl Found {
         }
     }
 
-    fn of_one(pair: KeyPair, low: i64, high: i64) -> Found {
-        if pair.key < low || high < pair.key {
-            return Found::NONE;
-        }
-        Found {
-            count: 1,
-            sum: i128::from(pair.value),
-            least: Some(pair),
-            greatest: Some(pair),
-        }
-    }
-
     fn combine(self, other: Found) -> Found {
         let least = match (self.least, other.least) {
             (Some(a), Some(b)) => Some(a.min(b)),
@@ -155,7 +143,7 @@ impl Few {
     }
 
     fn place_of(&self, life: Lifetime) -> usize {
-        self.0.partition_point(|other| *other < life)
+        self.0.partition_point(|other| (other.pair, other.from, other.to) < (life.pair, life.from, life.to))
     }
 
     fn put(&mut self, life: Lifetime) {
@@ -193,7 +181,7 @@ struct Span {
 const LEVELS: u32 = 40;
 
 /// So many lifetimes of a span are kept as they are at the most.
-const FEW: usize = 127;
+const FEW: usize = 255;
 
 impl Spans {
     fn new() -> Spans {
@@ -325,12 +313,16 @@ fn move_first(left: &mut Spans, level: u32, life: Lifetime, next: u64) {
 
 fn ask_few(few: &Few, label: u64, low: i64, high: i64) -> Found {
     let mut found = Found::NONE;
-    for life in &few.0 {
-        if label < life.from {
+    let from = few.0.partition_point(|other| other.pair.key < low);
+    for life in &few.0[from..] {
+        if high < life.pair.key {
             break;
         }
         if life.holds(label) {
-            found = found.combine(Found::of_one(life.pair, low, high));
+            found.count += 1;
+            found.sum = found.sum.wrapping_add(i128::from(life.pair.value));
+            found.least = Some(found.least.unwrap_or(life.pair));
+            found.greatest = Some(life.pair);
         }
     }
     found

@@ -9,3 +9,4 @@ mod MovedEnds
 mod Results
 mod Held
 mod Collected
+mod InRange

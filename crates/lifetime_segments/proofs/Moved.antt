@@ -1,43 +1,43 @@
 -- A trie has its lifetimes in any order, and knows of them what lies in its span.
-use Rattle.std.proofs.Common.{◌≡◌, ℕ, zero, suc, ◌≤◌, ◌<◌, Bool, true, List, [], ◌∷◌, append-nil, length, sym, ap, ◌∙◌, arith}
+use Rattle.std.proofs.Common.{◌≡◌, ℕ, zero, suc, ◌≤◌, ◌<◌, Bool, true, cond, Some, None, List, [], ◌∷◌, append-nil, length, sym, ap, ◌∙◌, arith}
 use Rattle.std.specs.Prelude.{◌^◌}
 use Rattle.lifetime_segments.specs.declared.lifetime.Lifetime.{Lifetime}
 use Rattle.lifetime_segments.specs.declared.trie.Trie.{Trie, Few, Full'}
 use Rattle.lifetime_segments.specs.declared.trie.Node.{Node}
 use Rattle.lifetime_segments.specs.Ordered.{IsOrder, AreInOrder, put_in, in_order, is_in, without}
 use Rattle.lifetime_segments.specs.OrderedLaws.{length-in_order, in_order-kept, in_order-put_in, put_in-swap, put_in-without, without-ordered}
-use Rattle.lifetime_segments.specs.Lifetimes.{stands_earlier, items_at}
-use Rattle.lifetime_segments.specs.LifetimeLaws.{earlier_order, items_at-in_order}
+use Rattle.lifetime_segments.specs.Lifetimes.{stands_by_item, stands_earlier, items_at, holds}
+use Rattle.lifetime_segments.specs.LifetimeLaws.{by_item_order, earlier_order}
 use Rattle.lifetime_segments.specs.Tries.{IsOf, IsOfNode, AreSome, ending, in_first, in_second, parts, wholes}
 use Rattle.lifetime_segments.proofs.Parts.{part, whole_item, first_part, second_part, parts-taken, wholes-parts, first-parts, second-parts, parts-parts, items-parts, part-past}
-use Rattle.lifetime_segments.proofs.Taken.{with, taken, taken-alike, taken-in_order}
+use Rattle.lifetime_segments.proofs.Taken.{with, taken, mapped, taken-alike, taken-in_order}
 
 -- as much of these lifetimes lies in a span as of others
 abbrev pub AreAlike : {A : Type 0} → (A → A → Bool) → ℕ → List (Lifetime A) → List (Lifetime A) → Type 0
-AreAlike before level lives others = in_order (stands_earlier before) (parts level lives) ≡ in_order (stands_earlier before) (parts level others)
+AreAlike before level lives others = in_order (stands_by_item before) (parts level lives) ≡ in_order (stands_by_item before) (parts level others)
 
 module _ {A : Type 0} {before : A → A → Bool} (order : IsOrder before) where
   wholes-alike : (level : ℕ) (lives others : List (Lifetime A)) → AreAlike before level lives others → in_order before (wholes level lives) ≡ in_order before (wholes level others)
   wholes-alike level lives others alike =
       ap (in_order before) (wholes-parts level lives)
-      ∙ taken-alike (stands_earlier before) order (whole_item level) (parts level lives) (parts level others) alike
+      ∙ taken-alike (stands_by_item before) order (whole_item level) (parts level lives) (parts level others) alike
       ∙ sym (ap (in_order before) (wholes-parts level others))
 
   some-alike : (level : ℕ) (lives others : List (Lifetime A)) → AreAlike before level lives others → AreSome level lives → AreSome level others
   some-alike level lives others alike some =
-      omega (arith, ap length alike, length-in_order (stands_earlier before) (parts level lives), length-in_order (stands_earlier before) (parts level others), some)
+      omega (arith, ap length alike, length-in_order (stands_by_item before) (parts level lives), length-in_order (stands_by_item before) (parts level others), some)
 
   first-alike : (level : ℕ) (lives others : List (Lifetime A)) → AreAlike before (suc level) lives others → AreAlike before level (in_first level lives) (in_first level others)
   first-alike level lives others alike =
-      ap (in_order (stands_earlier before)) (first-parts level lives)
-      ∙ taken-alike (stands_earlier before) (earlier_order order) (first_part level) (parts (suc level) lives) (parts (suc level) others) alike
-      ∙ sym (ap (in_order (stands_earlier before)) (first-parts level others))
+      ap (in_order (stands_by_item before)) (first-parts level lives)
+      ∙ taken-alike (stands_by_item before) (by_item_order order) (first_part level) (parts (suc level) lives) (parts (suc level) others) alike
+      ∙ sym (ap (in_order (stands_by_item before)) (first-parts level others))
 
   second-alike : (level : ℕ) (lives others : List (Lifetime A)) → AreAlike before (suc level) lives others → AreAlike before level (in_second level lives) (in_second level others)
   second-alike level lives others alike =
-      ap (in_order (stands_earlier before)) (second-parts level lives)
-      ∙ taken-alike (stands_earlier before) (earlier_order order) (second_part level) (parts (suc level) lives) (parts (suc level) others) alike
-      ∙ sym (ap (in_order (stands_earlier before)) (second-parts level others))
+      ap (in_order (stands_by_item before)) (second-parts level lives)
+      ∙ taken-alike (stands_by_item before) (by_item_order order) (second_part level) (parts (suc level) lives) (parts (suc level) others) alike
+      ∙ sym (ap (in_order (stands_by_item before)) (second-parts level others))
 
   module _ {M : Type 0} where
     pub of_alike : (level : ℕ) (lives others : List (Lifetime A)) (trie : Trie A M) → AreAlike before level lives others → IsOf before level lives trie → IsOf before level others trie
@@ -64,9 +64,9 @@ module _ {A : Type 0} {before : A → A → Bool} (order : IsOrder before) where
   -- the same lifetimes in another order
   reordered : (level : ℕ) (lives others : List (Lifetime A)) → in_order (stands_earlier before) lives ≡ in_order (stands_earlier before) others → AreAlike before level lives others
   reordered level lives others same =
-      ap (in_order (stands_earlier before)) (parts-taken level lives)
-      ∙ taken-alike (stands_earlier before) (earlier_order order) (part level) lives others same
-      ∙ sym (ap (in_order (stands_earlier before)) (parts-taken level others))
+      ap (in_order (stands_by_item before)) (parts-taken level lives)
+      ∙ taken-alike (stands_earlier before) (by_item_order order) (part level) lives others same
+      ∙ sym (ap (in_order (stands_by_item before)) (parts-taken level others))
 
   -- the first two lifetimes of a node
   pub node_swapped : {M : Type 0} (level : ℕ) (x y : Lifetime A) (lives : List (Lifetime A)) (node : Node A M) → IsOfNode before level (x ∷ y ∷ lives) node → IsOfNode before level (y ∷ x ∷ lives) node
@@ -102,24 +102,26 @@ module _ {A : Type 0} {before : A → A → Bool} (order : IsOrder before) where
       → IsOf before level (life ∷ lives) trie → IsOf before level (ending next life ∷ lives) trie
   of_past level next life lives trie ends next_ends is_of =
       of_alike level (life ∷ lives) (ending next life ∷ lives) trie
-      (ap (in_order (stands_earlier before))
+      (ap (in_order (stands_by_item before))
       (parts-taken level (life ∷ lives)
       ∙ ap (λ o. with o (taken (part level) lives)) (part-past level next life ends next_ends)
       ∙ sym (parts-taken level (ending next life ∷ lives))))
       is_of
 
   -- lifetimes that are kept as they lie in a span
-  pub few_alike : (level : ℕ) (lives few : List (Lifetime A)) → few ≡ in_order (stands_earlier before) (parts level lives) → AreAlike before level few lives
+  pub few_alike : (level : ℕ) (lives few : List (Lifetime A)) → few ≡ in_order (stands_by_item before) (parts level lives) → AreAlike before level few lives
   few_alike level lives few is =
-      let earlier = stands_earlier before in
-      ap (λ ls. in_order earlier (parts level ls)) is
-      ∙ ap (in_order earlier) (parts-taken level (in_order earlier (parts level lives)))
-      ∙ taken-in_order earlier (earlier_order order) (part level) (parts level lives)
-      ∙ ap (in_order earlier) (sym (parts-parts level lives))
+      let by_item = stands_by_item before in
+      ap (λ ls. in_order by_item (parts level ls)) is
+      ∙ ap (in_order by_item) (parts-taken level (in_order by_item (parts level lives)))
+      ∙ taken-in_order by_item (by_item_order order) (part level) (parts level lives)
+      ∙ ap (in_order by_item) (sym (parts-parts level lives))
 
-  pub few_items : (level label : ℕ) (lives few : List (Lifetime A)) → label < 2 ^ level → few ≡ in_order (stands_earlier before) (parts level lives)
+  pub few_items : (level label : ℕ) (lives few : List (Lifetime A)) → label < 2 ^ level → few ≡ in_order (stands_by_item before) (parts level lives)
       → in_order before (items_at label few) ≡ in_order before (items_at label lives)
   few_items level label lives few within is =
+      let by_item = stands_by_item before in
       ap (λ ls. in_order before (items_at label ls)) is
-      ∙ items_at-in_order order label (parts level lives)
-      ∙ sym (ap (in_order before) (items-parts level label lives within))
+      ∙ ap (in_order before) (mapped (holds label) (λ life. life.item) (in_order by_item (parts level lives)))
+      ∙ taken-in_order by_item order (λ life. cond (holds label life) (Some life.item) None) (parts level lives)
+      ∙ sym (ap (in_order before) (items-parts level label lives within ∙ mapped (holds label) (λ life. life.item) (parts level lives)))

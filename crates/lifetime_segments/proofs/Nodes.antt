@@ -10,7 +10,7 @@ use Rattle.lifetime_segments.specs.declared.trie.Node.{Node}
 use Rattle.lifetime_segments.specs.Lawful.{most_items, AreLawful}
 use Rattle.lifetime_segments.specs.Ordered.{IsOrder, AreInOrder, put_in, in_order, is_in, without}
 use Rattle.lifetime_segments.specs.OrderedLaws.{in_order-absorbs, in_order-ordered, in_order-kept, length-in_order, is_in-put_in, without-put_in}
-use Rattle.lifetime_segments.specs.Lifetimes.{holds, items_at, stands_earlier}
+use Rattle.lifetime_segments.specs.Lifetimes.{holds, items_at, stands_by_item}
 use Rattle.lifetime_segments.specs.Tries.{Has, NodeHas, HasOne, NodeHasOne, FirstHasOne, SecondHasOne, IsOf, IsOfNode, IsBare, AreSome, parts, clipped, touches}
 use Rattle.lifetime_segments.specs.Tries.{NodeKeeps, NodeAdds, NodeTakes, AddsFirst, AddsSecond, TakesFirst, TakesSecond, is_whole, wholes}
 use Rattle.lifetime_segments.specs.Tries.{in_first, in_second, seen_from, items_below}
@@ -89,16 +89,16 @@ nothing before (x ∷ xs) none = absurd (omega (arith, ap length none, length-in
 
 no_parts : {A M : Type 0} (before : A → A → Bool) (level : ℕ) (lives : List (Lifetime A)) (trie : Trie A M) → trie ≡ Few [] → IsOf before level lives trie → parts level lives ≡ []
 unfolding IsOf
-no_parts before zero lives trie none is_of = nothing (stands_earlier before) (parts zero lives) (subst (IsOf before zero lives) none is_of)
-no_parts before (suc level) lives trie none is_of = nothing (stands_earlier before) (parts (suc level) lives) (subst (IsOf before (suc level) lives) none is_of)
+no_parts before zero lives trie none is_of = nothing (stands_by_item before) (parts zero lives) (subst (IsOf before zero lives) none is_of)
+no_parts before (suc level) lives trie none is_of = nothing (stands_by_item before) (parts (suc level) lives) (subst (IsOf before (suc level) lives) none is_of)
 
 pub bare_nothing : {A M : Type 0} (before : A → A → Bool) (level : ℕ) (lives : List (Lifetime A)) (node : Node A M) → IsBare node
     → IsOfNode before level lives node → (trie : Trie A M) → trie ≡ Few [] → IsOf before level lives trie
 unfolding IsOf IsOfNode
 bare_nothing before zero lives node bare is_of trie is =
-    subst (IsOf before zero lives) (sym is) (sym (ap (in_order (stands_earlier before)) (parts-nowhere-zero lives (nothing before (wholes zero lives) (sym bare.no_items ∙ is_of.0)))))
+    subst (IsOf before zero lives) (sym is) (sym (ap (in_order (stands_by_item before)) (parts-nowhere-zero lives (nothing before (wholes zero lives) (sym bare.no_items ∙ is_of.0)))))
 bare_nothing before (suc level) lives node bare is_of trie is =
-    subst (IsOf before (suc level) lives) (sym is) (sym (ap (in_order (stands_earlier before)) (parts-nowhere level lives
+    subst (IsOf before (suc level) lives) (sym is) (sym (ap (in_order (stands_by_item before)) (parts-nowhere level lives
     (nothing before (wholes (suc level) lives) (sym bare.no_items ∙ is_of.0))
     (no_parts before level (in_first level lives) node.left bare.no_left is_of.1)
     (no_parts before level (in_second level lives) node.right bare.no_right is_of.2))))
@@ -106,8 +106,8 @@ bare_nothing before (suc level) lives node bare is_of trie is =
 -- the other way round, where nothing lies in a span there is nothing
 nothing_where : {A M : Type 0} (before : A → A → Bool) (level : ℕ) (lives : List (Lifetime A)) (trie : Trie A M) → parts level lives ≡ [] → IsOf before level lives trie → trie ≡ Few []
 unfolding IsOf
-nothing_where before zero lives (Few few) none is_of = ap Few (is_of ∙ ap (in_order (stands_earlier before)) none)
-nothing_where before (suc level) lives (Few few) none is_of = ap Few (is_of ∙ ap (in_order (stands_earlier before)) none)
+nothing_where before zero lives (Few few) none is_of = ap Few (is_of ∙ ap (in_order (stands_by_item before)) none)
+nothing_where before (suc level) lives (Few few) none is_of = ap Few (is_of ∙ ap (in_order (stands_by_item before)) none)
 nothing_where before zero lives (Full' p items left right) none is_of = absurd (omega (arith, ap length none, is_of.0))
 nothing_where before (suc level) lives (Full' p items left right) none is_of = absurd (omega (arith, ap length none, is_of.0))
 

@@ -95,7 +95,7 @@ place-point before x (y ∷ ys) (suc count) within point =
     rw past (ap suc (place-point before x ys count (omega arith) (λ k d from to. point.0 (suc k) d (omega arith) (omega arith), λ k d from to. point.1 (suc k) d (omega arith) (omega arith))))
 
 -- what holds of all elements holds of the one at a place
-all_at : {A : Type 0} (P : A → Type 0) (xs : List A) (place : ℕ) (d : A) → AllByRecursion P xs → place < length xs → P (slice_index_or xs place d)
+pub all_at : {A : Type 0} (P : A → Type 0) (xs : List A) (place : ℕ) (d : A) → AllByRecursion P xs → place < length xs → P (slice_index_or xs place d)
 all_at P [] place d all within = absurd (omega arith)
 all_at P (x ∷ xs) zero d all within = all.0
 all_at P (x ∷ xs) (suc place) d all within = all_at P xs place d all.1 (omega arith)

@@ -1,5 +1,6 @@
 -- What a search over items in their order owes.
-use Rattle.std.specs.Prelude.{◌≡◌, ℕ, ◌+◌, ◌*◌, ◌≤◌, Bool, List, [], ◌++◌, length}
+use Rattle.std.specs.Prelude.{◌≡◌, ℕ, ◌+◌, ◌*◌, ◌≤◌, ◌<◌, Bool, true, false, List, [], ◌++◌, length}
+use Rattle.std.specs.List.{AllByRecursion}
 use Rattle.retro_base.specs.Limits.{most_rows}
 use Rattle.lifetime_segments.specs.Ordered.{AreInOrder, in_order}
 
@@ -38,3 +39,18 @@ pub record SearchLaws {A Q P : Type 0} (before : A → A → Bool) (answer : Lis
   pub of_none : (query : Q) → answer [] query ≡ empty
   pub left_unit : (xs : List A) (query : Q) → IsLawful before xs → combined empty (answer xs query) ≡ answer xs query
   pub right_unit : (xs : List A) (query : Q) → IsLawful before xs → combined (answer xs query) empty ≡ answer xs query
+
+-- the answer to a query over some items in their order, which may be one more
+pub record IsAnswer {A Q P : Type 0} (before : A → A → Bool) (answer : List A → Q → P) (query : Q) (part : P) : Type 0 where
+  pub items : List A
+  pub ordered : AreInOrder before items
+  pub room : length items < most_items
+  pub answers : part ≡ answer items query
+
+-- a query has a lower and an upper end in the order: what stands before an item below the lower end is below it too, what stands
+-- after an item above the upper end is above it too, and items that are all below, or all above, answer as none do
+pub record RangeLaws {A Q P : Type 0} (before : A → A → Bool) (answer : List A → Q → P) (below above : Q → A → Bool) : Type 0 where
+  pub below_downward : (query : Q) (x y : A) → before y x ≡ false → below query y ≡ true → below query x ≡ true
+  pub above_upward : (query : Q) (x y : A) → before y x ≡ false → above query x ≡ true → above query y ≡ true
+  pub of_below : (xs : List A) (query : Q) → AllByRecursion (λ x. below query x ≡ true) xs → answer xs query ≡ answer [] query
+  pub of_above : (xs : List A) (query : Q) → AllByRecursion (λ x. above query x ≡ true) xs → answer xs query ≡ answer [] query

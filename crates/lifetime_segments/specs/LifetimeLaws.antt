@@ -1,12 +1,12 @@
--- The order of lifetimes is strict and total, and which items are there at a label does not depend on it.
+-- Both orders of lifetimes are strict and total, and which items are there at a label does not depend on the order of the list.
 use Rattle.std.proofs.Common.{◌≡◌, ℕ, ◌<◌, ◌⊎◌, Bool, true, false, cond, List, [], ◌∷◌, inl, inr, refl, sym, ap, ◌∙◌, arith}
-use Rattle.std.specs.Prelude.{◌==◌, ◌&&◌, ◌||◌, nat_lt, map}
+use Rattle.std.specs.Prelude.{◌==◌, ◌&&◌, ◌||◌, not, nat_lt, map}
 use Rattle.std.specs.List.{filter}
 use Rattle.std.proofs.lemmas.Bool.Decides.{nat_tests}
 use Rattle.lifetime_segments.specs.declared.lifetime.Lifetime.{Lifetime}
 use Rattle.lifetime_segments.specs.Ordered.{IsOrder, put_in, in_order}
 use Rattle.lifetime_segments.specs.OrderedLaws.{put_in-swap}
-use Rattle.lifetime_segments.specs.Lifetimes.{lifetime, holds, items_at, stands_earlier}
+use Rattle.lifetime_segments.specs.Lifetimes.{lifetime, holds, items_at, stands_earlier, stands_by_item}
 
 -- a strict order whose ties are the same in some sense
 record IsOrderUpTo {X : Type 0} (before : X → X → Bool) (Same : X → X → Type 0) : Type 0 where
@@ -60,6 +60,61 @@ order_by {X} f rest Same order = record {
   ];
 }
 
+-- by an order of something first, and by another one where that has a tie
+abbrev tied_by : {Y : Type 0} → (Y → Y → Bool) → Y → Y → Bool → Bool
+tied_by before a b rest = before a b || (not (before b a) && rest)
+
+module _ {Y : Type 0} {before : Y → Y → Bool} (order : IsOrder before) where
+  tied_by-less : (a b : Y) (rest : Bool) → before a b ≡ true → tied_by before a b rest ≡ true
+  tied_by-less a b rest less = ap (λ up. up || (not (before b a) && rest)) less
+
+  tied_by-same : (a : Y) (rest : Bool) → tied_by before a a rest ≡ rest
+  tied_by-same a rest = ap (λ up. up || (not up && rest)) (order.strict a)
+
+  tied_by-true : (a b : Y) (rest : Bool) → tied_by before a b rest ≡ true → (before a b ≡ true) ⊎ ((a ≡ b) × (rest ≡ true))
+  tied_by-true a b rest up = elim (before a b) as (λ u. before a b ≡ u → (u || (not (before b a) && rest)) ≡ true → (u ≡ true) ⊎ ((a ≡ b) × (rest ≡ true))) [
+    | true ↦ λ _ _. inl refl
+    | false ↦ λ not_up. elim (before b a) as (λ d. before b a ≡ d → (not d && rest) ≡ true → (false ≡ true) ⊎ ((a ≡ b) × (rest ≡ true))) [
+      | true ↦ λ _ never. absurd (cc)
+      | false ↦ λ not_down there. inr (order.total a b not_up not_down, there)
+    ] refl
+  ] refl up
+
+  tied_by-false : (a b : Y) (rest : Bool) → tied_by before a b rest ≡ false → (before b a ≡ true) ⊎ ((a ≡ b) × (rest ≡ false))
+  tied_by-false a b rest up = elim (before a b) as (λ u. before a b ≡ u → (u || (not (before b a) && rest)) ≡ false → (before b a ≡ true) ⊎ ((a ≡ b) × (rest ≡ false))) [
+    | true ↦ λ _ never. absurd (cc)
+    | false ↦ λ not_up. elim (before b a) as (λ d. before b a ≡ d → (not d && rest) ≡ false → (d ≡ true) ⊎ ((a ≡ b) × (rest ≡ false))) [
+      | true ↦ λ _ _. inl refl
+      | false ↦ λ not_down gone. inr (order.total a b not_up not_down, gone)
+    ] refl
+  ] refl up
+
+  tied_order : {X : Type 0} (f : X → Y) (rest : X → X → Bool) (Same : X → X → Type 0) → IsOrderUpTo rest Same
+      → IsOrderUpTo (λ x y. tied_by before (f x) (f y) (rest x y)) (λ x y. (f x ≡ f y) × Same x y)
+  tied_order {X} f rest Same ties = record {
+    strict = λ x. tied_by-same (f x) (rest x x) ∙ ties.strict x;
+    chains = λ x y z first second. elim (tied_by-true (f x) (f y) (rest x y) first) [
+      | inl less ↦ elim (tied_by-true (f y) (f z) (rest y z) second) [
+        | inl later ↦ tied_by-less (f x) (f z) (rest x z) (order.chains (f x) (f y) (f z) less later)
+        | inr level ↦ tied_by-less (f x) (f z) (rest x z) (ap (before (f x)) (sym level.0) ∙ less)
+      ]
+      | inr tied ↦ elim (tied_by-true (f y) (f z) (rest y z) second) [
+        | inl later ↦ tied_by-less (f x) (f z) (rest x z) (ap (λ a. before a (f z)) tied.0 ∙ later)
+        | inr level ↦ ap (λ a. tied_by before a (f z) (rest x z)) (tied.0 ∙ level.0) ∙ tied_by-same (f z) (rest x z) ∙ ties.chains x y z tied.1 level.1
+      ]
+    ];
+    total = λ x y first second. elim (tied_by-false (f x) (f y) (rest x y) first) [
+      | inl over ↦ elim (tied_by-false (f y) (f x) (rest y x) second) [
+        | inl under ↦ absurd (let loop : true ≡ false = sym (order.chains (f y) (f x) (f y) over under) ∙ order.strict (f y) in cc)
+        | inr level ↦ absurd (let loop : true ≡ false = sym over ∙ ap (λ a. before a (f x)) level.0 ∙ order.strict (f x) in cc)
+      ]
+      | inr tied ↦ elim (tied_by-false (f y) (f x) (rest y x) second) [
+        | inl under ↦ absurd (let loop : true ≡ false = sym under ∙ ap (λ a. before a (f y)) tied.0 ∙ order.strict (f y) in cc)
+        | inr level ↦ (tied.0, ties.total x y tied.1 level.1)
+      ]
+    ];
+  }
+
 module _ {A : Type 0} {before : A → A → Bool} (order : IsOrder before) where
   by_item : IsOrderUpTo (λ (x : Lifetime A) (y : Lifetime A). before x.item y.item) (λ x y. x.item ≡ y.item)
   by_item = record {
@@ -81,6 +136,36 @@ module _ {A : Type 0} {before : A → A → Bool} (order : IsOrder before) where
         same_lifetime : (x y : Lifetime A) → (x.from ≡ y.from) × ((x.to ≡ y.to) × (x.item ≡ y.item)) → x ≡ y
         same_lifetime x y same =
             let parts : lifetime x.from x.to x.item ≡ lifetime y.from y.to y.item = ap (λ n. lifetime n x.to x.item) same.0 ∙ ap (λ n. lifetime y.from n x.item) same.1.0 ∙ ap (lifetime y.from y.to) same.1.1 in
+            parts
+
+  -- by their items they have another one
+  pub by_item_order : IsOrder (stands_by_item before)
+  by_item_order =
+      let by_from = order_by (λ (x : Lifetime A). x.from) (λ x y. nat_lt x.to y.to) (λ x y. x.to ≡ y.to) by_to in
+      let by_item_first = tied_order order (λ (x : Lifetime A). x.item) (λ x y. by x.from y.from (nat_lt x.to y.to)) (λ x y. (x.from ≡ y.from) × (x.to ≡ y.to)) by_from in
+      record {
+        strict = by_item_first.strict;
+        chains = by_item_first.chains;
+        total = λ x y first second. same_lifetime x y (by_item_first.total x y first second);
+      } where
+        by_to : IsOrderUpTo (λ (x : Lifetime A) (y : Lifetime A). nat_lt x.to y.to) (λ x y. x.to ≡ y.to)
+        by_to = record {
+          strict = λ x. less_itself x.to;
+          chains = λ x y z. less_chains x.to y.to z.to;
+          total = λ x y. less_neither x.to y.to;
+        } where
+          less_itself : (n : ℕ) → nat_lt n n ≡ false
+          less_itself n = grind (arith, nat_tests)
+
+          less_chains : (m n o : ℕ) → nat_lt m n ≡ true → nat_lt n o ≡ true → nat_lt m o ≡ true
+          less_chains m n o first second = grind (arith, nat_tests)
+
+          less_neither : (m n : ℕ) → nat_lt m n ≡ false → nat_lt n m ≡ false → m ≡ n
+          less_neither m n first second = grind (arith, nat_tests)
+
+        same_lifetime : (x y : Lifetime A) → (x.item ≡ y.item) × ((x.from ≡ y.from) × (x.to ≡ y.to)) → x ≡ y
+        same_lifetime x y same =
+            let parts : lifetime x.from x.to x.item ≡ lifetime y.from y.to y.item = ap (λ n. lifetime n x.to x.item) same.1.0 ∙ ap (λ n. lifetime y.from n x.item) same.1.1 ∙ ap (lifetime y.from y.to) same.0 in
             parts
 
   -- an element that is put in, or not

@@ -1,5 +1,5 @@
 -- Items, and the labels at which they are there.
-use Rattle.std.specs.Prelude.{◌==◌, ◌<◌, ◌≤◌, ◌&&◌, ◌||◌, ◌^◌, ℕ, Bool, nat_le, nat_lt, List, map}
+use Rattle.std.specs.Prelude.{◌==◌, ◌<◌, ◌≤◌, ◌&&◌, ◌||◌, ◌^◌, ℕ, Bool, not, nat_le, nat_lt, List, map}
 use Rattle.std.specs.List.{filter}
 use Rattle.lifetime_segments.specs.declared.lifetime.Lifetime.{Lifetime}
 
@@ -29,3 +29,9 @@ abbrev pub stands_earlier : {A : Type 0} → (A → A → Bool) → Lifetime A �
 stands_earlier before first second =
     nat_lt first.from second.from
     || ((first.from == second.from) && (nat_lt first.to second.to || ((first.to == second.to) && before first.item second.item)))
+
+-- the few lifetimes of a span stand by their items, then by where they begin, then by where they end
+abbrev pub stands_by_item : {A : Type 0} → (A → A → Bool) → Lifetime A → Lifetime A → Bool
+stands_by_item before first second =
+    before first.item second.item
+    || (not (before second.item first.item) && (nat_lt first.from second.from || ((first.from == second.from) && nat_lt first.to second.to)))

@@ -6,7 +6,7 @@ use Rattle.lifetime_segments.specs.declared.trie.Trie.{Trie, Few, Full'}
 use Rattle.lifetime_segments.specs.declared.trie.Node.{Node}
 use Rattle.lifetime_segments.specs.Lawful.{most_items}
 use Rattle.lifetime_segments.specs.Ordered.{AreInOrder, in_order}
-use Rattle.lifetime_segments.specs.Lifetimes.{IsInRange, items_at, stands_earlier}
+use Rattle.lifetime_segments.specs.Lifetimes.{IsInRange, items_at, stands_by_item, stands_earlier}
 
 -- a lifetime that ends at another label
 abbrev pub ending : {A : Type 0} → ℕ → Lifetime A → Lifetime A
@@ -64,8 +64,8 @@ IsNothing trie = trie ≡ Few []
 -- the trie of a span has these lifetimes: as they lie in it, or each in the span where it holds it whole, and else in its halves. So
 -- a span is divided only where there are lifetimes in it, and that of one label never into halves
 unfoldable pub IsOf : {A M : Type 0} → (A → A → Bool) → ℕ → List (Lifetime A) → Trie A M → Type 0
-IsOf before zero lives (Few few) = few ≡ in_order (stands_earlier before) (parts zero lives)
-IsOf before (suc level) lives (Few few) = few ≡ in_order (stands_earlier before) (parts (suc level) lives)
+IsOf before zero lives (Few few) = few ≡ in_order (stands_by_item before) (parts zero lives)
+IsOf before (suc level) lives (Few few) = few ≡ in_order (stands_by_item before) (parts (suc level) lives)
 IsOf before zero lives (Full' p items left right) =
     AreSome zero lives × (items ≡ in_order before (wholes zero lives)) × IsNothing left × IsNothing right
 IsOf before (suc level) lives (Full' p items left right) =

@@ -1,7 +1,6 @@
 //! The items on the way to a label.
 ghost use Rattle.std.specs.Prelude.{◌≡◌, ◌<◌, ◌≤◌, ◌^◌, ◌++◌, suc, [], OnOk, IfOk};
-ghost use Rattle.lifetime_segments.specs.Lifetimes.{items_at, stands_earlier};
-ghost use Rattle.lifetime_segments.specs.Ordered.{AreInOrder};
+ghost use Rattle.lifetime_segments.specs.Lifetimes.{items_at};
 ghost use Rattle.lifetime_segments.specs.Tries.{CollectsAt, NodeCollectsAt};
 
 use crate::decomposable::Decomposable;
@@ -42,7 +41,7 @@ fn collect<D: Decomposable>(
     ensures { OnOk result (CollectsAt D.stands_before level label trie.now items.old.items items.new.items) }
 {
     let node = match trie {
-        Trie::Few(few) => return append_few::<D>(few, label, items),
+        Trie::Few(few) => return append_few(few, label, items),
         Trie::Full(node) => node,
     };
     append(&node.items, items)?;
@@ -85,19 +84,16 @@ fn append<T: Measured>(tree: &Tree<T>, items: &mut Vec<T>) -> Result<(), NoMemor
     Ok(())
 }
 
-/// Appends the items of those of a few lifetimes that hold a label: none does from the first one on that begins after it.
-fn append_few<D: Decomposable>(
-    few: &LifeList<D::Item>,
+/// Appends the items of those of a few lifetimes that hold a label.
+fn append_few<T: Measured>(
+    few: &LifeList<T>,
     label: u64,
-    items: &mut Vec<D::Item>,
+    items: &mut Vec<T>,
 ) -> Result<(), NoMemory>
-    ensures { OnOk result (AreInOrder (stands_earlier D.stands_before) few.now → items.new.items ≡ items.old.items ++ items_at label few.now) }
+    ensures { OnOk result (items.new.items ≡ items.old.items ++ items_at label few.now) }
 {
     for place in 0..few.len() {
         let life = few.get(place);
-        if label < life.from {
-            return Ok(());
-        }
         if life.holds(label) {
             items.push(life.item)?;
         }

@@ -1,7 +1,7 @@
 //! What a search over items owes: the traits.
 ghost use Rattle.std.specs.Prelude.{◌≡◌, ◌∷◌, [], Bool, List};
 ghost use Rattle.lifetime_segments.specs.Ordered.{IsOrder};
-ghost use Rattle.lifetime_segments.specs.Lawful.{IsLawful, AnswerTogether, SearchLaws};
+ghost use Rattle.lifetime_segments.specs.Lawful.{IsLawful, IsAnswer, AnswerTogether, RangeLaws, SearchLaws};
 
 use monoid_laws::Measured;
 use weighted_tree::Tree;
@@ -56,9 +56,28 @@ pub trait Decomposable {
     ghost laws: { SearchLaws stands_before answer empty_part combined };
 }
 
-/// A search that answers over one item without a tree of it: a span that keeps few lifetimes is asked so.
-pub trait AnswersOfOne: Decomposable {
-    /// The answer over one item.
-    fn ask_one(item: &Self::Item, query: Self::Query) -> Self::Part
-        ensures { result ≡ Self.answer (item.now ∷ []) query };
+/// A search whose queries have a lower and an upper end in the order, and which adds one item to an answer: a span that keeps
+/// few lifetimes is asked so.
+pub trait RangeSearch: Decomposable {
+    /// Whether an item stands below the lower end of a query.
+    ghost below: { Self.Query → Self.Item → Bool };
+
+    /// Whether an item stands above the upper end of a query.
+    ghost above: { Self.Query → Self.Item → Bool };
+
+    /// Whether an item stands below the lower end of a query.
+    fn is_below(item: &Self::Item, query: Self::Query) -> bool
+        ensures { result ≡ below query item.now };
+
+    /// Whether an item stands above the upper end of a query.
+    fn is_above(item: &Self::Item, query: Self::Query) -> bool
+        ensures { result ≡ above query item.now };
+
+    /// The answer over the items of an answer to the query, and one more.
+    fn with_one(part: Self::Part, item: &Self::Item, query: Self::Query) -> Self::Part
+        requires answer { IsAnswer Self.stands_before Self.answer query part }
+        ensures { result ≡ Self.combined part (Self.answer (item.now ∷ []) query) };
+
+    /// What is below and above goes with the order, and items that are all below, or all above, answer as none do.
+    ghost range_laws: { RangeLaws Self.stands_before Self.answer below above };
 }

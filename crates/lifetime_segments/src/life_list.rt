@@ -1,12 +1,12 @@
-//! The lifetimes of a span that has few: a vector of them, in their order.
-ghost use Rattle.std.specs.Prelude.{◌≡◌, ◌<◌, ◌≤◌, true, [], length, slice_get, slice_set, Some, OnOk, OnErr};
-ghost use Rattle.std.specs.List.{insert, remove};
-ghost use Rattle.lifetime_segments.specs.Lifetimes.{stands_earlier};
+//! The lifetimes of a span that has few: a vector of them, by their items.
+ghost use Rattle.std.specs.Prelude.{◌≡◌, ◌<◌, ◌≤◌, true, [], length, take, slice_get, slice_set, Some, OnOk, OnErr};
+ghost use Rattle.std.specs.List.{AllByRecursion, insert, remove};
+ghost use Rattle.lifetime_segments.specs.Lifetimes.{stands_by_item};
 ghost use Rattle.lifetime_segments.specs.Ordered.{AreInOrder, put_in, is_in, without, place_in};
 
-use crate::decomposable::Decomposable;
+use crate::decomposable::{Decomposable, RangeSearch};
 use crate::lifetime::Lifetime;
-use crate::sorted::{ByStart, Order, is_beside};
+use crate::sorted::{LivesByItem, Order, is_beside};
 use monoid_laws::Measured;
 use retro_base::NoMemory;
 use std::alloc::Global;
@@ -85,12 +85,23 @@ impl<T: Measured> LifeList<T> {
     }
 }
 
+/// Lifetimes in front whose items are below the lower end of a query: so many that the next one is not.
+pub(crate) fn place_from<D: RangeSearch>(few: &LifeList<D::Item>, query: D::Query) -> usize
+    requires ordered { AreInOrder (stands_by_item D.stands_before) few.now }
+    ensures within { result ≤ length few.now }
+    ensures below { AllByRecursion (λ life. D.below query life.item ≡ true) (take result few.now) }
+{
+    few.lives
+        .as_slice()
+        .partition_point(|life: &Lifetime<D::Item>| D::is_below(&life.item, query))
+}
+
 /// How many of the lifetimes stand before one: its place among them.
 fn life_place<D: Decomposable>(few: &LifeList<D::Item>, life: &Lifetime<D::Item>) -> usize
-    requires ordered { AreInOrder (stands_earlier D.stands_before) few.now }
-    ensures { result ≡ place_in (stands_earlier D.stands_before) life.now few.now }
+    requires ordered { AreInOrder (stands_by_item D.stands_before) few.now }
+    ensures { result ≡ place_in (stands_by_item D.stands_before) life.now few.now }
 {
-    few.lives.as_slice().partition_point(|other: &Lifetime<D::Item>| ByStart::<D>::before(
+    few.lives.as_slice().partition_point(|other: &Lifetime<D::Item>| LivesByItem::<D>::before(
         other, life,
     ))
 }
@@ -100,8 +111,8 @@ pub(crate) fn put_life<D: Decomposable>(
     few: &mut LifeList<D::Item>,
     life: Lifetime<D::Item>,
 ) -> Result<(), NoMemory>
-    requires ordered { AreInOrder (stands_earlier D.stands_before) few.old }
-    ensures ok { OnOk result (few.new ≡ put_in (stands_earlier D.stands_before) life few.old) }
+    requires ordered { AreInOrder (stands_by_item D.stands_before) few.old }
+    ensures ok { OnOk result (few.new ≡ put_in (stands_by_item D.stands_before) life few.old) }
     ensures err { OnErr result (few.new ≡ few.old) }
 {
     let place = life_place::<D>(few, &life);
@@ -110,9 +121,9 @@ pub(crate) fn put_life<D: Decomposable>(
 
 /// Takes a lifetime out that is there.
 pub(crate) fn take_life<D: Decomposable>(few: &mut LifeList<D::Item>, life: Lifetime<D::Item>)
-    requires ordered { AreInOrder (stands_earlier D.stands_before) few.old }
-    requires there { is_in (stands_earlier D.stands_before) life few.old ≡ true }
-    ensures { few.new ≡ without (stands_earlier D.stands_before) life few.old }
+    requires ordered { AreInOrder (stands_by_item D.stands_before) few.old }
+    requires there { is_in (stands_by_item D.stands_before) life few.old ≡ true }
+    ensures { few.new ≡ without (stands_by_item D.stands_before) life few.old }
 {
     let place = life_place::<D>(few, &life);
     few.remove(place);
@@ -125,9 +136,9 @@ pub(crate) fn exchange_lives<D: Decomposable>(
     life: Lifetime<D::Item>,
     other: Lifetime<D::Item>,
 ) -> Result<(), NoMemory>
-    requires ordered { AreInOrder (stands_earlier D.stands_before) few.old }
-    requires there { is_in (stands_earlier D.stands_before) life few.old ≡ true }
-    ensures ok { OnOk result (few.new ≡ without (stands_earlier D.stands_before) life (put_in (stands_earlier D.stands_before) other few.old)) }
+    requires ordered { AreInOrder (stands_by_item D.stands_before) few.old }
+    requires there { is_in (stands_by_item D.stands_before) life few.old ≡ true }
+    ensures ok { OnOk result (few.new ≡ without (stands_by_item D.stands_before) life (put_in (stands_by_item D.stands_before) other few.old)) }
     ensures err { OnErr result (few.new ≡ few.old) }
 {
     let place = life_place::<D>(few, &life);

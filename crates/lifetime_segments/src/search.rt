@@ -1,18 +1,18 @@
 //! The way to a label, and the answers on it.
 ghost use Rattle.std.specs.Prelude.{◌≡◌, ◌<◌, ◌≤◌, ◌^◌, suc, length};
 ghost use Rattle.lifetime_segments.specs.Lawful.{most_items};
-ghost use Rattle.lifetime_segments.specs.Lifetimes.{items_at, stands_earlier};
+ghost use Rattle.lifetime_segments.specs.Lifetimes.{items_at, stands_by_item};
 ghost use Rattle.lifetime_segments.specs.Ordered.{AreInOrder, in_order};
 ghost use Rattle.lifetime_segments.specs.Tries.{Has, NodeHas, AnswersAt, NodeAnswersAt};
 
-use crate::decomposable::AnswersOfOne;
-use crate::life_list::LifeList;
+use crate::decomposable::RangeSearch;
+use crate::life_list::{LifeList, place_from};
 use crate::lifetime::labels;
 use crate::trie::{Node, Trie};
 
 /// The answer over the items in the spans above a label, and over those of few lifetimes there.
 #[cycle(ask)]
-pub(crate) fn ask<D: AnswersOfOne>(
+pub(crate) fn ask<D: RangeSearch>(
     trie: &Trie<D::Item>,
     level: u32,
     label: u64,
@@ -36,7 +36,7 @@ pub(crate) fn ask<D: AnswersOfOne>(
 
 /// The answer over the items in the spans below a node and above a label.
 #[cycle(ask)]
-fn ask_half<D: AnswersOfOne>(
+fn ask_half<D: RangeSearch>(
     node: &Node<D::Item>,
     level: u32,
     label: u64,
@@ -55,20 +55,21 @@ fn ask_half<D: AnswersOfOne>(
     }
 }
 
-/// The answer over the items of those of a few lifetimes that hold a label: none does from the first one on that begins after it.
-fn ask_few<D: AnswersOfOne>(few: &LifeList<D::Item>, label: u64, query: D::Query) -> D::Part
+/// The answer over the items of those of a few lifetimes that hold a label. They stand by their items, so it begins at the lower
+/// end of the query and stops at the upper one.
+fn ask_few<D: RangeSearch>(few: &LifeList<D::Item>, label: u64, query: D::Query) -> D::Part
     requires few { length few.now ≤ most_items }
-    requires ordered { AreInOrder (stands_earlier D.stands_before) few.now }
+    requires ordered { AreInOrder (stands_by_item D.stands_before) few.now }
     ensures { result ≡ D.answer (in_order D.stands_before (items_at label few.now)) query }
 {
     let mut part = D::empty();
-    for place in 0..few.len() {
+    for place in place_from::<D>(few, query)..few.len() {
         let life = few.get(place);
-        if label < life.from {
+        if D::is_above(&life.item, query) {
             return part;
         }
         if life.holds(label) {
-            part = D::combine(part, D::ask_one(&life.item, query));
+            part = D::with_one(part, &life.item, query);
         }
     }
     part

@@ -8,7 +8,7 @@ ghost use Rattle.lifetime_segments.specs.Tries.{AreHeld, ending};
 
 use crate::adding::add;
 use crate::collect::collected;
-use crate::decomposable::{AnswersOfOne, Decomposable};
+use crate::decomposable::{Decomposable, RangeSearch};
 use crate::lifetime::Lifetime;
 use crate::moving::move_end;
 use crate::search::ask;
@@ -107,7 +107,7 @@ impl<D: Decomposable> Segments<D> {
     }
 }
 
-impl<D: AnswersOfOne> Segments<D> {
+impl<D: RangeSearch> Segments<D> {
     /// The answer over the items of all lifetimes that hold the label. It takes no memory.
     pub fn ask(&self, label: u64, query: D::Query) -> D::Part
         requires within { label < label_end }

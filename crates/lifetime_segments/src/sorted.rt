@@ -1,8 +1,8 @@
-//! Trees that keep their items in an order.
+//! Orders, and trees that keep their items in them.
 ghost use Rattle.std.specs.Prelude.{◌≡◌, ◌<◌, ◌≤◌, ◌^◌, Bool, true, suc, length, OnOk, OnErr};
 ghost use Rattle.lifetime_segments.specs.Ordered.{IsOrder, AreInOrder, put_in, is_in, without, place_in, position_in};
-ghost use Rattle.lifetime_segments.specs.Lifetimes.{stands_earlier};
-ghost use Rattle.lifetime_segments.specs.LifetimeLaws.{earlier_order};
+ghost use Rattle.lifetime_segments.specs.Lifetimes.{stands_by_item, stands_earlier};
+ghost use Rattle.lifetime_segments.specs.LifetimeLaws.{by_item_order, earlier_order};
 
 use crate::decomposable::Decomposable;
 use crate::lifetime::Lifetime;
@@ -11,7 +11,7 @@ use retro_base::NoMemory;
 use std::marker::PhantomData;
 use weighted_tree::{Tree, uncounted};
 
-/// An order in which a tree keeps its items.
+/// An order in which items are kept.
 pub(crate) trait Order {
     /// What stands in the order.
     type Item: Measured;
@@ -42,7 +42,7 @@ impl<D: Decomposable> Order for ByItem<D> {
     }
 }
 
-/// The order of lifetimes: by where they begin, then by where they end, then by their items.
+/// The order of a list of lifetimes: by where they begin, then by where they end, then by their items.
 pub(crate) struct ByStart<D>(PhantomData<D>);
 
 impl<D: Decomposable> Order for ByStart<D> {
@@ -57,6 +57,24 @@ impl<D: Decomposable> Order for ByStart<D> {
             || (first.from == second.from
                 && (first.to < second.to
                     || (first.to == second.to && D::before(&first.item, &second.item))))
+    }
+}
+
+/// The order of the few lifetimes of a span: by their items, then by where they begin, then by where they end.
+pub(crate) struct LivesByItem<D>(PhantomData<D>);
+
+impl<D: Decomposable> Order for LivesByItem<D> {
+    type Item = Lifetime<D::Item>;
+
+    ghost stands_before = { stands_by_item D.stands_before };
+
+    ghost order = { by_item_order D.order };
+
+    fn before(first: &Lifetime<D::Item>, second: &Lifetime<D::Item>) -> bool {
+        D::before(&first.item, &second.item)
+            || (!D::before(&second.item, &first.item)
+                && (first.from < second.from
+                    || (first.from == second.from && first.to < second.to)))
     }
 }
 

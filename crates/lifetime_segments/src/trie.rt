@@ -10,8 +10,9 @@ use weighted_tree::Tree;
 
 /// So many lifetimes of a span are kept as they are at the most.
 ///
-/// With more of them less is divided, so that an edit touches fewer spans; with fewer of them a question looks at less.
-pub(crate) const FEW: usize = 127;
+/// With more of them less is divided, so that an edit touches fewer spans and a row takes less memory; with fewer of them an
+/// insertion moves less.
+pub(crate) const FEW: usize = 255;
 
 /// The lifetimes in a span of labels: as they are, or divided over the span itself and its halves once they were more than a few.
 #[cycle(trie)]

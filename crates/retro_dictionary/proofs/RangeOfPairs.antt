@@ -7,15 +7,17 @@ use Rattle.std.proofs.lemmas.Int.{ints}
 use Rattle.std.proofs.lemmas.List.{take-take, take-append-drop, drop-take}
 use Rattle.std.proofs.lemmas.List.Elements.{filter-append}
 use Rattle.std.proofs.lemmas.Option.{slice_get_within}
-use Rattle.lifetime_segments.specs.Lawful.{AnswerTogether, most_items}
+use Rattle.lifetime_segments.specs.Lawful.{AnswerTogether, IsAnswer, most_items}
 use Rattle.lifetime_segments.specs.Ordered.{AreInOrder}
 use Rattle.retro_base.specs.Answers.{pairs_between}
 use Rattle.retro_base.specs.OrderLaws.{all_weaker, all_at}
 use Rattle.weighted_tree.specs.Partitioned.{IsPartitioned}
 use Rattle.retro_dictionary.specs.declared.pairs.Found.{Found}
+use Rattle.retro_dictionary.specs.declared.pairs.KeyRange.{KeyRange}
 use Rattle.retro_dictionary.specs.declared.search.Bound.{Bound}
 use Rattle.retro_dictionary.specs.declared.search.Bound.TheVariants.{Below, UpTo}
-use Rattle.retro_dictionary.specs.PairSearch.{pair_before, found_in}
+use Rattle.retro_dictionary.specs.PairSearch.{pair_before, found_in, found_together, none_found}
+use Rattle.retro_dictionary.specs.PairSearchLaws.{pair_laws}
 use Rattle.retro_dictionary.specs.Asked.{IsNumber}
 use Rattle.retro_dictionary.specs.Bounds.{reaches, StandUpTo, FailsAt, HasNumber}
 use Rattle.retro_dictionary.proofs.MeasuredPairs.{all_taken}
@@ -188,3 +190,11 @@ counts-fit first second both =
       filter-le (λ (pair : ℤ × ℤ). int_le both.query.low pair.0 && int_le pair.0 both.query.high) both.first_items,
       filter-le (λ (pair : ℤ × ℤ). int_le both.query.low pair.0 && int_le pair.0 both.query.high) both.second_items,
     )
+
+-- a pair in which nothing is found adds nothing to an answer
+pub nothing_more : (part : Found) (pair : ℤ × ℤ) (range : KeyRange) → IsAnswer pair_before found_in range part → none_found ≡ found_in (pair ∷ []) range → part ≡ found_together part (found_in (pair ∷ []) range)
+nothing_more part pair range is nothing =
+    is.answers
+    ∙ sym (pair_laws.right_unit is.items range (record { ordered = is.ordered; few = omega (arith, is.room) }))
+    ∙ ap (λ found. found_together found none_found) (sym is.answers)
+    ∙ ap (found_together part) nothing

@@ -40,3 +40,10 @@ none_found = found_of []
 -- what is found of the pairs of both
 abbrev pub found_together : Found → Found → Found
 found_together a b = record { count = a.count + b.count; sum = in_bits (a.sum +ℤ b.sum); least = lesser a.least b.least; greatest = greater a.greatest b.greatest }
+
+-- a pair whose key is below the lower end of a range, or above its upper end
+abbrev pub stands_below : KeyRange → ℤ × ℤ → Bool
+stands_below range pair = int_lt pair.0 range.low
+
+abbrev pub stands_above : KeyRange → ℤ × ℤ → Bool
+stands_above range pair = int_lt range.high pair.0

@@ -6,12 +6,12 @@ use Rattle.std.specs.Ordering.{int_eq}
 use Rattle.std.specs.Int.{w128}
 use Rattle.std.proofs.lemmas.Int.{ints, int_wrap_fits, SFits-int_wrap, int_wrap-add_left, int_wrap-add_right}
 use Rattle.retro_base.specs.Answers.{pairs_between, sum_of_values, last_of}
-use Rattle.lifetime_segments.specs.Lawful.{AreLawful, SearchLaws}
+use Rattle.lifetime_segments.specs.Lawful.{AreLawful, RangeLaws, SearchLaws}
 use Rattle.lifetime_segments.specs.Ordered.{IsOrder, AreInOrder, put_in, in_order}
 use Rattle.lifetime_segments.specs.OrderedLaws.{in_order-ordered, between}
 use Rattle.retro_dictionary.specs.declared.pairs.Found.{Found}
 use Rattle.retro_dictionary.specs.declared.pairs.KeyRange.{KeyRange}
-use Rattle.retro_dictionary.specs.PairSearch.{pair_before, found_of, found_in, lesser, greater, none_found, found_together, in_bits}
+use Rattle.retro_dictionary.specs.PairSearch.{pair_before, found_of, found_in, lesser, greater, none_found, found_together, in_bits, stands_above, stands_below}
 
 abbrev found : ℕ → ℤ → Option (ℤ × ℤ) → Option (ℤ × ℤ) → Found
 found count sum least greatest = record { count = count; sum = sum; least = least; greatest = greatest }
@@ -289,3 +289,37 @@ pair_laws = record {
   left_unit = λ ps range lawful. none-together (found_in ps range) (held_bits (sum_of_values (pairs_between range.low range.high ps)));
   right_unit = λ ps range lawful. together-none (found_in ps range) (held_bits (sum_of_values (pairs_between range.low range.high ps)));
 }
+
+-- pairs stand by their keys first, and those outside of a range are not found
+pub pair_range_laws : RangeLaws pair_before found_in stands_below stands_above
+pair_range_laws = record {
+  below_downward = λ range x y after low. keys_rise x y range.low after low;
+  above_upward = λ range x y after high. keys_fall x y range.high after high;
+  of_below = λ xs range all. ap found_of (none_below range xs all);
+  of_above = λ xs range all. ap found_of (none_above range xs all);
+} where
+  keys_rise : (x y : ℤ × ℤ) (low : ℤ) → pair_before y x ≡ false → int_lt y.0 low ≡ true → int_lt x.0 low ≡ true
+  keys_rise x y low after below = elim (by-false y.0 x.0 (int_lt y.1 x.1) after) [
+    | inl less ↦ grind (arith, ints)
+    | inr tied ↦ let tie : y.0 ≡ x.0 = tied.0 in grind (arith, ints)
+  ]
+
+  keys_fall : (x y : ℤ × ℤ) (high : ℤ) → pair_before y x ≡ false → int_lt high x.0 ≡ true → int_lt high y.0 ≡ true
+  keys_fall x y high after above = elim (by-false y.0 x.0 (int_lt y.1 x.1) after) [
+    | inl less ↦ grind (arith, ints)
+    | inr tied ↦ let tie : y.0 ≡ x.0 = tied.0 in grind (arith, ints)
+  ]
+
+  out_below : (low high key : ℤ) → int_lt key low ≡ true → (int_le low key && int_le key high) ≡ false
+  out_below low high key below = grind (arith, ints)
+
+  out_above : (low high key : ℤ) → int_lt high key ≡ true → (int_le low key && int_le key high) ≡ false
+  out_above low high key above = grind (arith, ints)
+
+  none_below : (range : KeyRange) (ps : List (ℤ × ℤ)) → AllByRecursion (λ p. stands_below range p ≡ true) ps → pairs_between range.low range.high ps ≡ []
+  none_below range [] all = refl
+  none_below range (p ∷ ps) all = ap (λ b. cond b (p ∷ pairs_between range.low range.high ps) (pairs_between range.low range.high ps)) (out_below range.low range.high p.0 all.0) ∙ none_below range ps all.1
+
+  none_above : (range : KeyRange) (ps : List (ℤ × ℤ)) → AllByRecursion (λ p. stands_above range p ≡ true) ps → pairs_between range.low range.high ps ≡ []
+  none_above range [] all = refl
+  none_above range (p ∷ ps) all = ap (λ b. cond b (p ∷ pairs_between range.low range.high ps) (pairs_between range.low range.high ps)) (out_above range.low range.high p.0 all.0) ∙ none_above range ps all.1

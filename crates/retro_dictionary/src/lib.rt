@@ -14,9 +14,9 @@
 //! | Call | Cost, with n rows |
 //! |---|---|
 //! | `failure_after_insert`, `failure_after_remove` | log n: one search of the rows by key |
-//! | `insert`, `remove` | one search of the rows by key, or two in a removal; for each of at most three lifetimes log² n in each of at most 80 spans, and as much for each of 127 lifetimes where a span is divided |
+//! | `insert`, `remove` | one search of the rows by key, or two in a removal; for each of at most three lifetimes log² n in each of at most 80 spans, and as much for each of 255 lifetimes where a span is divided |
 //! | `insert`, where no label is left | as much for each row; at least 22 insertions lie between two of these |
-//! | `ask`, `ask_now` | log n in each of at most 41 spans, and a look at each of at most 127 lifetimes |
+//! | `ask`, `ask_now` | log n in each of at most 41 spans, and a look at those of at most 255 lifetimes whose keys are in the range |
 //! | `all` | a walk through at most 41 spans, and a sort of the k pairs that it gives: k log k |
 //!
 //! `insert`, `remove` and `all` take memory; where there is none, all is as before.

@@ -1,4 +1,4 @@
-//! What is found of a range of keys, among the pairs of a span and in one pair.
+//! What is found of a range of keys, among the pairs of a span and with one pair more.
 
 ghost use Rattle.std.specs.Prelude.{◌≡◌, ◌-◌, ◌<◌, ◌≤◌, ◌∷◌, [], suc, true, length, slice_get, Some, IfSome, IfNone};
 ghost use Rattle.std.specs.List.{slice_range};
@@ -9,7 +9,7 @@ ghost use Rattle.retro_dictionary.specs.declared.search.Bound.TheVariants.{Below
 ghost use Rattle.retro_dictionary.specs.Bounds.{reaches, StandUpTo, FailsAt, HasNumber, IsFirstWithin, IsLastWithin};
 
 use crate::pairs::{Found, KeyPair, KeyRange};
-use lifetime_segments::{AnswersOfOne, Decomposable};
+use lifetime_segments::{Decomposable, RangeSearch};
 use weighted_tree::{Tree, uncounted};
 
 /// The search of a dictionary: how many pairs have keys in a range, their sum, and the least and the greatest of them.
@@ -65,12 +65,29 @@ impl Decomposable for PairSearch {
     }
 }
 
-impl AnswersOfOne for PairSearch {
-    fn ask_one(item: &KeyPair, query: KeyRange) -> Found {
+impl RangeSearch for PairSearch {
+    ghost use Rattle.retro_dictionary.specs.PairSearch.{stands_below, stands_above};
+    ghost use Rattle.retro_dictionary.specs.PairSearchLaws.{pair_range_laws};
+
+    ghost below = { stands_below };
+
+    ghost above = { stands_above };
+
+    ghost range_laws = { pair_range_laws };
+
+    fn is_below(item: &KeyPair, query: KeyRange) -> bool {
+        item.key < query.low
+    }
+
+    fn is_above(item: &KeyPair, query: KeyRange) -> bool {
+        query.high < item.key
+    }
+
+    fn with_one(part: Found, item: &KeyPair, query: KeyRange) -> Found {
         if item.key < query.low || query.high < item.key {
-            return PairSearch::empty();
+            return part;
         }
-        found_of_one(*item)
+        PairSearch::combine(part, found_of_one(*item))
     }
 }
 

@@ -244,6 +244,18 @@ fn pairs_are_found_by_their_lifetimes(rt: HostRuntime) {
     segments.add(2, 8, FIRST).expect(&rt, "memory");
     segments.add(4, 1 << 40, SECOND).expect(&rt, "memory");
     expect_both(&rt, &segments);
+    for (low, high, first, second) in [
+        (0, 0, false, false),
+        (0, 1, true, false),
+        (1, 1, true, false),
+        (2, 2, false, true),
+        (2, 9, false, true),
+        (3, 9, false, false),
+        (2, 1, false, false),
+    ] {
+        let range = KeyRange { low, high };
+        assert_eq!(rt; segments.ask(5, range), wanted(first, second));
+    }
     assert!(rt; segments.take(2, 8, FIRST));
     assert!(rt; !segments.take(2, 8, FIRST));
     assert_eq!(rt; found_at(&rt, &segments, 5), wanted(false, true));

@@ -1,8 +1,9 @@
 -- A search for tests: how many amounts there are, and their sum, or the greatest number where it is greater.
 use Rattle.std.proofs.Common.{◌≡◌, ℕ, zero, suc, ◌+◌, ◌≤◌, min, true, false, cond, List, [], ◌∷◌, ◌++◌, length, take, slice_get, Some, refl, ap, ◌∙◌, arith, length-append}
 use Rattle.std.specs.Prelude.{nat_lt}
+use Rattle.std.specs.List.{AllByRecursion}
 use Rattle.std.proofs.lemmas.Bool.Decides.{nat_tests}
-use Rattle.lifetime_segments.specs.Lawful.{SearchLaws}
+use Rattle.lifetime_segments.specs.Lawful.{RangeLaws, SearchLaws}
 use Rattle.lifetime_segments.specs.Ordered.{IsOrder, put_in, in_order}
 use Rattle.lifetime_segments.specs.OrderedLaws.{length-in_order}
 
@@ -71,3 +72,15 @@ total_laws = record {
   left_unit = λ xs query lawful. same_totals (0 + length xs) (length xs) (min (0 + total_of xs) greatest) (total_of xs) (omega arith) (omega (arith, total-few xs));
   right_unit = λ xs query lawful. same_totals (length xs + 0) (length xs) (min (total_of xs + 0) greatest) (total_of xs) (omega arith) (omega (arith, total-few xs));
 }
+
+-- it asks of all amounts, so none is below its range or above it
+pub total_range_laws : {Q : Type 0} → RangeLaws nat_lt (totals {Q = Q}) (λ query x. false) (λ query x. false)
+total_range_laws {Q = Q} = record {
+  below_downward = λ query x y after never. never;
+  above_upward = λ query x y after never. never;
+  of_below = none_outside;
+  of_above = none_outside;
+} where
+  none_outside : (xs : List ℕ) (query : Q) → AllByRecursion (λ (x : ℕ). false ≡ true) xs → totals xs query ≡ totals [] query
+  none_outside [] query all = refl
+  none_outside (x ∷ xs) query all = absurd (let never : false ≡ true = all.0 in cc)

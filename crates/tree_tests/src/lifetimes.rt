@@ -7,7 +7,7 @@ ghost use Rattle.lifetime_segments.specs.Lifetimes.{label_end, lifetime, stands_
 ghost use Rattle.lifetime_segments.specs.Ordered.{put_in};
 ghost use Rattle.tree_tests.specs.Totals.{total_of};
 
-use lifetime_segments::{AnswersOfOne, Decomposable, Segments};
+use lifetime_segments::{Decomposable, RangeSearch, Segments};
 use monoid_laws::{Count, Measured};
 use retro_base::Steps;
 use std::marker::{Brand, Model};
@@ -108,11 +108,28 @@ impl Decomposable for Totals {
     }
 }
 
-impl AnswersOfOne for Totals {
-    fn ask_one(item: &Amount, _query: ()) -> Total {
+impl RangeSearch for Totals {
+    ghost use Rattle.std.specs.Prelude.{false};
+    ghost use Rattle.tree_tests.specs.Totals.{total_range_laws};
+
+    ghost below = { λ query amount. false };
+
+    ghost above = { λ query amount. false };
+
+    ghost range_laws = { total_range_laws };
+
+    fn is_below(_item: &Amount, _query: ()) -> bool {
+        false
+    }
+
+    fn is_above(_item: &Amount, _query: ()) -> bool {
+        false
+    }
+
+    fn with_one(part: Total, item: &Amount, _query: ()) -> Total {
         Total {
-            count: 1,
-            sum: u64::from(item.value),
+            count: part.count + 1,
+            sum: part.sum.saturating_add(u64::from(item.value)),
         }
     }
 }
@@ -245,16 +262,16 @@ fn expect_ones(rt: &impl Abort, segments: &Segments<Totals>, label: u64, count: 
 #[test]
 fn answers_around_the_first_division(rt: HostRuntime) {
     let mut segments = Segments::<Totals>::new(rt.alloc());
-    add_ones(&rt, &mut segments, 0, 127);
-    for (label, count) in [(0, 1), (49, 50), (126, 50), (127, 49), (176, 0)] {
+    add_ones(&rt, &mut segments, 0, 255);
+    for (label, count) in [(0, 1), (49, 50), (254, 50), (255, 49), (304, 0)] {
         expect_ones(&rt, &segments, label, count);
     }
-    add_ones(&rt, &mut segments, 127, 128);
-    for (label, count) in [(0, 1), (49, 50), (126, 50), (127, 50), (176, 1)] {
+    add_ones(&rt, &mut segments, 255, 256);
+    for (label, count) in [(0, 1), (49, 50), (254, 50), (255, 50), (304, 1)] {
         expect_ones(&rt, &segments, label, count);
     }
-    assert!(rt; segments.take(127, 177, Amount { value: 1 }));
-    for (label, count) in [(126, 50), (127, 49), (176, 0)] {
+    assert!(rt; segments.take(255, 305, Amount { value: 1 }));
+    for (label, count) in [(254, 50), (255, 49), (304, 0)] {
         expect_ones(&rt, &segments, label, count);
     }
 }
@@ -262,15 +279,15 @@ fn answers_around_the_first_division(rt: HostRuntime) {
 #[test]
 fn answers_where_more_than_a_few_are_there(rt: HostRuntime) {
     let mut segments = Segments::<Totals>::new(rt.alloc());
-    add_ones(&rt, &mut segments, 0, 200);
+    add_ones(&rt, &mut segments, 0, 400);
     for (label, count) in [
         (0, 1),
         (10, 11),
         (49, 50),
         (60, 50),
-        (199, 50),
-        (248, 1),
-        (249, 0),
+        (399, 50),
+        (448, 1),
+        (449, 0),
     ] {
         expect_ones(&rt, &segments, label, count);
     }
@@ -280,9 +297,9 @@ fn answers_where_more_than_a_few_are_there(rt: HostRuntime) {
 fn edits_where_more_than_a_few_are_there(rt: HostRuntime) {
     let mut segments = Segments::<Totals>::new(rt.alloc());
     let item = Amount { value: 1 };
-    add_ones(&rt, &mut segments, 0, 200);
+    add_ones(&rt, &mut segments, 0, 400);
     segments.move_end(10, 60, 140, item).expect(&rt, "memory");
-    for from in 20..190 {
+    for from in 20..390 {
         assert!(rt; segments.take(from, from + 50, item));
     }
     for (label, count) in [
@@ -292,8 +309,8 @@ fn edits_where_more_than_a_few_are_there(rt: HostRuntime) {
         (69, 1),
         (139, 1),
         (140, 0),
-        (195, 6),
-        (240, 9),
+        (395, 6),
+        (440, 9),
     ] {
         expect_ones(&rt, &segments, label, count);
     }

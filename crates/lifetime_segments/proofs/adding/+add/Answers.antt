@@ -3,7 +3,7 @@ use Rattle.std.specs.List.{AllByRecursion}
 use Rattle.std.proofs.lemmas.List.{drop_all}
 use Rattle.retro_base.specs.OrderLaws.{all_at}
 use Rattle.lifetime_segments.specs.Lawful.{most_items}
-use Rattle.lifetime_segments.specs.Lifetimes.{stands_earlier}
+use Rattle.lifetime_segments.specs.Lifetimes.{stands_by_item}
 use Rattle.lifetime_segments.specs.Ordered.{put_in}
 use Rattle.lifetime_segments.specs.Tries.{IsOfNode, Touches, NodeAdds, NodeKeeps, Has, NodeHas, is_whole, in_first, in_second}
 use Rattle.lifetime_segments.proofs.Results.{ok_weaker, err_weaker, err_always}
@@ -122,7 +122,7 @@ add-returns-then-len-lt-FEW-clause-ok g t c =
     (λ put lives is_of.
     of_few before c.args.level (c.args.life ∷ lives) c.put_life.new.few _ refl
     (few_with g.met.D.Decomposable.order c.args.level c.args.life lives c.in-Few.few c.put_life.new.few (record { rises = c.requires.rises; begins = c.requires.begins })
-    (put ∙ ap (λ life. put_in (stands_earlier before) life c.in-Few.few) c.clipped.ensures)
+    (put ∙ ap (λ life. put_in (stands_by_item before) life c.in-Few.few) c.clipped.ensures)
     (few_of before c.args.level lives c.in-Few.few c.args.trie.now c.in-Few.is is_of)))
     c.put_life.ensures.ok
 

@@ -1,6 +1,5 @@
 use Rattle.std.proofs.Common.{◌≡◌, ◌<◌, ◌≤◌, ◌-◌, ◌^◌, ◌++◌, suc, refl, sym, subst, ap, ◌∙◌, arith}
 use Rattle.lifetime_segments.specs.Tries.{IsOfNode, CollectsAt}
-use Rattle.lifetime_segments.proofs.FewLives.{few_of, few_ordered}
 use Rattle.lifetime_segments.proofs.Nodes.{LeadsTo, leads_by, node_of}
 use Rattle.lifetime_segments.proofs.Collected.{collects_few, collects_zero, collects_more, collects_first, collects_second}
 use Rattle.lifetime_segments.proofs.Results.{ok_weaker}
@@ -8,12 +7,8 @@ use Rattle.lifetime_segments.proofs.collect.+collect.Goals as goal
 
 pub collect-returns-in-Few : goal.collect-returns-in-Few
 collect-returns-in-Few g t c =
-    let before = g.D.Decomposable.stands_before in
     ok_weaker c.append_few.result
-    (λ appended lives is_of.
-    let kept = few_of before c.args.level lives c.in-Few.few c.args.trie.now c.in-Few.is is_of in
-    collects_few g.met.D.Decomposable.order c.args.level c.args.label c.in-Few.few c.args.trie.now c.args.items.now.items c.append_few.new.items.items c.requires.within c.in-Few.is
-    (appended (few_ordered g.met.D.Decomposable.order c.args.level lives c.in-Few.few kept)) lives is_of)
+    (collects_few g.met.D.Decomposable.order c.args.level c.args.label c.in-Few.few c.args.trie.now c.args.items.now.items c.append_few.new.items.items c.requires.within c.in-Few.is)
     c.append_few.ensures
 
 pub collect-returns-then-level-eq0 : goal.collect-returns-then-level-eq0

@@ -1,13 +1,8 @@
 use Rattle.std.proofs.Common.{◌≡◌, ◌+◌, suc, ◌++◌, ◌∷◌, [], take, sym, ap, ◌∙◌, arith, append_assoc}
 use Rattle.lifetime_segments.specs.Lifetimes.{items_at}
-use Rattle.lifetime_segments.proofs.FewLives.{items_at-there, items_at-gone, items_at-begun}
+use Rattle.lifetime_segments.proofs.FewLives.{items_at-there, items_at-gone}
 use Rattle.lifetime_segments.proofs.collect.append_few.Goals as goal
 use Rattle.lifetime_segments.proofs.collect.append_few.Goals.{then-holds+in_ok-push, else-holds}
-
-pub returns-then-label-life : goal.returns-then-label-life
-returns-then-label-life g c ordered =
-    c.loop-place.invariant
-    ∙ ap (λ items. c.args.items.now.items ++ items) (items_at-begun g.D.Decomposable.stands_before c.args.label c.args.few.now c.loop-place.place c.get-life.result ordered c.get-life.ensures c.if-label-life.true)
 
 pub loop-place-preserved : goal.loop-place-preserved
 loop-place-preserved g c =

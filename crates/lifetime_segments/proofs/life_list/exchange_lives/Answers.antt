@@ -1,6 +1,6 @@
 use Rattle.std.proofs.Common.{subst, sym, ap, ◌∙◌, arith}
-use Rattle.lifetime_segments.specs.Lifetimes.{stands_earlier}
-use Rattle.lifetime_segments.specs.LifetimeLaws.{earlier_order}
+use Rattle.lifetime_segments.specs.Lifetimes.{stands_by_item}
+use Rattle.lifetime_segments.specs.LifetimeLaws.{by_item_order}
 use Rattle.lifetime_segments.specs.Ordered.{AreInOrder, is_in}
 use Rattle.lifetime_segments.specs.OrderedLaws.{put_in-ordered}
 use Rattle.lifetime_segments.proofs.Held.{replaced_at, still_in}
@@ -9,21 +9,21 @@ use Rattle.lifetime_segments.proofs.life_list.exchange_lives.Goals as goal
 
 pub replace-requires : goal.replace-requires
 replace-requires g c =
-    let within = place-there (stands_earlier g.D.Decomposable.stands_before) c.args.life c.args.few.now c.requires.there in
+    let within = place-there (stands_by_item g.D.Decomposable.stands_before) c.args.life c.args.few.now c.requires.there in
     record { within = omega arith }
 
 pub returns-then-is_beside-clause-ok : goal.returns-then-is_beside-clause-ok
 returns-then-is_beside-clause-ok g c =
     c.replace.ensures
-    ∙ replaced_at (earlier_order g.met.D.Decomposable.order) c.args.life c.args.other c.args.few.now c.life_place-place.result c.life_place-next.result c.requires.ordered c.requires.there
+    ∙ replaced_at (by_item_order g.met.D.Decomposable.order) c.args.life c.args.other c.args.few.now c.life_place-place.result c.life_place-next.result c.requires.ordered c.requires.there
     c.life_place-place.ensures c.life_place-next.ensures (c.is_beside.ensures.before c.if-is_beside.true) (c.is_beside.ensures.after c.if-is_beside.true)
 
 pub take_life-requires-clause-ordered : goal.take_life-requires-clause-ordered
 take_life-requires-clause-ordered g c =
-    subst (AreInOrder (stands_earlier g.D.Decomposable.stands_before)) (sym c.in_ok-put_life.ensures.ok)
-    (put_in-ordered (earlier_order g.met.D.Decomposable.order) c.args.other c.args.few.now c.requires.ordered)
+    subst (AreInOrder (stands_by_item g.D.Decomposable.stands_before)) (sym c.in_ok-put_life.ensures.ok)
+    (put_in-ordered (by_item_order g.met.D.Decomposable.order) c.args.other c.args.few.now c.requires.ordered)
 
 pub take_life-requires-clause-there : goal.take_life-requires-clause-there
 take_life-requires-clause-there g c =
-    ap (is_in (stands_earlier g.D.Decomposable.stands_before) c.args.life) c.in_ok-put_life.ensures.ok
-    ∙ still_in (earlier_order g.met.D.Decomposable.order) c.args.life c.args.other c.args.few.now c.requires.ordered c.requires.there
+    ap (is_in (stands_by_item g.D.Decomposable.stands_before) c.args.life) c.in_ok-put_life.ensures.ok
+    ∙ still_in (by_item_order g.met.D.Decomposable.order) c.args.life c.args.other c.args.few.now c.requires.ordered c.requires.there

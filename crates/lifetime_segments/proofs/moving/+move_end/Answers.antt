@@ -1,5 +1,5 @@
 use Rattle.std.proofs.Common.{◌≡◌, ◌<◌, ◌-◌, ◌^◌, suc, true, false, ◌∷◌, refl, sym, subst, ap, ◌∙◌, arith, rules}
-use Rattle.lifetime_segments.specs.Lifetimes.{stands_earlier}
+use Rattle.lifetime_segments.specs.Lifetimes.{stands_by_item}
 use Rattle.lifetime_segments.specs.Ordered.{is_in, put_in, without}
 use Rattle.lifetime_segments.specs.Tries.{IsOfNode, NodeMoves, NodeKeeps, Moves, AddsSecond, Has, NodeHas, HasOne, NodeHasOne, FirstHasOne, is_whole, clipped, ending, in_first, in_second, seen_from}
 use Rattle.lifetime_segments.proofs.Results.{ok_weaker, err_weaker, err_always}
@@ -47,21 +47,21 @@ pub move_end-exchange_lives-requires-clause-there : goal.move_end-exchange_lives
 move_end-exchange_lives-requires-clause-there g t c =
     let before = g.D.Decomposable.stands_before in
     let others = c.requires.there.others in
-    ap (λ life. is_in (stands_earlier before) life c.in-Few.few) c.clipped.ensures
+    ap (λ life. is_in (stands_by_item before) life c.in-Few.few) c.clipped.ensures
     ∙ few_there g.met.D.Decomposable.order c.args.level c.args.life others c.in-Few.few (record { rises = c.requires.rises; begins = c.requires.begins })
     (few_of before c.args.level (c.args.life ∷ others) c.in-Few.few c.args.trie.now c.in-Few.is c.requires.there.is_of)
 
 pub move_end-returns-in-Few-clause-ok : goal.move_end-returns-in-Few-clause-ok
 move_end-returns-in-Few-clause-ok g t c =
     let before = g.D.Decomposable.stands_before in
-    let earlier = stands_earlier before in
+    let by_item = stands_by_item before in
     ok_weaker c.exchange_lives.result
     (λ exchanged lives is_of.
     of_few before c.args.level (ending c.args.next c.args.life ∷ lives) c.exchange_lives.new.few _ refl
     (few_moved g.met.D.Decomposable.order c.args.level c.args.next c.args.life lives c.in-Few.few c.exchange_lives.new.few (record { rises = c.requires.rises; begins = c.requires.begins }) c.requires.next
     (exchanged
-    ∙ ap (λ life. without earlier life (put_in earlier c.clipped-moved.result c.in-Few.few)) c.clipped.ensures
-    ∙ ap (λ life. without earlier (clipped c.args.level c.args.life) (put_in earlier life c.in-Few.few)) (c.clipped-moved.ensures ∙ ap (clipped c.args.level) c.ending.ensures))
+    ∙ ap (λ life. without by_item life (put_in by_item c.clipped-moved.result c.in-Few.few)) c.clipped.ensures
+    ∙ ap (λ life. without by_item (clipped c.args.level c.args.life) (put_in by_item life c.in-Few.few)) (c.clipped-moved.ensures ∙ ap (clipped c.args.level) c.ending.ensures))
     (few_of before c.args.level (c.args.life ∷ lives) c.in-Few.few c.args.trie.now c.in-Few.is is_of)))
     c.exchange_lives.ensures.ok
 

@@ -1,51 +1,50 @@
-use Rattle.std.proofs.Common.{◌≡◌, ◌+◌, suc, ◌∷◌, [], take, sym, ap, ◌∙◌, arith, length-take}
+use Rattle.std.proofs.Common.{◌≡◌, ◌+◌, ◌<◌, suc, ◌∷◌, [], length, take, sym, ap, ◌∙◌, arith, length-take}
 use Rattle.lifetime_segments.specs.Lifetimes.{items_at}
-use Rattle.lifetime_segments.specs.Lawful.{AreLawful}
+use Rattle.lifetime_segments.specs.Lawful.{AreLawful, most_items}
 use Rattle.lifetime_segments.specs.Ordered.{in_order}
 use Rattle.lifetime_segments.specs.OrderedLaws.{in_order-absorbs, in_order-ordered, length-in_order}
-use Rattle.lifetime_segments.proofs.FewLives.{items_at-there, items_at-gone, items_at-begun}
+use Rattle.lifetime_segments.proofs.FewLives.{items_at-there, items_at-gone}
+use Rattle.lifetime_segments.proofs.InRange.{nothing_below, nothing_above}
 use Rattle.lifetime_segments.proofs.Nodes.{items_at-few}
 use Rattle.lifetime_segments.proofs.search.ask_few.Given.{Over}
 use Rattle.lifetime_segments.proofs.search.ask_few.Goals as goal
 use Rattle.lifetime_segments.proofs.search.ask_few.Goals.{then-holds, else-holds, After-get-life}
 
--- the items that were looked at, and the one that is looked at now, are not too many
-together : (g : Over) (c : After-get-life g)
-    → AreLawful g.D.Decomposable.stands_before (in_order g.D.Decomposable.stands_before (items_at c.args.label (take c.loop-place.place c.args.few.now))) (c.get-life.result.item ∷ [])
-together g c =
-    let before = g.D.Decomposable.stands_before in
+pub loop-place-init : goal.loop-place-init
+loop-place-init g c =
+    c.empty-part.ensures ∙ nothing_below g.met.D.Decomposable.order g.met.D.Decomposable.laws g.met.D.RangeSearch.range_laws c.args.query c.args.label (take c.place_from-place.result c.args.few.now) c.place_from-place.ensures.below
+
+-- there is room for the item that is looked at now, beside those that were looked at
+room : (g : Over) (c : After-get-life g) → length (in_order g.D.Decomposable.stands_before (items_at c.args.label (take c.loop-place.place c.args.few.now))) < most_items
+room g c =
     let seen = take c.loop-place.place c.args.few.now in
+    omega (
+      arith,
+      length-in_order g.D.Decomposable.stands_before (items_at c.args.label seen),
+      items_at-few c.args.label seen,
+      length-take c.loop-place.place c.args.few.now,
+      c.requires.few,
+      c.loop-place-test.true,
+      c.len-place-end.ensures,
+    )
+
+pub with_one-part-requires : goal.with_one-part-requires
+with_one-part-requires g c =
+    let items = items_at c.args.label (take c.loop-place.place c.args.few.now) in
     record {
-      first_ordered = in_order-ordered g.met.D.Decomposable.order (items_at c.args.label seen);
-      second_ordered = (tt, tt);
-      few = omega (
-        arith,
-        length-in_order before (items_at c.args.label seen),
-        items_at-few c.args.label seen,
-        length-take c.loop-place.place c.args.few.now,
-        c.requires.few,
-        c.loop-place-test.true,
-        c.len-place-end.ensures,
-      );
+      answer = record {
+        items = in_order g.D.Decomposable.stands_before items;
+        ordered = in_order-ordered g.met.D.Decomposable.order items;
+        room = room g (goal.at.with_one-part-requires g c).After-get-life;
+        answers = c.loop-place.invariant;
+      };
     }
 
-pub combine-part-requires : goal.combine-part-requires
-combine-part-requires g c = record {
-  together = record {
-    query = c.args.query;
-    first_items = in_order g.D.Decomposable.stands_before (items_at c.args.label (take c.loop-place.place c.args.few.now));
-    second_items = c.get-life.result.item ∷ [];
-    lawful = together g (goal.at.combine-part-requires g c).After-get-life;
-    first_is = c.loop-place.invariant;
-    second_is = c.ask_one.ensures;
-  };
-}
-
-pub returns-then-label-life : goal.returns-then-label-life
-returns-then-label-life g c =
+pub returns-then-is_above : goal.returns-then-is_above
+returns-then-is_above g c =
     c.loop-place.invariant
-    ∙ ap (λ items. g.D.Decomposable.answer (in_order g.D.Decomposable.stands_before items) c.args.query)
-    (items_at-begun g.D.Decomposable.stands_before c.args.label c.args.few.now c.loop-place.place c.get-life.result c.requires.ordered c.get-life.ensures c.if-label-life.true)
+    ∙ nothing_above g.met.D.Decomposable.order g.met.D.Decomposable.laws g.met.D.RangeSearch.range_laws c.args.query c.args.label c.args.few.now c.loop-place.place c.get-life.result c.requires.ordered c.requires.few
+    c.get-life.ensures (sym c.is_above.ensures ∙ c.if-is_above.true)
 
 pub loop-place-preserved : goal.loop-place-preserved
 loop-place-preserved g c =
@@ -56,11 +55,15 @@ loop-place-preserved g c =
     let next : suc c.loop-place.place ≡ c.loop-place.place + 1 = omega arith in
     elim c.if-holds.branch [
       | then-holds w ↦
+          let lawful : AreLawful before (in_order before seen) (c.get-life.result.item ∷ []) = record {
+            first_ordered = in_order-ordered g.met.D.Decomposable.order seen;
+            second_ordered = (tt, tt);
+            few = omega (arith, room g (goal.at.loop-place-preserved g c).After-get-life);
+          } in
           w.part-is
-          ∙ w.combine-part.ensures
-          ∙ ap (λ part. g.D.Decomposable.combined part w.ask_one.result) c.loop-place.invariant
-          ∙ ap (g.D.Decomposable.combined (answer (in_order before seen) c.args.query)) w.ask_one.ensures
-          ∙ sym (g.met.D.Decomposable.laws.together (in_order before seen) (c.get-life.result.item ∷ []) c.args.query (together g (goal.at.loop-place-preserved g c).After-get-life))
+          ∙ w.with_one-part.ensures
+          ∙ ap (λ part. g.D.Decomposable.combined part (answer (c.get-life.result.item ∷ []) c.args.query)) c.loop-place.invariant
+          ∙ sym (g.met.D.Decomposable.laws.together (in_order before seen) (c.get-life.result.item ∷ []) c.args.query lawful)
           ∙ ap (λ items. answer items c.args.query)
           (in_order-absorbs g.met.D.Decomposable.order seen (c.get-life.result.item ∷ [])
           ∙ ap (in_order before) (sym (items_at-there c.args.label few c.loop-place.place c.get-life.result c.get-life.ensures (sym c.holds.ensures ∙ w.if-holds.true))))

@@ -1,5 +1,5 @@
 use Rattle.std.proofs.Common.{◌≡◌, ◌<◌, ◌-◌, ◌^◌, suc, false, ◌∷◌, refl, sym, subst, ap, ◌∙◌, arith, rules}
-use Rattle.lifetime_segments.specs.Lifetimes.{stands_earlier}
+use Rattle.lifetime_segments.specs.Lifetimes.{stands_by_item}
 use Rattle.lifetime_segments.specs.Ordered.{is_in, without}
 use Rattle.lifetime_segments.specs.Tries.{IsOfNode, IsBare, NodeHasOne, FirstHasOne, SecondHasOne, is_whole}
 use Rattle.lifetime_segments.proofs.Nodes.{LeadsTo, node_of, trie_of, some_where, node_has_one, left_has_one, right_has_one, node_ordered, node_is_in, node_without_whole, node_without_parts, bare_nothing, below_level}
@@ -18,7 +18,7 @@ pub take-take_life-requires-clause-there : goal.take-take_life-requires-clause-t
 take-take_life-requires-clause-there g t c =
     let before = g.D.Decomposable.stands_before in
     let others = c.requires.has.others in
-    ap (λ life. is_in (stands_earlier before) life c.in-Few.few) c.clipped.ensures
+    ap (λ life. is_in (stands_by_item before) life c.in-Few.few) c.clipped.ensures
     ∙ few_there g.met.D.Decomposable.order c.args.level c.args.life others c.in-Few.few (record { rises = c.requires.rises; begins = c.requires.begins })
     (few_of before c.args.level (c.args.life ∷ others) c.in-Few.few c.args.trie.now c.in-Few.is c.requires.has.is_of)
 
@@ -27,7 +27,7 @@ take-returns-in-Few g t c lives is_of =
     let before = g.D.Decomposable.stands_before in
     of_few before c.args.level lives c.take_life.new.few _ refl
     (few_without g.met.D.Decomposable.order c.args.level c.args.life lives c.in-Few.few c.take_life.new.few (record { rises = c.requires.rises; begins = c.requires.begins })
-    (c.take_life.ensures ∙ ap (λ life. without (stands_earlier before) life c.in-Few.few) c.clipped.ensures)
+    (c.take_life.ensures ∙ ap (λ life. without (stands_by_item before) life c.in-Few.few) c.clipped.ensures)
     (few_of before c.args.level (c.args.life ∷ lives) c.in-Few.few c.args.trie.now c.in-Few.is is_of))
 
 pub take-take_from_node-requires : goal.take-take_from_node-requires
