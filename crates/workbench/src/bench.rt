@@ -227,7 +227,9 @@ impl Bench {
         }
     }
 
-    /// Closes the block that is being read, if there is one, and writes the answer: `ended` says that its `end` line came.
+    /// Closes the block that is being read, if there is one, and writes the answer: `ended` says that its `end` line came. It is
+    /// not inlined, nor is `take`: other lines need none of the room that they clear.
+    #[inline(never)]
     fn close(&mut self, ended: bool, answer: &mut Text) -> Result<bool, NoMemory>
         requires empty { answer.old ≡ [] }
         ensures ok { IfOk result (λ refused. reaction_of (ends self.old.bench.timelines self.old.bench.block ended)
@@ -242,6 +244,7 @@ impl Bench {
     }
 
     /// Gives a line to the block that is being read. After `NoMemory` all is as before.
+    #[inline(never)]
     fn take(&mut self, line: &[u8], long: bool) -> Result<(), NoMemory>
         requires within { length line.now ≤ longest_line }
         requires full { IsTrue long → length line.now ≡ longest_line }

@@ -1,6 +1,6 @@
 //! What a line is answered, and why one is refused.
 
-ghost use Rattle.std.specs.Prelude.{◌≡◌, ◌++◌, OnOk, IfOk};
+ghost use Rattle.std.specs.Prelude.{◌≡◌, ◌++◌, true, false, OnOk, IfOk};
 ghost use Rattle.workbench.specs.Outcome.{block_refusal, cause_text, is_refusal, refusal_text, reply_text};
 ghost use Rattle.workbench.specs.declared.outcome.Outcome.TheVariants as outcomes;
 
@@ -164,6 +164,26 @@ impl Outcome {
     }
 }
 
+/// Appends the line that answers a question, and gives that it is no refusal: what `tell` does of such an outcome, which is
+/// larger than the answer.
+pub(crate) fn tell_answer(found: Answer, answer: &mut Text) -> Result<bool, NoMemory>
+    ensures answer { OnOk result (answer.new ≡ answer.old ++ reply_text (outcomes.Answered found)) }
+    ensures refused { IfOk result (λ refused. refused ≡ false) }
+{
+    print_answer(found, answer)?;
+    answer.push_all(b"\n")?;
+    Ok(false)
+}
+
+/// Appends the line of a refusal, and gives that it is one: what `tell` does of such an outcome.
+#[inline(never)]
+pub(crate) fn tell_refusal(refusal: Refusal, answer: &mut Text) -> Result<bool, NoMemory>
+    ensures answer { OnOk result (answer.new ≡ answer.old ++ reply_text (outcomes.Refused refusal)) }
+    ensures refused { IfOk result (λ refused. refused ≡ true) }
+{
+    Outcome::refused(refusal).tell(answer)
+}
+
 impl Refusal {
     /// The refusal of a block, by what is wrong with it.
     pub(crate) fn of_block(error: BlockError) -> Refusal
@@ -179,6 +199,7 @@ impl Refusal {
     }
 
     /// Appends the text.
+    #[inline(never)]
     fn print(&self, out: &mut Text) -> Result<(), NoMemory>
         ensures { OnOk result (out.new ≡ out.old ++ refusal_text self.now) }
     {

@@ -9,7 +9,7 @@ ghost use Rattle.script_grammar.specs.declared.command.Query.TheVariants.{One, A
 ghost use Rattle.workbench.specs.declared.outcome.Outcome.TheVariants.{Listed, Taken};
 
 use crate::named_timeline::{NamedTimeline, no_row};
-use crate::outcome::{Outcome, Refusal};
+use crate::outcome::{Outcome, Refusal, tell_answer, tell_refusal};
 use crate::position::{position_of, row_named};
 use fates::{Fate, fate_of};
 use order_timeline::Timeline;
@@ -38,7 +38,7 @@ impl NamedTimeline {
     {
         match query {
             Query::One { question } => self.ask_one(moment, question, answer),
-            Query::All => self.list(moment)?.tell(answer),
+            Query::All => self.list_into(moment, answer),
         }
     }
 
@@ -55,8 +55,8 @@ impl NamedTimeline {
         ensures refused { IfOk result (λ refused. refused ≡ is_refusal (answers self.old.timeline moment (One question))) }
     {
         match self.answer_to(moment, question)? {
-            Ok(found) => Outcome::Answered { answer: found }.tell(answer),
-            Err(refusal) => Outcome::refused(refusal).tell(answer),
+            Ok(found) => tell_answer(found, answer),
+            Err(refusal) => tell_refusal(refusal, answer),
         }
     }
 
@@ -81,6 +81,7 @@ impl NamedTimeline {
     }
 
     /// The answer to a question about the past, where the spot has a place.
+    #[inline(never)]
     fn answer_at(
         &mut self,
         spot: Spot,
@@ -101,6 +102,17 @@ impl NamedTimeline {
                 number: row_named(spot),
             })),
         }
+    }
+
+    /// Writes the whole content at a moment, or why it has none.
+    #[inline(never)]
+    fn list_into(&mut self, moment: Moment, answer: &mut Text) -> Result<bool, NoMemory>
+        requires unspent { IsUnspent self.old }
+        ensures unchanged { self.new ≡ self.old }
+        ensures answer { OnOk result (answer.new ≡ answer.old ++ reply_text (answers self.old.timeline moment All)) }
+        ensures refused { IfOk result (λ refused. refused ≡ is_refusal (answers self.old.timeline moment All)) }
+    {
+        self.list(moment)?.tell(answer)
     }
 
     /// The whole content at a moment, where it has a place.

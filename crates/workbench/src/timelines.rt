@@ -13,7 +13,7 @@ ghost use Rattle.workbench.specs.TimelineEffects.{changes, moves, answers, answe
 
 use crate::named_timeline::NamedTimeline;
 use crate::open_block::OpenBlock;
-use crate::outcome::{Outcome, Refusal};
+use crate::outcome::{Outcome, Refusal, tell_refusal};
 use engine::Engine;
 use retro_base::{Kind, Name, NoMemory, Op, Text};
 use script_grammar::{Command, LineError, Moment, Query, Spot};
@@ -67,13 +67,33 @@ impl Timelines {
     {
         match line {
             Ok(command) => self.perform(command, answer),
-            Err(LineError::Long) => Outcome::refused(Refusal::Long).tell(answer),
-            Err(LineError::Syntax) => Outcome::refused(Refusal::Syntax).tell(answer),
+            Err(LineError::Long) => tell_refusal(Refusal::Long, answer),
+            Err(LineError::Syntax) => tell_refusal(Refusal::Syntax, answer),
         }
     }
 
-    /// Does what a command asks for, by its form.
+    /// Does what a command asks for. Questions and the edits of one row are most lines, so they come first, and each stands in a
+    /// function that is not inlined: a function clears room for all that is inlined into it before it begins.
     fn perform(&mut self, command: &Command, answer: &mut Text) -> Result<bool, NoMemory>
+        requires proper { IsProper command.now }
+        requires empty { answer.old ≡ [] }
+        ensures { IfOk result (λ refused. told (obeys self.old (Ok command.now)) ≡ record { timelines = self.new; answer = answer.new; refused = refused }) }
+    {
+        match command {
+            Command::Ask {
+                name,
+                moment,
+                query,
+            } => self.ask(name, *moment, *query, answer),
+            Command::Insert { name, spot, op } => self.put_row(name, *spot, *op, answer),
+            Command::Delete { name, number } => self.take_row(name, *number, answer),
+            _ => self.perform_other(command, answer),
+        }
+    }
+
+    /// Does what any command asks for, by its form. Those that `perform` does itself do not come here.
+    #[inline(never)]
+    fn perform_other(&mut self, command: &Command, answer: &mut Text) -> Result<bool, NoMemory>
         requires proper { IsProper command.now }
         requires empty { answer.old ≡ [] }
         ensures { IfOk result (λ refused. told (obeys self.old (Ok command.now)) ≡ record { timelines = self.new; answer = answer.new; refused = refused }) }
@@ -81,8 +101,8 @@ impl Timelines {
         match command {
             Command::Nothing => Ok(false),
             Command::New { name, kind, fused } => self.start(*name, *kind, *fused)?.tell(answer),
-            Command::Insert { name, spot, op } => self.insert(name, *spot, *op)?.tell(answer),
-            Command::Delete { name, number } => self.delete(name, *number)?.tell(answer),
+            Command::Insert { name, spot, op } => self.put_row(name, *spot, *op, answer),
+            Command::Delete { name, number } => self.take_row(name, *number, answer),
             Command::Move { name, number, time } => self
                 .move_row(name, *number, *time)?
                 .tell(answer),
@@ -96,9 +116,7 @@ impl Timelines {
             Command::Undo { name } => self.undo(name)?.tell(answer),
             Command::Redo { name } => self.redo(name)?.tell(answer),
             Command::Save { name } => self.save(name)?.tell(answer),
-            Command::Mute { index } => Outcome::refused(Refusal::NoFollower {
-                number: *index,
-            }).tell(answer),
+            Command::Mute { index } => tell_refusal(Refusal::NoFollower { number: *index }, answer),
             Command::Header { .. } => Ok(false),
         }
     }
@@ -133,6 +151,22 @@ impl Timelines {
         }
     }
 
+    /// Puts a row into the timeline of this name, and writes the answer.
+    #[inline(never)]
+    fn put_row(
+        &mut self,
+        name: &Name,
+        spot: Spot,
+        op: Op,
+        answer: &mut Text,
+    ) -> Result<bool, NoMemory>
+        requires empty { answer.old ≡ [] }
+        ensures { IfOk result (λ refused. told (on_named name.now (λ timeline. inserts timeline spot op) self.old)
+            ≡ record { timelines = self.new; answer = answer.new; refused = refused }) }
+    {
+        self.insert(name, spot, op)?.tell(answer)
+    }
+
     /// Takes a row out of the timeline of this name.
     fn delete(&mut self, name: &Name, number: u32) -> Result<Outcome, NoMemory>
         ensures ok { IfOk result (λ outcome. on_named name.now (λ timeline. deletes timeline number) self.old ≡ record { timelines = self.new; outcome = outcome }) }
@@ -143,6 +177,16 @@ impl Timelines {
             Some(index) => self.timelines[index].delete(number),
             None => Ok(Outcome::refused(Refusal::NoTimeline { name: *name })),
         }
+    }
+
+    /// Takes a row out of the timeline of this name, and writes the answer.
+    #[inline(never)]
+    fn take_row(&mut self, name: &Name, number: u32, answer: &mut Text) -> Result<bool, NoMemory>
+        requires empty { answer.old ≡ [] }
+        ensures { IfOk result (λ refused. told (on_named name.now (λ timeline. deletes timeline number) self.old)
+            ≡ record { timelines = self.new; answer = answer.new; refused = refused }) }
+    {
+        self.delete(name, number)?.tell(answer)
     }
 
     /// Puts a row of the timeline of this name at another time.
@@ -206,6 +250,7 @@ impl Timelines {
     }
 
     /// Asks the timeline of this name, and writes the answer. Nothing changes.
+    #[inline(never)]
     fn ask(
         &mut self,
         name: &Name,
@@ -220,7 +265,7 @@ impl Timelines {
     {
         match self.index_of(name) {
             Some(index) => self.timelines[index].ask(moment, query, answer),
-            None => Outcome::refused(Refusal::NoTimeline { name: *name }).tell(answer),
+            None => tell_refusal(Refusal::NoTimeline { name: *name }, answer),
         }
     }
 

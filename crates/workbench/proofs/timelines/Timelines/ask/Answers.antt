@@ -15,7 +15,7 @@ returns-in-Some-clause-told c =
 
 pub returns-in-None-clause-told : goal.returns-in-None-clause-told
 returns-in-None-clause-told c =
-    told_by c.tell.result (on_named c.args.name.now (λ timeline. unchanged timeline (answers timeline c.args.moment c.args.query)) c.args.self.now) c.args.self.now
-    (Refused (refusals.NoTimeline c.args.name.now)) c.tell.new.answer
+    told_by c.tell_refusal.result (on_named c.args.name.now (λ timeline. unchanged timeline (answers timeline c.args.moment c.args.query)) c.args.self.now) c.args.self.now
+    (Refused (refusals.NoTimeline c.args.name.now)) c.tell_refusal.new.answer
     (on_named_nowhere c.args.name.now (λ timeline. unchanged timeline (answers timeline c.args.moment c.args.query)) c.args.self.now c.in-None.ensures)
-    (rw (c.refused.ensures, c.requires.empty) at c.tell.ensures.answer) (rw c.refused.ensures at c.tell.ensures.refused)
+    (rw c.requires.empty at c.tell_refusal.ensures.answer) c.tell_refusal.ensures.refused
