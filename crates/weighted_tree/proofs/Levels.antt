@@ -9,7 +9,7 @@ use Rattle.weighted_tree.specs.declared.subtree.Node.{Node}
 use Rattle.retro_base.specs.Digits.{digits}
 use Rattle.retro_base.specs.Visits.{VisitsWithin}
 use Rattle.retro_base.specs.VisitsLaws.{below-digits, digits-monotone}
-use Rattle.weighted_tree.specs.Levels.{IsWithinLevels, OneALevel, FourALevel, FourALevelOfBoth, TwoALevel}
+use Rattle.weighted_tree.specs.Levels.{IsWithinLevels, OneALevel, FourALevel, FourALevelOfBoth, AtLeastOneALevel}
 use Rattle.weighted_tree.specs.SearchSteps.{VisitsOfSearch}
 use Rattle.weighted_tree.specs.declared.node.Side.{Side}
 use Rattle.weighted_tree.specs.declared.search.Search.{Search}
@@ -56,7 +56,7 @@ few_after_leaf leaf whole length before after some light none none_lost visits =
 pub few_in_leaf : (length before after : ℕ) → before ≤ after → after ≤ before + 12 → VisitsWithin 12 length before after
 few_in_leaf length before after none_lost few = few_beside 1 length before after (omega arith) (omega arith) none_lost (λ levels within. omega arith)
 
--- a level more: the node is visited on the way down and on the way back, where a rotation visits two more
+-- a level more: the node is visited on the way down and may be on the way back, and a rotation visits two more
 pub level_more : (whole side start visited middle end : ℕ) → visited ≡ start + 1 → 2 ≤ whole → 4 * side ≤ 3 * whole → FourALevel side visited middle → end ≤ middle + 3 → FourALevel whole start end
 level_more whole side start visited middle end visit some light below up zero within = absurd (omega arith)
 level_more whole side start visited middle end visit some light below up (suc levels) within = omega (arith, below levels (within side light))
@@ -65,20 +65,20 @@ level_here : (whole start end : ℕ) → 2 ≤ whole → end ≤ start + 4 → F
 level_here whole start end some up zero within = absurd (omega arith)
 level_here whole start end some up (suc levels) within = omega arith
 
--- a level more of those that each path has, on whose way down and back two more are visited
-two_a_level_more : (whole side start visited middle end : ℕ) → 1 ≤ side → whole ≤ 4 * side → TwoALevel side visited middle → start + 2 + middle ≤ visited + end → TwoALevel whole start end
-two_a_level_more whole side start visited middle end some heavy below up zero within = omega (arith, below zero (omega arith))
-two_a_level_more whole side start visited middle end some heavy below up (suc levels) within = omega (arith, below levels (omega (arith, pow-add 4 levels 1)))
+-- a level more of those that each path has, on whose way down one more is visited
+one_each_level_more : (whole side start visited middle end : ℕ) → 1 ≤ side → whole ≤ 4 * side → AtLeastOneALevel side visited middle → start + 1 + middle ≤ visited + end → AtLeastOneALevel whole start end
+one_each_level_more whole side start visited middle end some heavy below up zero within = omega (arith, below zero (omega arith))
+one_each_level_more whole side start visited middle end some heavy below up (suc levels) within = omega (arith, below levels (omega (arith, pow-add 4 levels 1)))
 
 -- no node, and a node with one side at the most
-pub counted_none : (whole before after : ℕ) → whole ≤ 1 → before ≤ after → TwoALevel whole before after
+pub counted_none : (whole before after : ℕ) → whole ≤ 1 → before ≤ after → AtLeastOneALevel whole before after
 counted_none whole before after none none_lost zero within = omega arith
 counted_none whole before after none none_lost (suc levels) within = absurd (omega (arith, pow-add 4 levels 1, one-le-pow levels 4 (omega arith)))
 
-pub counted_one : (whole before after : ℕ) → whole ≤ 4 → before + 2 ≤ after → TwoALevel whole before after
-counted_one whole before after few both zero within = omega arith
-counted_one whole before after few both (suc zero) within = omega arith
-counted_one whole before after few both (suc (suc levels)) within = absurd (omega (arith, pow-add 4 levels 2, one-le-pow levels 4 (omega arith)))
+pub counted_one : (whole before after : ℕ) → whole ≤ 4 → before + 1 ≤ after → AtLeastOneALevel whole before after
+counted_one whole before after few one zero within = omega arith
+counted_one whole before after few one (suc zero) within = omega arith
+counted_one whole before after few one (suc (suc levels)) within = absurd (omega (arith, pow-add 4 levels 2, one-le-pow levels 4 (omega arith)))
 
 -- the left side is a level down, and the right one
 module _ {A M : Type 0} (part : Part A) (node : Node A M) (start visited middle end : ℕ) (root : IsRoot part node) where
@@ -92,15 +92,15 @@ module _ {A M : Type 0} (part : Part A) (node : Node A M) (start visited middle 
       let whole = root.nodes_are in
       level_more (weight part) (weight node.right) start visited middle end visit (omega arith) (omega arith) below up
 
-  pub counted_left : TwoALevel (weight node.left) visited middle → start + 2 + middle ≤ visited + end → TwoALevel (weight part) start end
+  pub counted_left : AtLeastOneALevel (weight node.left) visited middle → start + 1 + middle ≤ visited + end → AtLeastOneALevel (weight part) start end
   counted_left below up =
       let whole = root.nodes_are in
-      two_a_level_more (weight part) (weight node.left) start visited middle end (omega arith) (omega (arith, root.balanced)) below up
+      one_each_level_more (weight part) (weight node.left) start visited middle end (omega arith) (omega (arith, root.balanced)) below up
 
-  pub counted_right : TwoALevel (weight node.right) visited middle → start + 2 + middle ≤ visited + end → TwoALevel (weight part) start end
+  pub counted_right : AtLeastOneALevel (weight node.right) visited middle → start + 1 + middle ≤ visited + end → AtLeastOneALevel (weight part) start end
   counted_right below up =
       let whole = root.nodes_are in
-      two_a_level_more (weight part) (weight node.right) start visited middle end (omega arith) (omega (arith, root.balanced)) below up
+      one_each_level_more (weight part) (weight node.right) start visited middle end (omega arith) (omega (arith, root.balanced)) below up
 
   -- the node alone
   pub level_end : visited ≡ start + 1 → end ≤ visited + 3 → FourALevel (weight part) start end

@@ -18,6 +18,6 @@ FourALevelOfBoth near far before after = (near_levels far_levels : ℕ) → IsWi
 abbrev pub OneALevel : ℕ → ℕ → ℕ → Type 0
 OneALevel whole before after = (levels : ℕ) → IsWithinLevels whole levels → after ≤ before + levels + 1
 
--- at least two visits a level, on the way down and on the way back: a side weighs at least a quarter of the whole
-abbrev pub TwoALevel : ℕ → ℕ → ℕ → Type 0
-TwoALevel whole before after = (levels : ℕ) → 4 ^ levels < 4 * whole → before + 2 * levels ≤ after
+-- at least one visit a level: a side weighs at least a quarter of the whole
+abbrev pub AtLeastOneALevel : ℕ → ℕ → ℕ → Type 0
+AtLeastOneALevel whole before after = (levels : ℕ) → 4 ^ levels < 4 * whole → before + levels ≤ after

@@ -1,12 +1,13 @@
 //! The balance of a node, which rotations restore where one side gained or lost a node.
-ghost use Rattle.std.specs.Prelude.{◌≡◌, ◌+◌, ◌^◌, ◌<◌, ◌≤◌, length};
+ghost use Rattle.std.specs.Prelude.{◌≡◌, ◌+◌, ◌^◌, ◌<◌, ◌≤◌, length, IfSome};
+ghost use Rattle.weighted_tree.specs.Measures.{measure_in};
 ghost use Rattle.weighted_tree.specs.Balance.{weight, IsNearlyBalanced, IsTooHeavy};
 ghost use Rattle.weighted_tree.specs.Nodes.{node_items, node_count, items_of, nodes_of, HasBalance, IsSound, IsUnsettled};
 ghost use Rattle.weighted_tree.specs.Sides.{other, side_of};
 
 use crate::node::Side;
 use crate::subtree::{Link, Node, Subtree};
-use monoid_laws::Measured;
+use monoid_laws::{Measured, Monoid};
 use retro_base::Steps;
 use std::mem;
 use std::sync::ledger::Ledger;
@@ -40,6 +41,44 @@ impl<T: Measured> Link<T> {
         let node = &mut **root;
         *size = node.size();
         *measure = node.measure();
+    }
+
+    /// The same where the number of the nodes is known, and what the items measure may be told. Where it is told and
+    /// there are as many nodes as before, the node is not opened again.
+    #[inline(always)]
+    pub(crate) fn settle_told<L: Ledger>(
+        &mut self,
+        count: u32,
+        told: Option<T::Measure>,
+        steps: &mut Steps<L>,
+    )
+        requires nearly { IsUnsettled self.old }
+        requires count { count ≡ nodes_of self.old }
+        requires few { count ≤ length (items_of self.old) }
+        requires told { IfSome told (λ measure. measure ≡ measure_in T.Measured T.Measure.Monoid (items_of self.old)) }
+        ensures sound { IsSound T.Measure.unit_value T.Measure.joined T.measured self.new }
+        ensures items { items_of self.new ≡ items_of self.old }
+        ensures nodes { nodes_of self.new ≡ nodes_of self.old }
+        ensures none_lost { steps.old ≤ steps.new }
+        ensures visits { steps.new ≤ steps.old + 3 }
+    {
+        let Link::Full {
+            size,
+            nodes,
+            measure,
+            ..
+        } = self
+        else {
+            unreachable!()
+        };
+        if count == *nodes {
+            if let Some(whole) = told {
+                *size = whole.items();
+                *measure = whole;
+                return;
+            }
+        }
+        self.settle(steps);
     }
 }
 

@@ -1,7 +1,11 @@
 //! Nodes and leaves as their links hold them: closed, so that each way to open one is a visit.
-ghost use Rattle.std.specs.Prelude.{◌≡◌, ◌+◌, ◌++◌, ◌∷◌, [], length, OnOk, OnErr};
+ghost use Rattle.std.specs.Prelude.{◌≡◌, ◌+◌, ◌<◌, ◌≤◌, ◌++◌, ◌∷◌, [], length, slice_get, slice_set, Some, OnOk, OnErr};
 ghost use Rattle.std.specs.Borrow.{sem};
+ghost use Rattle.std.specs.List.{insert, remove};
+ghost use Rattle.weighted_tree.specs.Measures.{measure_in};
+ghost use Rattle.weighted_tree.specs.Nodes.{full};
 
+use crate::leaf_edit::{put_for, put_in, take_out};
 use crate::room::make_room;
 use crate::subtree::Node;
 use monoid_laws::Measured;
@@ -115,5 +119,71 @@ impl<T: Copy> ClosedItems<T> {
     {
         steps.tick();
         self.items
+    }
+}
+
+// Edits of the items in their place. Each tells their measure too.
+impl<T: Measured> ClosedItems<T> {
+    /// Visits the leaf, and puts an item in at a place.
+    #[inline(always)]
+    pub(crate) fn insert<L: Ledger>(
+        &mut self,
+        place: usize,
+        item: T,
+        measure: &mut T::Measure,
+        steps: &mut Steps<L>,
+    ) -> Result<(), NoMemory>
+        requires within { place ≤ length self.old.items.items }
+        requires room { length self.old.items.items < full }
+        requires told { measure.old ≡ measure_in T.Measured T.Measure.Monoid self.old.items.items }
+        ensures ok { OnOk result (self.new.items.items ≡ insert self.old.items.items place item) }
+        ensures err { OnErr result (self.new.items.items ≡ self.old.items.items) }
+        ensures told { measure.new ≡ measure_in T.Measured T.Measure.Monoid self.new.items.items }
+        ensures visit { steps.new ≡ steps.old + 1 }
+    {
+        steps.tick();
+        put_in(&mut self.items, place, item, measure)
+    }
+
+    /// Visits the leaf, takes the item at a place out, and gives it.
+    #[inline(always)]
+    pub(crate) fn remove<L: Ledger>(
+        &mut self,
+        place: usize,
+        measure: &mut T::Measure,
+        steps: &mut Steps<L>,
+    ) -> T
+        requires within { place < length self.old.items.items }
+        requires few { length self.old.items.items ≤ full }
+        requires told { measure.old ≡ measure_in T.Measured T.Measure.Monoid self.old.items.items }
+        ensures item { slice_get self.old.items.items place ≡ Some result }
+        ensures items { self.new.items.items ≡ remove self.old.items.items place }
+        ensures few { length self.new.items.items ≤ full }
+        ensures told { measure.new ≡ measure_in T.Measured T.Measure.Monoid self.new.items.items }
+        ensures visit { steps.new ≡ steps.old + 1 }
+    {
+        steps.tick();
+        take_out(&mut self.items, place, measure)
+    }
+
+    /// Visits the leaf, puts another item at a place, and gives the one that was there.
+    #[inline(always)]
+    pub(crate) fn replace<L: Ledger>(
+        &mut self,
+        place: usize,
+        item: T,
+        measure: &mut T::Measure,
+        steps: &mut Steps<L>,
+    ) -> T
+        requires within { place < length self.old.items.items }
+        requires few { length self.old.items.items ≤ full }
+        requires told { measure.old ≡ measure_in T.Measured T.Measure.Monoid self.old.items.items }
+        ensures item { slice_get self.old.items.items place ≡ Some result }
+        ensures items { self.new.items.items ≡ slice_set self.old.items.items place item }
+        ensures told { measure.new ≡ measure_in T.Measured T.Measure.Monoid self.new.items.items }
+        ensures visit { steps.new ≡ steps.old + 1 }
+    {
+        steps.tick();
+        put_for(&mut self.items, place, item, measure)
     }
 }

@@ -2,11 +2,11 @@
 ghost use Rattle.std.specs.Prelude.{◌≡◌, ◌+◌, ◌^◌, ◌<◌, ◌≤◌, ◌++◌, ◌∷◌, length, slice_get, slice_set, Some, OnOk, OnErr};
 ghost use Rattle.std.specs.List.{insert, remove};
 ghost use Rattle.weighted_tree.specs.Balance.{weight, IsUpToOneMore};
-ghost use Rattle.weighted_tree.specs.Levels.{TwoALevel, FourALevel};
+ghost use Rattle.weighted_tree.specs.Levels.{AtLeastOneALevel, FourALevel};
 ghost use Rattle.weighted_tree.specs.Nodes.{full};
 
 use crate::leaf::{FULL, divide};
-use crate::leaf_edit::{exchanged, put_for, put_in, take_out};
+use crate::leaf_edit::{exchanged, put_in};
 use crate::node::Side;
 use crate::subtree::{Link, Node, Subtree};
 use monoid_laws::{Measured, Monoid};
@@ -33,13 +33,18 @@ impl<T: Measured> Subtree<T> {
         ensures none_lost { steps.old ≤ steps.new }
         ensures some { OnOk result (0 < length self.old.items → steps.old + 1 ≤ steps.new) }
         ensures none { OnErr result (length self.old.items ≡ 0 → steps.new ≡ steps.old) }
-        ensures counted { OnOk result (TwoALevel (weight self.old) steps.old steps.new) }
+        ensures counted { OnOk result (AtLeastOneALevel (weight self.old) steps.old steps.new) }
         ensures visits { FourALevel (weight self.old) steps.old steps.new }
     {
-        let Link::Full { node, .. } = &mut self.link else {
+        let Link::Full {
+            node: closed,
+            measure,
+            ..
+        } = &mut self.link
+        else {
             return self.insert_in_leaf(place, item, alloc, steps);
         };
-        let node = &mut **node.open_mut(steps);
+        let node = &mut **closed.open_mut(steps);
         let before = node.left.len();
         if place <= before {
             node.left.insert_below(place, item, alloc, steps)?;
@@ -47,7 +52,9 @@ impl<T: Measured> Subtree<T> {
             node.right
                 .insert_below(place - before - 1, item, alloc, steps)?;
         }
-        self.link.settle(steps);
+        let count = node.nodes();
+        let told = measure.with(item.measure());
+        self.link.settle_told(count, told, steps);
         Ok(())
     }
 
@@ -71,8 +78,13 @@ impl<T: Measured> Subtree<T> {
         ensures none { OnErr result (length self.old.items ≡ 0 → steps.new ≡ steps.old) }
         ensures visits { steps.new ≤ steps.old + 1 }
     {
-        if place > 0 && place == self.len() && place < FULL as u32 {
-            return self.push_in_leaf(item, steps);
+        let count = self.len();
+        if count > 0 && count < FULL as u32 {
+            return if place == count {
+                self.push_in_leaf(item, steps)
+            } else {
+                self.put_in_leaf(place, item, steps)
+            };
         }
         let mut measure = self.whole();
         let mut items = self.take_or_new(alloc, steps);
@@ -112,6 +124,29 @@ impl<T: Measured> Subtree<T> {
         items.push(item, steps)?;
         *measure = measure.join(item.measure());
         Ok(())
+    }
+
+    /// Puts an item in at a place of a leaf that has some and has room.
+    #[inline(always)]
+    fn put_in_leaf<L: Ledger>(
+        &mut self,
+        place: u32,
+        item: T,
+        steps: &mut Steps<L>,
+    ) -> Result<(), NoMemory>
+        requires leaf { self.old.nodes ≡ 0 }
+        requires some { 0 < length self.old.items }
+        requires room { length self.old.items < full }
+        requires within { place ≤ length self.old.items }
+        ensures ok { OnOk result (self.new.items ≡ insert self.old.items place item) }
+        ensures leaf { self.new.nodes ≡ 0 }
+        ensures err { OnErr result (self.new ≡ self.old) }
+        ensures visit { steps.new ≡ steps.old + 1 }
+    {
+        let Link::Leaf { items, measure } = &mut self.link else {
+            unreachable!()
+        };
+        items.insert(place as usize, item, measure, steps)
     }
 
     /// Puts a node after all items, with what stands on its right.
@@ -159,13 +194,18 @@ impl<T: Measured> Subtree<T> {
         ensures shrinks { IsUpToOneMore self.new.nodes self.old.nodes }
         ensures few { self.old.nodes ≤ length self.old.items }
         ensures some { steps.old + 1 ≤ steps.new }
-        ensures counted { TwoALevel (weight self.old) steps.old steps.new }
+        ensures counted { AtLeastOneALevel (weight self.old) steps.old steps.new }
         ensures visits { FourALevel (weight self.old) steps.old steps.new }
     {
-        let Link::Full { node, .. } = &mut self.link else {
+        let Link::Full {
+            node: closed,
+            measure,
+            ..
+        } = &mut self.link
+        else {
             return self.remove_in_leaf(place, steps);
         };
-        let node = &mut **node.open_mut(steps);
+        let node = &mut **closed.open_mut(steps);
         let before = node.left.len();
         let item = if place < before {
             node.left.remove_below(place, steps)
@@ -182,7 +222,9 @@ impl<T: Measured> Subtree<T> {
             *self = node.take(Side::Left);
             return node.item;
         };
-        self.link.settle(steps);
+        let count = node.nodes();
+        let told = measure.without(item.measure());
+        self.link.settle_told(count, told, steps);
         item
     }
 
@@ -195,12 +237,13 @@ impl<T: Measured> Subtree<T> {
         ensures leaf { self.new.nodes ≡ 0 }
         ensures visit { steps.new ≡ steps.old + 1 }
     {
-        let mut measure = self.whole();
-        let Some(mut items) = self.take_leaf(steps) else {
+        let Link::Leaf { items, measure } = &mut self.link else {
             unreachable!()
         };
-        let item = take_out(&mut items, place as usize, &mut measure);
-        *self = Subtree::of_measured(items, measure);
+        let item = items.remove(place as usize, measure, steps);
+        if items.len() == 0 {
+            self.link = Link::Empty;
+        }
         item
     }
 
@@ -256,12 +299,9 @@ impl<T: Measured> Subtree<T> {
         ensures leaf { self.new.nodes ≡ 0 }
         ensures visit { steps.new ≡ steps.old + 1 }
     {
-        let mut measure = self.whole();
-        let Some(mut items) = self.take_leaf(steps) else {
+        let Link::Leaf { items, measure } = &mut self.link else {
             unreachable!()
         };
-        let old = put_for(&mut items, place as usize, item, &mut measure);
-        *self = Subtree::of_measured(items, measure);
-        old
+        items.replace(place as usize, item, measure, steps)
     }
 }

@@ -10,8 +10,9 @@
 //! comes in: in the middle, or at an end where the item comes there, so that leaves which are filled in
 //! order stay full. The vector grows by eight items at a time, and gives room back where it is divided, so that
 //! little of it stays empty. The link to a subtree keeps its sizes and its measure, so that a node knows them
-//! without a look at its sides. Where the monoid tells what is left without an item, and what there is with one more, a leaf's
-//! measure changes by the item that goes or comes; else its items are measured again.
+//! without a look at its sides. Where the monoid tells what is left without an item, and what there is with one
+//! more, the measure of a leaf changes by the item that goes or comes, and so does that of a node with as many
+//! nodes below it as before; else they are measured anew.
 //!
 //! The last items stand outside of the root, in a tail: one more leaf. An item that comes in at the end goes there, and its
 //! measure is joined with that of the others; only where the tail is full, at each 33rd such item, does one way down the right
@@ -37,8 +38,9 @@
 //! | those of `uncounted`, each made of a call above | no bound is told |
 //!
 //! A link holds its node or its leaf closed: each way to open it, be it to read it, to change it or to take it
-//! apart, is a visit, and a step on the counter that the caller hands in, which contracts alone see. So an
-//! edit visits a node on the way down and again on the way back. `read` and `copy` count each item of a leaf as
+//! apart, is a visit, and a step on the counter that the caller hands in, which contracts alone see. A node is open
+//! while the items below it are edited. It is visited once more on the way back where its measure is joined anew,
+//! by `replace` always, and where it is rotated. `read` and `copy` count each item of a leaf as
 //! a visit. The sizes and the measure of a subtree belong to the node above it, which the link is in. `insert`
 //! and `copy` take memory from the allocator that the tree was made with, and leave the tree as it was where there
 //! is none; no other call takes any.
@@ -52,8 +54,8 @@
 //!
 //! - `tree`: the type and its calls. `tail`: its last items.
 //! - `uncounted`: the calls of `tree` for who asks for no bound, each with a counter of its own.
-//! - `subtree`: the link to a node or a leaf, and what it tells. `closed`: what a link holds, which a visit opens.
-//! - `node`: a node and its sides. `balance`: rotations.
+//! - `subtree`: the link to a node or a leaf, and what it tells. `closed`: what a link holds, which a visit opens or edits.
+//! - `node`: a node and its sides. `balance`: what a link tells after an edit, and rotations.
 //! - `leaf`: the items of a leaf. `leaf_edit`: one of them comes or goes. `room`: the memory that they have.
 //! - `edit`: an item of a subtree comes in, goes, or is replaced. `copy`: the same items again.
 //! - `read`: places and ranges of a subtree. `search`: where a test turns. `walk`: its items into a slice.
