@@ -333,16 +333,19 @@ fn ask(spans: &Spans, level: u32, label: u64, low: i64, high: i64) -> Found {
         Spans::Few(few) => return ask_few(few, label, low, high),
         Spans::Full(span) => span,
     };
-    let own = Found::of(&span.pairs, low, high);
     if level == 0 {
-        return own;
+        return Found::of(&span.pairs, low, high);
     }
     let half = 1 << (level - 1);
-    own.combine(if label < half {
+    let below = if label < half {
         ask(&span.left, level - 1, label, low, high)
     } else {
         ask(&span.right, level - 1, label - half, low, high)
-    })
+    };
+    if span.pairs.len() == 0 {
+        return below;
+    }
+    Found::of(&span.pairs, low, high).combine(below)
 }
 
 /// Lifetimes by where they begin, and their pairs in the spans that make them up.

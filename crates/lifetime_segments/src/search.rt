@@ -10,7 +10,7 @@ use crate::life_list::{LifeList, place_from};
 use crate::lifetime::labels;
 use crate::trie::{Node, Trie};
 
-/// The answer over the items in the spans above a label, and over those of few lifetimes there.
+/// The answer over the items in the spans above a label, and over those of few lifetimes there. Most spans have no item of their own.
 #[cycle(ask)]
 pub(crate) fn ask<D: RangeSearch>(
     trie: &Trie<D::Item>,
@@ -27,11 +27,14 @@ pub(crate) fn ask<D: RangeSearch>(
         Trie::Few(few) => return ask_few::<D>(few, label, query),
         Trie::Full(node) => node,
     };
-    let own = D::ask(&node.items, query);
     if level == 0 {
-        return own;
+        return D::ask(&node.items, query);
     }
-    D::combine(own, ask_half::<D>(node, level - 1, label, query))
+    let below = ask_half::<D>(node, level - 1, label, query);
+    if node.items.len() == 0 {
+        return below;
+    }
+    D::combine(D::ask(&node.items, query), below)
 }
 
 /// The answer over the items in the spans below a node and above a label.
