@@ -85,6 +85,11 @@ impl KeyIndex {
         }
     }
 
+    /// The last row on a key up to a label.
+    pub fn last_up_to(&self, key: i64, label: u64) -> Option<KeyRow> {
+        self.on_key_before(key, self.up_to(key, label))
+    }
+
     pub fn after(&self, key: i64, label: u64) -> Option<KeyRow> {
         self.on_key(key, self.up_to(key, label))
     }

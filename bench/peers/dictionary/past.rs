@@ -2,7 +2,7 @@
 
 use crate::index::{Bad, KeyIndex, Op};
 use crate::labels::{END, Labels, Lately, spread};
-use crate::spans::{Found, KeyPair, Lifetime, Segments};
+use crate::spans::{Found, KeyPair, Lifetime, Query, Segments, Sought};
 use crate::tree::{Item, Tree};
 
 #[derive(Clone, Copy)]
@@ -153,11 +153,20 @@ impl Dictionary {
         self.segments = segments;
     }
 
-    fn found(&self, place: u32, low: i64, high: i64) -> Found {
+    fn found(&self, place: u32, query: Query) -> Found {
         if place == 0 {
             return Found::NONE;
         }
-        self.segments.ask(self.labels.at(place - 1), low, high)
+        self.segments.ask(self.labels.at(place - 1), query)
+    }
+
+    /// What the last row on a key before a place put.
+    fn value(&self, place: u32, key: i64) -> Option<i64> {
+        let label = self.labels.at(place.checked_sub(1)?);
+        match self.index.last_up_to(key, label)?.op {
+            Op::Put { value, .. } => Some(value),
+            Op::Del { .. } => None,
+        }
     }
 }
 
@@ -204,19 +213,15 @@ impl Past for Dictionary {
     }
 
     fn ask(&self, place: u32, question: Question) -> Answer {
-        let (low, high) = match question {
-            Question::Get { key } => (key, key),
-            Question::Succ { key } => (key, i64::MAX),
-            Question::Pred { key } => (i64::MIN, key),
-            Question::Count { low, high } | Question::Sum { low, high } => (low, high),
-        };
-        let found = self.found(place, low, high);
+        let found = |sought, low, high| self.found(place, Query { low, high, sought });
         match question {
-            Question::Get { .. } => number(found.least.map(|pair| pair.value)),
-            Question::Succ { .. } => pair(found.least),
-            Question::Pred { .. } => pair(found.greatest),
-            Question::Count { .. } => Answer::Number(i128::from(found.count)),
-            Question::Sum { .. } => Answer::Number(found.sum),
+            Question::Get { key } => number(self.value(place, key)),
+            Question::Succ { key } => pair(found(Sought::Least, key, i64::MAX).least),
+            Question::Pred { key } => pair(found(Sought::Greatest, i64::MIN, key).greatest),
+            Question::Count { low, high } => {
+                Answer::Number(i128::from(found(Sought::All, low, high).count))
+            }
+            Question::Sum { low, high } => Answer::Number(found(Sought::All, low, high).sum),
         }
     }
 }

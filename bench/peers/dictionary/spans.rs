@@ -38,7 +38,23 @@ impl Item for KeyPair {
     }
 }
 
-/// What is found of the pairs whose keys lie in a range.
+/// What is looked for among the pairs whose keys lie in a range.
+#[derive(Clone, Copy)]
+pub enum Sought {
+    All,
+    Least,
+    Greatest,
+}
+
+/// A range of keys, and what is looked for there.
+#[derive(Clone, Copy)]
+pub struct Query {
+    pub low: i64,
+    pub high: i64,
+    pub sought: Sought,
+}
+
+/// What is found of the pairs whose keys lie in a range, as far as it is looked for.
 #[derive(Clone, Copy)]
 pub struct Found {
     pub count: u32,
@@ -55,7 +71,36 @@ impl Found {
         greatest: None,
     };
 
-    fn of(pairs: &Tree<KeyPair>, low: i64, high: i64) -> Found {
+    fn of(pairs: &Tree<KeyPair>, query: Query) -> Found {
+        let Query { low, high, .. } = query;
+        match query.sought {
+            Sought::All => Found::all(pairs, low, high),
+            Sought::Least => {
+                let from = pairs.partition_point(|pair| pair.key < low);
+                if from == pairs.len() {
+                    return Found::NONE;
+                }
+                let pair = pairs.get(from);
+                Found {
+                    least: (pair.key <= high).then_some(pair),
+                    ..Found::NONE
+                }
+            }
+            Sought::Greatest => {
+                let to = pairs.partition_point(|pair| pair.key <= high);
+                if to == 0 {
+                    return Found::NONE;
+                }
+                let pair = pairs.get(to - 1);
+                Found {
+                    greatest: (low <= pair.key).then_some(pair),
+                    ..Found::NONE
+                }
+            }
+        }
+    }
+
+    fn all(pairs: &Tree<KeyPair>, low: i64, high: i64) -> Found {
         let from = pairs.partition_point(|pair| pair.key < low);
         let to = pairs.partition_point(|pair| pair.key <= high);
         if to <= from {
@@ -67,6 +112,20 @@ impl Found {
             sum: measure.sum,
             least: Some(pairs.get(from)),
             greatest: Some(pairs.get(to - 1)),
+        }
+    }
+
+    /// One more pair, after all others.
+    fn add(&mut self, pair: KeyPair, sought: Sought) {
+        match sought {
+            Sought::All => {
+                self.count += 1;
+                self.sum = self.sum.wrapping_add(i128::from(pair.value));
+                self.least = Some(self.least.unwrap_or(pair));
+                self.greatest = Some(pair);
+            }
+            Sought::Least => self.least = Some(self.least.unwrap_or(pair)),
+            Sought::Greatest => self.greatest = Some(pair),
         }
     }
 
@@ -311,41 +370,53 @@ fn move_first(left: &mut Spans, level: u32, life: Lifetime, next: u64) {
     }
 }
 
-fn ask_few(few: &Few, label: u64, low: i64, high: i64) -> Found {
+#[inline(never)]
+fn ask_few(few: &Few, label: u64, query: Query) -> Found {
     let mut found = Found::NONE;
-    let from = few.0.partition_point(|other| other.pair.key < low);
+    let from = few.0.partition_point(|other| other.pair.key < query.low);
     for life in &few.0[from..] {
-        if high < life.pair.key {
+        if query.high < life.pair.key {
             break;
         }
         if life.holds(label) {
-            found.count += 1;
-            found.sum = found.sum.wrapping_add(i128::from(life.pair.value));
-            found.least = Some(found.least.unwrap_or(life.pair));
-            found.greatest = Some(life.pair);
+            found.add(life.pair, query.sought);
+            if matches!(query.sought, Sought::Least) {
+                break;
+            }
         }
     }
     found
 }
 
-fn ask(spans: &Spans, level: u32, label: u64, low: i64, high: i64) -> Found {
+fn ask(spans: &Spans, level: u32, label: u64, query: Query) -> Found {
     let span = match spans {
-        Spans::Few(few) => return ask_few(few, label, low, high),
+        Spans::Few(few) => return ask_few(few, label, query),
         Spans::Full(span) => span,
     };
     if level == 0 {
-        return Found::of(&span.pairs, low, high);
+        return Found::of(&span.pairs, query);
     }
-    let half = 1 << (level - 1);
-    let below = if label < half {
-        ask(&span.left, level - 1, label, low, high)
-    } else {
-        ask(&span.right, level - 1, label - half, low, high)
-    };
     if span.pairs.len() == 0 {
-        return below;
+        return ask_half(span, level - 1, label, query);
     }
-    Found::of(&span.pairs, low, high).combine(below)
+    ask_whole(span, level - 1, label, query)
+}
+
+/// What is found of the pairs of a span, and of those below it.
+#[inline(never)]
+fn ask_whole(span: &Span, level: u32, label: u64, query: Query) -> Found {
+    let below = ask_half(span, level, label, query);
+    Found::of(&span.pairs, query).combine(below)
+}
+
+/// What is found of the pairs below a span.
+fn ask_half(span: &Span, level: u32, label: u64, query: Query) -> Found {
+    let half = 1 << level;
+    if label < half {
+        ask(&span.left, level, label, query)
+    } else {
+        ask(&span.right, level, label - half, query)
+    }
 }
 
 /// Lifetimes by where they begin, and their pairs in the spans that make them up.
@@ -389,7 +460,7 @@ impl Segments {
         move_end(&mut self.root, LEVELS, life, next);
     }
 
-    pub fn ask(&self, label: u64, low: i64, high: i64) -> Found {
-        ask(&self.root, LEVELS, label, low, high)
+    pub fn ask(&self, label: u64, query: Query) -> Found {
+        ask(&self.root, LEVELS, label, query)
     }
 }

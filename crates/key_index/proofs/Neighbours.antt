@@ -190,6 +190,9 @@ module _ (key : ℤ) (rows by_key : List KeyRow) (same : filter (is_on key) by_k
   pub same_that : (test : KeyRow → Bool) → filter (λ row. is_on key row && test row) by_key ≡ filter (λ row. is_on key row && test row) rows
   same_that test = filter_both (is_on key) test by_key ∙ ap (filter test) same ∙ sym (filter_both (is_on key) test rows)
 
+  pub same_up_to : (label : ℕ) → last_up_to key label by_key ≡ last_up_to key label rows
+  same_up_to label = ap last_of (same_that (λ row. nat_le row.0 label))
+
   pub same_after : (label : ℕ) → first_after key label by_key ≡ first_after key label rows
   same_after label =
       find_is (λ row. is_on key row && nat_lt label row.0) by_key ∙ ap first_of (same_that (λ row. nat_lt label row.0)) ∙ sym (find_is (λ row. is_on key row && nat_lt label row.0) rows)
@@ -198,7 +201,7 @@ module _ (key : ℤ) (rows by_key : List KeyRow) (same : filter (is_on key) by_k
   same_beside label = beside_is (ap last_of (same_that (λ row. nat_lt row.0 label))) (same_after label)
 
   pub same_around : (label : ℕ) → around key label by_key ≡ around key label rows
-  same_around label = beside_is (ap last_of (same_that (λ row. nat_le row.0 label))) (same_after label)
+  same_around label = beside_is (same_up_to label) (same_after label)
 
 -- where no row has the label, those up to it stand below it
 pub around_fresh : (key : ℤ) (label : ℕ) (rows : List KeyRow) → AllByRecursion (λ (row : KeyRow). (row.0 == label) ≡ false) rows → around key label rows ≡ beside key label rows

@@ -3,14 +3,14 @@
 ghost use Rattle.std.specs.Prelude.{◌≡◌, [], length, Some, None, IfNone, IsSome, IfOk, OnOk, OnErr};
 ghost use Rattle.retro_base.specs.declared.kind.Kind.TheVariants.{Dict};
 ghost use Rattle.retro_base.specs.Kind.{kind_of};
-ghost use Rattle.key_index.specs.RowsBeside.{beside};
+ghost use Rattle.key_index.specs.RowsBeside.{beside, last_up_to};
 ghost use Rattle.key_index.specs.KeyRows.{Replays, AreKeyRows, bad_label, bad_with, first_after, key_of, last_before, op_at, with_row, without};
 ghost use Rattle.key_index.specs.Relabelled.{Rise, HoldsLabels, relabelled};
 
 use crate::labels::Labels2;
 use crate::row::KeyRow;
 use crate::rows_beside::{RowsBeside, is_there, taken_at};
-use crate::tree::{around, beside, first_above, op_of, put_in, relabel, take_out};
+use crate::tree::{around, beside, first_above, last_up_to, op_of, put_in, relabel, take_out};
 use retro_base::{NoMemory, Op};
 use std::alloc::Global;
 use std::marker::Model;
@@ -101,6 +101,13 @@ impl KeyIndex {
         ensures { result ≡ last_before key label self.now }
     {
         self.beside(key, label).before
+    }
+
+    /// The last row on a key up to a label.
+    pub fn last_up_to(&self, key: i64, label: u64) -> Option<(u64, Op)>
+        ensures { result ≡ last_up_to key label self.now }
+    {
+        last_up_to(&self.by_key, key, label)
     }
 
     /// The rows on a key next to a label.

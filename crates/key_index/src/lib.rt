@@ -12,7 +12,7 @@
 //!
 //! | Call | Cost, with n rows |
 //! |---|---|
-//! | `insert`, `insert_beside`, `remove_row`, `before`, `after`, `beside`, `bad_after_insert`, `bad_without` | log n: one search at the most, and a way to each neighbour |
+//! | `insert`, `insert_beside`, `remove_row`, `before`, `last_up_to`, `after`, `beside`, `bad_after_insert`, `bad_without` | log n: one search at the most, and a way to each neighbour |
 //! | `remove`, `bad_after_remove` | n log n: the operation of the row is looked for |
 //! | `relabel` | n log n |
 //!

@@ -5,7 +5,7 @@ ghost use Rattle.std.specs.List.{filter};
 ghost use Rattle.std.specs.Option.{option_and_then};
 ghost use Rattle.retro_base.specs.declared.kind.Kind.TheVariants.{Dict};
 ghost use Rattle.retro_base.specs.Kind.{kind_of};
-ghost use Rattle.key_index.specs.RowsBeside.{around, beside};
+ghost use Rattle.key_index.specs.RowsBeside.{around, beside, last_up_to};
 ghost use Rattle.key_index.specs.KeyRows.{first_after, key_of, last_before, last_of, op_at, with_row, without};
 ghost use Rattle.key_index.specs.Ordered.{AreByKey, IsIndex, by_label, if_on, reaches};
 ghost use Rattle.key_index.specs.Relabelled.{Rise, HoldsLabels, relabelled};
@@ -77,6 +77,15 @@ pub(crate) fn beside(by_key: &Tree<KeyRow>, key: i64, label: u64) -> RowsBeside
         before: last_below(by_key, key, label, count),
         after: next_on(by_key, key, count),
     }
+}
+
+/// The last row on a key up to a label.
+pub(crate) fn last_up_to(by_key: &Tree<KeyRow>, key: i64, label: u64) -> Option<(u64, Op)>
+    requires ordered { AreByKey by_key.now }
+    ensures { result ≡ last_up_to key label by_key.now }
+{
+    let count = count_up_to(by_key, key, label);
+    last_on(by_key, key, count)
 }
 
 /// The last row on a key up to a label, and the first one above it.

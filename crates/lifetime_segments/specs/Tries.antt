@@ -169,6 +169,11 @@ abbrev pub NodeAnswersAt : {A M Q P : Type 0} → (A → A → Bool) → (List A
 NodeAnswersAt {A} before answer level label query node result =
     (lives : List (Lifetime A)) → IsOfNode before (suc level) lives node → length lives ≤ most_items → result ≡ answer (in_order before (items_below level label lives)) query
 
+-- the same over the items of the node and those below it, whose halves have this level
+abbrev pub NodeAnswersWithOwn : {A M Q P : Type 0} → (A → A → Bool) → (List A → Q → P) → ℕ → ℕ → Q → Node A M → P → Type 0
+NodeAnswersWithOwn {A} before answer level label query node result =
+    (lives : List (Lifetime A)) → IsOfNode before (suc level) lives node → length lives ≤ most_items → result ≡ answer (in_order before (items_at label lives)) query
+
 -- whatever lifetimes it has, the items that are there at a label were added to others, all of them in any order
 abbrev pub CollectsAt : {A M : Type 0} → (A → A → Bool) → ℕ → ℕ → Trie A M → List A → List A → Type 0
 CollectsAt {A} before level label trie old new =

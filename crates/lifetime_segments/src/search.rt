@@ -3,14 +3,17 @@ ghost use Rattle.std.specs.Prelude.{◌≡◌, ◌<◌, ◌≤◌, ◌^◌, suc,
 ghost use Rattle.lifetime_segments.specs.Lawful.{most_items};
 ghost use Rattle.lifetime_segments.specs.Lifetimes.{items_at, stands_by_item};
 ghost use Rattle.lifetime_segments.specs.Ordered.{AreInOrder, in_order};
-ghost use Rattle.lifetime_segments.specs.Tries.{Has, NodeHas, AnswersAt, NodeAnswersAt};
+ghost use Rattle.lifetime_segments.specs.Tries.{Has, NodeHas, AnswersAt, NodeAnswersAt, NodeAnswersWithOwn};
 
 use crate::decomposable::RangeSearch;
 use crate::life_list::{LifeList, place_from};
 use crate::lifetime::labels;
 use crate::trie::{Node, Trie};
 
-/// The answer over the items in the spans above a label, and over those of few lifetimes there. Most spans have no item of their own.
+/// The answer over the items in the spans above a label, and over those of few lifetimes there.
+///
+/// Most spans have no item of their own. What needs room stands in functions that are not inlined, so that the way down has no
+/// need to keep or to clear any there.
 #[cycle(ask)]
 pub(crate) fn ask<D: RangeSearch>(
     trie: &Trie<D::Item>,
@@ -30,10 +33,27 @@ pub(crate) fn ask<D: RangeSearch>(
     if level == 0 {
         return D::ask(&node.items, query);
     }
-    let below = ask_half::<D>(node, level - 1, label, query);
     if node.items.len() == 0 {
-        return below;
+        return ask_half::<D>(node, level - 1, label, query);
     }
+    ask_with_own::<D>(node, level - 1, label, query)
+}
+
+/// The answer over the items of a node, and over those in the spans below it and above a label.
+#[cycle(ask)]
+#[inline(never)]
+fn ask_with_own<D: RangeSearch>(
+    node: &Node<D::Item>,
+    level: u32,
+    label: u64,
+    query: D::Query,
+) -> D::Part
+    requires level { level < 40 }
+    requires within { label < 2 ^ suc level }
+    requires has { NodeHas D.stands_before (suc level) node.now }
+    ensures { NodeAnswersWithOwn D.stands_before D.answer level label query node.now result }
+{
+    let below = ask_half::<D>(node, level, label, query);
     D::combine(D::ask(&node.items, query), below)
 }
 
@@ -59,7 +79,8 @@ fn ask_half<D: RangeSearch>(
 }
 
 /// The answer over the items of those of a few lifetimes that hold a label. They stand by their items, so it begins at the lower
-/// end of the query and stops at the upper one.
+/// end of the query and stops at the upper one, or where the answer is settled.
+#[inline(never)]
 fn ask_few<D: RangeSearch>(few: &LifeList<D::Item>, label: u64, query: D::Query) -> D::Part
     requires few { length few.now ≤ most_items }
     requires ordered { AreInOrder (stands_by_item D.stands_before) few.now }
@@ -73,6 +94,9 @@ fn ask_few<D: RangeSearch>(few: &LifeList<D::Item>, label: u64, query: D::Query)
         }
         if life.holds(label) {
             part = D::with_one(part, &life.item, query);
+            if D::is_settled(&part, query) {
+                return part;
+            }
         }
     }
     part

@@ -2,18 +2,22 @@
 use Rattle.std.proofs.Common.{◌≡◌, ℕ, zero, suc, ◌<◌, ◌≤◌, ℤ, false, Ok, Less, List, [], ◌∷◌, ◌++◌, map, take, length, refl, sym, ap, ◌∙◌, arith}
 use Rattle.std.specs.List.{AllByRecursion}
 use Rattle.std.specs.List.Sorted.{IsStrictlySortedBy}
-use Rattle.std.specs.Map.{keys_of}
-use Rattle.std.specs.Ordering.{int_cmp}
+use Rattle.std.specs.Map.{keys_of, lookup}
+use Rattle.std.specs.Option.{option_and_then}
+use Rattle.std.specs.Ordering.{int_cmp, int_eq}
+use Rattle.std.specs.Prelude.{nat_le}
 use Rattle.std.specs.Result.{result_unwrap_or}
 use Rattle.std.proofs.lemmas.Int.{ints}
 use Rattle.std.proofs.lemmas.List.{append-nil, length-take}
 use Rattle.retro_base.specs.Limits.{most_rows}
 use Rattle.retro_base.specs.declared.kind.Kind.TheVariants.{Dict}
 use Rattle.retro_base.specs.declared.row.Row.{Row}
-use Rattle.retro_base.specs.Answers.{answer_of}
+use Rattle.retro_base.specs.declared.question.Question.TheVariants.{Get}
+use Rattle.retro_base.specs.Answers.{answer_of, number_of}
 use Rattle.retro_base.specs.Replay.{run, state_at}
 use Rattle.retro_base.specs.State.{pairs, empty}
 use Rattle.key_index.specs.KeyRows.{KeyRow, as_row, up_to}
+use Rattle.key_index.specs.RowsBeside.{last_up_to}
 use Rattle.lifetime_segments.specs.declared.lifetime.Lifetime.{Lifetime}
 use Rattle.lifetime_segments.specs.Lifetimes.{label_end, items_at}
 use Rattle.lifetime_segments.specs.LifetimeLaws.{items_at-in_order}
@@ -27,8 +31,9 @@ use Rattle.retro_dictionary.specs.Labelled.{labelled}
 use Rattle.retro_dictionary.specs.Lifetimes.{lifetimes_of}
 use Rattle.retro_dictionary.specs.PairSearch.{pair_before, found_in}
 use Rattle.retro_dictionary.specs.PairSearchLaws.{pair_order}
-use Rattle.retro_dictionary.specs.Asked.{AreOfNumbers, pairs_at, range_of, answer_from}
+use Rattle.retro_dictionary.specs.Asked.{AreOfNumbers, pairs_at, query_of, answer_from, value_at, value_put}
 use Rattle.retro_dictionary.proofs.HeldPairs.{held}
+use Rattle.retro_dictionary.proofs.LastPut.{value-last}
 use Rattle.retro_dictionary.proofs.InOrder.{in_order-same}
 use Rattle.retro_dictionary.proofs.LabelledRows.{beside, length-fronts, rises, up_to-is}
 use Rattle.retro_dictionary.proofs.PairsInOrder.{AreSorted, sorted_nil}
@@ -99,6 +104,24 @@ module _ (rows : List Row) (labels : List ℕ) (index : List KeyRow) (lifetimes 
     are = pairs_at-is;
   }
 
+  -- the value of a key is that of the last row on it
+  value_is : (key : ℤ) → lookup (int_eq key) first_rows.left ≡ value_at labels index place key
+  value_is key = go place refl where
+    go : (p : ℕ) → place ≡ p → lookup (int_eq key) first_rows.left ≡ value_at labels index p key
+    go zero is =
+        let none : run [] (pairs []) ≡ Ok (pairs first_rows.left) = ap (λ p. run (take p rows) (pairs [])) (sym is) ∙ first_rows.ran in
+        let ends = run-none (pairs []) in
+        let nothing : first_rows.left ≡ [] = cc in
+        ap (lookup (int_eq key)) nothing
+    go (suc earlier) is =
+        let label = label_before 0 labels (suc earlier) in
+        value-last key (λ row. nat_le row.0 label) (labelled labels rows) first_rows.left sorted_nil (run_first label (ap (label_before 0 labels) is))
+        ∙ ap (λ rs. option_and_then (λ row. value_put row.1) (last_up_to key label rs)) (sym kept.indexed)
+
+  pub got : (key : ℤ) → answer_of (state_at Dict rows place) (Get key) ≡ number_of (value_at labels index place key)
+  unfolding answer_of
+  got key = ap (λ r. answer_of (result_unwrap_or r (empty Dict)) (Get key)) first_rows.ran ∙ ap number_of (value_is key)
+
 -- the pairs that are there in their order
 content_at : (rows : List Row) (labels : List ℕ) (index : List KeyRow) (lifetimes : List (Lifetime (ℤ × ℤ))) (place : ℕ) (kept : AreLabelled rows labels index lifetimes) (within : place ≤ length rows) → 1 ≤ place
     → state_at Dict rows place ≡ pairs (in_order pair_before (items_at (label_before 0 labels place) lifetimes))
@@ -114,4 +137,4 @@ holds-content rows labels index lifetimes place kept some within = content_at ro
 pub answers-found : SearchAnswers
 answers-found rows labels index lifetimes place question kept within =
     let at = there rows labels index lifetimes place kept within in
-    ap (λ state. answer_of state question) at.state ∙ answer-found at.left question at.of_numbers at.few ∙ ap (λ ps. answer_from question (found_in ps (range_of question))) (sym at.are)
+    ap (λ state. answer_of state question) at.state ∙ answer-found at.left question at.of_numbers at.few ∙ ap (λ ps. answer_from question (found_in ps (query_of question))) (sym at.are)

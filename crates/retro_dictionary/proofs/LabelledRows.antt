@@ -1,16 +1,18 @@
 -- Rows beside labels that rise: an edit by label is one by place.
 use Rattle.std.proofs.Common.{◌≡◌, ℕ, zero, suc, ◌-◌, ◌<◌, ◌≤◌, ℤ, Bool, true, false, ◌&&◌, ◌==◌, cond, Some, None, List, [], ◌∷◌, ◌++◌, length, take, drop, slice_get, refl, sym, ap, ◌∙◌, arith, subst, ltb}
 use Rattle.std.specs.List.{AllByRecursion, filter, find, insert, remove}
+use Rattle.std.specs.Option.{option_and_then}
 use Rattle.std.proofs.lemmas.List.{append_assoc, length-take, take-append-drop}
 use Rattle.std.proofs.lemmas.Bool.{le-leb, lt-leb, lt-ltb, le-ltb, eq-eqb, ne_eqb}
 use Rattle.retro_base.specs.declared.row.Row.{Row}
 use Rattle.retro_base.specs.declared.op.Op.{Op}
 use Rattle.retro_base.specs.OrderLaws.{all_weaker}
 use Rattle.key_index.specs.KeyRows.{KeyRow, LabelsRise, is_on, last_of, last_before, first_after, op_at, without, up_to, behind as after, with_row}
+use Rattle.key_index.specs.RowsBeside.{last_up_to}
 use Rattle.lifetime_segments.specs.declared.lifetime.Lifetime.{Lifetime}
 use Rattle.lifetime_segments.specs.Lifetimes.{items_at}
 use Rattle.lifetime_segments.specs.Ordered.{in_order}
-use Rattle.retro_dictionary.specs.Asked.{pairs_at}
+use Rattle.retro_dictionary.specs.Asked.{pairs_at, value_at, value_put}
 use Rattle.retro_dictionary.specs.PairSearch.{pair_before}
 use Rattle.order_labels.specs.Labels.{AreApart, label_limit, label_before, label_after as label_later}
 use Rattle.retro_dictionary.specs.Edited.{IsBetween, label_or_end}
@@ -294,6 +296,11 @@ pub pairs-after : (labels : List ℕ) (lifetimes : List (Lifetime (ℤ × ℤ)))
     → in_order pair_before (items_at label lifetimes) ≡ pairs_at labels lifetimes place
 pairs-after labels lifetimes zero label some read = absurd (omega arith)
 pairs-after labels lifetimes (suc place) label some read = ap (λ l. in_order pair_before (items_at l lifetimes)) (before-is labels (suc place) label some read)
+
+pub value-after : (labels : List ℕ) (index : List KeyRow) (place label : ℕ) (key : ℤ) → 0 < place → slice_get labels (place - 1) ≡ Some label
+    → option_and_then (λ row. value_put row.1) (last_up_to key label index) ≡ value_at labels index place key
+value-after labels index zero label key some read = absurd (omega arith)
+value-after labels index (suc place) label key some read = ap (λ l. option_and_then (λ row. value_put row.1) (last_up_to key l index)) (before-is labels (suc place) label some read)
 
 pub length-labelled : (labels : List ℕ) (rows : List Row) → length (labelled labels rows) ≤ length rows
 length-labelled [] rows = omega arith

@@ -6,6 +6,7 @@ pub mod EditedLifetimes
 pub mod Answered
 pub mod LabelledRows
 pub mod Performed
+pub mod LastPut
 pub mod AskedPast
 pub mod MeasuredPairs
 pub mod RangeOfPairs

@@ -1,7 +1,10 @@
--- Which pairs answer a question of a dictionary, and what is answered of what is found of them.
-use Rattle.std.specs.Prelude.{ℕ, zero, suc, ℤ, pos, neg_ℤ, ◌-ℤ◌, ◌^◌, ◌≤ℤ◌, List, []}
+-- What a question of a dictionary looks for and among which keys, what is answered of what is found of the pairs there, and what a key has.
+use Rattle.std.specs.Prelude.{ℕ, zero, suc, ℤ, pos, neg_ℤ, ◌-ℤ◌, ◌^◌, ◌≤ℤ◌, Option, None, List, []}
 use Rattle.std.specs.List.{AllByRecursion}
-use Rattle.std.specs.Option.{option_map}
+use Rattle.std.specs.Option.{option_map, option_and_then}
+use Rattle.key_index.specs.KeyRows.{KeyRow}
+use Rattle.key_index.specs.RowsBeside.{last_up_to}
+use Rattle.retro_base.specs.declared.op.Op.{Op}
 use Rattle.retro_base.specs.declared.question.Question.{Question}
 use Rattle.retro_base.specs.declared.question.Question.TheVariants.{Size, Get, Succ, Pred, Count, Sum}
 use Rattle.retro_base.specs.declared.question.Answer.{Answer}
@@ -11,8 +14,12 @@ use Rattle.lifetime_segments.specs.declared.lifetime.Lifetime.{Lifetime}
 use Rattle.lifetime_segments.specs.Lifetimes.{items_at}
 use Rattle.lifetime_segments.specs.Ordered.{in_order}
 use Rattle.order_labels.specs.Labels.{label_before}
+use Rattle.retro_dictionary.specs.Lifetimes.{put_by}
 use Rattle.retro_dictionary.specs.declared.pairs.Found.{Found}
 use Rattle.retro_dictionary.specs.declared.pairs.KeyRange.{KeyRange}
+use Rattle.retro_dictionary.specs.declared.pairs.PairQuery.{PairQuery}
+use Rattle.retro_dictionary.specs.declared.pairs.Sought.{Sought}
+use Rattle.retro_dictionary.specs.declared.pairs.Sought.TheVariants.{All, Least, Greatest}
 use Rattle.retro_dictionary.specs.PairSearch.{pair_before, found_in}
 
 -- numbers of 64 bits
@@ -33,14 +40,18 @@ AreOfNumbers ps = AllByRecursion (λ (pair : ℤ × ℤ). IsNumber pair.0 × IsN
 abbrev pub keys_from : ℤ → ℤ → KeyRange
 keys_from low high = record { low = low; high = high }
 
--- the keys that a question asks of
-abbrev pub range_of : Question → KeyRange
-range_of (Get key) = keys_from key key
-range_of (Succ key) = keys_from key greatest_number
-range_of (Pred key) = keys_from least_number key
-range_of (Count low high) = keys_from low high
-range_of (Sum low high) = keys_from low high
-range_of question = keys_from least_number greatest_number
+-- this is looked for among them
+abbrev pub look_for : Sought → KeyRange → PairQuery
+look_for sought range = record { range = range; sought = sought }
+
+-- what a question looks for, and among which keys
+abbrev pub query_of : Question → PairQuery
+query_of (Get key) = look_for Least (keys_from key key)
+query_of (Succ key) = look_for Least (keys_from key greatest_number)
+query_of (Pred key) = look_for Greatest (keys_from least_number key)
+query_of (Count low high) = look_for All (keys_from low high)
+query_of (Sum low high) = look_for All (keys_from low high)
+query_of question = look_for All (keys_from least_number greatest_number)
 
 -- the answer, by what is found of the pairs with these keys
 abbrev pub answer_from : Question → Found → Answer
@@ -58,5 +69,14 @@ pairs_at labels lifetimes zero = []
 pairs_at labels lifetimes (suc place) = in_order pair_before (items_at (label_before 0 labels (suc place)) lifetimes)
 
 -- what is found of them
-abbrev pub found_at : List ℕ → List (Lifetime (ℤ × ℤ)) → ℕ → KeyRange → Found
-found_at labels lifetimes place range = found_in (pairs_at labels lifetimes place) range
+abbrev pub found_at : List ℕ → List (Lifetime (ℤ × ℤ)) → ℕ → PairQuery → Found
+found_at labels lifetimes place query = found_in (pairs_at labels lifetimes place) query
+
+-- the value that an operation puts, where it puts one
+abbrev pub value_put : Op → Option ℤ
+value_put op = option_map (λ pair. pair.1) (put_by op)
+
+-- the value of a key at a place: that of the last row on it up to the one before the place, where that row puts one
+abbrev pub value_at : List ℕ → List KeyRow → ℕ → ℤ → Option ℤ
+value_at labels index zero key = None
+value_at labels index (suc place) key = option_and_then (λ row. value_put row.1) (last_up_to key (label_before 0 labels (suc place)) index)

@@ -1,36 +1,40 @@
-//! Questions, by what is found of a range of keys.
+//! Questions, by what is found of a range of keys, and one about a single key by the last row on it.
 
 ghost use Rattle.std.specs.Prelude.{◌≡◌, ◌≤◌, length};
+ghost use Rattle.std.specs.Option.{option_and_then, option_map};
 ghost use Rattle.order_labels.specs.Labels.{AreLabels};
-ghost use Rattle.retro_base.specs.Answers.{pair_of};
-ghost use Rattle.retro_dictionary.specs.Asked.{range_of, answer_from, found_at};
+ghost use Rattle.retro_base.specs.Answers.{number_of, pair_of};
+ghost use Rattle.retro_dictionary.specs.Asked.{query_of, look_for, keys_from, answer_from, found_at, value_at, value_put};
 
-use crate::pairs::{Found, KeyPair, KeyRange};
+use crate::pairs::{Found, KeyPair, KeyRange, PairQuery, Sought};
 use crate::search::PairSearch;
+use key_index::KeyIndex;
 use lifetime_segments::{Decomposable, Segments};
 use order_labels::Labels;
-use retro_base::{Answer, Question};
+use retro_base::{Answer, Op, Question};
 
-/// The keys that a question asks of.
-pub(crate) fn range_of(question: Question) -> KeyRange
-    ensures { result ≡ range_of question }
+/// What a question looks for, and among which keys. What a key has is found so too, but the index tells it sooner (`value_at`).
+pub(crate) fn query_of(question: Question) -> PairQuery
+    ensures { result ≡ query_of question }
 {
     match question {
-        Question::Get { key } => keys_from(key, key),
-        Question::Succ { key } => keys_from(key, i64::MAX),
-        Question::Pred { key } => keys_from(i64::MIN, key),
-        Question::Count { low, high } => keys_from(low, high),
-        Question::Sum { low, high } => keys_from(low, high),
-        _ => keys_from(i64::MIN, i64::MAX),
+        Question::Get { key } => look_for(Sought::Least, key, key),
+        Question::Succ { key } => look_for(Sought::Least, key, i64::MAX),
+        Question::Pred { key } => look_for(Sought::Greatest, i64::MIN, key),
+        Question::Count { low, high } => look_for(Sought::All, low, high),
+        Question::Sum { low, high } => look_for(Sought::All, low, high),
+        _ => look_for(Sought::All, i64::MIN, i64::MAX),
     }
 }
 
-/// The keys from low to high.
-fn keys_from(low: i64, high: i64) -> KeyRange
-    ensures low { result.low ≡ low }
-    ensures high { result.high ≡ high }
+/// This is looked for among the keys from low to high.
+fn look_for(sought: Sought, low: i64, high: i64) -> PairQuery
+    ensures { result ≡ look_for sought (keys_from low high) }
 {
-    KeyRange { low, high }
+    PairQuery {
+        range: KeyRange { low, high },
+        sought,
+    }
 }
 
 /// The answer to a question, by what is found of the pairs in its range.
@@ -41,12 +45,7 @@ pub(crate) fn answer_from(question: Question, found: &Found) -> Answer
         Question::Size => Answer::Number {
             value: i128::from(found.count),
         },
-        Question::Get { .. } => match found.least {
-            Some(pair) => Answer::Number {
-                value: i128::from(pair.value),
-            },
-            None => Answer::Nothing,
-        },
+        Question::Get { .. } => number_of(value_of(found.least)),
         Question::Succ { .. } => pair_of(found.least),
         Question::Pred { .. } => pair_of(found.greatest),
         Question::Count { .. } => Answer::Number {
@@ -54,6 +53,16 @@ pub(crate) fn answer_from(question: Question, found: &Found) -> Answer
         },
         Question::Sum { .. } => Answer::Number { value: found.sum },
         _ => Answer::Nothing,
+    }
+}
+
+/// The value of a pair, where there is one.
+fn value_of(pair: Option<KeyPair>) -> Option<i64>
+    ensures { result ≡ option_map (λ pair. pair.1) pair }
+{
+    match pair {
+        Some(pair) => Some(pair.value),
+        None => None,
     }
 }
 
@@ -75,14 +84,48 @@ pub(crate) fn found_at(
     labels: &Labels,
     segments: &Segments<PairSearch>,
     place: u32,
-    range: KeyRange,
+    query: PairQuery,
 ) -> Found
     requires within { place ≤ length labels.now }
     requires labels { AreLabels labels.now }
-    ensures { result ≡ found_at labels.now segments.now place range }
+    ensures { result ≡ found_at labels.now segments.now place query }
 {
     if place == 0 {
         return PairSearch::empty();
     }
-    segments.ask(labels.label_at(place - 1), range)
+    segments.ask(labels.label_at(place - 1), query)
+}
+
+/// The value of a key at a place: what the last row on it up to there puts. It needs no search of the lifetimes.
+pub(crate) fn value_at(labels: &Labels, index: &KeyIndex, place: u32, key: i64) -> Option<i64>
+    requires within { place ≤ length labels.now }
+    ensures { result ≡ value_at labels.now index.now place key }
+{
+    if place == 0 {
+        return None;
+    }
+    let label = labels.label_at(place - 1);
+    value_of_row(index.last_up_to(key, label))
+}
+
+/// The value that a row puts, where there is a row and it puts one.
+fn value_of_row(row: Option<(u64, Op)>) -> Option<i64>
+    ensures { result ≡ option_and_then (λ row. value_put row.1) row }
+{
+    match row {
+        Some((_, Op::Put { value, .. })) => Some(value),
+        _ => None,
+    }
+}
+
+/// The number, or nothing.
+pub(crate) fn number_of(value: Option<i64>) -> Answer
+    ensures { result ≡ number_of value }
+{
+    match value {
+        Some(value) => Answer::Number {
+            value: i128::from(value),
+        },
+        None => Answer::Nothing,
+    }
 }

@@ -5,7 +5,7 @@ ghost use Rattle.retro_base.specs.declared.kind.Kind.TheVariants.{Dict};
 ghost use Rattle.retro_base.specs.Answers.{answer_of, content};
 ghost use Rattle.retro_base.specs.Replay.{state_at};
 
-use crate::asked::{answer_from, found_at, range_of};
+use crate::asked::{answer_from, found_at, number_of, query_of, value_at};
 use crate::edit::{put, take_out};
 use crate::failing::{place_of_bad, place_of_bad_label};
 use crate::free_label::label_before;
@@ -49,11 +49,14 @@ impl RetroDictionary {
         requires within { place ≤ length self.now }
         ensures { result ≡ answer_of (state_at Dict self.now place) question }
     {
+        if let Question::Get { key } = question {
+            return number_of(value_at(&self.kept.labels, &self.kept.index, place, key));
+        }
         let found = found_at(
             &self.kept.labels,
             &self.kept.segments,
             place,
-            range_of(question),
+            query_of(question),
         );
         answer_from(question, &found)
     }

@@ -98,6 +98,16 @@ fn expect_beside(rt: &impl Abort, index: &KeyIndex) {
         assert_eq!(rt; index.before(key, label), before);
         assert_eq!(rt; index.after(key, label), after);
     }
+    for (key, label, last) in [
+        (1, 99, None),
+        (1, 100, Some((100, PUT))),
+        (1, 200, Some((200, DEL))),
+        (2, 100, None),
+        (2, u64::MAX, Some((101, OTHER))),
+        (3, u64::MAX, None),
+    ] {
+        assert_eq!(rt; index.last_up_to(key, label), last);
+    }
 }
 
 #[test]

@@ -1,5 +1,5 @@
 //! The balance of a node, which rotations restore where one side gained or lost a node.
-ghost use Rattle.std.specs.Prelude.{◌≡◌, ◌+◌, ◌^◌, ◌<◌, ◌≤◌, length, IfSome};
+ghost use Rattle.std.specs.Prelude.{◌≡◌, ◌+◌, ◌^◌, ◌<◌, ◌≤◌, length, IfSome, IfNone};
 ghost use Rattle.weighted_tree.specs.Measures.{measure_in};
 ghost use Rattle.weighted_tree.specs.Balance.{weight, IsNearlyBalanced, IsTooHeavy};
 ghost use Rattle.weighted_tree.specs.Nodes.{node_items, node_count, items_of, nodes_of, HasBalance, IsSound, IsUnsettled};
@@ -43,8 +43,8 @@ impl<T: Measured> Link<T> {
         *measure = node.measure();
     }
 
-    /// The same where the number of the nodes is known, and what the items measure may be told. Where it is told and
-    /// there are as many nodes as before, the node is not opened again.
+    /// The same where the number of the nodes is known, and what the items measure may be told. Only where it is told and
+    /// there are as many nodes as before, the node is not visited again.
     #[inline(always)]
     pub(crate) fn settle_told<L: Ledger>(
         &mut self,
@@ -60,6 +60,7 @@ impl<T: Measured> Link<T> {
         ensures items { items_of self.new ≡ items_of self.old }
         ensures nodes { nodes_of self.new ≡ nodes_of self.old }
         ensures none_lost { steps.old ≤ steps.new }
+        ensures untold { IfNone told (steps.old + 1 ≤ steps.new) }
         ensures visits { steps.new ≤ steps.old + 3 }
     {
         let Link::Full {

@@ -48,78 +48,80 @@ ask-returns-then-level-eq0 g t c lives is_of few =
     (node_at_zero g.met.D.Decomposable.order c.args.level c.args.label lives c.deref.result.now c.if-level-eq0.true c.requires.within
     (node_of g.D.Decomposable.stands_before c.args.level lives c.args.trie.now c.deref.result.now leads is_of))
 
-pub ask-ask_half-below-requires : goal.ask-ask_half-below-requires
-ask-ask_half-below-requires g t c κs within =
+pub ask-ask_half-requires : goal.ask-ask_half-requires
+ask-ask_half-requires g t c κs within =
     let below : c.args.level ≡ suc (c.args.level - 1) = omega arith in
-    let leads : LeadsTo c.args.trie.now c.deref-2.result.now = leads_by c.in-Full.is c.deref-2.ensures (refl, refl, refl) in
+    let leads : LeadsTo c.args.trie.now c.deref-then-len-eq0.result.now = leads_by c.in-Full.is c.deref-then-len-eq0.ensures (refl, refl, refl) in
     let near : c.args.label < 2 ^ suc (c.args.level - 1) = subst (λ n. c.args.label < 2 ^ n) below c.requires.within in
-    let has : NodeHas g.D.Decomposable.stands_before (suc (c.args.level - 1)) c.deref-2.result.now = subst (λ n. NodeHas g.D.Decomposable.stands_before n c.deref-2.result.now) below (node_has leads c.requires.has) in
+    let has : NodeHas g.D.Decomposable.stands_before (suc (c.args.level - 1)) c.deref-then-len-eq0.result.now = subst (λ n. NodeHas g.D.Decomposable.stands_before n c.deref-then-len-eq0.result.now) below (node_has leads c.requires.has) in
     search rules
 
 pub ask-returns-then-len-eq0 : goal.ask-returns-then-len-eq0
 ask-returns-then-len-eq0 g t c lives is_of few =
     let before = g.D.Decomposable.stands_before in
     let below : c.args.level ≡ suc (c.args.level - 1) = omega arith in
-    let leads : LeadsTo c.args.trie.now c.deref-2.result.now = leads_by c.in-Full.is c.deref-2.ensures (refl, refl, refl) in
+    let leads : LeadsTo c.args.trie.now c.deref-then-len-eq0.result.now = leads_by c.in-Full.is c.deref-then-len-eq0.ensures (refl, refl, refl) in
     let near : c.args.label < 2 ^ suc (c.args.level - 1) = subst (λ n. c.args.label < 2 ^ n) below c.requires.within in
-    let is_of_node : IsOfNode before (suc (c.args.level - 1)) lives c.deref-2.result.now =
-    subst (λ n. IsOfNode before n lives c.deref-2.result.now) below (node_of before c.args.level lives c.args.trie.now c.deref-2.result.now leads is_of) in
+    let is_of_node : IsOfNode before (suc (c.args.level - 1)) lives c.deref-then-len-eq0.result.now =
+    subst (λ n. IsOfNode before n lives c.deref-then-len-eq0.result.now) below (node_of before c.args.level lives c.args.trie.now c.deref-then-len-eq0.result.now leads is_of) in
     let items = items_below (c.args.level - 1) c.args.label lives in
-    let none : c.deref-2.result.now.items ≡ [] = nil_from_length c.deref-2.result.now.items (omega (arith, c.len.ensures, c.if-len-eq0.true, ap (λ node. length node.items) (c.deref-3.ensures ∙ sym c.deref-2.ensures))) in
-    c.ask_half-below.ensures lives is_of_node few
+    let none : c.deref-then-len-eq0.result.now.items ≡ [] = nil_from_length c.deref-then-len-eq0.result.now.items (omega (arith, c.len.ensures, c.if-len-eq0.true, ap (λ node. length node.items) (c.deref-2.ensures ∙ sym c.deref-then-len-eq0.ensures))) in
+    c.ask_half.ensures lives is_of_node few
     ∙ ap (λ all. g.D.Decomposable.answer all c.args.query)
     (sym (in_order-kept g.met.D.Decomposable.order (in_order before items) (in_order-ordered g.met.D.Decomposable.order items))
     ∙ ap (λ own. in_order before (own ++ in_order before items)) (sym none)
-    ∙ node_at g.met.D.Decomposable.order (c.args.level - 1) c.args.label lives c.deref-2.result.now near is_of_node)
+    ∙ node_at g.met.D.Decomposable.order (c.args.level - 1) c.args.label lives c.deref-then-len-eq0.result.now near is_of_node)
 
-pub ask-ask-requires-2 : goal.ask-ask-requires-2
-ask-ask-requires-2 g t c =
-    let has : NodeHas g.D.Decomposable.stands_before c.args.level c.deref-4.result.now =
-    node_has (leads_by c.in-Full.is c.deref-4.ensures (refl, refl, refl)) c.requires.has
-    in
-    record {
-      lawful = record {
-        ordered = node_ordered g.met.D.Decomposable.order c.args.level has.lives c.deref-4.result.now has.is_of;
-        few = omega (arith, node_few g.met.D.Decomposable.order c.args.level has.lives c.deref-4.result.now has.is_of, has.few);
-      };
-    }
-
-pub ask-combine-requires : goal.ask-combine-requires
-ask-combine-requires g t c =
-    let before = g.D.Decomposable.stands_before in
+pub ask-ask_with_own-requires : goal.ask-ask_with_own-requires
+ask-ask_with_own-requires g t c κs within =
     let below : c.args.level ≡ suc (c.args.level - 1) = omega arith in
-    let leads : LeadsTo c.args.trie.now c.deref-4.result.now = leads_by c.in-Full.is c.deref-4.ensures (refl, refl, refl) in
+    let leads : LeadsTo c.args.trie.now c.deref-3.result.now = leads_by c.in-Full.is c.deref-3.ensures (refl, refl, refl) in
     let near : c.args.label < 2 ^ suc (c.args.level - 1) = subst (λ n. c.args.label < 2 ^ n) below c.requires.within in
-    let is_of : IsOfNode before (suc (c.args.level - 1)) c.requires.has.lives c.deref-4.result.now =
-    subst (λ n. IsOfNode before n c.requires.has.lives c.deref-4.result.now) below (node_of before c.args.level c.requires.has.lives c.args.trie.now c.deref-4.result.now leads c.requires.has.is_of) in
-    record {
-      together = record {
-        query = c.args.query;
-        first_items = c.deref-4.result.now.items;
-        second_items = in_order before (items_below (c.args.level - 1) c.args.label c.requires.has.lives);
-        lawful = node_lawful g.met.D.Decomposable.order (c.args.level - 1) c.args.label c.requires.has.lives c.deref-4.result.now near c.requires.has.few is_of;
-        first_is = c.ask-2.ensures;
-        second_is = c.ask_half-below.ensures c.requires.has.lives
-            (subst (IsOfNode before (suc (c.args.level - 1)) c.requires.has.lives) (c.deref-4.ensures ∙ sym c.deref-2.ensures) is_of) c.requires.has.few;
-      };
-    }
+    let has : NodeHas g.D.Decomposable.stands_before (suc (c.args.level - 1)) c.deref-3.result.now = subst (λ n. NodeHas g.D.Decomposable.stands_before n c.deref-3.result.now) below (node_has leads c.requires.has) in
+    search rules
 
 pub ask-returns : goal.ask-returns
 ask-returns g t c lives is_of few =
     let before = g.D.Decomposable.stands_before in
     let below : c.args.level ≡ suc (c.args.level - 1) = omega arith in
-    let leads : LeadsTo c.args.trie.now c.deref-4.result.now = leads_by c.in-Full.is c.deref-4.ensures (refl, refl, refl) in
-    let near : c.args.label < 2 ^ suc (c.args.level - 1) = subst (λ n. c.args.label < 2 ^ n) below c.requires.within in
-    let is_of_node : IsOfNode before (suc (c.args.level - 1)) lives c.deref-4.result.now =
-    subst (λ n. IsOfNode before n lives c.deref-4.result.now) below (node_of before c.args.level lives c.args.trie.now c.deref-4.result.now leads is_of) in
-    let items = items_below (c.args.level - 1) c.args.label lives in
+    let leads : LeadsTo c.args.trie.now c.deref-3.result.now = leads_by c.in-Full.is c.deref-3.ensures (refl, refl, refl) in
+    c.ask_with_own.ensures lives
+    (subst (λ n. IsOfNode before n lives c.deref-3.result.now) below (node_of before c.args.level lives c.args.trie.now c.deref-3.result.now leads is_of)) few
+
+pub ask_with_own-ask-requires : goal.ask_with_own-ask-requires
+ask_with_own-ask-requires g t c =
+    let has : NodeHas g.D.Decomposable.stands_before (suc c.args.level) c.args.node.now = c.requires.has in
+    record {
+      lawful = record {
+        ordered = node_ordered g.met.D.Decomposable.order (suc c.args.level) has.lives c.args.node.now has.is_of;
+        few = omega (arith, node_few g.met.D.Decomposable.order (suc c.args.level) has.lives c.args.node.now has.is_of, has.few);
+      };
+    }
+
+pub ask_with_own-combine-requires : goal.ask_with_own-combine-requires
+ask_with_own-combine-requires g t c =
+    let has : NodeHas g.D.Decomposable.stands_before (suc c.args.level) c.args.node.now = c.requires.has in
+    record {
+      together = record {
+        query = c.args.query;
+        first_items = c.args.node.now.items;
+        second_items = in_order g.D.Decomposable.stands_before (items_below c.args.level c.args.label has.lives);
+        lawful = node_lawful g.met.D.Decomposable.order c.args.level c.args.label has.lives c.args.node.now c.requires.within has.few has.is_of;
+        first_is = c.ask.ensures;
+        second_is = c.ask_half-below.ensures has.lives has.is_of has.few;
+      };
+    }
+
+pub ask_with_own-returns : goal.ask_with_own-returns
+ask_with_own-returns g t c lives is_of few =
+    let before = g.D.Decomposable.stands_before in
+    let items = items_below c.args.level c.args.label lives in
     c.combine.ensures
-    ∙ ap (λ part. g.D.Decomposable.combined part c.ask_half-below.result) c.ask-2.ensures
-    ∙ ap (g.D.Decomposable.combined (g.D.Decomposable.answer c.deref-4.result.now.items c.args.query))
-    (c.ask_half-below.ensures lives (subst (IsOfNode before (suc (c.args.level - 1)) lives) (c.deref-4.ensures ∙ sym c.deref-2.ensures) is_of_node) few)
-    ∙ sym (g.met.D.Decomposable.laws.together c.deref-4.result.now.items (in_order before items) c.args.query
-    (node_lawful g.met.D.Decomposable.order (c.args.level - 1) c.args.label lives c.deref-4.result.now near few is_of_node))
-    ∙ ap (λ all. g.D.Decomposable.answer all c.args.query) (node_at g.met.D.Decomposable.order (c.args.level - 1) c.args.label lives c.deref-4.result.now near is_of_node)
+    ∙ ap (λ part. g.D.Decomposable.combined part c.ask_half-below.result) c.ask.ensures
+    ∙ ap (g.D.Decomposable.combined (g.D.Decomposable.answer c.args.node.now.items c.args.query)) (c.ask_half-below.ensures lives is_of few)
+    ∙ sym (g.met.D.Decomposable.laws.together c.args.node.now.items (in_order before items) c.args.query
+    (node_lawful g.met.D.Decomposable.order c.args.level c.args.label lives c.args.node.now c.requires.within few is_of))
+    ∙ ap (λ all. g.D.Decomposable.answer all c.args.query) (node_at g.met.D.Decomposable.order c.args.level c.args.label lives c.args.node.now c.requires.within is_of)
 
 pub ask_half-ask-requires : goal.ask_half-ask-requires
 ask_half-ask-requires g t c κs within =

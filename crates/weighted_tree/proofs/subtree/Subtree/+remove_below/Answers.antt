@@ -1,7 +1,7 @@
 use Rattle.std.proofs.Common.{rules, ◌≡◌, ◌-◌, refl, arith, ◌∙◌, ◌∷◌, ◌++◌, ap, sym, subst, length}
 use Rattle.std.specs.List.{remove}
 use Rattle.std.specs.Prelude.{slice_get, Some}
-use Rattle.weighted_tree.specs.Nodes.{nodes_of, part_of, node_items, node_count, IsSound}
+use Rattle.weighted_tree.specs.Nodes.{nodes_of, part_of, node_items, IsSound}
 use Rattle.weighted_tree.proofs.InPlace.{root_of, node_of}
 use Rattle.weighted_tree.proofs.Levels.{level_left, level_right, counted_left, counted_right, counted_one, counted_none, few_nodes}
 use Rattle.weighted_tree.proofs.Middles.{get-before, get-middle, get-after, remove-before, remove-middle, remove-after, next-then-rest}

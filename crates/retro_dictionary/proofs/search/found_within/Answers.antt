@@ -1,7 +1,7 @@
 use Rattle.std.proofs.Common.{suc, ap, ◌∙◌, arith}
 use Rattle.retro_dictionary.specs.PairSearch.{found_of}
 use Rattle.retro_dictionary.proofs.RangeOfPairs.{slice-inside}
-use Rattle.retro_dictionary.proofs.search.found_in.Goals as goal
+use Rattle.retro_dictionary.proofs.search.found_within.Goals as goal
 
 pub returns : goal.returns
 returns c =
